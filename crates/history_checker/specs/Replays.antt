@@ -9,7 +9,7 @@ use Rattle.itm_types.specs.declared.call.Reply.TheVariants.{Done, Bytes, Code, R
 use Rattle.itm_model.specs.State.{State}
 use Rattle.itm_model.specs.Machine.{is_open, opened, reply, after}
 use Rattle.tx_attempts.specs.declared.attempt.Attempt.{Attempt}
-use Rattle.tx_attempts.specs.declared.attempt.Entry.{Entry}
+use Rattle.tx_attempts.specs.declared.attempt.CallRecord.{CallRecord}
 use Rattle.tx_attempts.specs.declared.attempt.Outcome.{Outcome}
 use Rattle.tx_attempts.specs.declared.attempt.Outcome.TheVariants.{Committed, ReadOnly, Cancelled, Conflict, Full, NoMemory, Unfinished}
 use Rattle.tx_attempts.specs.Attempts.{alone}
@@ -33,7 +33,7 @@ abbrev pub at_call : ℕ → BadKind → Fault
 at_call i k = record { call = Some i; kind = k }
 
 -- the first call, of which the first has this number, that stands after the end of the block or has another reply than the machine's
-abbrev pub calls_fault : State → ℕ → List Entry → Option Fault
+abbrev pub calls_fault : State → ℕ → List CallRecord → Option Fault
 calls_fault s i [] = None
 calls_fault s i (e ∷ rest) =
     if is_open s
@@ -89,15 +89,15 @@ is_abort_done (Load width at) r = false
 is_abort_done (Save at value) r = false
 
 -- the last of these calls passes a test
-abbrev pub last_is : (Entry → Bool) → List Entry → Bool
+abbrev pub last_is : (CallRecord → Bool) → List CallRecord → Bool
 last_is test [] = false
 last_is test (e ∷ []) = test e
 last_is test (e ∷ f ∷ rest) = last_is test (f ∷ rest)
 
-abbrev pub ends_by_commit : List Entry → Bool
+abbrev pub ends_by_commit : List CallRecord → Bool
 ends_by_commit calls = last_is (λ e. is_commit_done e.call e.reply) calls
 
-abbrev pub ends_by_abort : List Entry → Bool
+abbrev pub ends_by_abort : List CallRecord → Bool
 ends_by_abort calls = last_is (λ e. is_abort_done e.call e.reply) calls
 
 -- the transaction was irrevocable as its last call came

@@ -14,7 +14,7 @@ use crate::verdict::{BadKind, Fault};
 use itm_model::Plain;
 use itm_types::{CANCELLED, Call, MAX_ARENA, MAX_OPEN_BLOCKS, Props, Ran, Reply};
 use std::alloc::{AllocError, Global};
-use tx_attempts::{Attempt, Entry, Outcome};
+use tx_attempts::{Attempt, CallRecord, Outcome};
 
 /// What a replay tells of an attempt that is not committed.
 #[derive(Clone, Copy, Debug)]
@@ -53,7 +53,7 @@ fn same_ran(told: &[Ran], ran: &[Ran]) -> bool
 }
 
 /// Makes the calls, up to the first one that is wrong.
-fn replay_calls(plain: &mut Plain, calls: &[Entry]) -> Result<Called, AllocError>
+fn replay_calls(plain: &mut Plain, calls: &[CallRecord]) -> Result<Called, AllocError>
     ensures fault { IfOk result (λ r. r.fault ≡ calls_fault plain.old.state 0 calls.now) }
     ensures state { IfOk result (λ r. r.fault ≡ None
         → plain.new.state ≡ state_after MAX_OPEN_BLOCKS plain.old.state (map (λ e. e.call) calls.now)) }
@@ -92,7 +92,7 @@ pub(crate) fn head(kind: BadKind) -> Fault
 }
 
 /// Whether the last call is a commit that was accepted.
-fn ends_by_commit(calls: &[Entry]) -> bool
+fn ends_by_commit(calls: &[CallRecord]) -> bool
     ensures { result ≡ ends_by_commit calls.now }
 {
     match calls {
@@ -102,7 +102,7 @@ fn ends_by_commit(calls: &[Entry]) -> bool
 }
 
 /// Whether the last call is an abort that was accepted.
-fn ends_by_abort(calls: &[Entry]) -> bool
+fn ends_by_abort(calls: &[CallRecord]) -> bool
     ensures { result ≡ ends_by_abort calls.now }
 {
     match calls {

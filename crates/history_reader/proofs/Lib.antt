@@ -1,24 +1,5 @@
 pub mod Values
 pub mod Faults
-pub mod ReadLines
-pub mod ExactFields
-pub mod ExactBytes
-pub mod ExactCalls
-pub mod ExactEntries
-pub mod ExactHeads
-pub mod ExactLines
-pub mod ExactStates
-pub mod ExactSteps
-pub mod ExactTexts
-pub mod AgainFields
-pub mod AgainCalls
-pub mod AgainSpelled
-pub mod AgainLines
-pub mod AgainTexts
-pub mod CanonicalTexts
-pub mod CanonicalRuns
-pub mod CanonicalAttempts
-pub mod CanonicalHistories
-pub mod FittingReplies
-pub mod LegalTexts
-mod WorkedCanonical
+pub mod RoundTrips
+pub mod Exactness
+pub mod Canon

@@ -16,9 +16,9 @@ use Rattle.script_fields.specs.declared.fault.AsmKind.{AsmKind}
 use Rattle.script_fields.specs.declared.fault.AsmKind.TheVariants as kinds
 use Rattle.script_fields.specs.Names.{lookup}
 use Rattle.script_fields.specs.Operands.{◌>>=◌, both, or_operand, number, function, scope, mode, no_transaction}
-use Rattle.tx_attempts.specs.declared.attempt.Entry.{Entry}
-use Rattle.history_reader.specs.declared.reply.Answer.{Answer}
-use Rattle.history_reader.specs.declared.reply.Answer.TheVariants as answers
+use Rattle.tx_attempts.specs.declared.attempt.CallRecord.{CallRecord}
+use Rattle.history_reader.specs.declared.reply.ReplyKind.{ReplyKind}
+use Rattle.history_reader.specs.declared.reply.ReplyKind.TheVariants as answers
 use Rattle.history_reader.specs.declared.verb.Verb.{Verb}
 use Rattle.history_reader.specs.declared.verb.Verb.TheVariants as verbs
 use Rattle.history_reader.specs.Fields.{next, next_three}
@@ -57,18 +57,18 @@ verb_of f = or_point (lookup access_names f) f
 -- ## Operands, and the reply behind them
 
 -- so many operands, each read in its way
-abbrev pub one_operand : {A : Type 0} → (List ℕ → Result A AsmKind) → Answer → List (List ℕ) → Result (A × Reply) AsmKind
+abbrev pub one_operand : {A : Type 0} → (List ℕ → Result A AsmKind) → ReplyKind → List (List ℕ) → Result (A × Reply) AsmKind
 one_operand read answer fs = next fs >>= λ x. with_reply (read x.0) answer x.1
 
-abbrev pub two_operands : {A B : Type 0} → (List ℕ → Result A AsmKind) → (List ℕ → Result B AsmKind) → Answer → List (List ℕ) → Result ((A × B) × Reply) AsmKind
+abbrev pub two_operands : {A B : Type 0} → (List ℕ → Result A AsmKind) → (List ℕ → Result B AsmKind) → ReplyKind → List (List ℕ) → Result ((A × B) × Reply) AsmKind
 two_operands first second answer fs = next fs >>= λ x. next x.1 >>= λ y. with_reply (both (first x.0) (second y.0)) answer y.1
 
-abbrev pub three_operands : {A B C : Type 0} → (List ℕ → Result A AsmKind) → (List ℕ → Result B AsmKind) → (List ℕ → Result C AsmKind) → Answer → List (List ℕ)
+abbrev pub three_operands : {A B C : Type 0} → (List ℕ → Result A AsmKind) → (List ℕ → Result B AsmKind) → (List ℕ → Result C AsmKind) → ReplyKind → List (List ℕ)
     → Result ((A × (B × C)) × Reply) AsmKind
 three_operands first second third answer fs =
     next_three fs >>= λ x. with_reply (both (first x.0) (both (second x.1) (third x.2))) answer x.3
 
-unfoldable pub no_operand : Answer → List (List ℕ) → Result (Unit {0} × Reply) AsmKind
+unfoldable pub no_operand : ReplyKind → List (List ℕ) → Result (Unit {0} × Reply) AsmKind
 no_operand answer fs = with_reply (Ok tt) answer fs
 
 unfoldable pub begin_operand : List (List ℕ) → Result (Props × Reply) AsmKind
@@ -80,7 +80,7 @@ abort_operand fs = one_operand scope answers.Code fs
 unfoldable pub mode_operand : List (List ℕ) → Result (Unit {0} × Reply) AsmKind
 mode_operand fs = one_operand mode answers.Done fs
 
-unfoldable pub place_operand : Answer → List (List ℕ) → Result (ℕ × Reply) AsmKind
+unfoldable pub place_operand : ReplyKind → List (List ℕ) → Result (ℕ × Reply) AsmKind
 place_operand answer fs = one_operand number answer fs
 
 unfoldable pub place_size : List (List ℕ) → Result ((ℕ × ℕ) × Reply) AsmKind
@@ -104,7 +104,7 @@ fill_operands fs = three_operands number byte number answers.Done fs
 -- ## Calls
 
 -- blocks, modes and actions
-unfoldable pub control_call : Control → List (List ℕ) → Result Entry AsmKind
+unfoldable pub control_call : Control → List (List ℕ) → Result CallRecord AsmKind
 control_call controls.BeginTransaction fs = begin_operand fs >>= λ x. Ok (record { call = calls.Begin x.0 0; reply = x.1 })
 control_call controls.CommitTransaction fs = no_operand answers.Done fs >>= λ x. Ok (record { call = calls.Commit; reply = x.1 })
 control_call controls.AbortTransaction fs = abort_operand fs >>= λ x. Ok (record { call = calls.Abort x.0; reply = x.1 })
@@ -116,7 +116,7 @@ control_call controls.AddUserUndoAction fs =
     undo_action fs >>= λ x. Ok (record { call = calls.UndoAction (record { fun = x.0.0; arg = x.0.1 }); reply = x.1 })
 
 -- the call of an entry point
-unfoldable pub point_call : Point → List (List ℕ) → Result Entry AsmKind
+unfoldable pub point_call : Point → List (List ℕ) → Result CallRecord AsmKind
 point_call (points.Control control) fs = control_call control fs
 point_call (points.Read hint width) fs = place_operand (answers.Bytes width) fs >>= λ x. Ok (record { call = calls.Read hint width x.0; reply = x.1 })
 point_call (points.Write hint width) fs = place_datum width fs >>= λ x. Ok (record { call = calls.Write hint x.0.0 x.0.1; reply = x.1 })
@@ -126,11 +126,11 @@ point_call (points.Copy moves pair) fs =
     copy_operands fs >>= λ x. Ok (record { call = calls.Copy (record { moves = moves; pair = pair; to = x.0.0; from = x.0.1.0; size = x.0.1.1 }); reply = x.1 })
 point_call (points.Fill hint) fs = fill_operands fs >>= λ x. Ok (record { call = calls.Fill hint x.0.0 x.0.1.0 x.0.1.1; reply = x.1 })
 
-unfoldable pub verb_call : Verb → List (List ℕ) → Result Entry AsmKind
+unfoldable pub verb_call : Verb → List (List ℕ) → Result CallRecord AsmKind
 verb_call (verbs.Point point) fs = point_call point fs
 verb_call (verbs.Load width) fs = place_operand (answers.Bytes width) fs >>= λ x. Ok (record { call = calls.Load width x.0; reply = x.1 })
 verb_call (verbs.Save width) fs = place_datum width fs >>= λ x. Ok (record { call = calls.Save x.0.0 x.0.1; reply = x.1 })
 
 -- a call and its reply
-unfoldable pub call_of : List (List ℕ) → Result Entry AsmKind
+unfoldable pub call_of : List (List ℕ) → Result CallRecord AsmKind
 call_of fs = next fs >>= λ x. or_operand (verb_of x.0) >>= λ verb. verb_call verb x.1

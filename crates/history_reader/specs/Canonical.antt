@@ -3,7 +3,7 @@ use Rattle.std.specs.Prelude.{◌%◌, map}
 use Rattle.itm_types.specs.declared.call.Call.{Call}
 use Rattle.itm_types.specs.declared.call.Call.TheVariants as calls
 use Rattle.tx_attempts.specs.declared.attempt.Attempt.{Attempt}
-use Rattle.tx_attempts.specs.declared.attempt.Entry.{Entry}
+use Rattle.tx_attempts.specs.declared.attempt.CallRecord.{CallRecord}
 use Rattle.tx_history.specs.declared.history.History.{History}
 
 abbrev pub canonical_call : Call → Call
@@ -23,7 +23,7 @@ canonical_call (calls.UndoAction action) = calls.UndoAction action
 canonical_call (calls.Load width at) = calls.Load width at
 canonical_call (calls.Save at value) = calls.Save at value
 
-abbrev pub canonical_entry : Entry → Entry
+abbrev pub canonical_entry : CallRecord → CallRecord
 canonical_entry e = record { call = canonical_call e.call; reply = e.reply }
 
 abbrev pub canonical_attempt : Attempt → Attempt

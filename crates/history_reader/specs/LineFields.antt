@@ -15,7 +15,7 @@ use Rattle.itm_types.specs.declared.entry.Entry.TheVariants as points
 use Rattle.script_fields.specs.Properties.{props_text}
 use Rattle.script_fields.specs.Spelling.{scope_text, mode_text, no_transaction_text}
 use Rattle.tx_attempts.specs.declared.attempt.Attempt.{Attempt}
-use Rattle.tx_attempts.specs.declared.attempt.Entry.{Entry}
+use Rattle.tx_attempts.specs.declared.attempt.CallRecord.{CallRecord}
 use Rattle.tx_history.specs.Histories.{kind_text, outcome_name}
 use Rattle.history_reader.specs.declared.verb.Verb.{Verb}
 use Rattle.history_reader.specs.declared.verb.Verb.TheVariants as verbs
@@ -71,10 +71,10 @@ reply_fields (replies.Code n) = codes "code" ∷ decimal n ∷ []
 reply_fields (replies.Refused refusal) = codes "refused" ∷ decimal (number_of refusal) ∷ []
 
 -- what stands behind the name
-abbrev pub rest_of : Entry → List (List ℕ)
+abbrev pub rest_of : CallRecord → List (List ℕ)
 rest_of e = operands_of e.call ++ codes "=" ∷ reply_fields e.reply
 
-abbrev pub call_fields : Entry → List (List ℕ)
+abbrev pub call_fields : CallRecord → List (List ℕ)
 call_fields e = codes "call" ∷ verb_text (verb_in e.call) ∷ rest_of e
 
 abbrev pub ran_fields : Ran → List (List ℕ)

@@ -6,7 +6,7 @@ use Rattle.script_fields.specs.declared.fault.AsmKind.{AsmKind}
 use Rattle.script_fields.specs.declared.fault.AsmKind.TheVariants as operands
 use Rattle.script_fields.specs.Operands.{◌>>=◌, both, number, function, exactly}
 use Rattle.tx_attempts.specs.declared.attempt.Attempt.{Attempt}
-use Rattle.tx_attempts.specs.declared.attempt.Entry.{Entry}
+use Rattle.tx_attempts.specs.declared.attempt.CallRecord.{CallRecord}
 use Rattle.tx_attempts.specs.declared.attempt.Outcome.{Outcome}
 use Rattle.history_reader.specs.declared.fault.ReadKind.{ReadKind}
 use Rattle.history_reader.specs.declared.fault.ReadKind.TheVariants as kinds

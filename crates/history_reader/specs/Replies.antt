@@ -8,8 +8,8 @@ use Rattle.itm_types.specs.declared.call.Reply.TheVariants as replies
 use Rattle.script_fields.specs.declared.fault.AsmKind.{AsmKind}
 use Rattle.script_fields.specs.declared.fault.AsmKind.TheVariants as kinds
 use Rattle.script_fields.specs.Operands.{◌>>=◌, both, exactly}
-use Rattle.history_reader.specs.declared.reply.Answer.{Answer}
-use Rattle.history_reader.specs.declared.reply.Answer.TheVariants as answers
+use Rattle.history_reader.specs.declared.reply.ReplyKind.{ReplyKind}
+use Rattle.history_reader.specs.declared.reply.ReplyKind.TheVariants as answers
 use Rattle.history_reader.specs.Fields.{next, none, one, equals}
 use Rattle.history_reader.specs.Numbers.{ranged, byte}
 use Rattle.history_reader.specs.Digits.{sized}
@@ -31,15 +31,15 @@ unfoldable pub refused : List (List ℕ) → Result Reply AsmKind
 refused fs = one fs >>= λ f. ranged 1 8 f >>= λ n. Ok (replies.Refused (refusal_of n))
 
 -- a reply of the kind that the call has, told from its first field on
-unfoldable pub accepted : Answer → List ℕ → List (List ℕ) → Result Reply AsmKind
+unfoldable pub accepted : ReplyKind → List ℕ → List (List ℕ) → Result Reply AsmKind
 accepted answers.Done f fs = exactly (codes "ok") f >>= λ _. none fs >>= λ _. Ok replies.Done
 accepted answers.Code f fs = exactly (codes "code") f >>= λ _. one fs >>= λ n. byte n >>= λ c. Ok (replies.Code c)
 accepted (answers.Bytes width) f fs = none fs >>= λ _. sized (size_of width) f >>= λ bytes. Ok (replies.Bytes (record { items = bytes }))
 
 -- the reply of a call: any may be refused
-unfoldable pub reply_of : Answer → List (List ℕ) → Result Reply AsmKind
+unfoldable pub reply_of : ReplyKind → List (List ℕ) → Result Reply AsmKind
 reply_of answer fs = next fs >>= λ x. if bytes_eq x.0 (codes "refused") then refused x.1 else accepted answer x.0 x.1
 
 -- operands, and the reply that stands behind them
-abbrev pub with_reply : {A : Type 0} → Result A AsmKind → Answer → List (List ℕ) → Result (A × Reply) AsmKind
+abbrev pub with_reply : {A : Type 0} → Result A AsmKind → ReplyKind → List (List ℕ) → Result (A × Reply) AsmKind
 with_reply operands answer fs = equals fs >>= λ rest. both operands (reply_of answer rest)

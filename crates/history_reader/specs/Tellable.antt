@@ -9,11 +9,11 @@ use Rattle.itm_types.specs.declared.call.Reply.{Reply}
 use Rattle.itm_types.specs.declared.call.Reply.TheVariants as replies
 use Rattle.itm_types.specs.declared.limits.TheConstants.{MAX_MEMORY, MAX_ARENA, MAX_ACTORS, MAX_RETRIES}
 use Rattle.tx_attempts.specs.declared.attempt.Attempt.{Attempt}
-use Rattle.tx_attempts.specs.declared.attempt.Entry.{Entry}
+use Rattle.tx_attempts.specs.declared.attempt.CallRecord.{CallRecord}
 use Rattle.tx_history.specs.declared.history.History.{History}
 use Rattle.tx_history.specs.Bounds.{IsWord, IsAction, IsCopying, IsDatum, IsArenaWidth}
-use Rattle.history_reader.specs.declared.reply.Answer.{Answer}
-use Rattle.history_reader.specs.declared.reply.Answer.TheVariants as answers
+use Rattle.history_reader.specs.declared.reply.ReplyKind.{ReplyKind}
+use Rattle.history_reader.specs.declared.reply.ReplyKind.TheVariants as answers
 
 -- A call that a text can tell. How many more calls a block may make is not told.
 abbrev pub IsCall : Call → Type 0
@@ -34,7 +34,7 @@ IsCall (calls.Load width at) = IsArenaWidth width × IsWord at
 IsCall (calls.Save at value) = IsArenaWidth value.width × IsWord at × IsDatum value
 
 -- of which kind a call's reply is, where it is not refused
-abbrev pub answer_to : Call → Answer
+abbrev pub answer_to : Call → ReplyKind
 answer_to (calls.Begin props room) = answers.Code
 answer_to calls.Commit = answers.Done
 answer_to (calls.Abort outer) = answers.Code
@@ -52,7 +52,7 @@ answer_to (calls.Load width at) = answers.Bytes width
 answer_to (calls.Save at value) = answers.Done
 
 -- a reply of that kind, or a refusal
-abbrev pub IsReply : Answer → Reply → Type 0
+abbrev pub IsReply : ReplyKind → Reply → Type 0
 IsReply answer (replies.Refused refusal) = Unit {0}
 IsReply answers.Done replies.Done = Unit {0}
 IsReply answers.Done (replies.Bytes value) = ⊥
@@ -65,7 +65,7 @@ IsReply (answers.Bytes width) (replies.Bytes value) = (length value.items ≡ si
 IsReply (answers.Bytes width) (replies.Code n) = ⊥
 
 -- a call and a reply that fits it
-abbrev pub IsEntry : Entry → Type 0
+abbrev pub IsEntry : CallRecord → Type 0
 IsEntry e = IsCall e.call × IsReply (answer_to e.call) e.reply
 
 abbrev pub IsRan : Ran → Type 0

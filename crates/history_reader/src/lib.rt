@@ -6,7 +6,7 @@ mod body;
 mod digits;
 mod fault;
 mod fields;
-mod kept;
+mod item_list;
 mod lines;
 mod numbers;
 mod operands;

@@ -9,17 +9,17 @@ ghost use Rattle.history_reader.specs.Calls.{no_operand, begin_operand, abort_op
 use crate::digits::datum;
 use crate::fields::{next_field, three_fields};
 use crate::numbers::byte;
-use crate::reply::{Answer, with_reply};
+use crate::reply::{ReplyKind, with_reply};
 use crate::words::block_props;
 use itm_types::{Datum, Props, Reply, Width};
 use script_fields::{AsmKind, both, function, mode, no_transaction, number, scope};
 
 /// No operand.
 #[tactic(auto, unfolding(crate::specs::Calls::no_operand))]
-pub fn no_operand(answer: Answer, rest: Option<&[u8]>) -> Result<((), Reply), AsmKind>
-    ensures { result ≡ no_operand answer (rest_fields rest.entry) }
+pub fn no_operand(kind: ReplyKind, rest: Option<&[u8]>) -> Result<((), Reply), AsmKind>
+    ensures { result ≡ no_operand kind (rest_fields rest.entry) }
 {
-    with_reply(Ok(()), answer, rest)
+    with_reply(Ok(()), kind, rest)
 }
 
 /// The properties of a block.
@@ -28,7 +28,7 @@ pub fn begin_operand(rest: Option<&[u8]>) -> Result<(Props, Reply), AsmKind>
     ensures { result ≡ begin_operand (rest_fields rest.entry) }
 {
     let (first, rest) = next_field(rest)?;
-    with_reply(block_props(first), Answer::Code, rest)
+    with_reply(block_props(first), ReplyKind::Code, rest)
 }
 
 /// The scope of an abort.
@@ -37,7 +37,7 @@ pub fn abort_operand(rest: Option<&[u8]>) -> Result<(bool, Reply), AsmKind>
     ensures { result ≡ abort_operand (rest_fields rest.entry) }
 {
     let (first, rest) = next_field(rest)?;
-    with_reply(scope(first), Answer::Code, rest)
+    with_reply(scope(first), ReplyKind::Code, rest)
 }
 
 /// The one mode.
@@ -46,16 +46,16 @@ pub fn mode_operand(rest: Option<&[u8]>) -> Result<((), Reply), AsmKind>
     ensures { result ≡ mode_operand (rest_fields rest.entry) }
 {
     let (first, rest) = next_field(rest)?;
-    with_reply(mode(first), Answer::Done, rest)
+    with_reply(mode(first), ReplyKind::Done, rest)
 }
 
 /// A place.
 #[tactic(auto, unfolding(crate::specs::Calls::place_operand))]
-pub fn place_operand(answer: Answer, rest: Option<&[u8]>) -> Result<(u64, Reply), AsmKind>
-    ensures { result ≡ place_operand answer (rest_fields rest.entry) }
+pub fn place_operand(kind: ReplyKind, rest: Option<&[u8]>) -> Result<(u64, Reply), AsmKind>
+    ensures { result ≡ place_operand kind (rest_fields rest.entry) }
 {
     let (first, rest) = next_field(rest)?;
-    with_reply(number(first), answer, rest)
+    with_reply(number(first), kind, rest)
 }
 
 /// A place and a size.
@@ -65,7 +65,7 @@ pub fn place_size(rest: Option<&[u8]>) -> Result<((u64, u64), Reply), AsmKind>
 {
     let (first, rest) = next_field(rest)?;
     let (second, rest) = next_field(rest)?;
-    with_reply(both(number(first), number(second)), Answer::Done, rest)
+    with_reply(both(number(first), number(second)), ReplyKind::Done, rest)
 }
 
 /// A place, and bytes of a type.
@@ -77,7 +77,7 @@ pub fn place_datum(width: Width, rest: Option<&[u8]>) -> Result<((u64, Datum), R
     let (second, rest) = next_field(rest)?;
     with_reply(
         both(number(first), datum(width, second)),
-        Answer::Done,
+        ReplyKind::Done,
         rest,
     )
 }
@@ -89,7 +89,7 @@ pub fn undo_action(rest: Option<&[u8]>) -> Result<((u32, u64), Reply), AsmKind>
 {
     let (first, rest) = next_field(rest)?;
     let (second, rest) = next_field(rest)?;
-    with_reply(both(function(first), number(second)), Answer::Done, rest)
+    with_reply(both(function(first), number(second)), ReplyKind::Done, rest)
 }
 
 /// A function, the word for no transaction, and an argument.
@@ -98,7 +98,7 @@ pub fn commit_action(rest: Option<&[u8]>) -> Result<((u32, ((), u64)), Reply), A
     ensures { result ≡ commit_action (rest_fields rest.entry) }
 {
     let (first, second, third, rest) = three_fields(rest)?;
-    with_reply(registered(first, second, third), Answer::Done, rest)
+    with_reply(registered(first, second, third), ReplyKind::Done, rest)
 }
 
 /// Where a copy writes, where it reads, and a size.
@@ -107,7 +107,7 @@ pub fn copy_operands(rest: Option<&[u8]>) -> Result<((u64, (u64, u64)), Reply), 
     ensures { result ≡ copy_operands (rest_fields rest.entry) }
 {
     let (first, second, third, rest) = three_fields(rest)?;
-    with_reply(copied(first, second, third), Answer::Done, rest)
+    with_reply(copied(first, second, third), ReplyKind::Done, rest)
 }
 
 /// Where a fill writes, a byte, and a size.
@@ -116,7 +116,7 @@ pub fn fill_operands(rest: Option<&[u8]>) -> Result<((u64, (u64, u64)), Reply), 
     ensures { result ≡ fill_operands (rest_fields rest.entry) }
 {
     let (first, second, third, rest) = three_fields(rest)?;
-    with_reply(filled(first, second, third), Answer::Done, rest)
+    with_reply(filled(first, second, third), ReplyKind::Done, rest)
 }
 
 /// Two places and a size.

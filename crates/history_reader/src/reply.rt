@@ -12,7 +12,7 @@ use script_fields::{AsmKind, both, exactly};
 
 /// Of which kind the reply of a call is, where it is not refused.
 #[derive(Clone, Copy)]
-pub enum Answer {
+pub enum ReplyKind {
     Done,
     Code,
     Bytes(Width),
@@ -43,21 +43,21 @@ fn refused(rest: Option<&[u8]>) -> Result<Reply, AsmKind>
 }
 
 #[tactic(auto, unfolding(crate::specs::Replies::accepted))]
-fn accepted(answer: Answer, first: &[u8], rest: Option<&[u8]>) -> Result<Reply, AsmKind>
-    ensures { result ≡ accepted answer first.now (rest_fields rest.entry) }
+fn accepted(kind: ReplyKind, first: &[u8], rest: Option<&[u8]>) -> Result<Reply, AsmKind>
+    ensures { result ≡ accepted kind first.now (rest_fields rest.entry) }
 {
-    match answer {
-        Answer::Done => {
+    match kind {
+        ReplyKind::Done => {
             exactly(b"ok", first)?;
             no_field(rest)?;
             Ok(Reply::Done)
         }
-        Answer::Code => {
+        ReplyKind::Code => {
             exactly(b"code", first)?;
             let code = byte(one_field(rest)?)?;
             Ok(Reply::Code(code as u32))
         }
-        Answer::Bytes(width) => {
+        ReplyKind::Bytes(width) => {
             no_field(rest)?;
             let value = value(width, first)?;
             Ok(Reply::Bytes(value))
@@ -67,25 +67,25 @@ fn accepted(answer: Answer, first: &[u8], rest: Option<&[u8]>) -> Result<Reply, 
 
 /// The reply of a call.
 #[tactic(auto, unfolding(crate::specs::Replies::reply_of))]
-fn reply_of(answer: Answer, rest: Option<&[u8]>) -> Result<Reply, AsmKind>
-    ensures { result ≡ reply_of answer (rest_fields rest.entry) }
+fn reply_of(kind: ReplyKind, rest: Option<&[u8]>) -> Result<Reply, AsmKind>
+    ensures { result ≡ reply_of kind (rest_fields rest.entry) }
 {
     let (first, rest) = next_field(rest)?;
     if first == b"refused".as_slice() {
         refused(rest)
     } else {
-        accepted(answer, first, rest)
+        accepted(kind, first, rest)
     }
 }
 
 /// Operands, and the reply that stands behind them.
 pub fn with_reply<A: Drop>(
     operands: Result<A, AsmKind>,
-    answer: Answer,
+    kind: ReplyKind,
     rest: Option<&[u8]>,
 ) -> Result<(A, Reply), AsmKind>
-    ensures { result ≡ with_reply operands answer (rest_fields rest.entry) }
+    ensures { result ≡ with_reply operands kind (rest_fields rest.entry) }
 {
     let rest = equals(rest)?;
-    both(operands, reply_of(answer, rest))
+    both(operands, reply_of(kind, rest))
 }

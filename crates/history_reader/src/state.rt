@@ -3,10 +3,10 @@
 ghost use Rattle.std.specs.Prelude.{◌≡◌};
 ghost use Rattle.history_reader.specs.Lines.{initial};
 
-use crate::kept::Kept;
+use crate::item_list::ItemList;
 use itm_types::{Props, Ran};
 use std::alloc::Global;
-use tx_attempts::{Attempt, Bytes, Entry, Outcome};
+use tx_attempts::{Attempt, Bytes, CallRecord, Outcome};
 
 /// What the first line of an attempt says.
 #[derive(Clone, Copy)]
@@ -44,13 +44,13 @@ pub struct State {
     /// The memory before the run.
     pub memory: Bytes,
     /// The attempts that have ended.
-    pub attempts: Kept<Attempt>,
+    pub attempts: ItemList<Attempt>,
     /// The arena of the attempt that has not.
     pub arena: Bytes,
     /// Its calls.
-    pub calls: Kept<Entry>,
+    pub calls: ItemList<CallRecord>,
     /// Its actions that ran.
-    pub ran: Kept<Ran>,
+    pub ran: ItemList<Ran>,
     /// The memory after the run.
     pub bytes: Bytes,
 }
@@ -63,10 +63,10 @@ impl State {
         State {
             place: Place::AtHeader,
             memory: Bytes::new(Vec::new(alloc)),
-            attempts: Kept::new(alloc),
+            attempts: ItemList::new(alloc),
             arena: Bytes::new(Vec::new(alloc)),
-            calls: Kept::new(alloc),
-            ran: Kept::new(alloc),
+            calls: ItemList::new(alloc),
+            ran: ItemList::new(alloc),
             bytes: Bytes::new(Vec::new(alloc)),
         }
     }

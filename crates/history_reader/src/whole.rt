@@ -52,7 +52,7 @@ fn end_of(alloc: Global, state: State, rest: &[u8]) -> Result<History, ReadKind>
 }
 
 /// The lines, one after the other; `number` is the line that was read last.
-#[tactic(auto, unfolding(crate::specs::Reading::read_of), using(crate::proofs::ReadLines::none_read, crate::proofs::ReadLines::read_on, crate::proofs::ReadLines::ahead_on, crate::proofs::ReadLines::stopped, crate::proofs::ReadLines::runs_out, crate::proofs::ReadLines::ends, crate::proofs::ReadLines::ends_without))]
+#[tactic(auto, unfolding(crate::specs::Reading::read_of), using(crate::proofs::RoundTrips::ReadLines::none_read, crate::proofs::RoundTrips::ReadLines::read_on, crate::proofs::RoundTrips::ReadLines::ahead_on, crate::proofs::RoundTrips::ReadLines::stopped, crate::proofs::RoundTrips::ReadLines::runs_out, crate::proofs::RoundTrips::ReadLines::ends, crate::proofs::RoundTrips::ReadLines::ends_without))]
 fn read_lines(alloc: Global, text: &[u8], number: &mut usize) -> Result<History, ReadKind>
     requires { number.old ≡ 0 }
     ensures read { Gives number.new result (read_of text.now) }
@@ -78,7 +78,7 @@ fn read_lines(alloc: Global, text: &[u8], number: &mut usize) -> Result<History,
 ///
 /// A text that is read is the one spelling of its history, and the spelling of each history that a text can tell is read
 /// as that history.
-#[tactic(auto, using(crate::proofs::ExactTexts::read_exact))]
+#[tactic(auto, using(crate::proofs::Exactness::Texts::read_exact))]
 pub fn read(alloc: Global, text: &[u8]) -> Result<History, ReadFault>
     ensures value { IsAnswer result text.now }
     ensures exact { IfOk result (λ h. history_text h ≡ text.now) }

@@ -1,14 +1,3 @@
-mod ActionExamples
-mod CopyExamples
-mod CoveredBytes
-mod EntriesHandedOn
-mod Examples
-mod FewEntries
-mod IrrevocableExamples
-mod JournalRollbacks
-mod KeptLogs
-mod LaidBytes
-mod NewestEntries
+pub mod Examples
+pub mod Journals
 mod OpenBlocks
-mod Overwrites
-mod PieceExamples

@@ -4,15 +4,15 @@ use Rattle.std.specs.List.{list_any}
 use Rattle.std.proofs.lemmas.List.{drop-append-le, take-append-drop, reverse-append, length-take-le, length-reverse}
 use Rattle.std.proofs.lemmas.List.Sorted.{list_any-IsPermutation, IsPermutation-reverse}
 use Rattle.itm_types.specs.declared.call.Props.{Props}
-use Rattle.itm_types.specs.Kept.{also_kept, merged, restored}
+use Rattle.itm_types.specs.KeptBytes.{also_kept, merged, restored}
 use Rattle.user_actions.specs.Actions.{Actions, committed, cut_back}
 use Rattle.itm_model.specs.State.{Saved, State, Block}
 use Rattle.itm_model.specs.Machine.{back, back_from, closed, handed, logged_in, irrevocable_from, rolled_back, undone, undone_from}
 use Rattle.itm_model.specs.declared.journal.Old.{Old}
 use Rattle.itm_model.specs.declared.journal.Mark.{Mark}
 use Rattle.itm_model.specs.Undoing.{put_back, saved_in, saved_of, block_of, blocks_from, blocks_of, kept_of, AreWithin, AreUnder, Restores, Logged}
-use Rattle.itm_model.proofs.JournalRollbacks.{take-take, length-put_back}
-use Rattle.itm_model.proofs.KeptLogs.{kept_of-append, kept_of-same, restored_kept}
+use Rattle.itm_model.proofs.Journals.Rollbacks.{take-take, length-put_back}
+use Rattle.itm_model.proofs.Journals.KeptLogs.{kept_of-append, kept_of-same, restored_kept}
 
 -- ## Marks
 

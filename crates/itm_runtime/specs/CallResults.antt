@@ -1,5 +1,5 @@
 -- What comes of a call of a thread.
-use Rattle.std.specs.Prelude.{◌≡◌, Bool, Result, MatchResult}
+use Rattle.std.specs.Prelude.{◌≡◌, Bool, false, Option, None, Some, Result, MatchResult}
 use Rattle.itm_types.specs.declared.call.Call.{Call}
 use Rattle.norec_core.specs.declared.answer.Answer.{Answer}
 use Rattle.norec_core.specs.Core.{Core}
@@ -18,7 +18,7 @@ pub record IsAnswered (words : Words) (s : Start) (a : Answer) (pass : Pass) (en
   pub stands : Stands (view_of pass) engine
 
 -- memory was refused to the call, which is one that may want some, and nothing is changed
-pub record IsStarved (words : Words) (old : Standing) (call : Call) (new : Standing) : Type 0 where
+pub record IsThreadStarved (words : Words) (old : Standing) (call : Call) (new : Standing) : Type 0 where
   pub own : Owns words new.pass
   pub stands : Stands (view_of new.pass) new.engine
   pub err : new ≡ old
@@ -26,4 +26,9 @@ pub record IsStarved (words : Words) (old : Standing) (call : Call) (new : Stand
 
 -- a call's whole result: there is its answer, which `answer` takes from it, or memory was refused
 abbrev pub Returns : {A E : Type 0} → (A → Answer) → Words → Standing → Call → Bool → Result A E → Standing → Type 0
-Returns answer words old call again result new = MatchResult result (λ a. IsAnswered words (start_of old call again) (answer a) new.pass new.engine) (λ e. IsStarved words old call new)
+Returns answer words old call again result new = MatchResult result (λ a. IsAnswered words (start_of old call again) (answer a) new.pass new.engine) (λ e. IsThreadStarved words old call new)
+
+-- the same where a typed result tells of the answer: it tells of none just where memory was refused
+abbrev pub Tells : Words → Standing → Call → Option Answer → Standing → Type 0
+Tells words old call (Some a) new = IsAnswered words (start_of old call false) a new.pass new.engine
+Tells words old call None new = IsThreadStarved words old call new

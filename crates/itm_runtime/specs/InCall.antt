@@ -11,8 +11,8 @@ use Rattle.norec_core.specs.Core.{Core, came, in_transaction}
 use Rattle.norec_core.specs.Held.{answers, leaves}
 use Rattle.norec_core.specs.Keeps.{Keeps}
 use Rattle.norec_core.specs.Order.{asked, stage_at}
-use Rattle.norec_core.specs.declared.phase.Phase.{Phase}
-use Rattle.norec_core.specs.declared.phase.Phase.TheVariants.{Idle, Begin, Take, RoundStart}
+use Rattle.norec_core.specs.Phases.{Phase}
+use Rattle.norec_core.specs.Phases.{Idle, Begin, Take, RoundStart}
 use Rattle.norec_core.specs.Proceeds.{Got, IsLawful, most}
 use Rattle.norec_core.specs.Stands.{stands_for}
 use Rattle.shared_words.specs.declared.pass.Pass.{Pass}
@@ -20,7 +20,7 @@ use Rattle.shared_words.specs.declared.view.View.{View}
 use Rattle.shared_words.specs.declared.words.Words.{Words}
 use Rattle.shared_words.specs.Commits.{StartsWith}
 use Rattle.shared_words.specs.Passes.{IsOver, Owns, view_of}
-use Rattle.shared_words.specs.Steps.{Turns}
+use Rattle.shared_words.specs.Steps.{StepTells}
 use Rattle.shared_words.specs.Views.{held}
 use Rattle.itm_runtime.specs.Ties.{IsTied, Stands}
 use Rattle.itm_runtime.specs.Served.{Start, LoadedLast, Went, Served}
@@ -87,7 +87,7 @@ pub record IsDone (cells : ℕ) (s : Start) (v : View) (e : Core) (seen : ℕ) :
   pub step : Step
   pub over : IsOver cells before
   pub in_call : InCall s before e step
-  pub turn : Turns before step seen v
+  pub turn : StepTells before step seen v
 
 abbrev pub IsDue : Start → View → Core → Next → Type 0
 IsDue s v e (Asks step) = InCall s v e step

@@ -12,8 +12,9 @@ use Rattle.norec_core.specs.declared.answer.Answer.{Answer}
 use Rattle.norec_core.specs.declared.answer.Answer.TheVariants.{Reply, Committed, Conflict, Busy, Full}
 use Rattle.norec_core.specs.Core.{Core, came, in_transaction}
 use Rattle.norec_core.specs.Order.{stage_at}
-use Rattle.norec_core.specs.declared.phase.Phase.TheVariants.{Idle}
-use Rattle.norec_core.specs.Proceeds.{GoesOver, IsBegin, WantsClock, recoded, most, room_left}
+use Rattle.norec_core.specs.Phases.{Idle}
+use Rattle.norec_core.specs.Proceeds.{GoesOver, IsBegin, WantsClock, most}
+use Rattle.norec_core.specs.Effects.{recoded, room_left}
 use Rattle.norec_core.specs.Stands.{stands_for}
 use Rattle.shared_words.specs.declared.view.View.{View}
 use Rattle.shared_words.specs.Commits.{StartsWith}

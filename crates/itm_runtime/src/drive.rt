@@ -3,7 +3,7 @@
 ghost use Rattle.std.specs.Prelude.{◌+◌};
 ghost use Rattle.shared_words.specs.declared.view.View.{View};
 ghost use Rattle.shared_words.specs.Passes.{IsOver, Owns, cells_of, view_of};
-ghost use Rattle.shared_words.specs.Steps.{Turns};
+ghost use Rattle.shared_words.specs.Steps.{StepTells};
 ghost use Rattle.itm_runtime.specs.Served.{Start};
 ghost use Rattle.itm_runtime.specs.InCall.{InCall, IsDue, IsDone, StepsOn};
 ghost use Rattle.itm_runtime.specs.CallResults.{IsAnswered};
@@ -12,7 +12,7 @@ ghost use Rattle.norec_engine.specs.WholeReads.{LoadsWord};
 
 use itm_types::{Reply, Step};
 use norec_core::Answer;
-use norec_engine::{Engine, Likely};
+use norec_engine::{Engine, FastStep};
 use shared_words::{Pass, Words};
 
 /// Does the steps of a call, from this one on where it asks for one, up to its answer.
@@ -33,14 +33,14 @@ pub(crate) fn finish(
     }
 }
 
-/// The same where one step is likely: of a begin the load of the clock, of a commit at last the store that frees it.
+/// The same, with the first step on the fast path.
 #[inline(always)]
-pub(crate) fn finish_by(
+pub(crate) fn finish_fast(
     words: &Words,
     pass: &mut Pass,
     engine: &mut Engine,
     first: Option<Step>,
-    likely: Likely,
+    fast: FastStep,
     answer: &mut Answer,
 )
     requires own { Owns words.now pass.old }
@@ -48,14 +48,14 @@ pub(crate) fn finish_by(
     ensures { (s : Start) → IsDue s (view_of pass.old) engine.old (next_in first answer.old) → IsAnswered words.now s answer.new pass.new engine.new }
 {
     if let Some(step) = first {
-        let next = advance(words, pass, engine, step, likely, answer);
+        let next = advance(words, pass, engine, step, fast, answer);
         finish(words, pass, engine, next, answer);
     }
 }
 
 /// Does the steps of a read of one whole word that it asks for: loads the word, and the clock to confirm it.
 #[inline(always)]
-pub(crate) fn finish_word(words: &Words, pass: &mut Pass, engine: &mut Engine, word: u32) -> Answer
+pub(crate) fn finish_read(words: &Words, pass: &mut Pass, engine: &mut Engine, word: u32) -> Answer
     requires own { Owns words.now pass.old }
     requires loads { LoadsWord engine.old word }
     requires due { (s : Start) × InCall s (view_of pass.old) engine.old (Step.Load (word + 1)) }
@@ -63,31 +63,31 @@ pub(crate) fn finish_word(words: &Words, pass: &mut Pass, engine: &mut Engine, w
 {
     let value = words.step(pass, Step::Load(word + 1));
     let clock = words.step(pass, Step::Load(0));
-    engine.word_loaded(value);
+    engine.load_fast(value);
     if clock != engine.snapshot() {
-        return finish_late(words, pass, engine, clock);
+        return finish_moved(words, pass, engine, clock);
     }
     let mut answer = Answer::Reply(Reply::Done);
-    engine.word_confirmed(word, clock, &mut answer);
+    engine.confirm_fast(word, clock, &mut answer);
     answer
 }
 
 /// The same once another one has committed: the clock was loaded, and is not the snapshot.
 #[cold]
 #[inline(never)]
-fn finish_late(words: &Words, pass: &mut Pass, engine: &mut Engine, clock: u64) -> Answer
+fn finish_moved(words: &Words, pass: &mut Pass, engine: &mut Engine, clock: u64) -> Answer
     requires own { Owns words.now pass.old }
-    requires due { (s : Start) × (v : View) × IsOver (cells_of words.now) v × InCall s v engine.old (Step.Load 0) × Turns v (Step.Load 0) clock (view_of pass.old) }
-    ensures { (s : Start) (v : View) → IsOver (cells_of words.now) v → InCall s v engine.old (Step.Load 0) → Turns v (Step.Load 0) clock (view_of pass.old)
+    requires due { (s : Start) × (v : View) × IsOver (cells_of words.now) v × InCall s v engine.old (Step.Load 0) × StepTells v (Step.Load 0) clock (view_of pass.old) }
+    ensures { (s : Start) (v : View) → IsOver (cells_of words.now) v → InCall s v engine.old (Step.Load 0) → StepTells v (Step.Load 0) clock (view_of pass.old)
         → IsAnswered words.now s result pass.new engine.new }
 {
     let mut answer = Answer::Reply(Reply::Done);
-    let next = engine.resume_apart(clock, &mut answer);
+    let next = engine.resume_into(clock, &mut answer);
     finish(words, pass, engine, next, &mut answer);
     answer
 }
 
-/// The same of a commit, which most often takes the clock at once, and stores.
+/// The same of a commit, whose rows are stored on the fast path.
 #[inline(always)]
 pub(crate) fn finish_commit(
     words: &Words,
@@ -101,7 +101,7 @@ pub(crate) fn finish_commit(
     ensures { (s : Start) → IsDue s (view_of pass.old) engine.old (next_in first answer.old) → IsAnswered words.now s answer.new pass.new engine.new }
 {
     if let Some(step) = first {
-        if let Some(step) = advance(words, pass, engine, step, Likely::Exchange, answer) {
+        if let Some(step) = advance(words, pass, engine, step, FastStep::Exchange, answer) {
             store(words, pass, engine, step, answer);
         }
     }
@@ -120,7 +120,7 @@ fn drive(words: &Words, pass: &mut Pass, engine: &mut Engine, first: Step, answe
     }
 }
 
-/// The same, made quick where they are the stores of a commit.
+/// The same, with the stores of a commit on the fast path.
 #[inline(always)]
 fn store(words: &Words, pass: &mut Pass, engine: &mut Engine, first: Step, answer: &mut Answer)
     requires own { Owns words.now pass.old }
@@ -133,7 +133,7 @@ fn store(words: &Words, pass: &mut Pass, engine: &mut Engine, first: Step, answe
     }
 }
 
-/// Does one step of a call, whatever it waits for; tells the next one.
+/// Does one step of a call; tells the next one.
 fn go_on(
     words: &Words,
     pass: &mut Pass,
@@ -146,18 +146,17 @@ fn go_on(
     ensures { StepsOn words.now (view_of pass.old) engine.old step pass.new engine.new (next_in result answer.new) }
 {
     let found = words.step(pass, step);
-    engine.resume_apart(found, answer)
+    engine.resume_into(found, answer)
 }
 
-/// Does one step of a call; tells the next one, where the call goes on as it is likely to, else it does all of them. That
-/// no step comes back from there keeps the likely way free of what is not.
+/// The same of a step of the fast path, where the call stays on it, else does all that are left.
 #[inline(always)]
 fn advance(
     words: &Words,
     pass: &mut Pass,
     engine: &mut Engine,
     step: Step,
-    likely: Likely,
+    fast: FastStep,
     answer: &mut Answer,
 ) -> Option<Step>
     requires own { Owns words.now pass.old }
@@ -165,14 +164,16 @@ fn advance(
     ensures { StepsOn words.now (view_of pass.old) engine.old step pass.new engine.new (next_in result answer.new) }
 {
     let seen = words.step(pass, step);
-    if !engine.foresees(likely, seen) {
-        resume(words, pass, engine, seen, answer);
-        return None;
+    match engine.resume_fast(fast, seen, answer) {
+        Some(next) => next,
+        None => {
+            resume(words, pass, engine, seen, answer);
+            None
+        }
     }
-    engine.resume_likely(likely, seen, answer)
 }
 
-/// The same of a store, which most often is the last one, where it is none of those before.
+/// The same of a store, of a row that is the last one or not.
 #[inline(always)]
 fn advance_store(
     words: &Words,
@@ -186,26 +187,26 @@ fn advance_store(
     ensures { StepsOn words.now (view_of pass.old) engine.old step pass.new engine.new (next_in result answer.new) }
 {
     let stored = words.step(pass, step);
-    if !engine.foresees(Likely::Store, stored) {
-        resume_last(words, pass, engine, stored, answer);
-        return None;
+    match engine.resume_fast(FastStep::Store, stored, answer) {
+        Some(next) => next,
+        None => {
+            resume_last(words, pass, engine, stored, answer);
+            None
+        }
     }
-    engine.resume_likely(Likely::Store, stored, answer)
 }
 
-/// Hands the value of a step in, which most often is the last store of a commit, and does the steps that are left.
+/// Hands the value of a step in, that of the last store of a commit on the fast path, and does the steps that are left.
 #[inline(always)]
 fn resume_last(words: &Words, pass: &mut Pass, engine: &mut Engine, seen: u64, answer: &mut Answer)
     requires own { Owns words.now pass.old }
     requires done { (s : Start) × IsDone (cells_of words.now) s (view_of pass.old) engine.old seen }
     ensures { (s : Start) → IsDone (cells_of words.now) s (view_of pass.old) engine.old seen → IsAnswered words.now s answer.new pass.new engine.new }
 {
-    if !engine.foresees(Likely::LastStore, seen) {
-        resume(words, pass, engine, seen, answer);
-        return;
+    match engine.resume_fast(FastStep::LastStore, seen, answer) {
+        Some(next) => finish_fast(words, pass, engine, next, FastStep::Free, answer),
+        None => resume(words, pass, engine, seen, answer),
     }
-    let next = engine.resume_likely(Likely::LastStore, seen, answer);
-    finish_by(words, pass, engine, next, Likely::Free, answer);
 }
 
 /// Hands the value of a step in, and does the steps that are left.
@@ -215,6 +216,6 @@ fn resume(words: &Words, pass: &mut Pass, engine: &mut Engine, seen: u64, answer
     requires done { (s : Start) × IsDone (cells_of words.now) s (view_of pass.old) engine.old seen }
     ensures { (s : Start) → IsDone (cells_of words.now) s (view_of pass.old) engine.old seen → IsAnswered words.now s answer.new pass.new engine.new }
 {
-    let next = engine.resume_apart(seen, answer);
+    let next = engine.resume_into(seen, answer);
     finish(words, pass, engine, next, answer);
 }

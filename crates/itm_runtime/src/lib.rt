@@ -3,9 +3,9 @@
 
 mod drive;
 mod numbers;
+mod slow_path;
 mod stop;
 mod thread;
-mod unlikely;
 
 pub use stop::Stop;
 pub use thread::Thread;

@@ -1,12 +1,9 @@
 //! Whole words as numbers, for transactions that are written in Rattle.
 
-ghost use Rattle.std.specs.Prelude.{◌≡◌, false, IfSome, IsErrOf};
+ghost use Rattle.std.specs.Prelude.{◌≡◌};
 ghost use Rattle.itm_types.specs.declared.call.Call.{Call};
-ghost use Rattle.norec_core.specs.Proceeds.{MayStarve};
-ghost use Rattle.shared_words.specs.Passes.{Owns, view_of};
-ghost use Rattle.itm_runtime.specs.Ties.{Stands};
-ghost use Rattle.itm_runtime.specs.Served.{Served};
-ghost use Rattle.itm_runtime.specs.Standing.{start_of};
+ghost use Rattle.shared_words.specs.Passes.{Owns};
+ghost use Rattle.itm_runtime.specs.CallResults.{Tells};
 ghost use Rattle.itm_runtime.specs.Stops.{HasNumber, answer_to_read, answer_to_write, number};
 
 use crate::stop::Stop;
@@ -37,11 +34,7 @@ impl Thread {
     /// Reads the number of 8 bytes, the low one first, as by `read`.
     pub fn read_u64(&mut self, words: &Words, at: u64) -> Result<u64, Stop>
         requires own { Owns words.now self.old.pass }
-        ensures own { Owns words.now self.new.pass }
-        ensures served { IfSome (answer_to_read result) (λ a. Served (start_of self.old (Call.Read ReadHint.R Width.U8 at) false) a (view_of self.new.pass) self.new.engine) }
-        ensures stands { Stands (view_of self.new.pass) self.new.engine }
-        ensures err { IsErrOf result Stop.Memory → self.new ≡ self.old }
-        ensures starves { IsErrOf result Stop.Memory → MayStarve self.old.engine (Call.Read ReadHint.R Width.U8 at) }
+        ensures { Tells words.now self.old (Call.Read ReadHint.R Width.U8 at) (answer_to_read result) self.new }
     {
         let answer = Stop::check(self.read(words, ReadHint::R, Width::U8, at)?)?;
         Ok(number_in(answer))
@@ -50,11 +43,7 @@ impl Thread {
     /// Writes a number as 8 bytes, the low one first, as by `write`.
     pub fn write_u64(&mut self, words: &Words, at: u64, value: u64) -> Result<(), Stop>
         requires own { Owns words.now self.old.pass }
-        ensures own { Owns words.now self.new.pass }
-        ensures served { IfSome (answer_to_write result) (λ a. Served (start_of self.old (Call.Write WriteHint.W at (number value)) false) a (view_of self.new.pass) self.new.engine) }
-        ensures stands { Stands (view_of self.new.pass) self.new.engine }
-        ensures err { IsErrOf result Stop.Memory → self.new ≡ self.old }
-        ensures starves { IsErrOf result Stop.Memory → MayStarve self.old.engine (Call.Write WriteHint.W at (number value)) }
+        ensures { Tells words.now self.old (Call.Write WriteHint.W at (number value)) (answer_to_write result) self.new }
     {
         let value = datum_of(value);
         let _done = Stop::check(self.write(words, WriteHint::W, at, &value)?)?;

@@ -1,7 +1,7 @@
 //! A thread that runs transactions.
 
 ghost use Rattle.std.specs.Prelude.{◌≡◌, ◌-◌, ◌^◌, ◌<◌, ◌≤◌, false, true, [], IsOk, IfOk, IfErr, OnErr};
-ghost use Rattle.norec_core.specs.Core.{opening, in_transaction, goes};
+ghost use Rattle.norec_core.specs.Core.{opening, in_transaction, irrevocable_room};
 ghost use Rattle.user_actions.specs.Actions.{total};
 ghost use Rattle.norec_core.specs.Proceeds.{IsUndone};
 ghost use Rattle.norec_core.specs.Undoing.{after_undoing, undone_of};
@@ -10,12 +10,12 @@ ghost use Rattle.itm_runtime.specs.Ties.{Stands};
 ghost use Rattle.itm_runtime.specs.CallResults.{IsAnswered, Returns};
 ghost use Rattle.itm_runtime.specs.Standing.{start_of};
 
-use crate::drive::{finish, finish_by, finish_commit, finish_word};
+use crate::drive::{finish, finish_commit, finish_fast, finish_read};
 use itm_types::{
     Call, Datum, Limits, MAX_COMMITS, MAX_PATIENCE, Props, Ran, ReadHint, Reply, Width, WriteHint,
 };
 use norec_core::{Answer, Undone};
-use norec_engine::{Engine, Likely};
+use norec_engine::{Engine, FastStep};
 use shared_words::{Pass, Words};
 use std::alloc::{AllocError, Global};
 use std::marker::Model;
@@ -73,24 +73,23 @@ impl Thread {
         ensures { Returns (λ a. a) words.now self.old (Call.Begin props room) again result self.new }
     {
         let mut answer = Answer::Reply(Reply::Done);
-        if props.goes_irrevocable || self.engine.is_open() {
-            self.begin_otherwise(words, props, room, again, &mut answer)?;
-            return Ok(answer);
+        match self.engine.begin_fast(props, room, again, &mut answer) {
+            Some(first) => {
+                finish_fast(
+                    words,
+                    &mut self.pass,
+                    &mut self.engine,
+                    first,
+                    FastStep::Begin,
+                    &mut answer,
+                );
+                Ok(answer)
+            }
+            None => {
+                self.begin_slow(words, props, room, again, &mut answer)?;
+                Ok(answer)
+            }
         }
-        if self.engine.is_irrevocable() {
-            self.begin_otherwise(words, props, room, again, &mut answer)?;
-            return Ok(answer);
-        }
-        let first = self.engine.open_into(props, room, again, &mut answer)?;
-        finish_by(
-            words,
-            &mut self.pass,
-            &mut self.engine,
-            first,
-            Likely::Begin,
-            &mut answer,
-        );
-        Ok(answer)
     }
 
     /// Any call of the interface.
@@ -102,7 +101,7 @@ impl Thread {
             Call::Read { hint, width, at } => self.read(words, *hint, *width, *at),
             Call::Write { hint, at, value } => self.write(words, *hint, *at, value),
             Call::Commit => Ok(self.commit(words)),
-            _ => self.call_other(words, call),
+            _ => self.call_slow(words, call),
         }
     }
 
@@ -117,9 +116,9 @@ impl Thread {
         requires own { Owns words.now self.old.pass }
         ensures { Returns (λ a. a) words.now self.old (Call.Read hint width at) false result self.new }
     {
-        match self.engine.read_word(hint, width, at) {
-            Some(word) => Ok(finish_word(words, &mut self.pass, &mut self.engine, word)),
-            None => self.call_other(words, &Call::Read { hint, width, at }),
+        match self.engine.read_fast(hint, width, at) {
+            Some(word) => Ok(finish_read(words, &mut self.pass, &mut self.engine, word)),
+            None => self.call_slow(words, &Call::Read { hint, width, at }),
         }
     }
 
@@ -135,13 +134,17 @@ impl Thread {
         ensures { Returns (λ a. a) words.now self.old (Call.Write hint at value.now) false result self.new }
     {
         let mut answer = Answer::Reply(Reply::Done);
-        if self.engine.is_irrevocable() {
-            self.write_otherwise(words, hint, at, value, &mut answer)?;
-            return Ok(answer);
+        match self.engine.write_fast(hint, at, value, &mut answer) {
+            Some(first) => {
+                finish(words, &mut self.pass, &mut self.engine, first, &mut answer);
+                Ok(answer)
+            }
+            None => {
+                // (copied here, so that on the fast path the value need not lie in memory)
+                let value = copy_of(value);
+                self.call_slow(words, &Call::Write { hint, at, value })
+            }
         }
-        let first = self.engine.write_into(hint, at, value, &mut answer)?;
-        finish(words, &mut self.pass, &mut self.engine, first, &mut answer);
-        Ok(answer)
     }
 
     /// The innermost block ends; with the outermost one the transaction commits (section 5.9). Takes no memory.
@@ -150,16 +153,15 @@ impl Thread {
         ensures { IsAnswered words.now (start_of self.old Call.Commit false) result self.new.pass self.new.engine }
     {
         let mut answer = Answer::Reply(Reply::Done);
-        if !self.engine.takes_clock() {
-            self.commit_otherwise(words, &mut answer);
-            return answer;
-        }
-        match self.engine.commit_into(&mut answer) {
-            Ok(first) => {
+        match self.engine.commit_fast(&mut answer) {
+            Some(first) => {
                 finish_commit(words, &mut self.pass, &mut self.engine, first, &mut answer);
                 answer
             }
-            Err(_) => unreachable!(),
+            None => {
+                self.commit_slow(words, &mut answer);
+                answer
+            }
         }
     }
 
@@ -210,10 +212,10 @@ impl Thread {
     }
 
     /// The room that the call asks for, where it is served and makes the transaction irrevocable.
-    pub fn goes(&self, call: &Call) -> Option<u32>
-        ensures { result ≡ goes self.now.engine call.now }
+    pub fn irrevocable_room(&self, call: &Call) -> Option<u32>
+        ensures { result ≡ irrevocable_room self.now.engine call.now }
     {
-        self.engine.goes(call)
+        self.engine.irrevocable_room(call)
     }
 
     /// How many actions there are in all: those that are registered, and those that have come to run. Takes no memory.
@@ -280,4 +282,12 @@ impl Thread {
         let Thread { pass, engine } = self;
         Ok((pass, engine.into_arena()))
     }
+}
+
+/// The same value once more. Takes no memory.
+#[inline(always)]
+fn copy_of(value: &Datum) -> Datum
+    ensures { result ≡ value.now }
+{
+    Datum::new(value.width, value.bytes.as_slice())
 }

@@ -3,8 +3,8 @@ use Rattle.std.specs.Prelude.{◌≡◌, ◌⊎◌, ℕ, List, Option, codes}
 use Rattle.history_reader.specs.Reading.{read_of}
 use Rattle.itmrun.specs.declared.command.Task.{Task}
 use Rattle.itmrun.specs.declared.command.Task.TheVariants as tasks
-use Rattle.itmrun.specs.declared.command.WordsFault.{WordsFault}
-use Rattle.itmrun.specs.declared.command.WordsFault.TheVariants as faults
+use Rattle.itmrun.specs.declared.command.CommandFault.{CommandFault}
+use Rattle.itmrun.specs.declared.command.CommandFault.TheVariants as faults
 use Rattle.run_commands.specs.Running.{running}
 use Rattle.run_commands.specs.Threading.{threading}
 use Rattle.script_asm.specs.Assembly.{program_of}
@@ -36,14 +36,14 @@ abbrev pub usage_line : List ℕ
 usage_line = codes "itmrun: usage: itmrun asm|sched|threads|check FILE\n"
 
 -- why the words say nothing that can be done
-unfoldable pub fault_line : WordsFault → List ℕ
+unfoldable pub fault_line : CommandFault → List ℕ
 fault_line faults.Usage = usage_line
 fault_line faults.Memory = failure_line script_line NoMemory
 
-abbrev pub fault_status : WordsFault → ℕ
+abbrev pub fault_status : CommandFault → ℕ
 fault_status faults.Usage = 1
 fault_status faults.Memory = failure_status {F = AsmFault} NoMemory
 
 -- one of the commands is done, or it is told why none is
 abbrev pub Runs : ℕ → Option (List ℕ) → Option (List ℕ) → Type 0
-Runs status old new = ((task : Task) × Does task status old new) ⊎ ((fault : WordsFault) × Says (fault_line fault) (fault_status fault) status old new)
+Runs status old new = ((task : Task) × Does task status old new) ⊎ ((fault : CommandFault) × Says (fault_line fault) (fault_status fault) status old new)

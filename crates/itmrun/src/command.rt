@@ -22,7 +22,7 @@ use tx_history::{Piece, put_pieces};
 
 /// Why the program's words say nothing that can be done.
 #[derive(Clone, Copy)]
-enum WordsFault {
+enum CommandFault {
     /// They are not one command and one file.
     Usage,
     /// Memory was refused.
@@ -68,22 +68,22 @@ fn tell_usage<E: Write>(errors: &mut E) -> u8
 }
 
 /// Says why the words say nothing that can be done, and answers the program's status.
-fn tell<E: Write>(errors: &mut E, fault: WordsFault) -> u8
+fn tell<E: Write>(errors: &mut E, fault: CommandFault) -> u8
     ensures { Says (fault_line fault) (fault_status fault) result (E.contents errors.old) (E.contents errors.new) }
 {
     match fault {
-        WordsFault::Usage => tell_usage(errors),
-        WordsFault::Memory => tell_no_text(errors, Failure::NoMemory),
+        CommandFault::Usage => tell_usage(errors),
+        CommandFault::Memory => tell_no_text(errors, Failure::NoMemory),
     }
 }
 
 /// The program's words, its own name first.
-fn words_of<R: Env + AllocGlobal>(rt: &R) -> Result<Vec<String>, WordsFault> {
+fn words_of<R: Env + AllocGlobal>(rt: &R) -> Result<Vec<String>, CommandFault> {
     match env::args(rt) {
-        Ok(words) => words.collect(rt.alloc()).map_err(|_| WordsFault::Memory),
+        Ok(words) => words.collect(rt.alloc()).map_err(|_| CommandFault::Memory),
         Err(error) => match error.kind() {
-            io::ErrorKind::OutOfMemory => Err(WordsFault::Memory),
-            _ => Err(WordsFault::Usage),
+            io::ErrorKind::OutOfMemory => Err(CommandFault::Memory),
+            _ => Err(CommandFault::Usage),
         },
     }
 }
@@ -103,23 +103,23 @@ fn command_line<'a>(alloc: Global) -> Result<Command<'a>, AllocError> {
 }
 
 /// What stands in the places of a command line.
-fn places_of<'a>(alloc: Global, words: &'a [String]) -> Result<ArgMatches<'a>, WordsFault> {
-    let line = command_line(alloc).map_err(|_| WordsFault::Memory)?;
+fn places_of<'a>(alloc: Global, words: &'a [String]) -> Result<ArgMatches<'a>, CommandFault> {
+    let line = command_line(alloc).map_err(|_| CommandFault::Memory)?;
     line.try_get_matches_from(words)
         .map_err(|error| fault_of(error.kind()))
 }
 
 /// Why the words are no command line.
-fn fault_of(kind: ErrorKind) -> WordsFault {
+fn fault_of(kind: ErrorKind) -> CommandFault {
     match kind {
-        ErrorKind::OutOfMemory => WordsFault::Memory,
-        _ => WordsFault::Usage,
+        ErrorKind::OutOfMemory => CommandFault::Memory,
+        _ => CommandFault::Usage,
     }
 }
 
 /// What a command asks for.
 #[tactic(auto, unfolding(crate::specs::Doing::word_of))]
-fn task_of(command: &str) -> Result<Task, WordsFault>
+fn task_of(command: &str) -> Result<Task, CommandFault>
     ensures word { IfOk result (λ task. command.now ≡ word_of task) }
     ensures none { IfErr result (λ fault. (task : Task) → command.now ≡ word_of task → ⊥) }
 {
@@ -128,15 +128,15 @@ fn task_of(command: &str) -> Result<Task, WordsFault>
         "sched" => Ok(Task::Sched),
         "threads" => Ok(Task::Threads),
         "check" => Ok(Task::Check),
-        _ => Err(WordsFault::Usage),
+        _ => Err(CommandFault::Usage),
     }
 }
 
 /// The task and the file of `asm FILE`, `sched FILE`, `threads FILE` or `check FILE`.
-fn order_of<'a>(alloc: Global, words: &'a [String]) -> Result<(Task, &'a str), WordsFault> {
+fn order_of<'a>(alloc: Global, words: &'a [String]) -> Result<(Task, &'a str), CommandFault> {
     let places = places_of(alloc, words)?;
-    let command = places.get_str("command").ok_or(WordsFault::Usage)?;
-    let file = places.get_str("file").ok_or(WordsFault::Usage)?;
+    let command = places.get_str("command").ok_or(CommandFault::Usage)?;
+    let file = places.get_str("file").ok_or(CommandFault::Usage)?;
     Ok((task_of(command)?, file))
 }
 
@@ -183,7 +183,7 @@ fn obey<T: Files + Input + Print + AllocGlobal + Threads + Wait, E: Write>(
     rt: &T,
     words: &[String],
     errors: &mut E,
-) -> Result<u8, WordsFault>
+) -> Result<u8, CommandFault>
     ensures done { IfOk result (λ status. (task : Task) × Does task status (E.contents errors.old) (E.contents errors.new)) }
     ensures quiet { OnErr result (errors.new ≡ errors.old) }
 {

@@ -7,7 +7,7 @@ use Rattle.std.proofs.lemmas.List.{drop-append-le, take-append-le, take-append-d
 use Rattle.std.proofs.lemmas.List.Sorted.{list_any-IsPermutation, IsPermutation-reverse}
 use Rattle.std.proofs.lemmas.Option.{slice_get-map, slice_get-get_or}
 use Rattle.itm_types.specs.declared.call.Props.{Props}
-use Rattle.itm_types.specs.Kept.{also_kept, merged}
+use Rattle.itm_types.specs.KeptBytes.{also_kept, merged}
 use Rattle.undo_log.specs.Rollback.{Old, found, kept_of}
 use Rattle.user_actions.specs.Actions.{Actions}
 use Rattle.undo_log.proofs.KeptBytes.{kept_of-append, kept_of-log}

@@ -2,7 +2,7 @@
 use Rattle.std.specs.Prelude.{ℕ, Bool, false, if◌then◌else◌, List, [], ◌∷◌, ◌++◌, length}
 use Rattle.std.specs.List.{list_any}
 use Rattle.itm_types.specs.declared.call.Props.{Props}
-use Rattle.itm_types.specs.Kept.{restored}
+use Rattle.itm_types.specs.KeptBytes.{restored}
 use Rattle.undo_log.specs.Rollback.{Old, put_back, kept_of}
 use Rattle.write_set.specs.declared.row.Row.{Row}
 use Rattle.user_actions.specs.Actions.{Actions, committed, cut_back}

@@ -1,18 +1,18 @@
 //! The open blocks.
 
-ghost use Rattle.std.specs.Prelude.{◌≡◌, ◌+◌, ◌^◌, ◌<◌, ◌≤◌, ℕ, List, [], ◌∷◌, IsOk, IsSome, OnOk, OnErr, None, Some, length, map, take, drop, option_map, slice_get};
-ghost use Rattle.itm_types.specs.Kept.{also_kept, merged, restored};
+ghost use Rattle.std.specs.Prelude.{◌≡◌, ◌+◌, ◌<◌, ◌≤◌, ℕ, List, [], ◌∷◌, IsOk, IsSome, OnOk, OnErr, None, Some, length, map, take, drop, option_map, slice_get};
+ghost use Rattle.itm_types.specs.KeptBytes.{also_kept, merged, restored};
 ghost use Rattle.itm_types.specs.Memory.{AllFit};
 ghost use Rattle.word_pieces.specs.Masks.{merged_at};
 ghost use Rattle.write_set.specs.Rows.{lookup, laid, put, reserved, overlay, AreEmpty, AreRows};
 ghost use Rattle.write_set.specs.Marks.{unwritten, place_of, reserve, AreMarks, KeepsRoom, MayPut};
 ghost use Rattle.undo_log.specs.Rollback.{found, put_back, kept_of};
-ghost use Rattle.user_actions.specs.Actions.{no_actions, registered, room_after, total};
-ghost use Rattle.nest_frames.specs.Nest.{Frame, begun, log_of, rows_of, logged, closed, is_kept, arena_back, arena_restored, stays_revocable, actions_closed, actions_cancelled, actions_back, made_irrevocable};
+ghost use Rattle.user_actions.specs.Actions.{no_actions, registered};
+ghost use Rattle.nest_frames.specs.Nest.{begun, log_of, rows_of, logged, closed, is_kept, arena_back, arena_restored, stays_revocable, actions_closed, actions_cancelled, actions_back, made_irrevocable};
 
 use crate::moment::Moment;
 use arrayvec::ArrayVec;
-use itm_types::{Action, ActionKind, MAX_OPEN_BLOCKS, Props, Ran};
+use itm_types::{MAX_OPEN_BLOCKS, Props};
 use std::alloc::{AllocError, Global};
 use std::marker::Model;
 use undo_log::{Arena, UndoLog};
@@ -24,7 +24,7 @@ use write_set::{Row, WriteSet};
 pub struct Frames {
     writes: WriteSet,
     undo: UndoLog,
-    actions: UserActions,
+    pub(crate) actions: UserActions,
     /// Of each open block where it began, the innermost last.
     moments: ArrayVec<Moment, MAX_OPEN_BLOCKS>,
 }
@@ -349,53 +349,5 @@ impl Frames {
         for moment in self.moments.as_mut_slice().iter_mut() {
             *moment = Moment::at_start(moment.props);
         }
-    }
-
-    /// Makes room for so many more commit actions, and no other room is kept.
-    pub fn reserve_actions(&mut self, more: usize) -> Result<(), AllocError>
-        ensures ok { OnOk result (self.new ≡ record self.old { room = more }) }
-        ensures err { OnErr result (self.new ≡ self.old) }
-        ensures none { more ≡ 0 → IsOk result }
-    {
-        self.actions.reserve(more)?;
-        Ok(())
-    }
-
-    /// Registers an action. A commit action for which there is room takes no memory.
-    pub fn register(&mut self, kind: ActionKind, action: Action) -> Result<(), AllocError>
-        requires { 0 < length self.old.blocks }
-        ensures ok { OnOk result (self.new ≡ record self.old {
-          actions = registered kind action self.old.actions;
-          room = room_after kind self.old.room;
-        }) }
-        ensures err { OnErr result (self.new ≡ self.old) }
-        ensures has_room { kind ≡ ActionKind.Commit → 0 < self.old.room → IsOk result }
-    {
-        self.actions.register(kind, action)?;
-        Ok(())
-    }
-
-    /// How many actions there are in all: those that are registered, and those that have come to run. Takes no memory.
-    pub fn actions(&self) -> usize
-        ensures total { result ≡ total self.now.actions }
-
-        // There are fewer than a count can tell.
-        ensures few { total self.now.actions < 2 ^ 63 }
-    {
-        self.actions.total()
-    }
-
-    /// The actions that have come to run, in order, since they were last cleared.
-    pub fn due(&self) -> &[Ran]
-        ensures { result.now ≡ self.now.actions.ran }
-    {
-        self.actions.ran()
-    }
-
-    /// Forgets those that have come to run. Takes no memory.
-    pub fn clear_due(&mut self)
-        ensures { self.new ≡ record self.old { actions = record self.old.actions { ran = [] } } }
-    {
-        self.actions.forget_ran();
     }
 }

@@ -10,8 +10,8 @@ use Rattle.user_actions.specs.Actions.{Actions, no_actions, committed}
 use Rattle.nest_frames.specs.Nest.{Frame, arena_back, actions_back, stays_revocable}
 use Rattle.itm_types.specs.declared.step.Step.{Step}
 use Rattle.itm_types.specs.declared.step.Step.TheVariants.{Load, Store, Cas}
-use Rattle.norec_core.specs.declared.phase.Phase.{Phase}
-use Rattle.norec_core.specs.declared.phase.Phase.TheVariants as at
+use Rattle.norec_core.specs.Phases.{Phase}
+use Rattle.norec_core.specs.Phases as at
 use Rattle.norec_core.specs.OwnAccesses.{got_in, gathered_in, saved_in}
 
 pub record Core : Type 0 where
@@ -89,10 +89,10 @@ abbrev pub may_go : List Frame → Props → Bool
 may_go blocks props = not (props.goes_irrevocable && (props.no_irrevocable || stays_revocable blocks))
 
 -- the call makes the transaction irrevocable, or begins one that is: with this room
-abbrev pub goes : Core → Call → Option ℕ
-goes c (calls.Begin props room) = if props.goes_irrevocable && may_go c.blocks props && nat_lt (length c.blocks) MAX_OPEN_BLOCKS && not c.irrevocable then Some room else None
-goes c (calls.Mode room) = if in_transaction c && not (stays_revocable c.blocks) && not c.irrevocable then Some room else None
-goes c _ = None
+abbrev pub irrevocable_room : Core → Call → Option ℕ
+irrevocable_room c (calls.Begin props room) = if props.goes_irrevocable && may_go c.blocks props && nat_lt (length c.blocks) MAX_OPEN_BLOCKS && not c.irrevocable then Some room else None
+irrevocable_room c (calls.Mode room) = if in_transaction c && not (stays_revocable c.blocks) && not c.irrevocable then Some room else None
+irrevocable_room c _ = None
 
 -- the bytes that a call brings
 abbrev pub bytes_to_write : Call → List ℕ
@@ -111,7 +111,7 @@ came c call again = record c {
   freed = false;
   got = None;
   gathered = if c.irrevocable then bytes_to_write call else [];
-  room = unwrap_or (goes c call) c.room;
+  room = unwrap_or (irrevocable_room c call) c.room;
   spent = 0;
   entry = length c.log;
 }

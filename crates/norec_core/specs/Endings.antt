@@ -6,12 +6,12 @@ use Rattle.norec_core.specs.declared.answer.Answer.{Answer}
 use Rattle.norec_core.specs.declared.answer.Answer.TheVariants.{Reply, Committed, Conflict, Busy, Full}
 use Rattle.norec_core.specs.declared.answer.Next.{Next}
 use Rattle.norec_core.specs.declared.answer.Next.TheVariants.{Step as Asks, Answer as Answers}
-use Rattle.norec_core.specs.declared.phase.Aim.{Aim}
-use Rattle.norec_core.specs.declared.phase.Aim.TheVariants as aims
-use Rattle.norec_core.specs.declared.phase.Phase.{Phase}
-use Rattle.norec_core.specs.declared.phase.Phase.TheVariants.{Begin, Take, Confirm, RoundStart, RoundRow, RoundEnd, Exchange, Free}
+use Rattle.norec_core.specs.Aims.{Aim}
+use Rattle.norec_core.specs.Aims as aims
+use Rattle.norec_core.specs.Phases.{Phase}
+use Rattle.norec_core.specs.Phases.{Begin, Take, Confirm, RoundStart, RoundRow, RoundEnd, Exchange, Free}
 use Rattle.norec_core.specs.Rows.{row_at}
-use Rattle.norec_core.specs.Core.{Core, goes, in_transaction, is_outermost}
+use Rattle.norec_core.specs.Core.{Core, irrevocable_room, in_transaction, is_outermost}
 
 -- once a round has succeeded: who is to take the clock finds as many done as may be
 abbrev pub aimed_ending : Aim → ℕ → Option Answer
@@ -44,10 +44,10 @@ going_ending c (Some room) = Some (Full (c.snapshot / 2))
 
 -- and of any call
 abbrev pub ending_at : Core → Call → Option Answer
-ending_at c (calls.Begin props room) = if in_transaction c then going_ending c (goes c (calls.Begin props room)) else None
+ending_at c (calls.Begin props room) = if in_transaction c then going_ending c (irrevocable_room c (calls.Begin props room)) else None
 ending_at c calls.Commit = if is_outermost c.blocks then commit_ending c else None
 ending_at c (calls.Abort outer) = None
-ending_at c (calls.Mode room) = going_ending c (goes c (calls.Mode room))
+ending_at c (calls.Mode room) = going_ending c (irrevocable_room c (calls.Mode room))
 ending_at c calls.InTransaction = None
 ending_at c (calls.Read hint width at) = None
 ending_at c (calls.Write hint at value) = None

@@ -3,19 +3,19 @@ use Rattle.std.specs.Prelude.{ℕ, suc, ◌+◌, ◌*◌, ◌/◌, ◌%◌, ◌=
 use Rattle.itm_types.specs.declared.row.LogRow.{LogRow}
 use Rattle.itm_types.specs.declared.call.Call.{Call}
 use Rattle.itm_types.specs.declared.call.Call.TheVariants as calls
-use Rattle.norec_core.specs.declared.phase.Aim.{Aim}
-use Rattle.norec_core.specs.declared.phase.Aim.TheVariants as aims
-use Rattle.norec_core.specs.declared.phase.Opening.{Opening}
-use Rattle.norec_core.specs.declared.phase.Taking.{Taking}
-use Rattle.norec_core.specs.declared.phase.Taking.TheVariants as takings
-use Rattle.norec_core.specs.declared.phase.Writing.{Writing}
-use Rattle.norec_core.specs.declared.phase.Target.{Target}
-use Rattle.norec_core.specs.declared.phase.Target.TheVariants as into
-use Rattle.norec_core.specs.declared.phase.Reading.{Reading}
-use Rattle.norec_core.specs.declared.phase.Purpose.{Purpose}
-use Rattle.norec_core.specs.declared.phase.Purpose.TheVariants as for
-use Rattle.norec_core.specs.declared.phase.Phase.{Phase}
-use Rattle.norec_core.specs.declared.phase.Phase.TheVariants.{Idle, Begin, Take, Load, Confirm, RoundStart, RoundRow, RoundEnd, Exchange, BackLoad, Store, Free, Fetch, Place}
+use Rattle.norec_core.specs.Aims.{Aim}
+use Rattle.norec_core.specs.Aims as aims
+use Rattle.norec_core.specs.declared.call_parts.Opening.{Opening}
+use Rattle.norec_core.specs.declared.call_parts.Taking.{Taking}
+use Rattle.norec_core.specs.declared.call_parts.Taking.TheVariants as takings
+use Rattle.norec_core.specs.declared.call_parts.Writing.{Writing}
+use Rattle.norec_core.specs.declared.call_parts.Target.{Target}
+use Rattle.norec_core.specs.declared.call_parts.Target.TheVariants as into
+use Rattle.norec_core.specs.declared.call_parts.Reading.{Reading}
+use Rattle.norec_core.specs.declared.call_parts.Purpose.{Purpose}
+use Rattle.norec_core.specs.declared.call_parts.Purpose.TheVariants as for
+use Rattle.norec_core.specs.Phases.{Phase}
+use Rattle.norec_core.specs.Phases.{Idle, Begin, Take, Load, Confirm, RoundStart, RoundRow, RoundEnd, Exchange, BackLoad, Store, Free, Fetch, Place}
 use Rattle.itm_types.specs.Access.{size_of}
 use Rattle.itm_types.specs.declared.access.ReadHint.{ReadHint}
 use Rattle.itm_types.specs.declared.access.WriteHint.{WriteHint}
@@ -34,7 +34,7 @@ use Rattle.word_pieces.specs.Pieces.{count_of, piece_of, pieces_of, scattered}
 use Rattle.norec_core.specs.Rows.{row_at, write_at, value_into, is_had}
 use Rattle.itm_types.specs.declared.step.Step.{Step}
 use Rattle.itm_types.specs.declared.step.Step.TheVariants as steps
-use Rattle.norec_core.specs.Core.{Core, goes, in_transaction, is_outermost, may_go}
+use Rattle.norec_core.specs.Core.{Core, irrevocable_room, in_transaction, is_outermost, may_go}
 use Rattle.norec_core.specs.OwnAccesses.{word_of}
 
 -- one more round, or the end
@@ -212,10 +212,10 @@ placed_in c stage = if c.irrevocable then stage else Idle
 -- where a call stands as it comes
 abbrev pub stage_at : Core → Call → Bool → Phase
 stage_at c (calls.Begin props room) again =
-    if in_transaction c then going_stage c (goes c (calls.Begin props room)) (takings.Begin props room) else (if may_go c.blocks props then Begin (record { props = props; room = room; again = again }) else Idle)
+    if in_transaction c then going_stage c (irrevocable_room c (calls.Begin props room)) (takings.Begin props room) else (if may_go c.blocks props then Begin (record { props = props; room = room; again = again }) else Idle)
 stage_at c calls.Commit again = if is_outermost c.blocks then commit_stage c else Idle
 stage_at c (calls.Abort outer) again = Idle
-stage_at c (calls.Mode room) again = going_stage c (goes c (calls.Mode room)) (takings.Mode room)
+stage_at c (calls.Mode room) again = going_stage c (irrevocable_room c (calls.Mode room)) (takings.Mode room)
 stage_at c calls.InTransaction again = Idle
 stage_at c (calls.Read hint width at) again =
     if in_transaction c && nat_le (at + size_of width) (8 * c.words) then read_stage c (value_reading hint width at) else Idle

@@ -1,4 +1,4 @@
-pub mod Ended
+pub mod EndedTransactions
 pub mod CallsInProgress
 mod OptionalRefusals
 pub mod RefusedAccesses

@@ -8,7 +8,7 @@ use Rattle.itm_types.specs.declared.call.Refusal.TheVariants.{OutOfRange}
 use Rattle.itm_types.specs.Access.{size_of}
 use Rattle.itm_types.specs.Calls.{access_of}
 use Rattle.itm_model.specs.Machine.{unless}
-use Rattle.norec_core.specs.declared.phase.Phase.TheVariants.{Idle}
+use Rattle.norec_core.specs.Phases.{Idle}
 use Rattle.norec_core.specs.Accesses.{access_refusal}
 use Rattle.norec_core.specs.Core.{Core, in_transaction}
 use Rattle.norec_core.specs.Endings.{ending_at}

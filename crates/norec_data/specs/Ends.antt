@@ -6,11 +6,11 @@ use Rattle.itm_types.specs.declared.call.Reply.TheVariants as replies
 use Rattle.norec_core.specs.declared.answer.Answer.{Answer}
 use Rattle.norec_core.specs.declared.answer.Answer.TheVariants as answers
 use Rattle.norec_data.specs.declared.data.Data.{Data}
-use Rattle.norec_data.specs.declared.end.End.{End}
-use Rattle.norec_data.specs.declared.end.End.TheVariants as ends
+use Rattle.norec_data.specs.declared.end.CallEnd.{CallEnd}
+use Rattle.norec_data.specs.declared.end.CallEnd.TheVariants as ends
 
 -- the answer that such an end comes to
-abbrev pub answer_of : Data → End → Answer
+abbrev pub answer_of : Data → CallEnd → Answer
 answer_of d ends.Done = answers.Reply replies.Done
 answer_of d ends.Gathered = answers.Reply (replies.Bytes d.gathered)
 answer_of d (ends.Word word) = answers.Reply (replies.Bytes (record { items = to_le_bytes w64 word }))
@@ -28,9 +28,9 @@ answer_of d ends.Busy = answers.Busy d.clock
 answer_of d ends.Full = answers.Full (d.snapshot / 2)
 
 -- the bytes that are still kept once it is told
-abbrev pub left_of : End → ArrayVec ℕ → ArrayVec ℕ
+abbrev pub left_of : CallEnd → ArrayVec ℕ → ArrayVec ℕ
 left_of ends.Gathered bytes = record { items = [] }
 left_of _ bytes = bytes
 
-abbrev pub told : End → Data → Data
+abbrev pub told : CallEnd → Data → Data
 told end d = record d { gathered = left_of end d.gathered }

@@ -2,8 +2,8 @@
 use Rattle.std.specs.Prelude.{◌≡◌, ℕ, ◌+◌, true, List, [], Option}
 use Rattle.user_actions.specs.Actions.{Actions}
 use Rattle.write_set.specs.Marks.{unwritten}
-use Rattle.norec_core.specs.declared.phase.Phase.{Phase}
-use Rattle.norec_core.specs.declared.phase.Phase.TheVariants as at
+use Rattle.norec_core.specs.Phases.{Phase}
+use Rattle.norec_core.specs.Phases as at
 use Rattle.norec_core.specs.declared.answer.Answer.{Answer}
 use Rattle.norec_core.specs.declared.answer.Next.{Next}
 use Rattle.norec_core.specs.declared.answer.Next.TheVariants.{Step as Asks, Answer as Answers}
@@ -14,14 +14,14 @@ use Rattle.norec_data.specs.declared.data.Data.{Data}
 use Rattle.norec_data.specs.declared.pending.Pending.{Pending}
 use Rattle.norec_data.specs.declared.pending.Pending.TheVariants as waits
 use Rattle.norec_data.specs.declared.turn.Turn.{Turn}
-use Rattle.norec_data.specs.declared.turn.Turn.TheVariants.{Wait, End, Enter}
+use Rattle.norec_data.specs.declared.turn.Turn.TheVariants.{Wait, End, EndIrrevocable}
 use Rattle.norec_data.specs.Ends.{answer_of, told}
 use Rattle.norec_data.specs.View.{core, core_held, in_block, phase_of, step_of}
 
 abbrev pub next_of : Turn → Data → Next
 next_of (Wait p) d = Asks (step_of d (phase_of d p))
 next_of (End end) d = Answers (answer_of d end)
-next_of (Enter end) d = Answers (answer_of d end)
+next_of (EndIrrevocable end) d = Answers (answer_of d end)
 
 abbrev pub counted : Data → Data
 counted d = record d { spent = d.spent + 1 }
@@ -29,22 +29,22 @@ counted d = record d { spent = d.spent + 1 }
 abbrev pub data_after : Turn → Data → Data
 data_after (Wait p) d = counted d
 data_after (End end) d = told end d
-data_after (Enter end) d = told end d
+data_after (EndIrrevocable end) d = told end d
 
 abbrev pub phase_after : Turn → Data → Phase
 phase_after (Wait p) d = phase_of d p
 phase_after (End end) d = at.Idle
-phase_after (Enter end) d = at.Idle
+phase_after (EndIrrevocable end) d = at.Idle
 
 abbrev pub pending_after : Turn → Pending
 pending_after (Wait p) = p
 pending_after (End end) = waits.Idle
-pending_after (Enter end) = waits.Idle
+pending_after (EndIrrevocable end) = waits.Idle
 
 abbrev pub core_after : Turn → Data → Core
 core_after (Wait p) d = core (counted d) (phase_of d p)
 core_after (End end) d = core d at.Idle
-core_after (Enter end) d = core_held d
+core_after (EndIrrevocable end) d = core_held d
 
 -- a call is in progress
 abbrev pub IsOn : Phase → Type 0
@@ -58,7 +58,7 @@ IsWaiting _ = Unit {0}
 abbrev pub Asked : Turn → Type 0
 Asked (Wait p) = IsWaiting p
 Asked (End end) = Unit {0}
-Asked (Enter end) = Unit {0}
+Asked (EndIrrevocable end) = Unit {0}
 
 abbrev pub Turns : Core → Turn → Data → Type 0
 Turns mid turn d = Proceeds mid (next_of turn d) (core_after turn d)
@@ -67,7 +67,7 @@ Turns mid turn d = Proceeds mid (next_of turn d) (core_after turn d)
 abbrev pub TurnEndsSo : Option Answer → Turn → Data → Type 0
 TurnEndsSo so (Wait p) d = Unit {0}
 TurnEndsSo so (End end) d = IsEnding so (answer_of d end)
-TurnEndsSo so (Enter end) d = IsEnding so (answer_of d end)
+TurnEndsSo so (EndIrrevocable end) d = IsEnding so (answer_of d end)
 
 -- no transaction opens, and the log and the snapshot stay, unless it ended
 pub record Stays (old new : Data) : Type 0 where

@@ -5,17 +5,17 @@ use Rattle.write_set.specs.declared.row.Row.{Row}
 use Rattle.itm_types.specs.declared.call.Call.{Call}
 use Rattle.itm_types.specs.declared.call.Call.TheVariants.{Begin, Commit, Mode, Read, Write, Copy, Fill}
 use Rattle.itm_types.specs.declared.step.Step.{Step}
-use Rattle.norec_core.specs.declared.phase.Aim.{Aim}
-use Rattle.norec_core.specs.declared.phase.Aim.TheVariants as aims
-use Rattle.norec_core.specs.declared.phase.Taking.TheVariants as takings
-use Rattle.norec_core.specs.declared.phase.Phase.{Phase}
-use Rattle.norec_core.specs.declared.phase.Phase.TheVariants as at
-use Rattle.norec_core.specs.declared.phase.Purpose.{Purpose}
-use Rattle.norec_core.specs.declared.phase.Purpose.TheVariants as for
-use Rattle.norec_core.specs.declared.phase.Target.{Target}
-use Rattle.norec_core.specs.declared.phase.Target.TheVariants as into
-use Rattle.norec_core.specs.declared.phase.Reading.{Reading}
-use Rattle.norec_core.specs.declared.phase.Taking.{Taking}
+use Rattle.norec_core.specs.Aims.{Aim}
+use Rattle.norec_core.specs.Aims as aims
+use Rattle.norec_core.specs.declared.call_parts.Taking.TheVariants as takings
+use Rattle.norec_core.specs.Phases.{Phase}
+use Rattle.norec_core.specs.Phases as at
+use Rattle.norec_core.specs.declared.call_parts.Purpose.{Purpose}
+use Rattle.norec_core.specs.declared.call_parts.Purpose.TheVariants as for
+use Rattle.norec_core.specs.declared.call_parts.Target.{Target}
+use Rattle.norec_core.specs.declared.call_parts.Target.TheVariants as into
+use Rattle.norec_core.specs.declared.call_parts.Reading.{Reading}
+use Rattle.norec_core.specs.declared.call_parts.Taking.{Taking}
 use Rattle.norec_data.specs.declared.pending.Cause.{Cause}
 use Rattle.norec_data.specs.declared.pending.Cause.TheVariants as causes
 use Rattle.norec_data.specs.declared.pending.Pending.{Pending}

@@ -75,7 +75,7 @@ impl Data {
     }
 
     /// A call comes: its steps are counted from here, and the rows that it logs.
-    pub fn come(&mut self)
+    pub fn start_call(&mut self)
         ensures { self.new ≡ record self.old { spent = 0; entry = length self.old.log.rows } }
     {
         self.spent = 0;

@@ -13,7 +13,7 @@ use std::mem;
 
 /// How a call ended. With what is kept beside the phase it says the answer.
 #[derive(Clone, Copy, Debug, PartialEq, Eq)]
-pub enum End {
+pub enum CallEnd {
     Done,
     /// The bytes that are gathered.
     Gathered,
@@ -45,7 +45,7 @@ pub enum End {
     Full,
 }
 
-impl End {
+impl CallEnd {
     /// Tells the answer. The bytes that it gives are no longer kept.
     #[inline(always)]
     pub fn tell(self, state: &mut Data, answer: &mut Answer)
@@ -53,29 +53,29 @@ impl End {
         ensures told { state.new ≡ told self state.old }
     {
         match self {
-            End::Done => *answer = Answer::Reply(Reply::Done),
-            End::Gathered => {
+            CallEnd::Done => *answer = Answer::Reply(Reply::Done),
+            CallEnd::Gathered => {
                 let bytes = mem::replace(&mut state.gathered, Value::new());
                 *answer = Answer::Reply(Reply::Bytes(bytes));
             }
-            End::Word(word) => tell_word(answer, word),
-            End::Entered => *answer = Answer::Reply(Reply::Code(ENTERED)),
-            End::EnteredAgain => *answer = Answer::Reply(Reply::Code(ENTERED_AGAIN)),
-            End::Cancelled => *answer = Answer::Reply(Reply::Code(CANCELLED)),
-            End::NoTransaction => *answer = Answer::Reply(Reply::Code(NO_TRANSACTION)),
-            End::Retryable => *answer = Answer::Reply(Reply::Code(RETRYABLE)),
-            End::Irrevocable => *answer = Answer::Reply(Reply::Code(IRREVOCABLE)),
-            End::Refused => *answer = Answer::Reply(Reply::Refused(state.why)),
-            End::Committed => *answer = committed(state, true),
-            End::ReadOnly => *answer = committed(state, false),
-            End::Conflict => {
+            CallEnd::Word(word) => tell_word(answer, word),
+            CallEnd::Entered => *answer = Answer::Reply(Reply::Code(ENTERED)),
+            CallEnd::EnteredAgain => *answer = Answer::Reply(Reply::Code(ENTERED_AGAIN)),
+            CallEnd::Cancelled => *answer = Answer::Reply(Reply::Code(CANCELLED)),
+            CallEnd::NoTransaction => *answer = Answer::Reply(Reply::Code(NO_TRANSACTION)),
+            CallEnd::Retryable => *answer = Answer::Reply(Reply::Code(RETRYABLE)),
+            CallEnd::Irrevocable => *answer = Answer::Reply(Reply::Code(IRREVOCABLE)),
+            CallEnd::Refused => *answer = Answer::Reply(Reply::Refused(state.why)),
+            CallEnd::Committed => *answer = committed(state, true),
+            CallEnd::ReadOnly => *answer = committed(state, false),
+            CallEnd::Conflict => {
                 *answer = Answer::Conflict {
                     clock: state.clock,
                     word: state.changed,
                 }
             }
-            End::Busy => *answer = Answer::Busy { clock: state.clock },
-            End::Full => {
+            CallEnd::Busy => *answer = Answer::Busy { clock: state.clock },
+            CallEnd::Full => {
                 *answer = Answer::Full {
                     at: state.snapshot / 2,
                 }

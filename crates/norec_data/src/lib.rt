@@ -10,7 +10,7 @@ mod turn;
 
 pub use copies::{chunk_reading, chunks, direction};
 pub use data::{Data, finish, roll_back};
-pub use end::End;
+pub use end::CallEnd;
 pub use pending::{Cause, Pending};
 pub use refusals::{access_refusal, begin_refusal, copy_refusal, mode_refusal};
 pub use turn::Turn;

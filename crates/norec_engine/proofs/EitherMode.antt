@@ -1,10 +1,10 @@
 -- A turn of either machine, as one of the engine's.
 use Rattle.std.proofs.Common.{◌≡◌, true, false, refl}
-use Rattle.norec_core.specs.declared.phase.Phase.TheVariants.{Idle}
+use Rattle.norec_core.specs.Phases.{Idle}
 use Rattle.norec_data.specs.declared.data.Data.{Data}
-use Rattle.norec_data.specs.declared.end.End.{End as Ending}
+use Rattle.norec_data.specs.declared.end.CallEnd.{CallEnd}
 use Rattle.norec_data.specs.declared.turn.Turn.{Turn}
-use Rattle.norec_data.specs.declared.turn.Turn.TheVariants.{Wait, End, Enter}
+use Rattle.norec_data.specs.declared.turn.Turn.TheVariants.{Wait, End, EndIrrevocable}
 use Rattle.norec_data.specs.Bounds.{IsHeld, IsOver}
 use Rattle.norec_data.specs.Ends.{told}
 use Rattle.norec_data.specs.Turns.{core_after}
@@ -17,19 +17,19 @@ use Rattle.norec_irrevocable.specs.Phases.{IsSoundHeld}
 pub revocable_after : (turn : Turn) (d : Data) → core_after turn d ≡ engine_after false turn d
 revocable_after (Wait phase) d = refl
 revocable_after (End end) d = refl
-revocable_after (Enter end) d = refl
+revocable_after (EndIrrevocable end) d = refl
 
 pub irrevocable_after : (turn : Turn) (d : Data) → held_after turn d ≡ engine_after true turn d
 irrevocable_after (Wait phase) d = refl
 irrevocable_after (End end) d = refl
-irrevocable_after (Enter end) d = refl
+irrevocable_after (EndIrrevocable end) d = refl
 
 -- outside a transaction
 pub over_sound : (d : Data) → IsOver d → IsSound d Idle
 over_sound d o = record { bounds = o.bounds; reached = o.reached; in_phase = (λ is. (let outside = o.outside.is_open in absurd (cc)), λ is. o.outside) }
 
 -- what an answer is made of is of no account to what follows
-told_sound : (end : Ending) (d : Data) → IsSound d Idle → IsSound (told end d) Idle
+told_sound : (end : CallEnd) (d : Data) → IsSound d Idle → IsSound (told end d) Idle
 told_sound end d s = record {
   bounds = s.bounds;
   reached = s.reached;
@@ -39,15 +39,15 @@ told_sound end d s = record {
   );
 }
 
-told_held : (end : Ending) (d : Data) → IsHeld d → IsSoundHeld (told end d) Idle
+told_held : (end : CallEnd) (d : Data) → IsHeld d → IsSoundHeld (told end d) Idle
 told_held end d h = record { held = record { bounds = h.bounds; is_open = h.is_open; log = h.log; writes = h.writes; settled = h.settled; free = h.free; tries = h.tries }; in_phase = tt }
 
 pub revocable_sound : (turn : Turn) (d : Data) → IsSoundTurn turn d → IsSoundWith false turn d
 revocable_sound (Wait phase) d s = s.sound
 revocable_sound (End end) d s = told_sound end d s.sound
-revocable_sound (Enter end) d s = told_held end d s.sound
+revocable_sound (EndIrrevocable end) d s = told_held end d s.sound
 
 pub irrevocable_sound : (turn : Turn) (d : Data) → IsSoundAfter turn d → IsSoundWith true turn d
 irrevocable_sound (Wait phase) d s = s.0
 irrevocable_sound (End end) d s = told_sound end d (over_sound d s)
-irrevocable_sound (Enter end) d s = told_held end d s
+irrevocable_sound (EndIrrevocable end) d s = told_held end d s

@@ -9,20 +9,20 @@ use Rattle.word_pieces.specs.declared.chunk.Chunk.{Chunk}
 use Rattle.word_pieces.specs.declared.chunk.Direction.TheVariants.{Up}
 use Rattle.word_pieces.specs.Chunks.{chunks_of}
 use Rattle.word_pieces.specs.Pieces.{count_of}
-use Rattle.norec_core.specs.declared.phase.Phase.{Phase}
-use Rattle.norec_core.specs.declared.phase.Phase.TheVariants as at
-use Rattle.norec_core.specs.declared.phase.Purpose.{Purpose}
-use Rattle.norec_core.specs.declared.phase.Purpose.TheVariants as for
-use Rattle.norec_core.specs.declared.phase.Target.{Target}
-use Rattle.norec_core.specs.declared.phase.Target.TheVariants as into
+use Rattle.norec_core.specs.Phases.{Phase}
+use Rattle.norec_core.specs.Phases as at
+use Rattle.norec_core.specs.declared.call_parts.Purpose.{Purpose}
+use Rattle.norec_core.specs.declared.call_parts.Purpose.TheVariants as for
+use Rattle.norec_core.specs.declared.call_parts.Target.{Target}
+use Rattle.norec_core.specs.declared.call_parts.Target.TheVariants as into
 use Rattle.norec_core.specs.Accesses.{count}
 use Rattle.norec_core.specs.Copies.{chunks_in, direction_of, is_out, words_in, words_read, words_written, WritesShared}
 use Rattle.norec_core.specs.Core.{Core}
 use Rattle.norec_core.specs.Proceeds.{most, IsWithin}
-use Rattle.norec_core.proofs.CopyChunks.{chunk_there, few_words}
-use Rattle.norec_core.proofs.Ranges.{IsPart, parts-chunks_of}
-use Rattle.norec_core.proofs.Readings.{words_in-at}
-use Rattle.norec_irrevocable.proofs.ChunkPhases.{few_chunks}
+use Rattle.norec_core.proofs.Accesses.CopyChunks.{chunk_there, few_words}
+use Rattle.norec_core.proofs.Accesses.Ranges.{IsPart, parts-chunks_of}
+use Rattle.norec_core.proofs.Accesses.Readings.{words_in-at}
+use Rattle.norec_irrevocable.proofs.Pieces.ChunkPhases.{few_chunks}
 use Rattle.std.specs.List.{AllByRecursion}
 use Rattle.norec_data.specs.declared.data.Data.{Data}
 use Rattle.norec_data.specs.Turns.{IsOn}

@@ -1,8 +1,8 @@
 -- The steps of a read of one whole word, for the engine as its callers see it.
 use Rattle.std.proofs.Common.{◌≡◌, ℕ, Bool, true, false, refl, sym, subst}
-use Rattle.norec_core.specs.declared.phase.Phase.{Phase}
-use Rattle.norec_core.specs.declared.phase.Phase.TheVariants.{Load}
-use Rattle.norec_core.specs.declared.phase.Reading.{Reading}
+use Rattle.norec_core.specs.Phases.{Phase}
+use Rattle.norec_core.specs.Phases.{Load}
+use Rattle.norec_core.specs.declared.call_parts.Reading.{Reading}
 use Rattle.norec_data.specs.declared.data.Data.{Data}
 use Rattle.norec_data.specs.declared.pending.Pending.{Pending}
 use Rattle.norec_data.specs.declared.pending.Pending.TheVariants as waits

@@ -1,4 +1,4 @@
 pub mod Modes
 pub mod NextSteps
-pub mod Foreseen
+pub mod FastCalls
 pub mod WholeReads

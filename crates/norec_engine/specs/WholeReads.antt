@@ -2,8 +2,8 @@
 use Rattle.std.specs.Prelude.{◌≡◌, ℕ, ◌<◌, false}
 use Rattle.itm_types.specs.declared.limits.TheConstants.{MAX_WORDS}
 use Rattle.norec_core.specs.Core.{Core}
-use Rattle.norec_core.specs.declared.phase.Phase.TheVariants.{Load, Confirm}
-use Rattle.norec_core.specs.declared.phase.Reading.{Reading}
+use Rattle.norec_core.specs.Phases.{Load, Confirm}
+use Rattle.norec_core.specs.declared.call_parts.Reading.{Reading}
 use Rattle.norec_revocable.specs.Between.{IsWord}
 
 -- the engine waits for the word

@@ -2,7 +2,7 @@
 
 ghost use Rattle.std.specs.Prelude.{◌≡◌, ◌^◌, ◌<◌, ◌≤◌, IsSome, true, IsTrue, ◌↔◌, is_some, false, []};
 ghost use Rattle.user_actions.specs.Actions.{total};
-ghost use Rattle.norec_core.specs.Core.{in_transaction, opening, goes};
+ghost use Rattle.norec_core.specs.Core.{in_transaction, opening, irrevocable_room};
 ghost use Rattle.norec_core.specs.Proceeds.{IsUndone, Fits};
 ghost use Rattle.norec_data.specs.View.{phase_of};
 ghost use Rattle.norec_engine.specs.Modes.{IsSoundIn};
@@ -10,14 +10,14 @@ ghost use Rattle.norec_core.specs.Undoing.{undone_of, after_undoing};
 ghost use Rattle.norec_engine.specs.NextSteps.{next_in, ComesInto};
 ghost use Rattle.norec_core.specs.Moves.{IsResumed};
 
-use crate::likely::Likely;
+use crate::turns;
 use crate::turns::take;
 use itm_types::{
     Call, Datum, Limits, MAX_COMMITS, MAX_PATIENCE, MAX_WORDS, Props, Ran, ReadHint, Refusal, Step,
     Value, Width, WriteHint,
 };
 use nest_frames::Frames;
-use norec_core::{Answer, Opening, Phase, Purpose, Reading, Taking, Target, Undone, Writing};
+use norec_core::{Answer, Opening, Purpose, Reading, Taking, Target, Undone, Writing};
 use norec_data::{Cause, Data, Pending, roll_back};
 use std::alloc::{AllocError, Global};
 use std::marker::Model;
@@ -120,11 +120,7 @@ impl Engine {
         requires idle { self.old.waits ≡ None }
         ensures { ComesInto self.old (Call.Begin props room) again result answer.new self.new }
     {
-        let turn = if self.irrevocable {
-            norec_irrevocable::called(&mut self.state, &Call::Begin { props, room })?
-        } else {
-            norec_revocable::begin(&mut self.state, props, room, again)?
-        };
+        let turn = turns::begin(&mut self.state, self.irrevocable, props, room, again)?;
         Ok(take(
             &mut self.state,
             &mut self.pending,
@@ -144,11 +140,7 @@ impl Engine {
         requires idle { self.old.waits ≡ None }
         ensures { ComesInto self.old call.now false result answer.new self.new }
     {
-        let turn = if self.irrevocable {
-            norec_irrevocable::called(&mut self.state, call)?
-        } else {
-            norec_revocable::called(&mut self.state, call)?
-        };
+        let turn = turns::call(&mut self.state, self.irrevocable, call)?;
         Ok(take(
             &mut self.state,
             &mut self.pending,
@@ -159,37 +151,14 @@ impl Engine {
     }
 
     /// The step that it waits for was done: `seen` is the value loaded, the value that an exchange found, or 0 after a store.
-    /// The next step; where there is none, the call is over, and `answer` tells how. What a call most often waits for is
-    /// done where this is called.
+    /// The next step; where there is none, the call is over, and `answer` tells how. Stands where it is called.
     #[inline(always)]
     pub fn resume_into(&mut self, seen: u64, answer: &mut Answer) -> Option<Step>
         requires waits { IsSome self.old.waits }
         requires fits { Fits self.old seen }
         ensures { IsResumed self.old seen (next_in result answer.new) self.new }
     {
-        match self.pending {
-            Pending::Begin => self.resume_likely(Likely::Begin, seen, answer),
-            Pending::Load => self.resume_likely(Likely::Load, seen, answer),
-            Pending::Confirm(_) => self.resume_likely(Likely::Confirm, seen, answer),
-            Pending::Exchange => self.resume_likely(Likely::Exchange, seen, answer),
-            Pending::Store(_) => self.resume_likely(Likely::LastStore, seen, answer),
-            Pending::Free => self.resume_likely(Likely::Free, seen, answer),
-            _ => self.resume_apart(seen, answer),
-        }
-    }
-
-    /// `resume_into` as a function of its own, whatever the call waits for.
-    #[inline(never)]
-    pub fn resume_apart(&mut self, seen: u64, answer: &mut Answer) -> Option<Step>
-        requires waits { IsSome self.old.waits }
-        requires fits { Fits self.old seen }
-        ensures { IsResumed self.old seen (next_in result answer.new) self.new }
-    {
-        let turn = if self.irrevocable {
-            norec_irrevocable::resumed(&mut self.state, self.pending, seen)
-        } else {
-            norec_revocable::resumed(&mut self.state, self.pending, seen)
-        };
+        let turn = turns::resume(&mut self.state, self.irrevocable, self.pending, seen);
         take(
             &mut self.state,
             &mut self.pending,
@@ -270,13 +239,13 @@ impl Engine {
     }
 
     /// The room that the call asks for, where it is served and makes the transaction irrevocable.
-    pub fn goes(&self, call: &Call) -> Option<u32>
-        ensures { result ≡ goes self.now call.now }
+    pub fn irrevocable_room(&self, call: &Call) -> Option<u32>
+        ensures { result ≡ irrevocable_room self.now call.now }
     {
         if self.irrevocable {
             None
         } else {
-            norec_revocable::goes(&self.state, call)
+            norec_revocable::irrevocable_room(&self.state, call)
         }
     }
 

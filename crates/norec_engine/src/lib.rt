@@ -3,11 +3,10 @@
 #![tactic(auto)]
 
 mod engine;
-mod likely;
+mod fast_path;
 mod next;
 mod turns;
-mod words;
 
 pub use engine::Engine;
-pub use likely::Likely;
+pub use fast_path::FastStep;
 pub use norec_core::{Answer, Next, Undone};

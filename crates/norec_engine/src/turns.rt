@@ -1,14 +1,64 @@
 //! Turns that are taken.
 
-ghost use Rattle.std.specs.Prelude.{◌≡◌, ◌+◌, ◌^◌, ◌<◌};
+ghost use Rattle.std.specs.Prelude.{◌≡◌, ◌+◌, ◌^◌, ◌<◌, IsSome, false};
 ghost use Rattle.norec_data.specs.View.{phase_of, step_of as asked_step};
 ghost use Rattle.norec_data.specs.Turns.{counted, Asked, IsWaiting};
 ghost use Rattle.norec_engine.specs.NextSteps.{next_in};
-ghost use Rattle.norec_engine.specs.Modes.{IsSoundIn, IsSoundWith, IsTaken};
+ghost use Rattle.norec_core.specs.Phases as phases;
+ghost use Rattle.norec_core.specs.Proceeds.{Fits};
+ghost use Rattle.norec_engine.specs.Modes.{CallComesIn, engine_in, IsSoundIn, IsSoundWith, IsTaken, StepTurnsIn};
 
-use itm_types::Step;
+use itm_types::{Call, Props, Step};
 use norec_core::Answer;
 use norec_data::{Data, Pending, Turn};
+use std::alloc::AllocError;
+
+/// A call comes, to a transaction of either kind.
+#[inline(always)]
+pub(crate) fn call(state: &mut Data, irrevocable: bool, call: &Call) -> Result<Turn, AllocError>
+    requires sound { IsSoundIn irrevocable state.old phases.Idle }
+    ensures { CallComesIn irrevocable state.old call.now false result state.new }
+{
+    if irrevocable {
+        norec_irrevocable::called(state, call)
+    } else {
+        norec_revocable::called(state, call)
+    }
+}
+
+/// A block begins; an outermost one `again` where an earlier try of it got past its begin.
+#[inline(always)]
+pub(crate) fn begin(
+    state: &mut Data,
+    irrevocable: bool,
+    props: Props,
+    room: u32,
+    again: bool,
+) -> Result<Turn, AllocError>
+    requires sound { IsSoundIn irrevocable state.old phases.Idle }
+    ensures { CallComesIn irrevocable state.old (Call.Begin props room) again result state.new }
+{
+    if irrevocable {
+        norec_irrevocable::called(state, &Call::Begin { props, room })
+    } else {
+        norec_revocable::begin(state, props, room, again)
+    }
+}
+
+/// The value of the step that is waited for is handed in.
+#[inline(always)]
+pub(crate) fn resume(state: &mut Data, irrevocable: bool, pending: Pending, seen: u64) -> Turn
+    requires sound { IsSoundIn irrevocable state.old (phase_of state.old pending) }
+    requires waits { IsSome (engine_in irrevocable state.old (phase_of state.old pending)).waits }
+    requires fits { Fits (engine_in irrevocable state.old (phase_of state.old pending)) seen }
+    ensures { StepTurnsIn irrevocable state.old (phase_of state.old pending) seen result state.new }
+{
+    if irrevocable {
+        norec_irrevocable::resumed(state, pending, seen)
+    } else {
+        norec_revocable::resumed(state, pending, seen)
+    }
+}
 
 /// Takes a turn: the call goes on, by this step, which is counted, or is over, and `answer` tells how.
 #[inline(always)]
@@ -36,7 +86,7 @@ pub(crate) fn take(
             end.tell(state, answer);
             None
         }
-        Turn::Enter(end) => {
+        Turn::EndIrrevocable(end) => {
             *pending = Pending::Idle;
             *irrevocable = true;
             end.tell(state, answer);

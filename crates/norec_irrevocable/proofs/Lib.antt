@@ -1,13 +1,3 @@
-pub mod PartCopies
-pub mod KeptStates
-pub mod HeldReplies
-pub mod HeldBlocks
-pub mod PlacedPieces
-pub mod NextPlaces
-pub mod HeldAccesses
-pub mod HeldDone
-pub mod HeldCopies
-pub mod ChunkPhases
-pub mod LoadedPieces
+pub mod Pieces
+pub mod Replies
 pub mod SameDatum
-pub mod Refused

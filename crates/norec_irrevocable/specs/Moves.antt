@@ -5,7 +5,7 @@ use Rattle.itm_types.specs.declared.call.Reply.{Reply as Replied}
 use Rattle.itm_types.specs.declared.limits.TheConstants.{MAX_OPEN_BLOCKS}
 use Rattle.itm_model.specs.Machine.{after, reply}
 use Rattle.itm_model.specs.State.{State}
-use Rattle.norec_core.specs.declared.phase.Phase.{Phase}
+use Rattle.norec_core.specs.Phases.{Phase}
 use Rattle.norec_core.specs.Core.{came, Core, handed}
 use Rattle.norec_core.specs.Endings.{ending_after, ending_at}
 use Rattle.norec_core.specs.Order.{snapshot_after, stage_after, stage_at}

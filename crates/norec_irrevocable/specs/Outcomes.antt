@@ -4,15 +4,15 @@ use Rattle.itm_types.specs.declared.call.Call.{Call}
 use Rattle.itm_types.specs.declared.call.Reply.{Reply as Replied}
 use Rattle.itm_types.specs.Memory.{IsMemory}
 use Rattle.itm_model.specs.State.{State}
-use Rattle.norec_core.specs.declared.phase.Phase.{Phase}
-use Rattle.norec_core.specs.declared.phase.Phase.TheVariants.{Idle}
+use Rattle.norec_core.specs.Phases.{Phase}
+use Rattle.norec_core.specs.Phases.{Idle}
 use Rattle.norec_core.specs.Core.{Core}
 use Rattle.norec_core.specs.Held.{ComesTo, StepsHeld}
 use Rattle.norec_core.specs.Proceeds.{Proceeds}
 use Rattle.norec_core.specs.Stands.{state_kept}
 use Rattle.norec_data.specs.declared.data.Data.{Data}
 use Rattle.norec_data.specs.declared.turn.Turn.{Turn}
-use Rattle.norec_data.specs.declared.turn.Turn.TheVariants.{Wait, End, Enter}
+use Rattle.norec_data.specs.declared.turn.Turn.TheVariants.{Wait, End, EndIrrevocable}
 use Rattle.norec_data.specs.Bounds.{IsHeld, IsOver}
 use Rattle.norec_data.specs.Turns.{counted, next_of, IsWaiting}
 use Rattle.norec_data.specs.View.{core, core_held, held, phase_of}
@@ -23,12 +23,12 @@ use Rattle.norec_irrevocable.specs.Phases.{IsSoundHeld}
 abbrev pub held_after : Turn → Data → Core
 held_after (Wait p) d = held (counted d) (phase_of d p)
 held_after (End end) d = core d Idle
-held_after (Enter end) d = core_held d
+held_after (EndIrrevocable end) d = core_held d
 
 abbrev pub IsSoundAfter : Turn → Data → Type 0
 IsSoundAfter (Wait p) d = IsSoundHeld (counted d) (phase_of d p) × IsWaiting p
 IsSoundAfter (End end) d = IsOver d
-IsSoundAfter (Enter end) d = IsHeld d
+IsSoundAfter (EndIrrevocable end) d = IsHeld d
 
 abbrev pub HeldTurns : Core → Turn → Data → Type 0
 HeldTurns mid turn d = Proceeds mid (next_of turn d) (held_after turn d)

@@ -9,14 +9,14 @@ use Rattle.word_pieces.specs.declared.chunk.Direction.TheVariants.{Up}
 use Rattle.word_pieces.specs.Chunks.{chunks_of}
 use Rattle.word_pieces.specs.Masks.{mask_of, whole}
 use Rattle.word_pieces.specs.Pieces.{count_of, gathered}
-use Rattle.norec_core.specs.declared.phase.Phase.{Phase}
-use Rattle.norec_core.specs.declared.phase.Phase.TheVariants as at
-use Rattle.norec_core.specs.declared.phase.Reading.{Reading}
-use Rattle.norec_core.specs.declared.phase.Purpose.{Purpose}
-use Rattle.norec_core.specs.declared.phase.Purpose.TheVariants as for
-use Rattle.norec_core.specs.declared.phase.Writing.{Writing}
-use Rattle.norec_core.specs.declared.phase.Target.{Target}
-use Rattle.norec_core.specs.declared.phase.Target.TheVariants as into
+use Rattle.norec_core.specs.Phases.{Phase}
+use Rattle.norec_core.specs.Phases as at
+use Rattle.norec_core.specs.declared.call_parts.Reading.{Reading}
+use Rattle.norec_core.specs.declared.call_parts.Purpose.{Purpose}
+use Rattle.norec_core.specs.declared.call_parts.Purpose.TheVariants as for
+use Rattle.norec_core.specs.declared.call_parts.Writing.{Writing}
+use Rattle.norec_core.specs.declared.call_parts.Target.{Target}
+use Rattle.norec_core.specs.declared.call_parts.Target.TheVariants as into
 use Rattle.norec_core.specs.Accesses.{count, parts}
 use Rattle.norec_core.specs.Copies.{copy_refusal, chunks_in, is_out, words_in, WritesShared}
 use Rattle.norec_core.specs.Order.{place_from, placed_piece}

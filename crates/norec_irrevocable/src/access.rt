@@ -4,7 +4,7 @@ ghost use Rattle.std.specs.Prelude.{◌≡◌, ◌<◌, ◌≤◌, ◌+◌, IfSo
 ghost use Rattle.itm_types.specs.Slices.{AreBytes};
 ghost use Rattle.word_pieces.specs.Pieces.{count_of};
 ghost use Rattle.norec_core.specs.Order.{place_from};
-ghost use Rattle.norec_core.specs.declared.phase.Phase.{Phase};
+ghost use Rattle.norec_core.specs.Phases.{Phase};
 ghost use Rattle.norec_data.specs.declared.data.Data.{Data};
 ghost use Rattle.norec_data.specs.View.{phase_of};
 ghost use Rattle.norec_irrevocable.specs.Phases.{IsNext};

@@ -2,14 +2,14 @@
 
 ghost use Rattle.std.specs.Prelude.{◌≡◌, if◌then◌else◌};
 ghost use Rattle.nest_frames.specs.Nest.{is_kept};
-ghost use Rattle.norec_core.specs.declared.phase.Phase.TheVariants.{Free};
+ghost use Rattle.norec_core.specs.Phases.{Free};
 ghost use Rattle.norec_data.specs.Bounds.{IsHeld};
 ghost use Rattle.norec_data.specs.View.{held};
 ghost use Rattle.norec_irrevocable.specs.Phases.{IsSoundHeld};
 ghost use Rattle.norec_irrevocable.specs.Moves.{HeldStepTurns, HeldCallTurns};
 
 use itm_types::{Call, Props, Refusal};
-use norec_data::{Data, End, Pending, Turn, begin_refusal, finish, mode_refusal};
+use norec_data::{CallEnd, Data, Pending, Turn, begin_refusal, finish, mode_refusal};
 
 /// A block begins.
 pub(crate) fn begin(state: &mut Data, props: Props, room: u32) -> Turn
@@ -18,15 +18,15 @@ pub(crate) fn begin(state: &mut Data, props: Props, room: u32) -> Turn
 {
     let _room = room;
     let refused = begin_refusal(state, props);
-    state.come();
+    state.start_call();
     match refused {
         Some(why) => {
             state.why = why;
-            Turn::Enter(End::Refused)
+            Turn::EndIrrevocable(CallEnd::Refused)
         }
         None => {
             state.frames.enter(props);
-            Turn::Enter(End::Entered)
+            Turn::EndIrrevocable(CallEnd::Entered)
         }
     }
 }
@@ -36,12 +36,12 @@ pub(crate) fn commit(state: &mut Data) -> Turn
     requires held { IsHeld state.old }
     ensures { HeldCallTurns state.old Call.Commit result state.new }
 {
-    state.come();
+    state.start_call();
     if state.is_outermost() {
         Turn::Wait(Pending::Free)
     } else {
         state.frames.leave();
-        Turn::Enter(End::Done)
+        Turn::EndIrrevocable(CallEnd::Done)
     }
 }
 
@@ -51,9 +51,9 @@ pub(crate) fn abort(state: &mut Data, outer: bool) -> Turn
     ensures { HeldCallTurns state.old (Call.Abort outer) result state.new }
 {
     let why = abort_refusal(state, outer);
-    state.come();
+    state.start_call();
     state.why = why;
-    Turn::Enter(End::Refused)
+    Turn::EndIrrevocable(CallEnd::Refused)
 }
 
 /// Why no block is cancelled.
@@ -74,13 +74,13 @@ pub(crate) fn mode(state: &mut Data, room: u32) -> Turn
 {
     let _room = room;
     let refused = mode_refusal(state);
-    state.come();
+    state.start_call();
     match refused {
         Some(why) => {
             state.why = why;
-            Turn::Enter(End::Refused)
+            Turn::EndIrrevocable(CallEnd::Refused)
         }
-        None => Turn::Enter(End::Done),
+        None => Turn::EndIrrevocable(CallEnd::Done),
     }
 }
 
@@ -91,5 +91,5 @@ pub(crate) fn freed(state: &mut Data) -> Turn
 {
     state.clock = state.snapshot + 2;
     finish(state);
-    Turn::End(End::Committed)
+    Turn::End(CallEnd::Committed)
 }

@@ -7,7 +7,7 @@ ghost use Rattle.norec_core.specs.Copies.{chunks_in, is_out};
 ghost use Rattle.norec_core.specs.Order.{chunk_from, place_from};
 ghost use Rattle.norec_core.specs.OwnAccesses.{chunk_source};
 ghost use Rattle.norec_core.specs.Parts.{copied_each};
-ghost use Rattle.norec_core.specs.declared.phase.Phase.{Phase};
+ghost use Rattle.norec_core.specs.Phases.{Phase};
 ghost use Rattle.norec_data.specs.Bounds.{IsHeld};
 ghost use Rattle.norec_data.specs.View.{held};
 ghost use Rattle.norec_irrevocable.specs.Outcomes.{in_call, kept};
@@ -18,7 +18,7 @@ use crate::access::{are_bytes, value_of};
 use crate::write::start;
 use itm_types::{Call, CopyPair, Copying, Value};
 use norec_core::{Target, Writing};
-use norec_data::{Data, End, Pending, Turn, chunk_reading, chunks, copy_refusal};
+use norec_data::{CallEnd, Data, Pending, Turn, chunk_reading, chunks, copy_refusal};
 
 /// A copy comes.
 pub(crate) fn copy(state: &mut Data, copying: Copying) -> Turn
@@ -26,11 +26,11 @@ pub(crate) fn copy(state: &mut Data, copying: Copying) -> Turn
     ensures { HeldCallTurns state.old (Call.Copy copying) result state.new }
 {
     let refused = copy_refusal(state, copying);
-    state.come();
+    state.start_call();
     match refused {
         Some(why) => {
             state.why = why;
-            Turn::Enter(End::Refused)
+            Turn::EndIrrevocable(CallEnd::Refused)
         }
         None => chunk_on(state, copying, 0),
     }
@@ -58,7 +58,7 @@ fn send_chunk(state: &mut Data, copying: Copying, number: u32) -> Turn
         (λ m. copied_each (kept state.old m) copying (drop number (chunks_in copying))) (λ m. Done) state.old result state.new }
 {
     let Some(chunk) = chunks(copying).get(number) else {
-        return Turn::Enter(End::Done);
+        return Turn::EndIrrevocable(CallEnd::Done);
     };
     let _bytes = state.arena.size();
     let first = (copying.from + chunk.at) as usize;
@@ -76,7 +76,7 @@ fn load_chunk(state: &mut Data, copying: Copying, number: u32) -> Turn
         (λ m. copied_each (kept state.old m) copying (drop number (chunks_in copying))) (λ m. Done) state.old result state.new }
 {
     let Some(reading) = chunk_reading(copying, number) else {
-        return Turn::Enter(End::Done);
+        return Turn::EndIrrevocable(CallEnd::Done);
     };
     state.gathered = Value::new();
     state.reading = reading;

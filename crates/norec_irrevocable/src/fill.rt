@@ -15,7 +15,7 @@ use crate::access::{are_bytes, value_of};
 use crate::write::start;
 use itm_types::{Call, Value, WriteHint};
 use norec_core::{Target, Writing};
-use norec_data::{Data, End, Turn, access_refusal};
+use norec_data::{CallEnd, Data, Turn, access_refusal};
 use word_pieces::{Chunks, Direction};
 
 /// A fill comes.
@@ -24,11 +24,11 @@ pub(crate) fn fill(state: &mut Data, hint: WriteHint, to: u64, byte: u64, size: 
     ensures { HeldCallTurns state.old (Call.Fill hint to byte size) result state.new }
 {
     let refused = access_refusal(state, to, size);
-    state.come();
+    state.start_call();
     match refused {
         Some(why) => {
             state.why = why;
-            Turn::Enter(End::Refused)
+            Turn::EndIrrevocable(CallEnd::Refused)
         }
         None => fill_on(state, hint, to, byte, size, 0),
     }
@@ -49,7 +49,7 @@ pub(crate) fn fill_on(
         (λ m. filled_each (kept state.old m) to (byte % 256) (drop number (chunks_of Up size))) (λ m. Done) state.old result state.new }
 {
     let Some(chunk) = Chunks::new(size as u32, Direction::Up).get(number) else {
-        return Turn::Enter(End::Done);
+        return Turn::EndIrrevocable(CallEnd::Done);
     };
     state.gathered = repeated((byte % 256) as u8, chunk.size);
     are_bytes(&state.gathered);

@@ -8,7 +8,7 @@ ghost use Rattle.norec_irrevocable.specs.Outcomes.{kept};
 ghost use Rattle.norec_irrevocable.specs.Moves.{HeldCallTurns, HeldCallComes};
 
 use itm_types::{Action, ActionKind, Call, Datum, Refusal, Width};
-use norec_data::{Data, End, Turn};
+use norec_data::{CallEnd, Data, Turn};
 use std::alloc::AllocError;
 
 /// It is asked whether a transaction is open.
@@ -16,8 +16,8 @@ pub(crate) fn in_transaction(state: &mut Data) -> Turn
     requires held { IsHeld state.old }
     ensures { HeldCallTurns state.old Call.InTransaction result state.new }
 {
-    state.come();
-    Turn::Enter(End::Irrevocable)
+    state.start_call();
+    Turn::EndIrrevocable(CallEnd::Irrevocable)
 }
 
 /// Bytes of the arena are to be kept for a rollback, of which there is none.
@@ -25,12 +25,12 @@ pub(crate) fn log(state: &mut Data, at: u64, size: u64) -> Turn
     requires held { IsHeld state.old }
     ensures { (call : Call) → logged_of call ≡ Some (at, size) → HeldCallTurns state.old call result state.new }
 {
-    state.come();
+    state.start_call();
     if state.arena.contains(at, size) {
-        Turn::Enter(End::Done)
+        Turn::EndIrrevocable(CallEnd::Done)
     } else {
         state.why = Refusal::OutOfArena;
-        Turn::Enter(End::Refused)
+        Turn::EndIrrevocable(CallEnd::Refused)
     }
 }
 
@@ -41,8 +41,8 @@ pub(crate) fn register(state: &mut Data, action: Action) -> Result<Turn, AllocEr
 {
     let _blocks = state.frames.depth();
     state.frames.register(ActionKind::Commit, action)?;
-    state.come();
-    Ok(Turn::Enter(End::Done))
+    state.start_call();
+    Ok(Turn::EndIrrevocable(CallEnd::Done))
 }
 
 /// An undo action is accepted, and not kept: there is no rollback.
@@ -51,8 +51,8 @@ pub(crate) fn accept_undo(state: &mut Data, action: Action) -> Turn
     ensures { HeldCallTurns state.old (Call.UndoAction action) result state.new }
 {
     let _action = action;
-    state.come();
-    Turn::Enter(End::Done)
+    state.start_call();
+    Turn::EndIrrevocable(CallEnd::Done)
 }
 
 /// Bytes of the arena are read.
@@ -60,13 +60,13 @@ pub(crate) fn load(state: &mut Data, width: Width, at: u64) -> Turn
     requires held { IsHeld state.old }
     ensures { HeldCallTurns state.old (Call.Load width at) result state.new }
 {
-    state.come();
+    state.start_call();
     if state.arena.contains(at, u64::from(width.size())) {
         state.gathered = state.arena.load(at, width);
-        Turn::Enter(End::Gathered)
+        Turn::EndIrrevocable(CallEnd::Gathered)
     } else {
         state.why = Refusal::OutOfArena;
-        Turn::Enter(End::Refused)
+        Turn::EndIrrevocable(CallEnd::Refused)
     }
 }
 
@@ -75,12 +75,12 @@ pub(crate) fn save(state: &mut Data, at: u64, value: &Datum) -> Turn
     requires held { IsHeld state.old }
     ensures { HeldCallTurns state.old (Call.Save at value.now) result state.new }
 {
-    state.come();
+    state.start_call();
     if state.arena.contains(at, u64::from(value.width.size())) {
         state.arena.store(at, value);
-        Turn::Enter(End::Done)
+        Turn::EndIrrevocable(CallEnd::Done)
     } else {
         state.why = Refusal::OutOfArena;
-        Turn::Enter(End::Refused)
+        Turn::EndIrrevocable(CallEnd::Refused)
     }
 }

@@ -1,5 +1,6 @@
 //! Reads, and chunks of a copy's source.
 
+ghost use Rattle.norec_core.specs.Phases as phases;
 ghost use Rattle.std.specs.Prelude.{◌-◌, ◌+◌};
 ghost use Rattle.norec_core.specs.Held.{answered, reading as reading_of};
 ghost use Rattle.norec_core.specs.Order.{read_past};
@@ -12,8 +13,8 @@ ghost use Rattle.norec_irrevocable.specs.Moves.{HeldGoesTo, HeldStepTurns, HeldC
 
 use crate::copy::{chunk_on, store_chunk};
 use itm_types::{Call, CopyPair, ReadHint, Value, Width};
-use norec_core::{Phase, Purpose, Reading};
-use norec_data::{Data, End, Pending, Turn, access_refusal};
+use norec_core::{Purpose, Reading};
+use norec_data::{CallEnd, Data, Pending, Turn, access_refusal};
 
 /// A read comes.
 pub(crate) fn read(state: &mut Data, hint: ReadHint, width: Width, at: u64) -> Turn
@@ -21,10 +22,10 @@ pub(crate) fn read(state: &mut Data, hint: ReadHint, width: Width, at: u64) -> T
     ensures { HeldCallTurns state.old (Call.Read hint width at) result state.new }
 {
     let refused = access_refusal(state, at, u64::from(width.size()));
-    state.come();
+    state.start_call();
     if let Some(why) = refused {
         state.why = why;
-        return Turn::Enter(End::Refused);
+        return Turn::EndIrrevocable(CallEnd::Refused);
     }
     state.gathered = Value::new();
     state.reading = Reading {
@@ -38,8 +39,8 @@ pub(crate) fn read(state: &mut Data, hint: ReadHint, width: Width, at: u64) -> T
 
 /// The word of a piece was loaded.
 pub(crate) fn loaded(state: &mut Data, seen: u64) -> Turn
-    requires sound { IsSoundHeld state.old (Phase.Load state.old.reading) }
-    ensures { HeldStepTurns state.old (Phase.Load state.old.reading) seen result state.new }
+    requires sound { IsSoundHeld state.old (phases.Load state.old.reading) }
+    ensures { HeldStepTurns state.old (phases.Load state.old.reading) seen result state.new }
 {
     let reading = state.reading;
     let Some(piece) = reading.piece() else {
@@ -65,7 +66,7 @@ fn whole(state: &mut Data, reading: Reading) -> Turn
         (λ m. answered reading.purpose state.old.gathered.items) state.old result state.new }
 {
     match reading.purpose {
-        Purpose::Value { .. } => Turn::Enter(End::Gathered),
+        Purpose::Value { .. } => Turn::EndIrrevocable(CallEnd::Gathered),
         Purpose::Chunk { copying, number } => match copying.pair {
             CopyPair::In(_) => {
                 let _bytes = state.arena.size();

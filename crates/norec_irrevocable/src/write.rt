@@ -1,5 +1,7 @@
 //! Writes: each piece is one store, and before it one load where it is a part of its word.
 
+ghost use Rattle.norec_core.specs.Phases as phases;
+ghost use Rattle.norec_core.specs.Phases.{Phase};
 ghost use Rattle.std.specs.Prelude.{◌≡◌, ℕ, List, ◌+◌};
 ghost use Rattle.itm_types.specs.declared.call.Reply.TheVariants.{Done};
 ghost use Rattle.word_pieces.specs.Pieces.{pieces_of, written};
@@ -16,8 +18,8 @@ use crate::access::{are_bytes, next_place, value_of};
 use crate::copy::chunk_on;
 use crate::fill::fill_on;
 use itm_types::{Call, Datum, WriteHint};
-use norec_core::{Phase, Target, Writing};
-use norec_data::{Data, End, Pending, Turn, access_refusal};
+use norec_core::{Target, Writing};
+use norec_data::{CallEnd, Data, Pending, Turn, access_refusal};
 
 /// A write comes.
 pub(crate) fn write(state: &mut Data, hint: WriteHint, at: u64, value: &Datum) -> Turn
@@ -25,10 +27,10 @@ pub(crate) fn write(state: &mut Data, hint: WriteHint, at: u64, value: &Datum) -
     ensures { HeldCallTurns state.old (Call.Write hint at value.now) result state.new }
 {
     let refused = access_refusal(state, at, u64::from(value.width.size()));
-    state.come();
+    state.start_call();
     if let Some(why) = refused {
         state.why = why;
-        return Turn::Enter(End::Refused);
+        return Turn::EndIrrevocable(CallEnd::Refused);
     }
     state.value = Datum::new(value.width, &value.bytes);
     state.gathered = value_of(&value.bytes);
@@ -68,8 +70,8 @@ pub(crate) fn start(state: &mut Data, writing: Writing) -> Turn
 
 /// The word of a piece was loaded, to be stored with the piece's bytes.
 pub(crate) fn fetched(state: &mut Data, seen: u64) -> Turn
-    requires sound { IsSoundHeld state.old (Phase.Fetch state.old.writing) }
-    ensures { HeldStepTurns state.old (Phase.Fetch state.old.writing) seen result state.new }
+    requires sound { IsSoundHeld state.old (phases.Fetch state.old.writing) }
+    ensures { HeldStepTurns state.old (phases.Fetch state.old.writing) seen result state.new }
 {
     state.got = Some(seen);
     Turn::Wait(Pending::Place)
@@ -77,8 +79,8 @@ pub(crate) fn fetched(state: &mut Data, seen: u64) -> Turn
 
 /// A piece was stored.
 pub(crate) fn placed(state: &mut Data) -> Turn
-    requires sound { IsSoundHeld state.old (Phase.Place state.old.writing state.old.got) }
-    ensures { HeldStepTurns state.old (Phase.Place state.old.writing state.old.got) 0 result state.new }
+    requires sound { IsSoundHeld state.old (phases.Place state.old.writing state.old.got) }
+    ensures { HeldStepTurns state.old (phases.Place state.old.writing state.old.got) 0 result state.new }
 {
     are_bytes(&state.gathered);
     let writing = state.writing;
@@ -104,7 +106,7 @@ fn past(state: &mut Data, writing: Writing) -> Turn
         (λ m. rest_of writing.target (kept state.old m)) (λ m. Done) state.old result state.new }
 {
     match writing.target {
-        Target::Value { .. } => Turn::Enter(End::Done),
+        Target::Value { .. } => Turn::EndIrrevocable(CallEnd::Done),
         Target::Fill {
             hint,
             to,

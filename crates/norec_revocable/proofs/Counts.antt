@@ -6,18 +6,18 @@ use Rattle.itm_types.specs.declared.limits.TheConstants.{MAX_PATIENCE, MAX_WORDS
 use Rattle.word_pieces.specs.Pieces.{count_of}
 use Rattle.itm_types.specs.declared.row.LogRow.{LogRow}
 use Rattle.write_set.specs.Marks.{Written}
-use Rattle.norec_core.specs.declared.phase.Purpose.{Purpose}
-use Rattle.norec_core.specs.declared.phase.Purpose.TheVariants as for
+use Rattle.norec_core.specs.declared.call_parts.Purpose.{Purpose}
+use Rattle.norec_core.specs.declared.call_parts.Purpose.TheVariants as for
 use Rattle.norec_core.specs.Core.{Core, in_transaction}
-use Rattle.norec_revocable.proofs.AcceptedCopies.{source_within}
-use Rattle.norec_core.proofs.CopyChunks.{few_words, source_few, length-chunks_in}
-use Rattle.norec_core.proofs.Readings.{total_left}
-use Rattle.norec_revocable.proofs.ReadingFields.{among}
-use Rattle.norec_core.specs.declared.phase.Aim.{Aim}
-use Rattle.norec_core.specs.declared.phase.Aim.TheVariants as aims
-use Rattle.norec_core.specs.declared.phase.Phase.{Phase}
-use Rattle.norec_core.specs.declared.phase.Phase.TheVariants as at
-use Rattle.norec_core.specs.declared.phase.Reading.{Reading}
+use Rattle.norec_revocable.proofs.Copies.AcceptedCopies.{source_within}
+use Rattle.norec_core.proofs.Accesses.CopyChunks.{few_words, source_few, length-chunks_in}
+use Rattle.norec_core.proofs.Accesses.Readings.{total_left}
+use Rattle.norec_revocable.proofs.ReadCalls.ReadingFields.{among}
+use Rattle.norec_core.specs.Aims.{Aim}
+use Rattle.norec_core.specs.Aims as aims
+use Rattle.norec_core.specs.Phases.{Phase}
+use Rattle.norec_core.specs.Phases as at
+use Rattle.norec_core.specs.declared.call_parts.Reading.{Reading}
 use Rattle.norec_data.specs.declared.turn.Turn.{Turn}
 use Rattle.norec_data.specs.declared.data.Data.{Data}
 use Rattle.norec_core.specs.Proceeds.{most, IsWithin}
@@ -26,10 +26,10 @@ use Rattle.norec_data.specs.View.{core, call_for, call_of, doing_of, in_block, p
 use Rattle.norec_revocable.specs.InPhases.{FitsPurpose, MayRead, first_of, round_of, IsHolding, IsSound, InRound}
 use Rattle.norec_revocable.specs.Between.{IsSoundTurn}
 use Rattle.norec_data.specs.Turns.{core_after, counted, IsOn}
-use Rattle.norec_data.specs.declared.turn.Turn.TheVariants.{Wait, End, Enter}
-use Rattle.norec_core.specs.declared.phase.Opening.{Opening}
-use Rattle.norec_core.specs.declared.phase.Taking.{Taking}
-use Rattle.norec_core.specs.declared.phase.Taking.TheVariants as takings
+use Rattle.norec_data.specs.declared.turn.Turn.TheVariants.{Wait, End, EndIrrevocable}
+use Rattle.norec_core.specs.declared.call_parts.Opening.{Opening}
+use Rattle.norec_core.specs.declared.call_parts.Taking.{Taking}
+use Rattle.norec_core.specs.declared.call_parts.Taking.TheVariants as takings
 use Rattle.itm_types.specs.declared.call.Call.TheVariants.{Begin}
 use Rattle.norec_core.specs.Copies.{source_words, words_read, words_written}
 use Rattle.std.proofs.lemmas.Bool.{cond-true, cond-false}
@@ -155,7 +155,7 @@ fits d phase s w m e = fits_most d phase s w m e (within d phase s w)
 turn_counts : (turn : Turn) (d : Data) → IsSoundTurn turn d → IsWithin (core_after turn d)
 turn_counts (Wait p) d s = counts (counted d) (phase_of d p) s.sound
 turn_counts (End end) d s = counts d at.Idle s.sound
-turn_counts (Enter end) d s = λ n. absurd (n refl)
+turn_counts (EndIrrevocable end) d s = λ n. absurd (n refl)
 
 pub counts_after : (turn : Turn) (d : Data) (new : Core) → IsSoundTurn turn d → new ≡ core_after turn d → IsWithin new
 counts_after turn d new s e = subst IsWithin (sym e) (turn_counts turn d s)

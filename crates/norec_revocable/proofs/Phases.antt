@@ -3,8 +3,8 @@ use Rattle.std.proofs.Common.{◌≡◌, ℕ, suc, ◌+◌, ◌<◌, length, Opt
 use Rattle.itm_types.specs.declared.step.Step.TheVariants.{Load, Store}
 use Rattle.write_set.specs.declared.row.Row.{Row}
 use Rattle.norec_core.specs.Rows.{value_into}
-use Rattle.norec_core.specs.declared.phase.Phase.TheVariants as at
-use Rattle.norec_core.specs.declared.phase.Taking.{Taking}
+use Rattle.norec_core.specs.Phases as at
+use Rattle.norec_core.specs.declared.call_parts.Taking.{Taking}
 use Rattle.norec_data.specs.declared.data.Data.{Data}
 use Rattle.norec_revocable.specs.InPhases.{IsOpen, InPhase}
 

@@ -1,19 +1,19 @@
 -- A turn, and what is true of the fields between two steps.
 use Rattle.std.specs.Prelude.{◌≡◌, ℕ, ◌+◌, ◌-◌, ◌*◌, ◌%◌, ◌<◌, ◌≤◌, List, [], ◌∷◌, length, take, Option, None, Some}
 use Rattle.itm_types.specs.declared.row.LogRow.{LogRow}
-use Rattle.norec_core.specs.declared.phase.Aim.{Aim}
-use Rattle.norec_core.specs.declared.phase.Aim.TheVariants as aims
-use Rattle.norec_core.specs.declared.phase.Phase.TheVariants as at
-use Rattle.norec_core.specs.declared.phase.Reading.{Reading}
-use Rattle.norec_core.specs.declared.phase.Taking.{Taking}
-use Rattle.norec_core.specs.declared.phase.Purpose.{Purpose}
-use Rattle.norec_core.specs.declared.phase.Purpose.TheVariants as for
+use Rattle.norec_core.specs.Aims.{Aim}
+use Rattle.norec_core.specs.Aims as aims
+use Rattle.norec_core.specs.Phases as at
+use Rattle.norec_core.specs.declared.call_parts.Reading.{Reading}
+use Rattle.norec_core.specs.declared.call_parts.Taking.{Taking}
+use Rattle.norec_core.specs.declared.call_parts.Purpose.{Purpose}
+use Rattle.norec_core.specs.declared.call_parts.Purpose.TheVariants as for
 use Rattle.itm_types.specs.declared.call.Copying.{Copying}
 use Rattle.norec_core.specs.Copies.{chunks_in, words_in, source_words}
-use Rattle.norec_data.specs.declared.end.End.{End}
-use Rattle.norec_data.specs.declared.end.End.TheVariants as ends
+use Rattle.norec_data.specs.declared.end.CallEnd.{CallEnd}
+use Rattle.norec_data.specs.declared.end.CallEnd.TheVariants as ends
 use Rattle.norec_data.specs.declared.turn.Turn.{Turn}
-use Rattle.norec_data.specs.declared.turn.Turn.TheVariants.{Wait, End as Ends, Enter}
+use Rattle.norec_data.specs.declared.turn.Turn.TheVariants.{Wait, End as Ends, EndIrrevocable}
 use Rattle.norec_data.specs.declared.data.Data.{Data}
 use Rattle.itm_types.specs.declared.call.Props.{Props}
 use Rattle.nest_frames.specs.Nest.{Frame, Nest, begun}
@@ -27,7 +27,7 @@ use Rattle.norec_data.specs.Bounds.{IsBounded, IsHeld}
 abbrev pub IsSoundAfter : Turn → Data → Type 0
 IsSoundAfter (Wait p) d = IsSound (counted d) (phase_of d p)
 IsSoundAfter (Ends end) d = IsSound d at.Idle
-IsSoundAfter (Enter end) d = IsHeld d
+IsSoundAfter (EndIrrevocable end) d = IsHeld d
 
 pub record IsSoundTurn (turn : Turn) (d : Data) : Type 0 where
   pub sound : IsSoundAfter turn d
@@ -40,7 +40,7 @@ abbrev pub blocks_with : Option Props → Nest → List Frame
 blocks_with None n = n.blocks
 blocks_with (Some props) n = begun props n.writes.rows n.actions ∷ n.blocks
 
-abbrev pub entry_end : Option Props → End
+abbrev pub entry_end : Option Props → CallEnd
 entry_end None = ends.Done
 entry_end (Some props) = ends.Entered
 
@@ -76,7 +76,7 @@ in_rows d aim row = record (core d (at.RoundRow aim row)) { waits = None; stage 
 abbrev pub log_left : Turn → List LogRow → List LogRow
 log_left (Wait phase) log = log
 log_left (Ends end) log = log
-log_left (Enter end) log = []
+log_left (EndIrrevocable end) log = []
 
 -- the fields, with the log that a turn leaves of theirs
 abbrev pub left_by : Turn → Data → Data
@@ -113,7 +113,7 @@ pub record IsWord (r : Reading) (word : ℕ) : Type 0 where
   pub size_is : r.size ≡ 8
 
 -- a read may be answered: its pieces are gathered
-pub record MayReply (d : Data) (r : Reading) : Type 0 where
+pub record MayAnswerRead (d : Data) (r : Reading) : Type 0 where
   pub bounds : IsBounded d.words d.limits d.snapshot d.frames.size d.arena
   pub is_open : IsOpen d
   pub value : IsValue r.purpose

@@ -2,8 +2,8 @@
 use Rattle.std.specs.Prelude.{◌≡◌, ℕ, true, Bool, Option, Result, MatchResult}
 use Rattle.itm_types.specs.declared.call.Call.{Call}
 use Rattle.norec_core.specs.declared.answer.Answer.{Answer}
-use Rattle.norec_core.specs.declared.phase.Phase.{Phase}
-use Rattle.norec_core.specs.declared.phase.Phase.TheVariants.{Idle}
+use Rattle.norec_core.specs.Phases.{Phase}
+use Rattle.norec_core.specs.Phases.{Idle}
 use Rattle.norec_core.specs.Core.{came, Core, handed}
 use Rattle.norec_core.specs.Endings.{ending_after, ending_at}
 use Rattle.norec_core.specs.Order.{log_after, snapshot_after, stage_after, stage_at, tries_after, tries_at}

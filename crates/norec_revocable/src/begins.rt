@@ -1,5 +1,6 @@
 //! Begins of blocks.
 
+ghost use Rattle.norec_core.specs.Phases as phases;
 ghost use Rattle.std.specs.Prelude.{◌≡◌, ◌<◌, ◌≤◌, ◌∷◌, [], true, if◌then◌else◌, OnOk, OnErr};
 ghost use Rattle.user_actions.specs.Actions.{no_actions};
 ghost use Rattle.nest_frames.specs.Nest.{begun};
@@ -12,23 +13,23 @@ ghost use Rattle.norec_revocable.specs.Moves.{StepTurns, CallComes};
 use crate::commits::exchange;
 use itm_types::{Call, Props, Reply};
 use nest_frames::Frames;
-use norec_core::{Answer, Opening, Phase, Taking};
-use norec_data::{Data, End, Pending, Turn, begin_refusal};
+use norec_core::{Answer, Opening, Taking};
+use norec_data::{CallEnd, Data, Pending, Turn, begin_refusal};
 use std::alloc::AllocError;
 
 /// A begin comes.
 #[inline(always)]
 pub fn begin(state: &mut Data, props: Props, room: u32, again: bool) -> Result<Turn, AllocError>
-    requires sound { IsSound state.old Phase.Idle }
+    requires sound { IsSound state.old phases.Idle }
     ensures { CallComes state.old (Call.Begin props room) again result state.new }
 {
     if let Some(why) = begin_refusal(state, props) {
-        state.come();
+        state.start_call();
         state.why = why;
-        return Ok(Turn::End(End::Refused));
+        return Ok(Turn::End(CallEnd::Refused));
     }
     reserve_room(&mut state.frames, props, room)?;
-    state.come();
+    state.start_call();
     if !state.is_open() {
         state.tries = 1;
         state.opening = Opening { props, room, again };
@@ -38,7 +39,7 @@ pub fn begin(state: &mut Data, props: Props, room: u32, again: bool) -> Result<T
         Ok(exchange(state, Taking::Begin { props, room }))
     } else {
         state.frames.enter(props);
-        Ok(Turn::End(End::Entered))
+        Ok(Turn::End(CallEnd::Entered))
     }
 }
 
@@ -58,9 +59,9 @@ fn reserve_room(frames: &mut Frames, props: Props, room: u32) -> Result<(), Allo
 /// The clock was loaded for a begin.
 #[inline(always)]
 pub(crate) fn begin_seen(state: &mut Data, seen: u64) -> Turn
-    requires sound { IsSound state.old (Phase.Begin state.old.opening) }
+    requires sound { IsSound state.old (phases.Begin state.old.opening) }
     requires fits { state.old.clock ≤ seen }
-    ensures { StepTurns state.old (Phase.Begin state.old.opening) seen result state.new }
+    ensures { StepTurns state.old (phases.Begin state.old.opening) seen result state.new }
 {
     let opening = state.opening;
     state.clock = seen;
@@ -73,38 +74,38 @@ pub(crate) fn begin_seen(state: &mut Data, seen: u64) -> Turn
         if at < state.limits.max_commits {
             Turn::Wait(Pending::Take)
         } else {
-            Turn::End(End::Full)
+            Turn::End(CallEnd::Full)
         }
     } else if state.tries < state.limits.patience {
         state.tries += 1;
         Turn::Wait(Pending::Begin)
     } else {
-        Turn::End(End::Busy)
+        Turn::End(CallEnd::Busy)
     }
 }
 
 /// The clock was taken for a begin that goes irrevocable, or another value was found in it.
 pub(crate) fn begin_taken(state: &mut Data, seen: u64) -> Turn
-    requires sound { IsSound state.old (Phase.Take state.old.opening) }
+    requires sound { IsSound state.old (phases.Take state.old.opening) }
     requires fits { state.old.clock ≤ seen }
-    ensures { StepTurns state.old (Phase.Take state.old.opening) seen result state.new }
+    ensures { StepTurns state.old (phases.Take state.old.opening) seen result state.new }
 {
     let opening = state.opening;
     state.clock = seen;
     if seen == state.snapshot {
-        Turn::Enter(open(state, opening))
+        Turn::EndIrrevocable(open(state, opening))
     } else if state.tries < state.limits.patience {
         state.tries += 1;
         Turn::Wait(Pending::Begin)
     } else {
         state.changed = None;
-        Turn::End(End::Conflict)
+        Turn::End(CallEnd::Conflict)
     }
 }
 
 /// The outermost block begins.
 #[inline(always)]
-fn open(state: &mut Data, opening: Opening) -> End
+fn open(state: &mut Data, opening: Opening) -> CallEnd
     requires outside { IsOutside state.old }
     ensures reply { (d : Data) → answer_of d result ≡ Answer.Reply (Reply.Code (if opening.again then 9 else 5)) }
     ensures blocks { state.new.frames.blocks ≡ begun opening.props [] no_actions ∷ [] }
@@ -116,8 +117,8 @@ fn open(state: &mut Data, opening: Opening) -> End
     state.frames.clear_due();
     state.frames.enter(opening.props);
     if opening.again {
-        End::EnteredAgain
+        CallEnd::EnteredAgain
     } else {
-        End::Entered
+        CallEnd::Entered
     }
 }

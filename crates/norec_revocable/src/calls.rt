@@ -1,5 +1,6 @@
 //! The calls of a transaction that may be tried again, and the values that its steps find.
 
+ghost use Rattle.norec_core.specs.Phases as phases;
 ghost use Rattle.std.specs.Prelude.{IsSome, false};
 ghost use Rattle.norec_core.specs.Proceeds.{Fits};
 ghost use Rattle.norec_data.specs.View.{core, phase_of, waits_of};
@@ -17,7 +18,6 @@ use crate::read::{confirmed, loaded, read};
 use crate::rounds::{round_ended, round_started, row_seen};
 use crate::writes::write;
 use itm_types::{ActionKind, Call};
-use norec_core::Phase;
 use norec_data::{Data, Pending, Turn};
 use std::alloc::AllocError;
 
@@ -48,7 +48,7 @@ pub fn resumed(state: &mut Data, pending: Pending, seen: u64) -> Turn
 
 /// What comes of a call.
 pub fn called(state: &mut Data, call: &Call) -> Result<Turn, AllocError>
-    requires sound { IsSound state.old Phase.Idle }
+    requires sound { IsSound state.old phases.Idle }
     ensures { CallComes state.old call.now false result state.new }
 {
     match call {

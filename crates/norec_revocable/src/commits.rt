@@ -1,5 +1,7 @@
 //! Commits: the clock is taken, the write set is stored in the order of first writing, and the clock is freed.
 
+ghost use Rattle.norec_core.specs.Phases as phases;
+ghost use Rattle.norec_core.specs.Aims as aims;
 ghost use Rattle.std.specs.Prelude.{◌≤◌, ◌/◌, ℕ, false, None, Some};
 ghost use Rattle.norec_revocable.specs.InPhases.{IsSound};
 ghost use Rattle.norec_revocable.specs.Between.{between, moved, in_stores, left_by, MayExchange, InStores};
@@ -10,28 +12,28 @@ ghost use Rattle.norec_revocable.specs.Moves.{GoesTo, StepGoesTo, StepTurns, Cal
 use crate::mode::go_irrevocable;
 use crate::rounds::try_round;
 use itm_types::{Call, Refusal};
-use norec_core::{Aim, Answer, Phase, Taking};
-use norec_data::{Cause, Data, End, Pending, Turn, finish, roll_back};
+use norec_core::{Answer, Taking};
+use norec_data::{CallEnd, Cause, Data, Pending, Turn, finish, roll_back};
 
 /// A commit comes.
 #[inline(always)]
 pub fn commit(state: &mut Data) -> Turn
-    requires sound { IsSound state.old Phase.Idle }
+    requires sound { IsSound state.old phases.Idle }
     ensures { CallTurns state.old Call.Commit false result state.new }
 {
-    state.come();
+    state.start_call();
     state.tries = 0;
     if !state.is_open() {
         state.why = Refusal::Outside;
-        return Turn::End(End::Refused);
+        return Turn::End(CallEnd::Refused);
     }
     if !state.is_outermost() {
         state.frames.leave();
-        return Turn::End(End::Done);
+        return Turn::End(CallEnd::Done);
     }
     if state.frames.len() == 0 {
         finish(state);
-        Turn::End(End::ReadOnly)
+        Turn::End(CallEnd::ReadOnly)
     } else {
         exchange(state, Taking::Commit)
     }
@@ -41,10 +43,10 @@ pub fn commit(state: &mut Data) -> Turn
 #[inline(always)]
 pub(crate) fn exchange(state: &mut Data, taking: Taking) -> Turn
     requires may { MayExchange state.old taking }
-    ensures goes { GoesTo (between state.old (Aim.Take taking)) (exchange_stage state.old.limits.max_commits state.old.snapshot taking)
+    ensures goes { GoesTo (between state.old (aims.Take taking)) (exchange_stage state.old.limits.max_commits state.old.snapshot taking)
         (Some (Answer.Full (state.old.snapshot / 2))) state.old result state.new }
     // whatever the snapshot was before a round moved it
-    ensures proceeds { (was : ℕ) → Turns (moved (between state.old (Aim.Take taking)) was) result state.new }
+    ensures proceeds { (was : ℕ) → Turns (moved (between state.old (aims.Take taking)) was) result state.new }
 {
     let at = state.snapshot / 2;
     if at < state.limits.max_commits {
@@ -52,16 +54,16 @@ pub(crate) fn exchange(state: &mut Data, taking: Taking) -> Turn
         Turn::Wait(Pending::Exchange)
     } else {
         roll_back(state);
-        Turn::End(End::Full)
+        Turn::End(CallEnd::Full)
     }
 }
 
 /// The clock was taken, or another value was found in it.
 #[inline(always)]
 pub(crate) fn exchanged(state: &mut Data, seen: u64) -> Turn
-    requires sound { IsSound state.old (Phase.Exchange state.old.taking) }
+    requires sound { IsSound state.old (phases.Exchange state.old.taking) }
     requires fits { state.old.clock ≤ seen }
-    ensures { StepTurns state.old (Phase.Exchange state.old.taking) seen result state.new }
+    ensures { StepTurns state.old (phases.Exchange state.old.taking) seen result state.new }
 {
     // where it is the snapshot, it is what the clock was
     if seen == state.snapshot {
@@ -88,16 +90,16 @@ fn next_store(state: &mut Data, row: usize) -> Turn
     } else {
         match state.taking {
             Taking::Commit => Turn::Wait(Pending::Free),
-            Taking::Mode { .. } => Turn::Enter(go_irrevocable(state, None)),
-            Taking::Begin { props, .. } => Turn::Enter(go_irrevocable(state, Some(props))),
+            Taking::Mode { .. } => Turn::EndIrrevocable(go_irrevocable(state, None)),
+            Taking::Begin { props, .. } => Turn::EndIrrevocable(go_irrevocable(state, Some(props))),
         }
     }
 }
 
 /// The word of a row was loaded, to be stored with the row's part of it.
 pub(crate) fn back_loaded(state: &mut Data, row: usize, seen: u64) -> Turn
-    requires sound { IsSound state.old (Phase.BackLoad state.old.taking row) }
-    ensures { StepGoesTo state.old (Phase.BackLoad state.old.taking row) seen result state.new }
+    requires sound { IsSound state.old (phases.BackLoad state.old.taking row) }
+    ensures { StepGoesTo state.old (phases.BackLoad state.old.taking row) seen result state.new }
 {
     state.got = Some(seen);
     Turn::Wait(Pending::Store(row))
@@ -106,8 +108,8 @@ pub(crate) fn back_loaded(state: &mut Data, row: usize, seen: u64) -> Turn
 /// A row was stored.
 #[inline(always)]
 pub(crate) fn stored(state: &mut Data, row: usize) -> Turn
-    requires sound { IsSound state.old (Phase.Store state.old.taking row state.old.got) }
-    ensures { StepTurns state.old (Phase.Store state.old.taking row state.old.got) 0 result state.new }
+    requires sound { IsSound state.old (phases.Store state.old.taking row state.old.got) }
+    ensures { StepTurns state.old (phases.Store state.old.taking row state.old.got) 0 result state.new }
 {
     let _rows = state.frames.len();
     next_store(state, row + 1)
@@ -116,10 +118,10 @@ pub(crate) fn stored(state: &mut Data, row: usize) -> Turn
 /// The clock was freed.
 #[inline(always)]
 pub(crate) fn freed(state: &mut Data) -> Turn
-    requires sound { IsSound state.old Phase.Free }
-    ensures { StepGoesTo state.old Phase.Free 0 result state.new }
+    requires sound { IsSound state.old phases.Free }
+    ensures { StepGoesTo state.old phases.Free 0 result state.new }
 {
     state.clock = state.snapshot + 2;
     finish(state);
-    Turn::End(End::Committed)
+    Turn::End(CallEnd::Committed)
 }

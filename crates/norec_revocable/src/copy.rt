@@ -1,6 +1,7 @@
 //! Copies. The whole source is read first, chunk by chunk, so that a conflict has changed nothing; then the destination
 //! is written at once, in the write set or in the arena. All memory is taken before the first step.
 
+ghost use Rattle.norec_core.specs.Phases as phases;
 ghost use Rattle.std.specs.Prelude.{◌≡◌, ◌<◌, ◌≤◌, ◌+◌, false, OnOk, OnErr, List, None, length, drop, replicate};
 ghost use Rattle.itm_types.specs.Slices.{slice, with_slice, AreBytes};
 ghost use Rattle.itm_types.specs.declared.row.LogRow.{LogRow};
@@ -11,7 +12,7 @@ ghost use Rattle.norec_revocable.specs.InPhases.{IsSound, MayPutFor, Copied, IsS
 ghost use Rattle.norec_revocable.specs.Between.{in_copy, logged, MayCopy, MayFinish};
 ghost use Rattle.norec_data.specs.Turns.{Turns};
 ghost use Rattle.norec_core.specs.Order.{chunk_reading, load_chunks};
-ghost use Rattle.norec_core.specs.Proceeds.{arena_copied, writes_copied};
+ghost use Rattle.norec_core.specs.Effects.{arena_copied, writes_copied};
 ghost use Rattle.norec_revocable.specs.Moves.{GoesTo, CallComes};
 
 mod refusals;
@@ -19,18 +20,18 @@ mod refusals;
 use crate::copy::refusals::refuse_copy;
 use crate::fill::set_all;
 use crate::range::{put_range, reserve_range};
-use crate::read::{MOST_PIECES, take_had};
+use crate::read::{MOST_PIECES, take_known};
 use itm_types::{Call, CopyPair, Copying, MAX_MEMORY, MAX_WORDS, Value};
 use nest_frames::Frames;
-use norec_core::{Phase, Purpose, Reading};
-use norec_data::{Data, End, Pending, Turn, chunk_reading, chunks, copy_refusal, direction};
+use norec_core::{Purpose, Reading};
+use norec_data::{CallEnd, Data, Pending, Turn, chunk_reading, chunks, copy_refusal, direction};
 use std::alloc::AllocError;
 use value_log::ValueLog;
 use word_pieces::{Chunks, Direction};
 
 /// A copy comes. One of no bytes takes no memory.
 pub(crate) fn copy(state: &mut Data, copying: Copying) -> Result<Turn, AllocError>
-    requires sound { IsSound state.old Phase.Idle }
+    requires sound { IsSound state.old phases.Idle }
     ensures { CallComes state.old (Call.Copy copying) false result state.new }
 {
     if let Some(why) = copy_refusal(state, copying) {
@@ -38,7 +39,7 @@ pub(crate) fn copy(state: &mut Data, copying: Copying) -> Result<Turn, AllocErro
     }
     let written = state.frames.len();
     reserve(state, copying)?;
-    state.come();
+    state.start_call();
     state.tries = 0;
     state.written = written;
     match copying.pair {
@@ -52,7 +53,7 @@ pub(crate) fn copy(state: &mut Data, copying: Copying) -> Result<Turn, AllocErro
 
 /// Makes room for the source's bytes, the rows that reading it may log, and those of the destination.
 fn reserve(state: &mut Data, copying: Copying) -> Result<(), AllocError>
-    requires sound { IsSound state.old Phase.Idle }
+    requires sound { IsSound state.old phases.Idle }
     requires served { copy_refusal (in_block state.old) state.old.words (length state.old.arena) copying ≡ None }
     ensures frame { state.new ≡ record state.old {
       buffer = state.new.buffer;
@@ -127,7 +128,7 @@ pub(crate) fn next_chunk(state: &mut Data, copying: Copying, number: u32) -> Tur
     let mut number = number;
     while let Some(reading) = chunk_reading(copying, number) {
         state.gathered = Value::new();
-        if let Some(number) = take_had(state, reading) {
+        if let Some(number) = take_known(state, reading) {
             state.reading = Reading { number, ..reading };
             return Turn::Wait(Pending::Load);
         }
@@ -159,12 +160,12 @@ fn put_bytes(buffer: &mut Vec<u8>, start: usize, bytes: &[u8])
 /// The source is read whole: its bytes go to the destination.
 fn copied(state: &mut Data, copying: Copying) -> Turn
     requires may { MayFinish state.old copying }
-    ensures goes { GoesTo (in_copy state.old copying) Phase.Idle None state.old result state.new }
+    ensures goes { GoesTo (in_copy state.old copying) phases.Idle None state.old result state.new }
     // whatever the log was before a row joined it
     ensures proceeds { (log : List LogRow) → Turns (logged (in_copy state.old copying) log) result state.new }
 {
     deliver(state, copying);
-    Turn::End(End::Done)
+    Turn::End(CallEnd::Done)
 }
 
 /// The buffer goes to the destination, which has room for it.

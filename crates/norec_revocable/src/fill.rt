@@ -1,5 +1,6 @@
 //! Fills: a range of shared memory is set to one byte in the write set, and no step is taken.
 
+ghost use Rattle.norec_core.specs.Phases as phases;
 ghost use Rattle.std.specs.Prelude.{◌≡◌, ◌<◌, false, OnOk, replicate};
 ghost use Rattle.itm_types.specs.declared.access.WriteHint.{WriteHint};
 ghost use Rattle.norec_revocable.specs.InPhases.{IsSound};
@@ -8,14 +9,13 @@ ghost use Rattle.norec_revocable.specs.Moves.{CallComes};
 use crate::access::refuse;
 use crate::range::{put_range, reserve_range};
 use itm_types::{Call, WriteHint};
-use norec_core::Phase;
-use norec_data::{Data, End, Turn, access_refusal};
+use norec_data::{CallEnd, Data, Turn, access_refusal};
 use std::alloc::AllocError;
 use word_pieces::{Chunks, Direction};
 
 /// So many bytes are set to the low 8 bits of a number. To set none takes no memory.
 pub(crate) fn fill(state: &mut Data, to: u64, byte: u64, size: u64) -> Result<Turn, AllocError>
-    requires sound { IsSound state.old Phase.Idle }
+    requires sound { IsSound state.old phases.Idle }
     ensures { (hint : WriteHint) → CallComes state.old (Call.Fill hint to byte size) false result state.new }
 {
     if let Some(why) = access_refusal(state, to, size) {
@@ -30,8 +30,8 @@ pub(crate) fn fill(state: &mut Data, to: u64, byte: u64, size: u64) -> Result<Tu
         )?;
         put_range(&mut state.frames, to, Direction::Up, &state.buffer);
     }
-    state.come();
-    Ok(Turn::End(End::Done))
+    state.start_call();
+    Ok(Turn::End(CallEnd::Done))
 }
 
 /// Makes the buffer so many bytes of this value.

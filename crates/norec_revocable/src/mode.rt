@@ -1,11 +1,12 @@
 //! Transactions that become irrevocable.
 
+ghost use Rattle.norec_core.specs.Phases as phases;
 ghost use Rattle.std.specs.Prelude.{◌≡◌, ◌<◌, None, Some, [], Option, false, map, length, IfSome};
 ghost use Rattle.itm_types.specs.declared.call.Props.{Props};
 ghost use Rattle.write_set.specs.Marks.{unwritten};
 ghost use Rattle.nest_frames.specs.Nest.{made_irrevocable};
-ghost use Rattle.norec_core.specs.Core.{goes};
-ghost use Rattle.norec_core.specs.declared.phase.Phase.{Phase};
+ghost use Rattle.norec_core.specs.Core.{irrevocable_room};
+ghost use Rattle.norec_core.specs.Phases.{Phase};
 ghost use Rattle.norec_data.specs.View.{core};
 ghost use Rattle.norec_revocable.specs.InPhases.{IsSound};
 ghost use Rattle.norec_revocable.specs.Between.{blocks_with, entry_end};
@@ -13,29 +14,29 @@ ghost use Rattle.norec_revocable.specs.Moves.{CallComes};
 
 use crate::commits::exchange;
 use itm_types::{Call, MAX_OPEN_BLOCKS, Props};
-use norec_core::{Phase, Taking};
-use norec_data::{Data, End, Turn, begin_refusal, mode_refusal};
+use norec_core::Taking;
+use norec_data::{CallEnd, Data, Turn, begin_refusal, mode_refusal};
 use std::alloc::AllocError;
 
 /// The transaction is to become irrevocable.
 pub(crate) fn mode(state: &mut Data, room: u32) -> Result<Turn, AllocError>
-    requires sound { IsSound state.old Phase.Idle }
+    requires sound { IsSound state.old phases.Idle }
     ensures { CallComes state.old (Call.Mode room) false result state.new }
 {
     if let Some(why) = mode_refusal(state) {
-        state.come();
+        state.start_call();
         state.why = why;
-        return Ok(Turn::End(End::Refused));
+        return Ok(Turn::End(CallEnd::Refused));
     }
     state.frames.reserve_actions(room as usize)?;
-    state.come();
+    state.start_call();
     state.tries = 0;
     Ok(exchange(state, Taking::Mode { room }))
 }
 
 /// The room that the call asks for, where it makes the transaction irrevocable.
-pub fn goes(state: &Data, call: &Call) -> Option<u32>
-    ensures { (phase : Phase) → result ≡ goes (core state.now phase) call.now }
+pub fn irrevocable_room(state: &Data, call: &Call) -> Option<u32>
+    ensures { (phase : Phase) → result ≡ irrevocable_room (core state.now phase) call.now }
 {
     match call {
         Call::Begin { props, room } => {
@@ -58,7 +59,7 @@ pub fn goes(state: &Data, call: &Call) -> Option<u32>
 
 /// The write set is stored: the transaction is irrevocable, and where a block of these properties goes irrevocable, it
 /// begins.
-pub(crate) fn go_irrevocable(state: &mut Data, props: Option<Props>) -> End
+pub(crate) fn go_irrevocable(state: &mut Data, props: Option<Props>) -> CallEnd
     requires few { IfSome props (λ _. length state.old.frames.blocks < MAX_OPEN_BLOCKS) }
     ensures end { result ≡ entry_end props }
     ensures frames { state.new.frames ≡ record {
@@ -74,9 +75,9 @@ pub(crate) fn go_irrevocable(state: &mut Data, props: Option<Props>) -> End
     let end = match props {
         Some(props) => {
             state.frames.enter(props);
-            End::Entered
+            CallEnd::Entered
         }
-        None => End::Done,
+        None => CallEnd::Done,
     };
     state.frames.make_irrevocable();
     state.log.clear();

@@ -1,6 +1,9 @@
 //! Reads, and copies of shared bytes: piece by piece upwards a word is loaded, and logged once the clock confirms that its value stood at the
 //! snapshot. A piece that the write set has, or whose word is logged, takes no step.
 
+ghost use Rattle.norec_core.specs.Phases as phases;
+ghost use Rattle.norec_core.specs.Aims as aims;
+ghost use Rattle.norec_core.specs.Phases.{Phase};
 ghost use Rattle.std.specs.Prelude.{◌≡◌, ◌<◌, ◌≤◌, ◌+◌, ◌*◌, ℕ, false, true, IfSome, List, IfNone, None, Some, drop, is_some, length, slice_get, slice_index};
 ghost use Rattle.itm_types.specs.Memory.{AllFit, Agrees};
 ghost use Rattle.word_pieces.specs.Pieces.{IsPiece, part_of};
@@ -10,7 +13,7 @@ ghost use Rattle.itm_types.specs.Access.{size_of};
 ghost use Rattle.norec_core.specs.Accesses.{part, parts, count};
 ghost use Rattle.norec_data.specs.View.{rows_before};
 ghost use Rattle.norec_revocable.specs.InPhases.{IsSound, IsMissing, IsOpen, IsReading, next_load};
-ghost use Rattle.norec_revocable.specs.Between.{between, logged, IsValue, IsWord, MayGather, MayReply};
+ghost use Rattle.norec_revocable.specs.Between.{between, logged, IsValue, IsWord, MayGather, MayAnswerRead};
 ghost use Rattle.norec_data.specs.Turns.{Turns};
 ghost use Rattle.norec_core.specs.Order.{load_among, load_stage};
 ghost use Rattle.norec_revocable.specs.Moves.{GoesTo, StepGoesTo, StepTurns, CallComes};
@@ -19,8 +22,8 @@ use crate::access::refuse;
 use crate::copy::{keep_chunk, next_chunk};
 use crate::rounds::try_round;
 use itm_types::{Call, LogRow, MAX_MEMORY, MAX_WORDS, ReadHint, Value, Width};
-use norec_core::{Aim, Phase, Purpose, Reading};
-use norec_data::{Cause, Data, End, Pending, Turn, access_refusal};
+use norec_core::{Purpose, Reading};
+use norec_data::{CallEnd, Cause, Data, Pending, Turn, access_refusal};
 use std::alloc::AllocError;
 use word_pieces::{Piece, merge};
 
@@ -35,7 +38,7 @@ pub(crate) fn read(
     width: Width,
     at: u64,
 ) -> Result<Turn, AllocError>
-    requires sound { IsSound state.old Phase.Idle }
+    requires sound { IsSound state.old phases.Idle }
     ensures { CallComes state.old (Call.Read hint width at) false result state.new }
 {
     if let Some(why) = access_refusal(state, at, u64::from(width.size())) {
@@ -49,7 +52,7 @@ pub(crate) fn read(
         size: width.size(),
         number: 0,
     };
-    match take_had(state, reading) {
+    match take_known(state, reading) {
         Some(number) => {
             state.log.reserve(MOST_PIECES)?;
             start(state);
@@ -90,19 +93,19 @@ pub(crate) fn set_value(reading: &mut Reading, hint: ReadHint, width: Width, at:
 pub(crate) fn start(state: &mut Data)
     ensures { state.new ≡ record state.old { spent = 0; entry = length state.old.log.rows; tries = 0 } }
 {
-    state.come();
+    state.start_call();
     state.tries = 0;
 }
 
 /// A read has all its pieces, and is answered.
 #[inline(always)]
 fn reply_gathered(state: &mut Data, reading: Reading) -> Turn
-    requires may { MayReply state.old reading }
-    ensures goes { GoesTo (between state.old (Aim.Read reading)) Phase.Idle None state.old result state.new }
+    requires may { MayAnswerRead state.old reading }
+    ensures goes { GoesTo (between state.old (aims.Read reading)) phases.Idle None state.old result state.new }
     // whatever the log was before a row joined it
-    ensures proceeds { (log : List LogRow) → Turns (logged (between state.old (Aim.Read reading)) log) result state.new }
+    ensures proceeds { (log : List LogRow) → Turns (logged (between state.old (aims.Read reading)) log) result state.new }
 {
-    Turn::End(End::Gathered)
+    Turn::End(CallEnd::Gathered)
 }
 
 /// The access goes on past the piece that was loaded. A value that has no further one is answered with no copy made of
@@ -113,11 +116,11 @@ fn go_past(state: &mut Data, piece: Piece) -> Turn
     requires in_value { piece.at + piece.count ≤ 32 }
     requires may { MayGather state.old (record state.old.reading { number = state.old.reading.number + 1 }) }
     requires few { state.old.reading.number < 5 }
-    ensures goes { GoesTo (between state.old (Aim.Read (record state.old.reading { number = state.old.reading.number + 1 })))
+    ensures goes { GoesTo (between state.old (aims.Read (record state.old.reading { number = state.old.reading.number + 1 })))
         (load_stage (rows_before state.old) state.old.log.rows (record state.old.reading { number = state.old.reading.number + 1 })) None state.old result state.new }
     // whatever the log was before a row joined it
     ensures proceeds { (log : List LogRow) → Turns
-        (logged (between state.old (Aim.Read (record state.old.reading { number = state.old.reading.number + 1 }))) log) result state.new }
+        (logged (between state.old (aims.Read (record state.old.reading { number = state.old.reading.number + 1 }))) log) result state.new }
 {
     if is_whole(&state.reading, piece) {
         reply_gathered(state, state.reading.next())
@@ -156,11 +159,11 @@ pub(crate) fn whole_word(reading: &Reading) -> Option<u32>
 /// The access goes on from this piece: with the next one that is loaded, or with what it was made for.
 pub(crate) fn go_on(state: &mut Data, reading: Reading) -> Turn
     requires may { MayGather state.old reading }
-    ensures goes { GoesTo (between state.old (Aim.Read reading)) (load_stage (rows_before state.old) state.old.log.rows reading) None state.old result state.new }
+    ensures goes { GoesTo (between state.old (aims.Read reading)) (load_stage (rows_before state.old) state.old.log.rows reading) None state.old result state.new }
     // whatever the log was before a row joined it
-    ensures proceeds { (log : List LogRow) → Turns (logged (between state.old (Aim.Read reading)) log) result state.new }
+    ensures proceeds { (log : List LogRow) → Turns (logged (between state.old (aims.Read reading)) log) result state.new }
 {
-    if let Some(number) = take_had(state, reading) {
+    if let Some(number) = take_known(state, reading) {
         state.reading = Reading { number, ..reading };
         return Turn::Wait(Pending::Load);
     }
@@ -175,9 +178,9 @@ pub(crate) fn go_on(state: &mut Data, reading: Reading) -> Turn
 
 /// The pieces from this one on are taken from the write set and the log, up to one that is not to be had, whose
 /// number is given.
-#[cycle(take_had)]
+#[cycle(take_known)]
 #[inline(always)]
-pub(crate) fn take_had(state: &mut Data, reading: Reading) -> Option<u8>
+pub(crate) fn take_known(state: &mut Data, reading: Reading) -> Option<u8>
     requires may { (state.old.words ≤ MAX_WORDS) × IsOpen state.old × IsReading state.old reading }
     ensures frame { state.new ≡ record state.old { gathered = state.new.gathered } }
     ensures next { IfSome result (λ number. (reading.number ≤ number) × IsReading state.new (record reading { number = number }) × IsMissing state.new (record reading { number = number })) }
@@ -188,7 +191,7 @@ pub(crate) fn take_had(state: &mut Data, reading: Reading) -> Option<u8>
     let Some(piece) = reading.piece() else {
         return None;
     };
-    match had(state, piece) {
+    match known_word(state, piece) {
         Some(value) => {
             piece.gather(value, &mut state.gathered);
             take_more(state, reading.next())
@@ -198,7 +201,7 @@ pub(crate) fn take_had(state: &mut Data, reading: Reading) -> Option<u8>
 }
 
 /// The same past the first piece.
-#[cycle(take_had)]
+#[cycle(take_known)]
 #[inline(never)]
 fn take_more(state: &mut Data, reading: Reading) -> Option<u8>
     requires may { (state.old.words ≤ MAX_WORDS) × IsOpen state.old × IsReading state.old reading }
@@ -208,12 +211,12 @@ fn take_more(state: &mut Data, reading: Reading) -> Option<u8>
     ensures order { (past : Phase) → next_load reading result past
         ≡ load_among (rows_before state.old) state.old.log.rows past reading (drop reading.number (parts reading)) }
 {
-    take_had(state, reading)
+    take_known(state, reading)
 }
 
 /// A piece's word, where the piece is to be had with no step: the write set has all of it, or the word is logged.
 #[inline(always)]
-fn had(state: &Data, piece: Piece) -> Option<u64>
+fn known_word(state: &Data, piece: Piece) -> Option<u64>
     requires piece { IsPiece piece }
     requires rows { AreRows state.now.frames.writes.rows }
     ensures had { is_some result ≡ is_had state.now.frames.writes.rows state.now.log.rows piece }
@@ -262,10 +265,10 @@ fn overlaid(state: &Data, word: u32, value: u64) -> u64
 /// A word was loaded, to be confirmed.
 #[inline(always)]
 pub fn loaded(state: &mut Data, seen: u64) -> Turn
-    requires sound { IsSound state.old (Phase.Load state.old.reading) }
+    requires sound { IsSound state.old (phases.Load state.old.reading) }
     ensures turn { result ≡ Turn.Wait (Pending.Confirm seen) }
     ensures state { state.new ≡ state.old }
-    ensures goes { StepGoesTo state.old (Phase.Load state.old.reading) seen result state.new }
+    ensures goes { StepGoesTo state.old (phases.Load state.old.reading) seen result state.new }
 {
     Turn::Wait(Pending::Confirm(seen))
 }
@@ -273,13 +276,13 @@ pub fn loaded(state: &mut Data, seen: u64) -> Turn
 /// The clock was loaded to confirm a word.
 #[inline(always)]
 pub(crate) fn confirmed(state: &mut Data, value: u64, seen: u64) -> Turn
-    requires sound { IsSound state.old (Phase.Confirm state.old.reading value) }
+    requires sound { IsSound state.old (phases.Confirm state.old.reading value) }
     requires fits { state.old.clock ≤ seen }
-    ensures { StepTurns state.old (Phase.Confirm state.old.reading value) seen result state.new }
+    ensures { StepTurns state.old (phases.Confirm state.old.reading value) seen result state.new }
 {
     if seen == state.snapshot {
         if let Some(word) = whole_word(&state.reading) {
-            return Turn::End(End::Word(confirmed_word(state, word, value, seen)));
+            return Turn::End(CallEnd::Word(confirmed_word(state, word, value, seen)));
         }
         state.clock = seen;
         let Some(piece) = state.reading.piece() else {
@@ -302,10 +305,10 @@ pub(crate) fn confirmed(state: &mut Data, value: u64, seen: u64) -> Turn
 /// The clock was loaded to confirm a whole word, and is still the snapshot: what the word is under the write set.
 #[inline(always)]
 pub fn confirmed_word(state: &mut Data, word: u32, value: u64, seen: u64) -> u64
-    requires sound { IsSound state.old (Phase.Confirm state.old.reading value) }
+    requires sound { IsSound state.old (phases.Confirm state.old.reading value) }
     requires word { IsWord state.old.reading word }
     requires same { seen ≡ state.old.snapshot }
-    ensures { StepTurns state.old (Phase.Confirm state.old.reading value) seen (Turn.End (End.Word result)) state.new }
+    ensures { StepTurns state.old (phases.Confirm state.old.reading value) seen (Turn.End (CallEnd.Word result)) state.new }
 {
     state.clock = seen;
     state.log.add(LogRow { word, value });

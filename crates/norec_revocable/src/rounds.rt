@@ -1,5 +1,6 @@
 //! Validation rounds: the value log is compared with the memory between two equal even clocks.
 
+ghost use Rattle.norec_core.specs.Phases as phases;
 ghost use Rattle.std.specs.Prelude.{◌≤◌, length, Option, None, Some};
 ghost use Rattle.norec_data.specs.View.{aim_for, aim_of};
 ghost use Rattle.norec_revocable.specs.InPhases.{IsSound};
@@ -9,8 +10,8 @@ ghost use Rattle.norec_core.specs.Order.{row_stage, try_stage};
 ghost use Rattle.norec_revocable.specs.Moves.{GoesTo, StepGoesTo, StepTurns};
 
 use crate::commits::exchange;
-use norec_core::{Answer, Phase};
-use norec_data::{Cause, Data, End, Pending, Turn, roll_back};
+use norec_core::Answer;
+use norec_data::{CallEnd, Cause, Data, Pending, Turn, roll_back};
 
 /// A new round, if one is left.
 pub(crate) fn try_round(state: &mut Data, cause: Cause) -> Turn
@@ -25,15 +26,15 @@ pub(crate) fn try_round(state: &mut Data, cause: Cause) -> Turn
     } else {
         roll_back(state);
         state.changed = None;
-        Turn::End(End::Conflict)
+        Turn::End(CallEnd::Conflict)
     }
 }
 
 /// The clock was loaded at the start of a round.
 pub(crate) fn round_started(state: &mut Data, seen: u64) -> Turn
-    requires sound { IsSound state.old (Phase.RoundStart (aim_of state.old)) }
+    requires sound { IsSound state.old (phases.RoundStart (aim_of state.old)) }
     requires fits { state.old.clock ≤ seen }
-    ensures { StepGoesTo state.old (Phase.RoundStart (aim_of state.old)) seen result state.new }
+    ensures { StepGoesTo state.old (phases.RoundStart (aim_of state.old)) seen result state.new }
 {
     state.clock = seen;
     if seen % 2 == 0 {
@@ -58,8 +59,8 @@ fn next_row(state: &mut Data, row: usize) -> Turn
 
 /// A logged word was loaded in a round.
 pub(crate) fn row_seen(state: &mut Data, row: usize, seen: u64) -> Turn
-    requires sound { IsSound state.old (Phase.RoundRow (aim_of state.old) row) }
-    ensures { StepGoesTo state.old (Phase.RoundRow (aim_of state.old) row) seen result state.new }
+    requires sound { IsSound state.old (phases.RoundRow (aim_of state.old) row) }
+    ensures { StepGoesTo state.old (phases.RoundRow (aim_of state.old) row) seen result state.new }
 {
     let _rows = state.log.len();
     let logged = state.log.row(row);
@@ -68,15 +69,15 @@ pub(crate) fn row_seen(state: &mut Data, row: usize, seen: u64) -> Turn
     } else {
         roll_back(state);
         state.changed = Some(logged.word);
-        Turn::End(End::Conflict)
+        Turn::End(CallEnd::Conflict)
     }
 }
 
 /// The clock was loaded at the end of a round: where it has not moved, it is the new snapshot.
 pub(crate) fn round_ended(state: &mut Data, seen: u64) -> Turn
-    requires sound { IsSound state.old (Phase.RoundEnd (aim_of state.old)) }
+    requires sound { IsSound state.old (phases.RoundEnd (aim_of state.old)) }
     requires fits { state.old.clock ≤ seen }
-    ensures { StepTurns state.old (Phase.RoundEnd (aim_of state.old)) seen result state.new }
+    ensures { StepTurns state.old (phases.RoundEnd (aim_of state.old)) seen result state.new }
 {
     let is_steady = seen == state.clock;
     state.clock = seen;

@@ -1,23 +1,21 @@
 //! Reads of one whole word that is neither written nor logged: the call asks for this word, with no look at its pieces.
 
-ghost use Rattle.std.specs.Prelude.{◌≡◌, ◌<◌, ◌≤◌, ℕ, IfSome, IfNone, OnSome, false, true};
-ghost use Rattle.norec_core.specs.Order.{stage_after};
-ghost use Rattle.norec_data.specs.View.{core};
+ghost use Rattle.norec_core.specs.Phases as phases;
+ghost use Rattle.std.specs.Prelude.{◌≡◌, ◌<◌, ◌≤◌, IfSome, IfNone, OnSome, false};
 ghost use Rattle.norec_revocable.specs.InPhases.{IsSound};
 ghost use Rattle.norec_revocable.specs.Between.{IsWord};
 ghost use Rattle.norec_revocable.specs.WholeReads.{IsNewWord};
 ghost use Rattle.norec_revocable.specs.Moves.{CallTurns};
 
-use crate::read::{set_value, start, whole_word};
-use itm_types::{Call, MAX_MEMORY, MAX_WORDS, ReadHint, Value, Width};
-use norec_core::Phase;
+use crate::read::{set_value, start};
+use itm_types::{Call, MAX_WORDS, ReadHint, Value, Width};
 use norec_data::{Data, Pending, Turn, access_refusal};
 
 /// A read comes. Where it is one of a whole word that is neither written nor logged, and there is room to log it, it
 /// waits for this word; else nothing is done.
 #[inline(always)]
 pub fn begin_word(state: &mut Data, hint: ReadHint, width: Width, at: u64) -> Option<u32>
-    requires sound { IsSound state.old Phase.Idle }
+    requires sound { IsSound state.old phases.Idle }
     ensures none { IfNone result (state.new ≡ state.old) }
     ensures called { OnSome result (CallTurns state.old (Call.Read hint width at) false (Turn.Wait Pending.Load) state.new) }
     ensures word { IfSome result (IsWord state.new.reading) }
@@ -51,14 +49,4 @@ fn new_word(state: &Data, width: Width, at: u64) -> Option<u32>
         return None;
     }
     Some(word)
-}
-
-/// The clock was loaded to confirm a word, and ends the read: it is one of a whole word, and the clock is still the
-/// snapshot.
-#[inline(always)]
-pub fn ends_word(state: &Data, seen: u64) -> bool
-    requires place { state.now.reading.at ≤ MAX_MEMORY }
-    ensures { result ≡ true → (value : ℕ) → stage_after (core state.now (Phase.Confirm state.now.reading value)) seen ≡ Phase.Idle }
-{
-    seen == state.snapshot && whole_word(&state.reading).is_some()
 }

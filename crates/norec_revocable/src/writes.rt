@@ -1,5 +1,6 @@
 //! Writes: a value goes into the write set, piece by piece upwards, and no step is taken.
 
+ghost use Rattle.norec_core.specs.Phases as phases;
 ghost use Rattle.std.specs.Prelude.{◌≡◌, ◌<◌, ◌≤◌, ◌+◌, ◌∷◌, [], false, OnOk, OnErr, All, length, map};
 ghost use Rattle.word_pieces.specs.Pieces.{IsPiece, pieces_of};
 ghost use Rattle.itm_types.specs.Slices.{AreBytes};
@@ -12,23 +13,22 @@ ghost use Rattle.norec_revocable.specs.Moves.{CallComes};
 use crate::access::refuse;
 use itm_types::{Call, Datum, MAX_MEMORY, WriteHint};
 use nest_frames::Frames;
-use norec_core::Phase;
-use norec_data::{Data, End, Turn, access_refusal};
+use norec_data::{CallEnd, Data, Turn, access_refusal};
 use std::alloc::AllocError;
 use word_pieces::{Piece, piece_at, pieces};
 
 /// A write comes.
 #[inline(always)]
 pub fn write(state: &mut Data, hint: WriteHint, at: u64, value: &Datum) -> Result<Turn, AllocError>
-    requires sound { IsSound state.old Phase.Idle }
+    requires sound { IsSound state.old phases.Idle }
     ensures { CallComes state.old (Call.Write hint at value.now) false result state.new }
 {
     if let Some(why) = access_refusal(state, at, u64::from(value.width.size())) {
         return Ok(refuse(state, why));
     }
     put_value(&mut state.frames, at, value.width.size(), &value.bytes)?;
-    state.come();
-    Ok(Turn::End(End::Done))
+    state.start_call();
+    Ok(Turn::End(CallEnd::Done))
 }
 
 /// Puts a value of so many bytes in the write set. Where memory is refused, no word is given a row.

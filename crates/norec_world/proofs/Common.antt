@@ -14,14 +14,15 @@ pub use Rattle.itm_types.specs.declared.call.Reply.{Reply as Replied}
 pub use Rattle.itm_types.specs.declared.limits.TheConstants.{MAX_OPEN_BLOCKS, MAX_ACTORS}
 pub use Rattle.itm_types.specs.declared.step.Step.TheVariants.{Cas, Load, Store}
 pub use Rattle.itm_types.specs.declared.step.Step.{Step}
-pub use Rattle.norec_core.proofs.AnsweredEngines.{frees, replied_outside, rests}
-pub use Rattle.norec_core.proofs.Blocks.{inside_all, none_inside}
-pub use Rattle.norec_core.proofs.KeptFields.{handed_is}
+pub use Rattle.norec_core.proofs.Replies.AnsweredEngines.{frees, replied_outside, rests}
+pub use Rattle.norec_core.proofs.Engines.Blocks.{inside_all, none_inside}
+pub use Rattle.norec_core.proofs.Engines.KeptFields.{handed_is}
 pub use Rattle.norec_core.specs.Core.{Core, came, handed_to, in_transaction, is_inside, opening, word_loaded}
 pub use Rattle.norec_core.specs.Moves.{IsResumed}
-pub use Rattle.norec_core.proofs.ReplyCases.{replied_so, reply_cases}
+pub use Rattle.norec_core.proofs.Replies.ReplyCases.{replied_so, reply_cases}
 pub use Rattle.norec_core.specs.Order.{asked}
-pub use Rattle.norec_core.specs.Proceeds.{AsksFor, ConflictsIn, Ends, Enters, Got, IsAtOnce, IsLawful, IsWithin, Proceeds, Replies, RepliesBy, RepliesHeld, RepliesTo, StaysOn, backed, recoded}
+pub use Rattle.norec_core.specs.Proceeds.{AsksFor, ConflictsIn, Ends, Enters, Got, IsAtOnce, IsLawful, IsWithin, Proceeds, Replies, RepliesBy, RepliesHeld, RepliesTo, StaysOn, backed}
+pub use Rattle.norec_core.specs.Effects.{recoded}
 pub use Rattle.norec_core.specs.Rows.{write_at}
 pub use Rattle.norec_core.specs.Stands.{stands_for, state_over}
 pub use Rattle.norec_core.specs.Undoing.{after_undoing}
@@ -59,7 +60,7 @@ pub use Rattle.norec_world.specs.Starts.{HasStarted, IsFirst}
 pub use Rattle.norec_world.specs.Status.{ending_of, is_ready, is_waiting, waiting_step}
 pub use Rattle.norec_world.specs.Tries.{Continues, EndsAt, GoesOnAfter, IsBetween, Prior, Tries, TriesAgain, begins, between, current_of, outrun, over, prior_of, runs, shut_out, turned_away}
 pub use Rattle.norec_world.specs.Views.{world_of}
-pub use Rattle.norec_world.specs.World.{SameOpening, observed, World, attempts_of, counted, ending_at, ending_in, told, waits_at}
+pub use Rattle.norec_world.specs.World.{SameOpening, observed, World, attempts_of, counted, ending_at, ending_in, event_result, waits_at}
 pub use Rattle.norec_world.specs.WorldEvents.{ActorGoes, Goes, HasRead, Leads, Takes, passes_of}
 pub use Rattle.norec_world.specs.declared.actor.Actor.{Actor}
 pub use Rattle.norec_world.specs.declared.actor.Status.TheVariants.{Ended, Ready, Waits}
@@ -67,7 +68,7 @@ pub use Rattle.norec_world.specs.declared.actor.Status.{Status}
 pub use Rattle.tx_attempts.specs.declared.attempt.Attempt.{Attempt}
 pub use Rattle.tx_runs.specs.declared.ending.End.TheVariants.{Finished, GaveUp, NoMemory}
 pub use Rattle.tx_runs.specs.declared.ending.End.{End}
-pub use Rattle.tx_attempts.specs.declared.attempt.Entry.{Entry}
+pub use Rattle.tx_attempts.specs.declared.attempt.CallRecord.{CallRecord}
 pub use Rattle.tx_attempts.specs.declared.attempt.Outcome.TheVariants.{Unfinished}
 pub use Rattle.tx_attempts.specs.declared.attempt.Outcome.{Outcome}
 pub use Rattle.norec_world.specs.declared.fault.WorldFault.{WorldFault}

@@ -4,7 +4,7 @@ use Rattle.itm_types.specs.declared.access.Width.TheVariants.{U1, U2, U8}
 use Rattle.itm_types.specs.declared.access.ReadHint.TheVariants.{R}
 use Rattle.itm_types.specs.declared.access.WriteHint.TheVariants.{W}
 use Rattle.itm_types.specs.declared.datum.Datum.{Datum}
-use Rattle.norec_world.proofs.Common.{Attempt, Begin, Between, Call, Commit, Done, Entry, IsOpaque, IsRunOf, Props, Read, Rules, Write, after, alone, passes_of, takes_clock}
+use Rattle.norec_world.proofs.Common.{Attempt, Begin, Between, Call, Commit, Done, CallRecord, IsOpaque, IsRunOf, Props, Read, Rules, Write, after, alone, passes_of, takes_clock}
 use Rattle.itm_types.specs.declared.call.Reply.{Reply}
 use Rattle.itm_types.specs.declared.call.Call.TheVariants.{Abort, Load, Log, Mode, Save}
 use Rattle.itm_types.specs.declared.call.Reply.TheVariants.{Bytes, Code, Refused}
@@ -16,7 +16,8 @@ use Rattle.nest_frames.specs.Nest.{Frame}
 use Rattle.norec_core.specs.Core.{Core, opening}
 use Rattle.itm_types.specs.declared.call.Refusal.TheVariants.{Outside}
 use Rattle.norec_world.specs.ActionRoom.{counted, is_held, promised, wanted}
-use Rattle.norec_world.specs.PlayerRooms.{EndsWithin, MayReply}
+use Rattle.norec_world.specs.PlayerRooms.{EndsWithin}
+use Rattle.tx_player.specs.Replies.{MayReply}
 use Rattle.norec_world.proofs.Plan.{Plan, next_call, restarted, calls_left, depth}
 use Rattle.norec_world.proofs.Plan as plans
 
@@ -32,13 +33,13 @@ eight b = b ∷ 0 ∷ 0 ∷ 0 ∷ 0 ∷ 0 ∷ 0 ∷ 0 ∷ []
 abbrev pub word : ℕ → Datum
 word b = record { width = U8; bytes = record { items = eight b }; sized = refl }
 
-abbrev pub read : ℕ → Entry
+abbrev pub read : ℕ → CallRecord
 read b = record { call = Read R U8 0; reply = Bytes (record { items = eight b }) }
 
-abbrev pub write : ℕ → Entry
+abbrev pub write : ℕ → CallRecord
 write b = record { call = Write W 0 (word b); reply = Done }
 
-abbrev pub commit : Entry
+abbrev pub commit : CallRecord
 commit = record { call = Commit; reply = Done }
 
 pub record Counter : Type 0 where
@@ -198,13 +199,13 @@ planned = record { calls = begin ∷ Log U1 0 ∷ begin ∷ save ∷ Write W 0 (
 abbrev pub planned_to : ℕ → Plan
 planned_to at = record { calls = planned.calls; at = at; blocks = Some (record { begun = at - 1; within = 0 }) }
 
-abbrev pub in_block : List Entry
+abbrev pub in_block : List CallRecord
 in_block = record { call = Log U1 0; reply = Done } ∷ record { call = begin; reply = Code 5 } ∷ record { call = save; reply = Done } ∷ write 7 ∷ []
 
 abbrev pub cancelled : Attempt
 cancelled = record { thread = 0; nth = 1; began = 0; at = 0; props = plain; arena = two 0 0; calls = record { list = in_block ++ record { call = Abort true; reply = Code 24 } ∷ []; room = 0 }; ran = []; outcome = Cancelled }
 
-abbrev pub load : Entry
+abbrev pub load : CallRecord
 load = record { call = Load U2 0; reply = Bytes (record { items = two 0 2 }) }
 
 abbrev pub next : Attempt
@@ -224,7 +225,7 @@ cancelled_run = ((refl, refl, omega arith, cancelled_is_opaque), ((refl, refl, o
 
 -- what ended by a commit was not cancelled
 not_cancelled : ByAbort (commit ∷ []) → ⊥
-not_cancelled ([], outer, e) = absurd (let calls = ap (map (λ (x : Entry). x.call)) e in cc)
+not_cancelled ([], outer, e) = absurd (let calls = ap (map (λ (x : CallRecord). x.call)) e in cc)
 not_cancelled (x ∷ [], outer, e) = absurd (cc)
 not_cancelled (x ∷ y ∷ rest, outer, e) = absurd (cc)
 

@@ -2,12 +2,12 @@
 use Rattle.std.specs.Prelude.{◌≡◌, ℕ, ◌+◌, ◌<◌, ◌≤◌, ◌||◌, if◌then◌else◌, Bool, true, false, [], length, is_some, Option, None, Some, unwrap_or, vec_capacity}
 use Rattle.itm_types.specs.Calls.{is_abort, registered_by}
 use Rattle.user_actions.specs.Actions.{total}
-use Rattle.norec_core.specs.Core.{Core, goes, in_transaction}
+use Rattle.norec_core.specs.Core.{Core, irrevocable_room, in_transaction}
 use Rattle.itm_types.specs.declared.call.Call.{Call}
 use Rattle.norec_core.specs.declared.answer.Next.{Next}
 use Rattle.norec_core.specs.declared.answer.Next.TheVariants.{Step, Answer}
 use Rattle.tx_attempts.specs.declared.attempt.Attempt.{Attempt}
-use Rattle.tx_attempts.specs.declared.attempt.Entry.{Entry}
+use Rattle.tx_attempts.specs.declared.attempt.CallRecord.{CallRecord}
 use Rattle.tx_attempts.specs.Kept.{grown}
 use Rattle.norec_world.specs.declared.actor.Actor.{Actor}
 use Rattle.norec_world.specs.declared.actor.Status.{Status}
@@ -24,7 +24,7 @@ NoCancel (Ended end) = Unit {0}
 -- the room that the call in progress asks for, where it makes the transaction irrevocable
 abbrev pub goes_in : Core → Option Call → Option ℕ
 goes_in e None = None
-goes_in e (Some call) = goes e call
+goes_in e (Some call) = irrevocable_room e call
 
 -- the transaction is irrevocable, or the call in progress makes it so
 abbrev pub is_held : Core → Bool
@@ -114,7 +114,7 @@ module _ {P : Type 0} where
     pub room : HasRoomFor a.engine a
     pub over : in_transaction a.engine ≡ false → is_held a.engine ≡ false
     pub still : is_held a.engine ≡ true → HasAll r a
-    pub adds : in_transaction a.engine ≡ true → (row : Attempt) → active_of a.thread r.active ≡ Some row → (entry : Entry) → (grown row.calls entry a.ahead).room ≤ promised a.engine
+    pub adds : in_transaction a.engine ≡ true → (row : Attempt) → active_of a.thread r.active ≡ Some row → (entry : CallRecord) → (grown row.calls entry a.ahead).room ≤ promised a.engine
     pub opens : in_transaction a.engine ≡ true → (row : Attempt) → a.pending ≡ Some row → row.calls.room ≤ promised a.engine
 
   -- what the engine gave for the call is to be recorded

@@ -32,7 +32,7 @@ pub record Observed (P : Type 0) : Type 0 where
   pub base : List ℕ  -- the memory as it was handed in
   pub arena : ℕ  -- the bytes of each player's arena
   pub retries : ℕ  -- how often a block may be tried again
-  pub attempts : List Attempt
+  pub attempts : List Attempt  -- those that have ended, in the order in which they did, and then the open ones, by actor
   pub clock : ℕ
   pub bytes : List ℕ  -- the memory
 

@@ -1,24 +1,16 @@
 -- A player that tells its room truly: as it makes its transaction irrevocable, how many calls come until its outermost block ends.
 use Rattle.std.specs.Prelude.{◌≡◌, ◌⊎◌, ℕ, zero, suc, ◌<◌, if◌then◌else◌, Option, None, Some}
 use Rattle.itm_types.specs.declared.call.Call.{Call}
-use Rattle.itm_types.specs.declared.call.Call.TheVariants.{Begin, Commit, Mode}
+use Rattle.itm_types.specs.declared.call.Call.TheVariants.{Begin, Mode}
 use Rattle.itm_types.specs.declared.call.Reply.{Reply}
-use Rattle.itm_types.specs.declared.call.Reply.TheVariants.{Done, Code, Refused}
+use Rattle.tx_player.specs.Replies.{MayReply}
 use Rattle.tx_player.specs.Rules.{Rules}
 
--- a reply that a call may get with so many blocks open: a begin is accepted or refused, and a commit within a block is done
-abbrev pub MayReply : ℕ → Call → Reply → Type 0
-MayReply depth (Begin props room) (Code n) = Unit {0}
-MayReply depth (Begin props room) (Refused why) = Unit {0}
-MayReply depth (Begin props room) reply = ⊥
-MayReply depth Commit reply = 0 < depth → reply ≡ Done
-MayReply depth call reply = Unit {0}
-
 -- the room that a call tells which is to make its transaction irrevocable
-abbrev pub told_room : Call → Option ℕ
-told_room (Begin props room) = if props.goes_irrevocable then Some room else None
-told_room (Mode room) = Some room
-told_room call = None
+abbrev pub going_room : Call → Option ℕ
+going_room (Begin props room) = if props.goes_irrevocable then Some room else None
+going_room (Mode room) = Some room
+going_room call = None
 
 module _ {P : Type 0} (rules : Rules P) where
   -- it makes at most so many calls before its blocks have ended, or it ends itself
@@ -37,4 +29,4 @@ module _ {P : Type 0} (rules : Rules P) where
 
   -- wherever it comes to, its blocks end within the room that its call tells
   abbrev pub TellsRoom : P → Type 0
-  TellsRoom p = (n : ℕ) (q : P) (call : Call) (reply : Reply) (room : ℕ) → ComesTo n p q → rules.next_call q ≡ Some call → MayReply (rules.depth q) call reply → told_room call ≡ Some room → EndsWithin room (rules.answered q reply)
+  TellsRoom p = (n : ℕ) (q : P) (call : Call) (reply : Reply) (room : ℕ) → ComesTo n p q → rules.next_call q ≡ Some call → MayReply (rules.depth q) call reply → going_room call ≡ Some room → EndsWithin room (rules.answered q reply)

@@ -11,7 +11,7 @@ use Rattle.itm_types.specs.declared.call.Reply.{Reply as Replied}
 use Rattle.itm_types.specs.declared.call.Reply.TheVariants.{Done}
 use Rattle.norec_core.specs.declared.answer.Answer.{Answer}
 use Rattle.norec_core.specs.declared.answer.Answer.TheVariants.{Reply, Committed, Conflict, Busy, Full}
-use Rattle.norec_core.specs.Core.{goes, in_transaction}
+use Rattle.norec_core.specs.Core.{irrevocable_room, in_transaction}
 use Rattle.tx_attempts.specs.declared.attempt.Attempt.{Attempt}
 use Rattle.norec_world.specs.Rows.{Rows, active_of, with_changed, with_opened, with_ended}
 use Rattle.tx_attempts.specs.declared.attempt.Outcome.{Outcome}
@@ -104,7 +104,7 @@ asked_pending false clock a (Begin props room) = Some (record {
   at = 0;
   props = props;
   arena = a.engine.arena;
-  calls = record { list = []; room = unwrap_or (goes a.engine (Begin props room)) 0 };
+  calls = record { list = []; room = unwrap_or (irrevocable_room a.engine (Begin props room)) 0 };
   ran = [];
   outcome = outcomes.Unfinished;
 })
@@ -122,7 +122,7 @@ pub record Asks {P : Type 0} (clock : ℕ) (r r' : Rows) (old new : Actor P) (ca
   pub again : new.again ≡ old.again
   pub player : new.player ≡ old.player
   pub nth : new.nth ≡ old.nth
-  pub ahead : in_transaction old.engine ≡ true → new.ahead ≡ unwrap_or (goes old.engine call) 0  -- the room that it asks for is known until its answer
+  pub ahead : in_transaction old.engine ≡ true → new.ahead ≡ unwrap_or (irrevocable_room old.engine call) 0  -- the room that it asks for is known until its answer
   pub thread : new.thread ≡ old.thread
   pub rows_are : r' ≡ record r { room = r'.room }
   pub called : IsCalled old.engine call (begins_again (in_transaction old.engine) old.again call) what new.engine

@@ -12,8 +12,8 @@ use Rattle.norec_core.specs.Core.{Core, in_transaction, may_go}
 use Rattle.norec_core.specs.Moves.{IsCalled}
 use Rattle.norec_core.specs.Order.{asked}
 use Rattle.norec_core.specs.Proceeds.{IsLawful, IsSettled, IsWithin, most}
-use Rattle.norec_core.specs.declared.phase.Phase.{Phase}
-use Rattle.norec_core.specs.declared.phase.Phase.TheVariants as at
+use Rattle.norec_core.specs.Phases.{Phase}
+use Rattle.norec_core.specs.Phases as at
 use Rattle.norec_core.specs.declared.answer.Next.{Next}
 use Rattle.norec_core.specs.declared.answer.Next.TheVariants.{Step as Asks, Answer as Answers}
 use Rattle.norec_core.specs.declared.answer.Answer.{Answer}

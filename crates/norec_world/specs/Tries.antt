@@ -3,7 +3,7 @@ use Rattle.std.specs.Prelude.{◌≡◌, ℕ, ◌+◌, ◌*◌, ◌/◌, ◌%◌
 use Rattle.norec_core.specs.Core.{may_go}
 use Rattle.tx_attempts.specs.declared.attempt.Attempt.{Attempt}
 use Rattle.itm_types.specs.declared.call.Ran.{Ran}
-use Rattle.tx_attempts.specs.declared.attempt.Entry.{Entry}
+use Rattle.tx_attempts.specs.declared.attempt.CallRecord.{CallRecord}
 use Rattle.tx_attempts.specs.declared.attempt.Outcome.{Outcome}
 use Rattle.tx_attempts.specs.declared.attempt.Outcome.TheVariants.{Committed, ReadOnly, Cancelled, Conflict, Full, NoMemory, Unfinished}
 use Rattle.tx_runs.specs.declared.ending.End.{End}
@@ -21,7 +21,7 @@ pub record Continues (row row' : Attempt) : Type 0 where
   pub began : row'.began ≡ row.began
   pub props : row'.props ≡ row.props
   pub arena : row'.arena ≡ row.arena
-  pub more : List Entry
+  pub more : List CallRecord
   pub calls : row'.calls.list ≡ row.calls.list ++ more
   pub more_ran : List Ran
   pub ran : row'.ran ≡ row.ran ++ more_ran

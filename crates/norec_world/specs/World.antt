@@ -60,11 +60,11 @@ abbrev pub ending_at : {P : Type 0} → World P → ℕ → Option End
 ending_at w actor = ending_in w.actors actor
 
 -- what an event is answered, by how its actor stands then
-abbrev pub told : Option End → Result (Unit {0}) WorldFault
-told None = Ok tt
-told (Some Finished) = Ok tt
-told (Some GaveUp) = Ok tt
-told (Some NoMemory) = Err faults.NoMemory
+abbrev pub event_result : Option End → Result (Unit {0}) WorldFault
+event_result None = Ok tt
+event_result (Some Finished) = Ok tt
+event_result (Some GaveUp) = Ok tt
+event_result (Some NoMemory) = Err faults.NoMemory
 
 -- the operation was done
 abbrev pub is_event : Result (Unit {0}) WorldFault → Bool

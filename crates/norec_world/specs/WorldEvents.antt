@@ -16,7 +16,7 @@ use Rattle.norec_world.specs.Headline.{AreOpaque}
 use Rattle.norec_world.specs.Tied.{AreTied}
 use Rattle.norec_world.specs.Rows.{Rows}
 use Rattle.norec_world.specs.Memories.{words_at}
-use Rattle.norec_world.specs.World.{World, observed, SameOpening, ending_at, waits_at, told, is_event, counted}
+use Rattle.norec_world.specs.World.{World, observed, SameOpening, ending_at, waits_at, event_result, is_event, counted}
 use Rattle.tx_player.specs.Rules.{Rules}
 
 -- what a transaction has read is of one memory, which the first commits left
@@ -34,7 +34,7 @@ module _ {P : Type 0} (rules : Rules P) where
     pub no_such : (result ≡ Err NoSuchActor) ↔ (length old.actors ≤ actor)  -- told exactly where there is no such actor
     pub ended : (result ≡ Err Ended) ↔ IsSome (ending_at old actor)  -- told exactly where it had ended
     pub event : IsTrue (is_event result) ↔ IsSome (waits_at old actor)  -- an event exactly where it waits for an operation
-    pub answer : IsTrue (is_event result) → result ≡ told (ending_at new actor)  -- an event is answered by how the actor stands then
+    pub answer : IsTrue (is_event result) → result ≡ event_result (ending_at new actor)  -- an event is answered by how the actor stands then
     pub lawful : (a : Actor P) (step : Step) → slice_get old.actors actor ≡ Some a → waiting_step a.status ≡ Some step → IsLawful a.engine step  -- the operation is a step of the algorithm
     pub operation : (step : Step) → waits_at old actor ≡ Some step → new.cells ≡ cells_after old.cells step  -- it is done, and changes no other cell
     pub counts : IsTrue (is_event result) → new.events ≡ counted old.events 1  -- an event is counted

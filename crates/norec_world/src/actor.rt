@@ -11,7 +11,7 @@ use norec_core::Answer;
 use norec_engine::Engine;
 use std::alloc::Global;
 use std::mem;
-use tx_attempts::{Attempt, Entry};
+use tx_attempts::{Attempt, CallRecord};
 use tx_player::Player;
 use tx_runs::End;
 
@@ -35,7 +35,7 @@ pub(crate) struct Actor<P> {
     pub(crate) player: P,
     pub(crate) engine: Engine,
     /// Room for the calls of the open attempt, and one more while a call is in progress.
-    pub(crate) spare: Vec<Entry>,
+    pub(crate) spare: Vec<CallRecord>,
     /// The room that the call in progress asks for, where it makes the open attempt irrevocable.
     pub(crate) ahead: usize,
     /// Room for the actions that have run once the open attempt ends.

@@ -15,6 +15,6 @@ mod world;
 pub use fault::WorldFault;
 pub use schedule::Passes;
 pub use setup::Setup;
-pub use tx_attempts::{Attempt, Bytes, Calls, Entry, Outcome, RanActions};
+pub use tx_attempts::{Attempt, Bytes, CallRecord, Calls, Outcome, RanActions};
 pub use tx_runs::End;
 pub use world::World;

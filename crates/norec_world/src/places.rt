@@ -3,18 +3,18 @@
 ghost use Rattle.std.specs.Prelude.{◌≡◌, ◌⊎◌, ◌^◌, ◌+◌, ◌<◌, ◌≤◌, true, [], Some, OnOk, OnErr, is_some, unwrap_or, vec_capacity};
 ghost use Rattle.itm_types.specs.Calls.{is_abort, registered_by};
 ghost use Rattle.user_actions.specs.Actions.{total};
-ghost use Rattle.norec_core.specs.Core.{goes, in_transaction};
+ghost use Rattle.norec_core.specs.Core.{irrevocable_room, in_transaction};
 
 use crate::actor::Actor;
 use crate::recorded::CallCount;
 use itm_types::{Call, Ran};
 use std::alloc::AllocError;
-use tx_attempts::Entry;
+use tx_attempts::CallRecord;
 use tx_player::Player;
 use tx_runs::ahead_of;
 
 /// Makes a place for one more call, where an open attempt has so many and no room for more.
-pub(crate) fn reserve_place(calls: CallCount, spare: &mut Vec<Entry>) -> Result<(), AllocError>
+pub(crate) fn reserve_place(calls: CallCount, spare: &mut Vec<CallRecord>) -> Result<(), AllocError>
     requires empty { spare.old.items ≡ [] }
     ensures empty { spare.new.items ≡ [] }
     ensures kept { vec_capacity spare.old ≤ vec_capacity spare.new }
@@ -69,7 +69,7 @@ impl<P: Player> Actor<P> {
         ensures empty { (self.new.spare.items ≡ []) × (self.new.end_room.items ≡ []) × (self.new.cancel_room.items ≡ []) }
         ensures kept { (vec_capacity self.old.spare ≤ vec_capacity self.new.spare) × (vec_capacity self.old.end_room ≤ vec_capacity self.new.end_room)
             × (vec_capacity self.old.cancel_room ≤ vec_capacity self.new.cancel_room) }
-        ensures ahead { OnOk result (self.new.ahead ≡ unwrap_or (goes self.old.engine call.now) 0) }
+        ensures ahead { OnOk result (self.new.ahead ≡ unwrap_or (irrevocable_room self.old.engine call.now) 0) }
         ensures room { OnOk result (0 < self.new.ahead → (calls + 1 + self.new.ahead ≤ vec_capacity self.new.spare)
             × (total self.old.engine.actions + self.new.ahead ≤ vec_capacity self.new.end_room)
             × (total self.old.engine.actions + self.new.ahead ≤ vec_capacity self.new.cancel_room)) }
@@ -83,7 +83,7 @@ impl<P: Player> Actor<P> {
         }
         let actions = self.engine.actions();
         reserve_actions(call, actions, &mut self.end_room, &mut self.cancel_room)?;
-        let ahead = ahead_of(self.engine.goes(call));
+        let ahead = ahead_of(self.engine.irrevocable_room(call));
         self.reserve_ahead(calls, actions, ahead)?;
         self.ahead = ahead;
         Ok(())

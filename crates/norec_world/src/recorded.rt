@@ -10,7 +10,7 @@ ghost use Rattle.norec_world.specs.Rows.{Rows, AreFrom, all_of, active_of, is_of
 use itm_types::Ran;
 use std::alloc::{AllocError, Global};
 use std::marker::Model;
-use tx_attempts::{Attempt, Entry, Outcome, RanActions};
+use tx_attempts::{Attempt, CallRecord, Outcome, RanActions};
 
 /// The attempts that have ended, in the order in which they did, and then the open ones by actor.
 #[derive(Drop)]
@@ -123,7 +123,13 @@ impl Recorded {
 
     /// A call of the actor's open attempt has a reply, and asked for this room.
     #[inline(always)]
-    pub(crate) fn add(&mut self, thread: u8, spare: &mut Vec<Entry>, entry: Entry, ahead: usize)
+    pub(crate) fn add(
+        &mut self,
+        thread: u8,
+        spare: &mut Vec<CallRecord>,
+        entry: CallRecord,
+        ahead: usize,
+    )
         requires empty { spare.old.items ≡ [] }
         requires room { (row : Attempt) → active_of thread self.old.active ≡ Some row → row.calls.room ≡ 0
             → length row.calls.list < vec_capacity spare.old }
@@ -141,7 +147,6 @@ impl Recorded {
 
     /// These are the actions that have run in the actor's open attempt, of which it has the first ones already. Nearly always
     /// none has run, and then its attempt is not looked for.
-    #[inline(always)]
     pub(crate) fn run(&mut self, thread: u8, spare: &mut Vec<Ran>, ran: &[Ran])
         requires first { (row : Attempt) → active_of thread self.old.active ≡ Some row
             → IsBeginningOf row.ran ran.now }
@@ -158,23 +163,6 @@ impl Recorded {
         if ran.is_empty() {
             return;
         }
-        self.run_some(thread, spare, ran);
-    }
-
-    /// The same, where some have run.
-    fn run_some(&mut self, thread: u8, spare: &mut Vec<Ran>, ran: &[Ran])
-        requires first { (row : Attempt) → active_of thread self.old.active ≡ Some row
-            → IsBeginningOf row.ran ran.now }
-        requires empty { spare.old.items ≡ [] }
-        requires room { (row : Attempt) → active_of thread self.old.active ≡ Some row → length row.ran < length ran.now
-            → length ran.now ≤ vec_capacity spare.old }
-        ensures ran { self.new ≡ with_changed thread (λ row. record row { ran = ran.now }) self.old }
-        ensures empty { spare.new.items ≡ [] }
-
-        // Where it has all of them already, no room is used.
-        ensures kept { ((row : Attempt) → active_of thread self.old.active ≡ Some row → row.ran ≡ ran.now)
-            → vec_capacity spare.new ≡ vec_capacity spare.old }
-    {
         if let Some(place) = position_of(&self.rows[self.ended..], thread) {
             let row = &mut self.rows[self.ended + place];
             grow(&mut row.ran, spare, ran);

@@ -14,7 +14,7 @@ use crate::recorded::Recorded;
 use itm_types::{Call, MAX_ACTORS, MAX_RETRIES, Props, Ran, Reply, Step};
 use norec_core::{Answer, Undone};
 use std::alloc::{AllocError, Global};
-use tx_attempts::{Attempt, Bytes, Calls, Entry, Outcome, RanActions};
+use tx_attempts::{Attempt, Bytes, CallRecord, Calls, Outcome, RanActions};
 use tx_player::Player;
 use tx_runs::{End, ahead_of, outcome_of};
 
@@ -96,7 +96,7 @@ impl<P: Player> Actor<P> {
         match call {
             Call::Begin { props, room } if !self.engine.is_open() => {
                 recorded.reserve(MAX_ACTORS)?;
-                let ahead = ahead_of(self.engine.goes(call));
+                let ahead = ahead_of(self.engine.irrevocable_room(call));
                 let attempt = self.attempt(alloc, memory.clock(), *props, ahead)?;
                 self.end_room.reserve(ahead)?;
                 self.cancel_room.reserve(ahead)?;
@@ -203,7 +203,7 @@ impl<P: Player> Actor<P> {
     {
         self.player.answer(&reply);
         let is_open = self.engine.is_open();
-        match taken(&mut self.pending) {
+        match take_pending(&mut self.pending) {
             Some(mut attempt) => {
                 if is_open {
                     self.again = true;
@@ -216,13 +216,13 @@ impl<P: Player> Actor<P> {
                     recorded.add(
                         self.thread,
                         &mut self.spare,
-                        Entry { call, reply },
+                        CallRecord { call, reply },
                         self.ahead,
                     );
                     recorded.run(self.thread, &mut self.cancel_room, self.engine.due());
                 } else if recorded.has_open(self.thread) {
                     let at = self.engine.snapshot() / 2;
-                    self.close(recorded, Entry { call, reply }, at, Outcome::Cancelled);
+                    self.close(recorded, CallRecord { call, reply }, at, Outcome::Cancelled);
                 }
             }
         }
@@ -237,7 +237,7 @@ impl<P: Player> Actor<P> {
         ensures recorded { WritesDown P.Player recorded.old self.old call (Answers (Answer.Committed at wrote)) recorded.new self.new }
     {
         self.player.answer(&Reply::Done);
-        let entry = Entry {
+        let entry = CallRecord {
             call,
             reply: Reply::Done,
         };
@@ -246,7 +246,7 @@ impl<P: Player> Actor<P> {
 
     /// The open attempt ends, with the call that has ended its block; the next one is of another block.
     #[inline(always)]
-    fn close(&mut self, recorded: &mut Recorded, entry: Entry, at: u64, outcome: Outcome)
+    fn close(&mut self, recorded: &mut Recorded, entry: CallRecord, at: u64, outcome: Outcome)
         requires empty { self.old.spare.items ≡ [] }
         requires room { (row : Attempt) → active_of self.old.thread recorded.old.active ≡ Some row
             → row.calls.room ≡ 0 → length row.calls.list < vec_capacity self.old.spare }
@@ -333,7 +333,7 @@ impl<P: Player> Actor<P> {
 
 /// What stands there, which is left empty. Nearly every answer finds none, and then nothing is moved.
 #[inline(always)]
-fn taken(pending: &mut Option<Attempt>) -> Option<Attempt>
+fn take_pending(pending: &mut Option<Attempt>) -> Option<Attempt>
     ensures value { result ≡ pending.old }
     ensures after { pending.new ≡ None }
 {

@@ -1,7 +1,7 @@
 //! Actors over one memory.
 
 ghost use Rattle.std.specs.Prelude.{◌≡◌, ℕ, ◌%◌, ◌<◌, ◌≤◌, true, false, [], length, IfOk, Some, IsSome, All};
-ghost use Rattle.norec_world.specs.World.{told};
+ghost use Rattle.norec_world.specs.World.{event_result};
 
 use crate::actor::Actor;
 use crate::fault::WorldFault;
@@ -113,7 +113,7 @@ impl<P: Player> World<P> {
             None => Err(WorldFault::NoSuchActor),
             Some(true) => {
                 let _goes_on = self.event(alloc, actor);
-                told(self.ending(actor))
+                event_result(self.ending(actor))
             }
             Some(false) => Err(WorldFault::Ended),
         }
@@ -149,7 +149,7 @@ impl<P: Player> World<P> {
     #[inline(always)]
     pub fn event(&mut self, alloc: Global, actor: u8) -> bool
         requires { IsSome (waits_at self.old actor) }
-        ensures goes { Goes P.Player actor self.old (told (ending_at self.new actor)) self.new }
+        ensures goes { Goes P.Player actor self.old (event_result (ending_at self.new actor)) self.new }
         ensures less { LeavesLess P.Player actor result self.old self.new }
     {
         let a = &mut self.actors[actor as usize];
@@ -268,8 +268,8 @@ impl<P: Player> World<P> {
 }
 
 /// What an event is answered, by how its actor stands then.
-fn told(ending: Option<End>) -> Result<(), WorldFault>
-    ensures { result ≡ told ending }
+fn event_result(ending: Option<End>) -> Result<(), WorldFault>
+    ensures { result ≡ event_result ending }
 {
     match ending {
         Some(End::NoMemory) => Err(WorldFault::NoMemory),

@@ -5,14 +5,14 @@ use Rattle.norec_world.specs.Commits.{CommitsInOrder}
 use Rattle.norec_world.specs.Tied.{AreTied}
 use Rattle.norec_world.specs.World.{World, ending_at}
 use Rattle.norec_world.proofs.Common.{slice_get_within}
-use Rattle.norec_world.proofs.SoundOthers.{odd_or_even}
+use Rattle.norec_world.proofs.Events.SoundOthers.{odd_or_even}
 use Rattle.script_laws.specs.Assembled.{HasNestedCode}
 use Rattle.script_laws.proofs.FedScripts.{are_fed}
 use Rattle.script_program.specs.Listing.{Listing, threads_of}
 use Rattle.script_vm.specs.Threads.{Thread, opening, thread_rules}
 use Rattle.tx_runs.specs.declared.ending.End.TheVariants.{NoMemory}
-use Rattle.world_histories.specs.Starved.{IsFed, LeavesNoneOpen}
-use Rattle.world_histories.proofs.StarvedActors.{fed_leave_none_open, starved_shut}
+use Rattle.world_laws.specs.Starved.{IsFed, LeavesNoneOpen}
+use Rattle.world_laws.proofs.LegalHistories.StarvedActors.{fed_leave_none_open, starved_shut}
 use Rattle.run_commands.specs.Scheduled.{Begins, players_of}
 use Rattle.run_commands.proofs.Items.{IsLed}
 use Rattle.run_commands.proofs.ScheduleItems.{led_keeps}

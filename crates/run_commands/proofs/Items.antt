@@ -12,7 +12,7 @@ use Rattle.norec_world.specs.Status.{ending_of, is_ready, is_waiting}
 use Rattle.norec_world.specs.Tied.{AreTied}
 use Rattle.norec_world.specs.World.{World, ending_at, observed}
 use Rattle.norec_world.specs.WorldEvents.{Goes, Leads}
-use Rattle.norec_world.proofs.WorldEvents.{goes_no_more}
+use Rattle.norec_world.proofs.Events.WorldEvents.{goes_no_more}
 use Rattle.script_program.specs.declared.schedule.Item.{Item}
 use Rattle.script_program.specs.declared.schedule.Item.TheVariants.{Take, Out}
 use Rattle.std.specs.Prelude.{slice_get}

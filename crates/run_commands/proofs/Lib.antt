@@ -3,6 +3,7 @@ pub mod WorkedRuns
 pub mod EndingLines
 pub mod Items
 pub mod Plays
+pub mod SentTexts
 pub mod Loops
 pub mod ScheduleItems
 pub mod FedRuns

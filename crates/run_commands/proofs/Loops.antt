@@ -2,9 +2,9 @@
 use Rattle.std.proofs.Common.{◌≡◌, ℕ, true, Some, IsSome, sym, subst, ◌∙◌}
 use Rattle.norec_world.specs.Sound.{IsNoMore}
 use Rattle.norec_world.specs.World.{World, waits_at}
-use Rattle.norec_world.proofs.LessLeft.{same_less}
-use Rattle.norec_world.proofs.WorldEvents.{LeavesLessSoFar}
-use Rattle.norec_world.proofs.Worlds.{waiting_there}
+use Rattle.norec_world.proofs.Events.Measures.{same_less}
+use Rattle.norec_world.proofs.Events.WorldEvents.{LeavesLessSoFar}
+use Rattle.norec_world.proofs.Events.Worlds.{waiting_there}
 use Rattle.tx_player.specs.Rules.{Rules}
 
 -- no event yet

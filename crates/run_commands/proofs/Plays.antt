@@ -1,32 +1,33 @@
 -- What the writer has got of a world's history.
-use Rattle.std.proofs.Common.{inl, inr, ◌≡◌, ℕ, ◌≤◌, List, [], ◌∷◌, ◌++◌, length, take, drop, flat_map, Option, None, Some, IsSome, Result, Ok, Err, refl, sym, ap, subst, ◌∙◌, append-nil, append_assoc, arith}
+use Rattle.std.proofs.Common.{inl, inr, ◌≡◌, ℕ, ◌≤◌, List, [], ◌∷◌, ◌++◌, length, take, drop, flat_map, Option, None, Some, IsSome, Result, Ok, Err, false, true≢false, refl, sym, ap, subst, ◌∙◌, append-nil, append_assoc, arith}
 use Rattle.std.proofs.KnownBytes.{Appends-kept, Appends-nil, Appends-trans}
 use Rattle.std.proofs.lemmas.Grind.{common_steps, flat_map-append}
 use Rattle.std.proofs.lemmas.List.{take-append-drop}
 use Rattle.std.proofs.lemmas.List.Elements.{All-append, All-nil}
 use Rattle.hex.specs.Hex.{IsBytes}
 use Rattle.std.specs.Io.KnownBytes.{Appends}
-use Rattle.std.specs.Prelude.{All, OnErr, OnOk}
+use Rattle.std.specs.Prelude.{All, IsErr, OnErr, OnOk}
 use Rattle.std.specs.Result.{result_err}
 use Rattle.std.specs.declared.io.Error.{Error}
 use Rattle.norec_world.specs.declared.actor.Actor.{Actor}
 use Rattle.norec_world.specs.Rows.{Rows}
 use Rattle.norec_world.specs.Tries.{Prior, Tries, prior_of, between, begins, runs, over, turned_away, outrun, shut_out}
-use Rattle.norec_world.specs.World.{World, ending_at, told, waits_at}
+use Rattle.norec_world.specs.World.{World, ending_at, event_result, waits_at}
 use Rattle.norec_world.specs.WorldEvents.{Goes}
-use Rattle.norec_world.proofs.WorldEvents.{told_event}
-use Rattle.norec_world.proofs.Worlds.{waits_there}
+use Rattle.norec_world.proofs.Events.WorldEvents.{told_event}
+use Rattle.norec_world.proofs.Events.Worlds.{waits_there}
 use Rattle.tx_attempts.specs.declared.attempt.Attempt.{Attempt}
 use Rattle.tx_history.specs.Bounds.{AttemptFits, HistoryFits, IsWord}
 use Rattle.tx_history.specs.Histories.{attempt_lines, last_line, history_text}
-use Rattle.tx_history.specs.Streams.{Adds, Leaves, Standing, lines_so_far}
+use Rattle.tx_history.specs.Streams.{Adds, Leaves, Standing, fault_of, lines_so_far, standing}
+use Rattle.tx_history.specs.declared.page.Page.{Page}
 use Rattle.tx_history.proofs.Streams.{adds_as, adds_failed, adds_nothing, adds_then}
 use Rattle.tx_player.specs.Rules.{Rules}
 use Rattle.script_program.specs.declared.schedule.Item.{Item}
 use Rattle.run_commands.specs.Items.{ItemsBegin, ItemsLead}
-use Rattle.world_histories.specs.Told.{told_of}
+use Rattle.world_laws.specs.Told.{told_of}
 use Rattle.run_commands.proofs.Items.{items_unbegun, items_whole}
-use Rattle.run_commands.specs.Plays.{AddsEnded, HasWhole, Fails, Front, IsCutOff}
+use Rattle.run_commands.specs.Plays.{AddsEnded, HasWhole, Fails, Front, IsCutOff, Performs, SendsEnded}
 
 -- what is so of a failure
 pub on_err : {T E F : Type 0} (r : Result T E) → F → OnErr r F
@@ -45,6 +46,11 @@ on_ok (Err e) g told h good = absurd (some_is_none e (sym told ∙ good))
 pub if_ok : {T F : Type 0} (r : Result T Error) (g : Option Error) → g ≡ result_err r → (g ≡ None → F) → OnOk r F
 if_ok (Ok x) g told h = h told
 if_ok (Err e) g told h = record {}
+
+-- what failed is not so
+pub none_ok : {T E : Type 0} (F : Type 0) (r : Result T E) → IsErr r → OnOk r F
+none_ok F (Ok x) h = absurd (true≢false (sym h))
+none_ok F (Err e) h = record {}
 
 -- what is so in any case
 pub on_any : {T E F : Type 0} (r : Result T E) → F → OnOk r F
@@ -70,7 +76,7 @@ tries_grown clock p clock' r a (outrun t) = still _ _ t.ended
 tries_grown clock p clock' r a (shut_out t) = still _ _ t.ended
 
 module _ {P : Type 0} (rules : Rules P) where
-  pub event_grown : (old new : World P) (thread : ℕ) → IsSome (waits_at old thread) → Goes rules thread old (told (ending_at new thread)) new → Grown old.attempts.ended new.attempts.ended
+  pub event_grown : (old new : World P) (thread : ℕ) → IsSome (waits_at old thread) → Goes rules thread old (event_result (ending_at new thread)) new → Grown old.attempts.ended new.attempts.ended
   event_grown old new thread waits g =
       let there = waits_there old thread waits in
       let goes = g.event_of there.0 there.1 (told_event (ending_at new thread)) in
@@ -85,7 +91,7 @@ none_left all n i long same = grind (arith, common_steps)
 
 module _ {P : Type 0} (rules : Rules P) where
   -- an event, and the lines of what it ended
-  pub event_adds : (old new : World P) (thread n : ℕ) (s t : Standing) → IsSome (waits_at old thread) → Goes rules thread old (told (ending_at new thread)) new → n ≡ length old.attempts.ended
+  pub event_adds : (old new : World P) (thread n : ℕ) (s t : Standing) → IsSome (waits_at old thread) → Goes rules thread old (event_result (ending_at new thread)) new → n ≡ length old.attempts.ended
       → Adds s t (flat_map attempt_lines (drop n new.attempts.ended)) → (t.fault ≡ None → All AttemptFits (drop n new.attempts.ended)) → AddsEnded old new s t
   event_adds old new thread n s t waits g long p fits =
       let grown = event_grown rules old new thread waits g in
@@ -99,14 +105,14 @@ module _ {P : Type 0} (rules : Rules P) where
       }
 
   -- one that ended none
-  pub event_ends_none : (old new : World P) (thread n m : ℕ) (s : Standing) → IsSome (waits_at old thread) → Goes rules thread old (told (ending_at new thread)) new → n ≡ length old.attempts.ended → m ≡ length new.attempts.ended → m ≡ n
+  pub event_ends_none : (old new : World P) (thread n m : ℕ) (s : Standing) → IsSome (waits_at old thread) → Goes rules thread old (event_result (ending_at new thread)) new → n ≡ length old.attempts.ended → m ≡ length new.attempts.ended → m ≡ n
       → AddsEnded old new s s
   event_ends_none old new thread n m s waits g before after same =
       let none = none_left new.attempts.ended m n after same in
       event_adds old new thread n s s waits g before (adds_as s s [] _ (adds_nothing s) (sym (ap (λ (l : List Attempt). flat_map attempt_lines l) none))) (λ good. subst (All AttemptFits) (sym none) (All-nil AttemptFits))
 
   -- how many had ended before is no more than how many have
-  pub event_within : (old new : World P) (thread n : ℕ) → IsSome (waits_at old thread) → Goes rules thread old (told (ending_at new thread)) new → n ≡ length old.attempts.ended → n ≤ length new.attempts.ended
+  pub event_within : (old new : World P) (thread n : ℕ) → IsSome (waits_at old thread) → Goes rules thread old (event_result (ending_at new thread)) new → n ≡ length old.attempts.ended → n ≤ length new.attempts.ended
   event_within old new thread n waits g long =
       let grown = event_grown rules old new thread waits g in
       within old.attempts.ended new.attempts.ended n long grown
@@ -140,6 +146,28 @@ module _ {P : Type 0} where
     fits = λ good. All-append AttemptFits f.more g.more (f.fits (adds_fresh t u _ good g.adds)) (g.fits good);
   }
 
+-- ## One call after the other
+
+module _ {P W : Type 0} {contents : W → Option (List ℕ)} where
+  pub sends_none : (w : World P) (s : Page W) → fault_of s ≡ None → SendsEnded {A = Unit {0}} contents w w s s (Ok tt)
+  sends_none w s fresh = record { same = refl; answer = fresh; adds = adds_same w (standing contents s) }
+
+  -- no write failed in the first one
+  pub sends_both : {a b c : World P} {s t u : Page W} {A B : Type 0} {q : Result A Error} {r : Result B Error} → SendsEnded contents a b s t q → SendsEnded contents b c t u r → SendsEnded contents a c s u r
+  sends_both {a} {b} {c} {s} {t} {u} f g = record { same = g.same ∙ f.same; answer = g.answer; adds = adds_both a b c _ _ _ f.adds g.adds }
+
+  -- nor in the second
+  pub sends_on : {a b c : World P} {s t u : Page W} {A B C : Type 0} {q : Result A Error} {x : B} {y : C} → SendsEnded contents a b s t q → SendsEnded {A = B} contents b c t u (Ok x) → SendsEnded {A = C} contents a c s u (Ok y)
+  sends_on {a} {b} {c} {s} {t} {u} f g = record { same = g.same ∙ f.same; answer = g.answer; adds = adds_both a b c _ _ _ f.adds g.adds }
+
+  -- one failed in the second
+  pub sends_stopped : {a b c : World P} {s t u : Page W} {A B C : Type 0} {q : Result A Error} {e : Error} (r : Result C Error) → SendsEnded contents a b s t q → SendsEnded {A = B} contents b c t u (Err e) → r ≡ Err e → SendsEnded contents a c s u r
+  sends_stopped {a} {b} {c} {s} {t} {u} {C = C} r f g failed = record {
+    same = g.same ∙ f.same;
+    answer = g.answer ∙ sym (ap (result_err {T = C} {E = Error}) failed);
+    adds = adds_both a b c _ _ _ f.adds g.adds;
+  }
+
 -- ## Where a write failed
 
 leaves_begun : (g : Option Error) (u v : Option (List ℕ)) (x : List ℕ) → Leaves None g u v x → (y : List ℕ) × Appends u v y
@@ -168,11 +196,11 @@ begins_after s t u x y fresh good p (more, b) =
 module _ {P : Type 0} (rules : Rules P) where
   -- after an event
   pub fails_here : (leads : World P → World P → Type 0) (a b c : World P) (thread : ℕ) (s t u : Standing) → s.fault ≡ None → t.fault ≡ None → AddsEnded a b s t → AddsEnded b c t u
-      → leads a b → leads a c → Goes rules thread b (told (ending_at c thread)) c → Fails rules leads a c s u
+      → leads a b → leads a c → Goes rules thread b (event_result (ending_at c thread)) c → Fails rules leads a c s u
   fails_here leads a b c thread s t u fresh good f g first all goes = record {
     before = b;
     first = first;
-    last = (thread, told (ending_at c thread), told_event (ending_at c thread), goes);
+    last = (thread, event_result (ending_at c thread), told_event (ending_at c thread), goes);
     all = all;
     more = f.more;
     ended = f.ended;
@@ -191,6 +219,10 @@ module _ {P : Type 0} (rules : Rules P) where
     ended = g.ended ∙ ap (λ (l : List Attempt). l ++ g.more) f.ended ∙ append_assoc a.attempts.ended f.more g.more;
     told = subst (HasWhole s.written u.written) (sym (flat_map-append attempt_lines f.more g.more)) (begins_after s t u.written _ _ fresh good f.adds g.told);
   }
+
+  pub performs_stopped : {W A : Type 0} {contents : W → Option (List ℕ)} {all first : World P → World P → Type 0} {a b : World P} {s t : Page W} {r : Result A Error}
+      → SendsEnded contents a b s t r → IsErr r → Fails rules first a b (standing contents s) (standing contents t) → length b.actors ≡ length a.actors → Performs rules contents all first a b s t r
+  performs_stopped {r} p failed f same = record { sends = p; leads = none_ok _ r failed; fails = on_err r f; actors = same }
 
 -- ## A whole history
 
@@ -280,6 +312,10 @@ module _ {P : Type 0} (rules : Rules P) (items : List Item) (a c : World P) wher
   pub stops_last : {A : Type 0} (s t u : Standing) (r : Result A Error) (y : List ℕ) → t.fault ≡ None → u.fault ≡ result_err r → Adds s t (lines_so_far c.base c.attempts.ended) → Adds t u y → Adds s u (history_text (told_of c)) → c.base ≡ a.base → ItemsLead rules items a c → OnErr r (IsCutOff rules items a c s.written u.written)
   stops_last s t u (Ok x) y good told p q whole base l = record {}
   stops_last s t u (Err e) y good told p q whole base l = cut_last s t u e y good told p q whole base l
+
+  pub cut_as : (u v w t : Option (List ℕ)) → IsCutOff rules items a c u t → u ≡ w → v ≡ t → IsCutOff rules items a c w v
+  cut_as u v w t p first last =
+      subst (λ (x : Option (List ℕ)). IsCutOff rules items a c x v) first (subst (λ (x : Option (List ℕ)). IsCutOff rules items a c u x) (sym last) p)
 
   -- before the first one
   pub cut_first : (s t : Standing) (e : Error) → c ≡ a → t.fault ≡ Some e → Adds s t (lines_so_far a.base a.attempts.ended) → IsCutOff rules items a c s.written t.written

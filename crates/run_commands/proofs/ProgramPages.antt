@@ -19,18 +19,18 @@ use Rattle.script_program.specs.Listing.{Listing, opening_of, threads_of}
 use Rattle.script_vm.specs.Threads.{Thread, opening, thread_rules}
 use Rattle.run_commands.specs.Scheduled.{Leaves, schedule_of, players_of}
 use Rattle.run_commands.specs.Pages.{first_thread, solo_of, page, roomless, IsOf, IsWorldOf}
-use Rattle.world_histories.specs.Told.{told_of}
-use Rattle.history_reader.proofs.LegalTexts.{legal_text}
+use Rattle.world_laws.specs.Told.{told_of}
+use Rattle.history_reader.proofs.Canon.LegalTexts.{legal_text}
 use Rattle.history_reader.specs.LegalTexts.{IsLegalText}
 use Rattle.tx_history.specs.Bounds.{HistoryFits, IsMemorySize}
 use Rattle.tx_history.specs.Histories.{history_text}
-use Rattle.tx_host.proofs.ScriptWidths.{script_widths}
+use Rattle.tx_host.proofs.Histories.ScriptWidths.{script_widths}
 use Rattle.tx_host.specs.Limits.{IsLimitedListing}
-use Rattle.world_histories.proofs.LegalWorlds.{legal_world}
-use Rattle.world_histories.proofs.LimitedWorlds.{limited_world}
-use Rattle.world_histories.specs.Limits.{IsLimitedWorld}
+use Rattle.world_laws.proofs.LegalHistories.LegalWorlds.{legal_world}
+use Rattle.world_laws.proofs.LegalHistories.LimitedWorlds.{limited_world}
+use Rattle.world_laws.specs.Limits.{IsLimitedWorld}
 use Rattle.world_laws.specs.ShownAlone.{DoneBy}
-use Rattle.world_laws.proofs.LedAlone.{led_alone}
+use Rattle.world_laws.proofs.Solos.Schedules.{led_alone}
 use Rattle.script_vm.specs.ThreadLaws.{thread_laws}
 use Rattle.script_laws.specs.Assembled.{HasNestedCode}
 use Rattle.run_commands.proofs.FedRuns.{even_starved, fed, none_open}

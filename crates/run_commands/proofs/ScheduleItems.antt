@@ -12,7 +12,7 @@ use Rattle.script_program.specs.declared.schedule.Item.TheVariants.{Take, Out}
 use Rattle.script_program.specs.declared.instruction.Instruction.{Instruction}
 use Rattle.script_program.specs.Listing.{thread_of}
 use Rattle.script_vm.specs.Threads.{Thread, opening, depth_of, thread_rules}
-use Rattle.world_laws.proofs.LedAlone.{takes_led}
+use Rattle.world_laws.proofs.Solos.Schedules.{takes_led}
 use Rattle.run_commands.specs.Items.{ItemBegins, ItemLeads, ItemsBegin, ItemsLead}
 use Rattle.run_commands.specs.Scheduled.{each_out, endings_of}
 use Rattle.run_commands.proofs.Items.{IsLed, led_append}

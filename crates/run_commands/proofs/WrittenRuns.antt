@@ -7,7 +7,7 @@ use Rattle.script_fields.specs.declared.fault.AsmFault.{AsmFault}
 use Rattle.text_commands.specs.declared.failure.Failure.{Failure}
 use Rattle.text_commands.specs.declared.failure.Failure.TheVariants.{Writing}
 use Rattle.text_commands.specs.Answers.{Outputs}
-use Rattle.history_reader.proofs.LegalTexts.{legal_text}
+use Rattle.history_reader.proofs.Canon.LegalTexts.{legal_text}
 use Rattle.tx_history.specs.Bounds.{AreLimited, HistoryFits}
 use Rattle.tx_history.specs.Histories.{history_text}
 use Rattle.tx_host.specs.declared.report.HostFault.TheVariants.{Held, NoMemory, NoThread}

@@ -16,7 +16,7 @@ use Rattle.tx_history.specs.Histories.{history_text}
 use Rattle.tx_history.specs.Spelling.{Puts, Writes}
 use Rattle.run_commands.specs.Scheduled.{Begins, endings_of, schedule_of}
 use Rattle.run_commands.specs.Pages.{IsWorldOf}
-use Rattle.world_histories.specs.Told.{told_of}
+use Rattle.world_laws.specs.Told.{told_of}
 use Rattle.run_commands.specs.Plays.{IsCutOff}
 use Rattle.tx_host.specs.Limits.{IsLimitedListing}
 use Rattle.script_laws.specs.Assembled.{HasNestedCode}

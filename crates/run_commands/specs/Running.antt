@@ -14,8 +14,8 @@ use Rattle.text_commands.specs.Answers.{Command}
 use Rattle.text_commands.specs.Lines.{script_line}
 use Rattle.tx_history.specs.Histories.{history_text}
 use Rattle.run_commands.specs.Endings.{ending_lines, endings_status}
-use Rattle.world_histories.specs.Starved.{IsFed, LeavesNoneOpen}
-use Rattle.world_histories.specs.Told.{told_of}
+use Rattle.world_laws.specs.Starved.{IsFed, LeavesNoneOpen}
+use Rattle.world_laws.specs.Told.{told_of}
 use Rattle.run_commands.specs.Pages.{IsWorldOf}
 use Rattle.run_commands.specs.Plays.{IsCutOff}
 use Rattle.run_commands.specs.Scheduled.{Begins, endings_of, schedule_of}

@@ -1,12 +1,8 @@
 //! Scripts that are run, and what they are answered.
 
-ghost use Rattle.std.specs.Prelude.{◌≡◌, ◌+◌, ◌<◌, ℕ, List, All, IfErr, IfSome, Ok, OnErr, OnOk, length};
+ghost use Rattle.std.specs.Prelude.{◌≡◌, ◌+◌, ◌<◌, ℕ, List, All, IfErr, IfSome, Ok, OnOk, length};
 ghost use Rattle.tx_history.specs.Spelling.{Writes};
 ghost use Rattle.script_asm.specs.Assembly.{program_of};
-ghost use Rattle.norec_world.specs.World.{observed};
-ghost use Rattle.norec_world.specs.Commits.{CommitsInOrder};
-ghost use Rattle.norec_world.specs.Headline.{AreOpaque};
-ghost use Rattle.norec_world.specs.Tied.{AreTied};
 ghost use Rattle.script_vm.specs.Threads.{thread_rules};
 ghost use Rattle.tx_history.specs.Bounds.{HistoryFits};
 ghost use Rattle.tx_history.specs.Histories.{history_text};
@@ -16,9 +12,8 @@ ghost use Rattle.text_commands.specs.Input.{IsFront};
 ghost use Rattle.text_commands.specs.Answers.{Answers, Outputs};
 ghost use Rattle.script_laws.specs.Assembled.{HasNestedCode};
 ghost use Rattle.script_program.specs.Listing.{thread_of, threads_of};
-ghost use Rattle.run_commands.specs.Items.{ItemsLead};
-ghost use Rattle.world_histories.specs.Told.{told_of};
-ghost use Rattle.run_commands.specs.Plays.{IsCutOff};
+ghost use Rattle.world_laws.specs.Told.{told_of};
+ghost use Rattle.run_commands.specs.Plays.{IsPlayed};
 ghost use Rattle.run_commands.specs.Running.{running};
 ghost use Rattle.run_commands.specs.Scheduled.{Begins, schedule_of};
 
@@ -45,12 +40,8 @@ fn put_run<W: Write>(
     requires { All (λ i. thread_of i < length world.old.actors) items.now }
     ensures text { Writes (W.contents writer.old) (W.contents writer.new) result (history_text (told_of world.new)) }
     ensures fits { OnOk result (HistoryFits (told_of world.new)) }
-    ensures leads { OnOk result (ItemsLead thread_rules items.now world.old world.new) }
-    ensures stops { OnErr result (IsCutOff thread_rules items.now world.old world.new (W.contents writer.old) (W.contents
-        writer.new)) }
-    ensures commits { CommitsInOrder world.new }
-    ensures opaque { AreOpaque thread_rules (observed world.new) }
-    ensures tied { AreTied thread_rules world.new }
+    ensures played { IsPlayed thread_rules items.now
+        world.old world.new (W.contents writer.old) (W.contents writer.new) result }
 {
     let mut stream = Stream::new(writer);
     play(alloc, world, items, &mut stream)?;
@@ -68,12 +59,8 @@ fn write_run<W: Write>(
     ensures text { Writes (W.contents writer.old) (W.contents writer.new) result (history_text (told_of world.new)) }
     ensures failure { IfErr result (λ failure. failure ≡ Writing) }
     ensures fits { OnOk result (HistoryFits (told_of world.new)) }
-    ensures leads { OnOk result (ItemsLead thread_rules items.now world.old world.new) }
-    ensures stops { OnErr result (IsCutOff thread_rules items.now world.old world.new (W.contents writer.old) (W.contents
-        writer.new)) }
-    ensures commits { CommitsInOrder world.new }
-    ensures opaque { AreOpaque thread_rules (observed world.new) }
-    ensures tied { AreTied thread_rules world.new }
+    ensures played { IsPlayed thread_rules items.now
+        world.old world.new (W.contents writer.old) (W.contents writer.new) result }
 {
     put_run(alloc, world, items, writer).map_err(|_| Failure::Writing)
 }

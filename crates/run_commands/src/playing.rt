@@ -1,21 +1,17 @@
 //! Worlds whose events are taken item by item, and whose history is written as they are taken.
 
-ghost use Rattle.std.specs.Prelude.{◌≡◌, ◌<◌, ℕ, All, IfOk, IsSome, None, OnErr, OnOk, false, length};
-ghost use Rattle.std.specs.Result.{result_err};
-ghost use Rattle.norec_world.specs.Commits.{CommitsInOrder};
-ghost use Rattle.norec_world.specs.Headline.{AreOpaque};
+ghost use Rattle.std.specs.Prelude.{◌≡◌, ◌<◌, All, IfOk, IsSome, None, OnOk, false, length};
 ghost use Rattle.norec_world.specs.Progress.{LeavesLess};
-ghost use Rattle.norec_world.specs.Tied.{AreTied};
-ghost use Rattle.norec_world.specs.World.{ending_at, observed, told, waits_at};
-ghost use Rattle.norec_world.specs.WorldEvents.{Goes, Takes};
+ghost use Rattle.norec_world.specs.World.{ending_at, event_result, waits_at};
+ghost use Rattle.norec_world.specs.WorldEvents.{Goes};
 ghost use Rattle.script_program.specs.declared.schedule.Item.TheVariants.{Out, Take};
 ghost use Rattle.script_program.specs.Listing.{thread_of};
 ghost use Rattle.tx_history.specs.Bounds.{HistoryFits};
 ghost use Rattle.tx_history.specs.Histories.{history_text};
-ghost use Rattle.tx_history.specs.Streams.{Adds, fault_of, lent, standing};
+ghost use Rattle.tx_history.specs.Streams.{Sends, fault_of, standing};
 ghost use Rattle.run_commands.specs.Items.{ItemBegins, ItemLeads, ItemsBegin, ItemsLead};
-ghost use Rattle.world_histories.specs.Told.{told_of};
-ghost use Rattle.run_commands.specs.Plays.{AddsEnded, Fails, IsCutOff};
+ghost use Rattle.world_laws.specs.Told.{told_of};
+ghost use Rattle.run_commands.specs.Plays.{IsPlayed, Performs, SendsEnded};
 
 use crate::telling::{close_history, open_history, put_ended};
 use norec_world::World;
@@ -38,11 +34,9 @@ fn take_event<P: Player, W: Write>(
 ) -> io::Result<bool>
     requires waits { IsSome (waits_at world.old thread) }
     requires fresh { fault_of stream.old ≡ None }
-    ensures same { lent stream.new ≡ lent stream.old }
-    ensures answer { fault_of stream.new ≡ result_err result }
-    ensures goes { Goes P.Player thread world.old (told (ending_at world.new thread)) world.new }
+    ensures goes { Goes P.Player thread world.old (event_result (ending_at world.new thread)) world.new }
     ensures less { IfOk result (λ goes_on. LeavesLess P.Player thread goes_on world.old world.new) }
-    ensures adds { AddsEnded world.old world.new (standing W.contents stream.old) (standing W.contents stream.new) }
+    ensures sends { SendsEnded W.contents world.old world.new stream.old stream.new result }
 {
     let first = world.ended();
     let goes_on = world.event(alloc, thread);
@@ -63,14 +57,9 @@ fn finish_call<P: Player, W: Write>(
 ) -> io::Result<()>
     requires waits { IsSome (waits_at world.old thread) }
     requires fresh { fault_of stream.old ≡ None }
-    ensures same { lent stream.new ≡ lent stream.old }
-    ensures answer { fault_of stream.new ≡ result_err result }
-    ensures adds { AddsEnded world.old world.new (standing W.contents stream.old) (standing W.contents stream.new) }
-    ensures took { OnOk result ((n : ℕ) × Takes P.Player thread n world.old world.new) }
+    ensures performs { Performs P.Player W.contents (ItemBegins P.Player (Out thread))
+        (ItemBegins P.Player (Out thread)) world.old world.new stream.old stream.new result }
     ensures less { OnOk result (LeavesLess P.Player thread false world.old world.new) }
-    ensures fails { OnErr result (Fails P.Player (ItemBegins P.Player (Out thread)) world.old world.new
-        (standing W.contents stream.old) (standing W.contents stream.new)) }
-    ensures actors { length world.new.actors ≡ length world.old.actors }
 {
     let mut goes_on = true;
     while goes_on {
@@ -88,13 +77,8 @@ fn run_out<P: Player, W: Write>(
 ) -> io::Result<()>
     requires there { thread < length world.old.actors }
     requires fresh { fault_of stream.old ≡ None }
-    ensures same { lent stream.new ≡ lent stream.old }
-    ensures answer { fault_of stream.new ≡ result_err result }
-    ensures adds { AddsEnded world.old world.new (standing W.contents stream.old) (standing W.contents stream.new) }
-    ensures leads { OnOk result (ItemLeads P.Player (Out thread) world.old world.new) }
-    ensures fails { OnErr result (Fails P.Player (ItemBegins P.Player (Out thread)) world.old world.new
-        (standing W.contents stream.old) (standing W.contents stream.new)) }
-    ensures actors { length world.new.actors ≡ length world.old.actors }
+    ensures { Performs P.Player W.contents (ItemLeads P.Player (Out thread)) (ItemBegins P.Player (Out thread))
+        world.old world.new stream.old stream.new result }
 {
     while world.is_waiting(thread) {
         finish_call(alloc, world, thread, stream)?;
@@ -113,13 +97,8 @@ fn take_events<P: Player, W: Write>(
 ) -> io::Result<()>
     requires there { thread < length world.old.actors }
     requires fresh { fault_of stream.old ≡ None }
-    ensures same { lent stream.new ≡ lent stream.old }
-    ensures answer { fault_of stream.new ≡ result_err result }
-    ensures adds { AddsEnded world.old world.new (standing W.contents stream.old) (standing W.contents stream.new) }
-    ensures leads { OnOk result (ItemLeads P.Player (Take thread count) world.old world.new) }
-    ensures fails { OnErr result (Fails P.Player (ItemBegins P.Player (Take thread count)) world.old world.new
-        (standing W.contents stream.old) (standing W.contents stream.new)) }
-    ensures actors { length world.new.actors ≡ length world.old.actors }
+    ensures { Performs P.Player W.contents (ItemLeads P.Player (Take thread count))
+        (ItemBegins P.Player (Take thread count)) world.old world.new stream.old stream.new result }
 {
     for _taken in 0..count {
         if !world.is_waiting(thread) {
@@ -140,13 +119,8 @@ fn take_item<P: Player, W: Write>(
 ) -> io::Result<()>
     requires there { thread_of item < length world.old.actors }
     requires fresh { fault_of stream.old ≡ None }
-    ensures same { lent stream.new ≡ lent stream.old }
-    ensures answer { fault_of stream.new ≡ result_err result }
-    ensures adds { AddsEnded world.old world.new (standing W.contents stream.old) (standing W.contents stream.new) }
-    ensures leads { OnOk result (ItemLeads P.Player item world.old world.new) }
-    ensures fails { OnErr result (Fails P.Player (ItemBegins P.Player item) world.old world.new
-        (standing W.contents stream.old) (standing W.contents stream.new)) }
-    ensures actors { length world.new.actors ≡ length world.old.actors }
+    ensures { Performs P.Player W.contents (ItemLeads P.Player item) (ItemBegins P.Player item)
+        world.old world.new stream.old stream.new result }
 {
     match item {
         Item::Take(thread, count) => take_events(alloc, world, thread, count, stream),
@@ -163,12 +137,8 @@ fn take_items<P: Player, W: Write>(
 ) -> io::Result<()>
     requires there { All (λ i. thread_of i < length world.old.actors) items.now }
     requires fresh { fault_of stream.old ≡ None }
-    ensures same { lent stream.new ≡ lent stream.old }
-    ensures answer { fault_of stream.new ≡ result_err result }
-    ensures adds { AddsEnded world.old world.new (standing W.contents stream.old) (standing W.contents stream.new) }
-    ensures leads { OnOk result (ItemsLead P.Player items.now world.old world.new) }
-    ensures fails { OnErr result (Fails P.Player (ItemsBegin P.Player items.now) world.old world.new
-        (standing W.contents stream.old) (standing W.contents stream.new)) }
+    ensures { Performs P.Player W.contents (ItemsLead P.Player items.now) (ItemsBegin P.Player items.now)
+        world.old world.new stream.old stream.new result }
 {
     for item in items {
         take_item(alloc, world, *item, stream)?;
@@ -187,20 +157,13 @@ pub fn play<P: Player, W: Write>(
     stream: &mut Stream<'_, W>,
 ) -> io::Result<()>
     requires { All (λ i. thread_of i < length world.old.actors) items.now }
-    ensures same { lent stream.new ≡ lent stream.old }
-    ensures answer { fault_of stream.new ≡ result_err result }
-    ensures adds { Adds (standing W.contents stream.old) (standing W.contents stream.new) (history_text (told_of
-        world.new)) }
-    ensures fits { OnOk result (HistoryFits (told_of world.new)) }
-    ensures leads { OnOk result (ItemsLead P.Player items.now world.old world.new) }
+    ensures sends { Sends W.contents stream.old stream.new (history_text (told_of world.new))
+        (HistoryFits (told_of world.new)) result }
+    ensures played { IsPlayed P.Player items.now
+        world.old world.new (standing W.contents stream.old).written (standing W.contents stream.new).written result }
     ensures base { world.new.base ≡ world.old.base }
-    ensures stops { OnErr result (IsCutOff P.Player items.now world.old world.new (standing W.contents stream.old).written
-        (standing W.contents stream.new).written) }
-    ensures commits { CommitsInOrder world.new }
-    ensures opaque { AreOpaque P.Player (observed world.new) }
-    ensures tied { AreTied P.Player world.new }
 {
-    // (what holds of every world: the last clauses)
+    // (what holds of every world: the last fields of `played`)
     let _events = world.events();
     open_history(world, stream)?;
     let taken = take_items(alloc, world, items, stream);

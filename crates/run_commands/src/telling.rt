@@ -1,12 +1,11 @@
 //! Attempts of a world on their way to a stream.
 
-ghost use Rattle.std.specs.Prelude.{◌≡◌, ◌≤◌, ◌++◌, All, None, OnOk, drop, flat_map, length};
-ghost use Rattle.std.specs.Result.{result_err};
+ghost use Rattle.std.specs.Prelude.{◌≡◌, ◌≤◌, ◌++◌, All, None, drop, flat_map, length};
 ghost use Rattle.hex.specs.Hex.{IsBytes};
 ghost use Rattle.norec_world.specs.World.{memory_of};
 ghost use Rattle.tx_history.specs.Bounds.{AttemptFits, IsWord};
 ghost use Rattle.tx_history.specs.Histories.{attempt_lines, last_line};
-ghost use Rattle.tx_history.specs.Streams.{Adds, fault_of, lent, lines_so_far, standing};
+ghost use Rattle.tx_history.specs.Streams.{Sends, fault_of, lines_so_far};
 
 use norec_world::World;
 use std::io;
@@ -16,14 +15,10 @@ use tx_history::Stream;
 use tx_player::Player;
 
 /// Writes the lines of the attempts. Where a write fails, answers its error; so do the functions below.
-#[tactic(auto, using(tx_history::proofs::Streams::adds_nothing, tx_history::proofs::Streams::adds_attempt))]
 fn put_attempts<W: Write>(stream: &mut Stream<'_, W>, attempts: &[Attempt]) -> io::Result<()>
     requires { fault_of stream.old ≡ None }
-    ensures same { lent stream.new ≡ lent stream.old }
-    ensures adds { Adds (standing W.contents stream.old) (standing W.contents stream.new) (flat_map attempt_lines
-        attempts.now) }
-    ensures fits { OnOk result (All AttemptFits attempts.now) }
-    ensures answer { fault_of stream.new ≡ result_err result }
+    ensures { Sends W.contents stream.old stream.new (flat_map attempt_lines attempts.now)
+        (All AttemptFits attempts.now) result }
 {
     for attempt in attempts {
         stream.attempt(attempt)?;
@@ -39,11 +34,8 @@ pub(crate) fn put_ended<P: Player, W: Write>(
 ) -> io::Result<()>
     requires fresh { fault_of stream.old ≡ None }
     requires first { first ≤ length world.now.attempts.ended }
-    ensures same { lent stream.new ≡ lent stream.old }
-    ensures adds { Adds (standing W.contents stream.old) (standing W.contents stream.new) (flat_map attempt_lines
-        (drop first world.now.attempts.ended)) }
-    ensures fits { OnOk result (All AttemptFits (drop first world.now.attempts.ended)) }
-    ensures answer { fault_of stream.new ≡ result_err result }
+    ensures { Sends W.contents stream.old stream.new (flat_map attempt_lines (drop first world.now.attempts.ended))
+        (All AttemptFits (drop first world.now.attempts.ended)) result }
 {
     let (ended, _) = world.attempts().split_at(world.ended());
     let (_, rest) = ended.split_at(first);
@@ -55,11 +47,8 @@ pub(crate) fn open_history<P: Player, W: Write>(
     world: &World<P>,
     stream: &mut Stream<'_, W>,
 ) -> io::Result<()>
-    ensures same { lent stream.new ≡ lent stream.old }
-    ensures adds { Adds (standing W.contents stream.old) (standing W.contents stream.new) (lines_so_far world.now.base
-        world.now.attempts.ended) }
-    ensures fits { OnOk result (IsBytes world.now.base × All AttemptFits world.now.attempts.ended) }
-    ensures answer { fault_of stream.new ≡ result_err result }
+    ensures { Sends W.contents stream.old stream.new (lines_so_far world.now.base world.now.attempts.ended)
+        (IsBytes world.now.base × All AttemptFits world.now.attempts.ended) result }
 {
     stream.open(world.base())?;
     put_ended(world, stream, 0)
@@ -71,12 +60,9 @@ pub(crate) fn close_history<P: Player, W: Write>(
     stream: &mut Stream<'_, W>,
 ) -> io::Result<()>
     requires { fault_of stream.old ≡ None }
-    ensures same { lent stream.new ≡ lent stream.old }
-    ensures adds { Adds (standing W.contents stream.old) (standing W.contents stream.new)
-        (flat_map attempt_lines world.now.attempts.active ++ last_line world.now.cells.clock (memory_of world.now)) }
-    ensures fits { OnOk result (All AttemptFits world.now.attempts.active × IsWord world.now.cells.clock × IsBytes (memory_of
-        world.now)) }
-    ensures answer { fault_of stream.new ≡ result_err result }
+    ensures { Sends W.contents stream.old stream.new
+        (flat_map attempt_lines world.now.attempts.active ++ last_line world.now.cells.clock (memory_of world.now))
+        (All AttemptFits world.now.attempts.active × IsWord world.now.cells.clock × IsBytes (memory_of world.now)) result }
 {
     let (_, active) = world.attempts().split_at(world.ended());
     put_attempts(stream, active)?;

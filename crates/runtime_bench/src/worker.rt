@@ -42,7 +42,7 @@ pub type Worked = Result<(Pass, Tally), Fault>;
 
 /// How an attempt ended.
 #[derive(Clone, Copy, PartialEq, Eq)]
-enum End {
+enum TryEnd {
     Committed,
     /// It began, and was rolled back.
     RolledBack,
@@ -56,19 +56,19 @@ fn attempt(
     thread: &mut Thread,
     block: &Block,
     again: bool,
-) -> Result<End, AllocError>
+) -> Result<TryEnd, AllocError>
     requires own { Owns words.now thread.old.pass }
     ensures own { Owns words.now thread.new.pass }
 {
     let Answer::Reply(_) = thread.begin(words, Props::default(), 0, again)? else {
-        return Ok(End::Outside);
+        return Ok(TryEnd::Outside);
     };
     if !work(words, thread, block)? {
-        return Ok(End::RolledBack);
+        return Ok(TryEnd::RolledBack);
     }
     match thread.commit(words) {
-        Answer::Committed { .. } => Ok(End::Committed),
-        _ => Ok(End::RolledBack),
+        Answer::Committed { .. } => Ok(TryEnd::Committed),
+        _ => Ok(TryEnd::RolledBack),
     }
 }
 
@@ -132,16 +132,16 @@ fn run(
         }
         tally.attempts = tally.attempts.wrapping_add(1);
         match attempt(words, thread, &block, again)? {
-            End::Committed => {
+            TryEnd::Committed => {
                 tally.commits = tally.commits.wrapping_add(1);
                 (block, random) = draw(task, random, tally.commits);
                 again = false;
             }
-            End::RolledBack => {
+            TryEnd::RolledBack => {
                 again = true;
                 spin_loop();
             }
-            End::Outside => spin_loop(),
+            TryEnd::Outside => spin_loop(),
         }
     }
     Ok(tally)

@@ -4,7 +4,7 @@ pub mod LineItems
 pub mod KeptLines
 pub mod OnLiterals
 pub mod WorkedTexts
-pub mod Worked
+pub mod Examples
 pub mod WorkedFaults
 pub mod LaidBytes
 pub mod RefusedLines

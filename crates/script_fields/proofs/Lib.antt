@@ -9,4 +9,4 @@ pub mod SpelledFields
 pub mod SpelledOperands
 pub mod SpelledShapes
 pub mod OnLiterals
-pub mod Worked
+pub mod Examples

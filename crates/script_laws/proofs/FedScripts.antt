@@ -2,40 +2,30 @@
 use Rattle.std.proofs.Common.{◌≡◌, ℕ, zero, suc, ◌≤◌, List, [], ◌∷◌, map, Bool, true, false, None, Some, refl, sym, ap, subst, ◌∙◌, inl, inr, arith}
 use Rattle.std.specs.Prelude.{slice_get, if◌then◌else◌}
 use Rattle.itm_types.specs.declared.call.Call.{Call}
-use Rattle.itm_types.specs.declared.call.Call.TheVariants.{Begin, Commit, Mode}
-use Rattle.itm_types.specs.declared.call.Reply.{Reply}
-use Rattle.itm_types.specs.declared.call.Reply.TheVariants.{Bytes, Code, Done, Refused}
-use Rattle.norec_world.specs.PlayerRooms.{ComesTo, EndsWithin, GoesTo, MayReply, TellsRoom, told_room}
+use Rattle.itm_types.specs.declared.call.Call.TheVariants.{Begin, Mode}
+use Rattle.norec_world.specs.PlayerRooms.{ComesTo, EndsWithin, GoesTo, TellsRoom, going_room}
 use Rattle.norec_world.proofs.Common.{slice_get_within}
-use Rattle.norec_world.proofs.SoundOthers.{there_is}
+use Rattle.norec_world.proofs.Events.SoundOthers.{there_is}
 use Rattle.script_laws.specs.Fed.{AreFed, TellRoom, TellsEachRoom}
 use Rattle.script_program.specs.declared.instruction.Instruction.{Instruction}
 use Rattle.script_program.specs.Listing.{threads_of}
 use Rattle.script_vm.specs.Nesting.{Nests}
-use Rattle.script_vm.specs.Rooms.{room_told}
+use Rattle.script_vm.specs.Rooms.{carried_room}
 use Rattle.script_vm.specs.Threads.{Thread, answered, depth_of, next_call, opening, thread_rules}
-use Rattle.script_vm.proofs.NestedThreads.{IsNested, IsReplied, back_nested, left, opening_nested, plays, some_left}
-
-may_be : (depth : ℕ) (call : Call) (reply : Reply) → MayReply depth call reply → IsReplied depth call reply
-may_be depth (Begin props room) (Code n) m = tt
-may_be depth (Begin props room) (Refused why) m = tt
-may_be depth (Begin props room) Done m = m
-may_be depth (Begin props room) (Bytes v) m = m
-may_be depth Commit reply m = m
-may_be depth call reply m = tt
+use Rattle.script_vm.proofs.NestedThreads.{IsNested, back_nested, left, opening_nested, plays, some_left}
 
 -- one that makes its transaction irrevocable is one of these
 only_told : (going : Bool) (room n : ℕ) → (if going then Some room else None) ≡ Some n → Some room ≡ Some n
 only_told true room n e = e
 only_told false room n e = absurd (cc)
 
-going_told : (call : Call) (n : ℕ) → told_room call ≡ Some n → room_told call ≡ Some n
+going_told : (call : Call) (n : ℕ) → going_room call ≡ Some n → carried_room call ≡ Some n
 going_told (Begin props room) n e = only_told props.goes_irrevocable room n e
 going_told (Mode room) n e = e
 going_told call n e = absurd (cc)
 
 goes_nested : (p q : Thread) → IsNested p → GoesTo thread_rules p q → IsNested q
-goes_nested p q nested (inl g) = subst IsNested (sym g.4) (plays p g.0 g.1 nested g.2 (may_be (depth_of p) g.0 g.1 g.3)).nested
+goes_nested p q nested (inl g) = subst IsNested (sym g.4) (plays p g.0 g.1 nested g.2 g.3).nested
 goes_nested p q nested (inr g) = subst IsNested (sym g.1) (back_nested p nested)
 
 comes_nested : (n : ℕ) (code : List Instruction) (q : Thread) → Nests code [] → ComesTo thread_rules n (opening code) q → IsNested q
@@ -49,13 +39,13 @@ ends_within zero t nested few = λ call next. by_depth call next (depth_of t) re
     by_depth call next zero e = e
     by_depth call next (suc d) e = absurd (let some = some_left t call next (omega arith) in omega arith)
 ends_within (suc n) t nested few = λ some call reply next may.
-    (let x = plays t call reply nested next (may_be (depth_of t) call reply may) in
+    (let x = plays t call reply nested next may in
     let falls = x.falls some in
     ends_within n (answered t reply) x.nested (omega arith))
 
 pub tell_room : TellRoom
 tell_room code x n u call reply room comes next may told =
-    let p = plays u call reply (comes_nested n code u x comes) next (may_be (depth_of u) call reply may) in
+    let p = plays u call reply (comes_nested n code u x comes) next may in
     ends_within room (answered u reply) p.nested (p.told room told)
 
 tells_room : (t : Thread) → TellsEachRoom t → TellsRoom thread_rules t

@@ -241,7 +241,7 @@ impl Threads {
     }
 
     /// There is memory for so many more instructions of the code that is read.
-    fn make_room(&mut self, more: usize) -> Result<(), AllocError>
+    fn reserve_code(&mut self, more: usize) -> Result<(), AllocError>
         ensures { self.new ≡ self.old }
     {
         self.code.reserve(more)
@@ -270,7 +270,7 @@ impl Threads {
         let size = group.len();
         let most = (PIECE / size).clamp(1, times - 1);
         let piece = copies(*self.code.allocator(), group, most)?;
-        self.make_room(size * (times - 1))?;
+        self.reserve_code(size * (times - 1))?;
         let mut count = 1;
         while count < times {
             let more = most.min(times - count);

@@ -4,13 +4,14 @@ use Rattle.itm_types.specs.declared.call.Call.{Call}
 use Rattle.itm_types.specs.declared.call.Call.TheVariants as calls
 use Rattle.itm_types.specs.declared.call.Reply.{Reply}
 use Rattle.itm_types.specs.declared.call.Reply.TheVariants.{Done, Bytes, Code, Refused}
+use Rattle.tx_player.specs.Replies.{MayReply}
 use Rattle.script_fields.specs.declared.register.Register.{Register}
 use Rattle.script_program.specs.declared.instruction.Instruction.{Instruction}
 use Rattle.script_program.specs.declared.instruction.Instruction.TheVariants as code
 use Rattle.script_vm.specs.declared.stage.Stage.{Stage}
 use Rattle.script_vm.specs.declared.stage.Stage.TheVariants.{Runs, ToElse, ToEnd}
 use Rattle.script_vm.specs.Nesting.{Level, block, group, blocks_in, Nests}
-use Rattle.script_vm.specs.Rooms.{room_told}
+use Rattle.script_vm.specs.Rooms.{carried_room}
 use Rattle.script_vm.specs.Registers.{bytes_at, number_at, with_bytes, with_number, zeros}
 use Rattle.script_vm.specs.ThreadLaws.{length-closed, length-deeper}
 use Rattle.script_vm.specs.Threads.{Block, Thread, answered, answered_at, back_to, begun, call_at, cancelled, cancelled_in, closed, deeper, depth_of, ended, goes_on, innermost, next_call, open_past, opening, past_block, restarted, room, told, took}
@@ -228,15 +229,15 @@ goes_nested t registers more levels x same start =
     by_depth (suc d) e fewer = (let less = fewer (omega arith) in let now = ap (λ (n : ℕ). room n (settled registers more).1) e in let was = ap (λ (n : ℕ). room n more) e in omega arith)
 
 -- after an instruction, a call, it is nested, and no further from the end of its outermost block than the code behind it
-record Goes (i : Instruction) (d : ℕ) (more : List Instruction) (new : Thread) : Type 0 where
+record StaysNested (i : Instruction) (d : ℕ) (more : List Instruction) (new : Thread) : Type 0 where
   nested : IsNested new
   fewer : left new ≤ room (open_past i d) more
 
-goes_as : (i : Instruction) (d : ℕ) (more : List Instruction) (new : Thread) → GoesOn new more → depth_of new ≡ open_past i d → Goes i d more new
+goes_as : (i : Instruction) (d : ℕ) (more : List Instruction) (new : Thread) → GoesOn new more → depth_of new ≡ open_past i d → StaysNested i d more new
 goes_as i d more new g depth = record { nested = g.nested; fewer = (let less = g.fewer in let same = ap (λ (n : ℕ). room n more) depth in omega arith) }
 
 -- past the end of so many blocks
-goes_past : (i : Instruction) (d n : ℕ) (more : List Instruction) (new : Thread) → GoesOn new (past_block n more) → n + depth_of new ≡ open_past i d → Goes i d more new
+goes_past : (i : Instruction) (d n : ℕ) (more : List Instruction) (new : Thread) → GoesOn new (past_block n more) → n + depth_of new ≡ open_past i d → StaysNested i d more new
 goes_past i d n more new g depth = record {
   nested = g.nested;
   fewer = (let less = g.fewer in let all = room_more n (depth_of new) more in let same = ap (λ (k : ℕ). room k more) depth in omega arith);
@@ -246,14 +247,6 @@ closed_start : (blocks : List Block) → HasNestedStart blocks → HasNestedStar
 closed_start [] s = tt
 closed_start (b ∷ []) s = tt
 closed_start (b ∷ inner ∷ more) s = s
-
--- a reply that a call may have with so many blocks open: a begin is accepted or refused, and a commit within a block is done
-abbrev pub IsReplied : ℕ → Call → Reply → Type 0
-IsReplied depth (calls.Begin props n) (Code k) = Unit {0}
-IsReplied depth (calls.Begin props n) (Refused why) = Unit {0}
-IsReplied depth (calls.Begin props n) r = ⊥
-IsReplied depth calls.Commit r = 0 < depth → r ≡ Done
-IsReplied depth call r = Unit {0}
 
 same_call : (c d : Call) → Some c ≡ Some d → c ≡ d
 same_call c d e = cc
@@ -266,16 +259,16 @@ module _ (registers : List (List ℕ)) (rest : List Instruction) (blocks : List 
   at_blocks = record { rest = rest; registers = registers; blocks = blocks }
 
   module _ (more : List Instruction) (levels : List Level) (same : blocks_in levels ≡ length blocks) where
-    plain : (i : Instruction) → (regs : List (List ℕ)) → Nests more levels → open_past i (length blocks) ≡ length blocks → Goes i (length blocks) more (goes_on at_blocks regs more)
+    plain : (i : Instruction) → (regs : List (List ℕ)) → Nests more levels → open_past i (length blocks) ≡ length blocks → StaysNested i (length blocks) more (goes_on at_blocks regs more)
     plain i regs x e = goes_as i (length blocks) more _ (goes_nested at_blocks regs more levels x same start) (sym e)
 
-    took_goes : (i : Instruction) (x : Register) (r : Reply) → Nests more levels → open_past i (length blocks) ≡ length blocks → Goes i (length blocks) more (took at_blocks x more r)
+    took_goes : (i : Instruction) (x : Register) (r : Reply) → Nests more levels → open_past i (length blocks) ≡ length blocks → StaysNested i (length blocks) more (took at_blocks x more r)
     took_goes i x (Bytes v) n e = plain i _ n e
     took_goes i x Done n e = plain i _ n e
     took_goes i x (Code k) n e = plain i _ n e
     took_goes i x (Refused f) n e = plain i _ n e
 
-    told_goes : (i : Instruction) (x : Register) (r : Reply) → Nests more levels → open_past i (length blocks) ≡ length blocks → Goes i (length blocks) more (told at_blocks x more r)
+    told_goes : (i : Instruction) (x : Register) (r : Reply) → Nests more levels → open_past i (length blocks) ≡ length blocks → StaysNested i (length blocks) more (told at_blocks x more r)
     told_goes i x (Code k) n e = plain i _ n e
     told_goes i x Done n e = plain i _ n e
     told_goes i x (Bytes v) n e = plain i _ n e
@@ -290,13 +283,13 @@ module _ (registers : List (List ℕ)) (rest : List Instruction) (blocks : List 
         let p = past_nests k more levels (omega arith) x in
         goes_nested t regs (past_block k more) p.0 p.1 (let all = p.2 in omega arith) from
 
-    cancelled_goes : (outer : Bool) (r : Reply) → Nests more levels → Goes (code.Abort outer) (length blocks) more (cancelled at_blocks outer more r)
+    cancelled_goes : (outer : Bool) (r : Reply) → Nests more levels → StaysNested (code.Abort outer) (length blocks) more (cancelled at_blocks outer more r)
     cancelled_goes outer Done x = plain (code.Abort outer) _ x refl
     cancelled_goes outer (Bytes v) x = plain (code.Abort outer) _ x refl
     cancelled_goes outer (Refused f) x = plain (code.Abort outer) _ x refl
     cancelled_goes outer (Code n) x = by_blocks outer blocks refl
       where
-        by_blocks : (outer : Bool) (all : List Block) → all ≡ blocks → Goes (code.Abort outer) (length blocks) more (cancelled_in at_blocks outer more n all)
+        by_blocks : (outer : Bool) (all : List Block) → all ≡ blocks → StaysNested (code.Abort outer) (length blocks) more (cancelled_in at_blocks outer more n all)
         by_blocks outer [] e = plain (code.Abort outer) _ x refl
         by_blocks false (b ∷ inner) e =
             let k = innermost b inner in
@@ -309,7 +302,7 @@ module _ (registers : List (List ℕ)) (rest : List Instruction) (blocks : List 
             goes_past (code.Abort true) (length blocks) (length (b ∷ inner)) more _ (past_one (with_number b.registers b.code n) t (length (b ∷ inner)) x depth tt) depth
 
 answered_goes : (registers : List (List ℕ)) (i : Instruction) (more : List Instruction) (blocks : List Block) (start : HasNestedStart blocks) (levels : List Level) → Nests (i ∷ more) levels → blocks_in levels ≡ length blocks → (c : Call) (r : Reply)
-    → call_at registers (length blocks) (i ∷ more) ≡ Some c → IsReplied (length blocks) c r → Goes i (length blocks) more (answered_at (at_blocks registers (i ∷ more) blocks start) (i ∷ more) r)
+    → call_at registers (length blocks) (i ∷ more) ≡ Some c → MayReply (length blocks) c r → StaysNested i (length blocks) more (answered_at (at_blocks registers (i ∷ more) blocks start) (i ∷ more) r)
 answered_goes registers (code.Set to n) more blocks start levels x same c r e may = absurd (none_is_no_call c e)
 answered_goes registers (code.Bytes to literal) more blocks start levels x same c r e may = absurd (none_is_no_call c e)
 answered_goes registers (code.Move to from) more blocks start levels x same c r e may = absurd (none_is_no_call c e)
@@ -321,12 +314,12 @@ answered_goes registers (code.Load width to at) more blocks start levels x same 
 answered_goes registers (code.Read hint width to at) more blocks start levels x same c r e may = took_goes registers (code.Read hint width to at ∷ more) blocks start more levels same (code.Read hint width to at) to r x refl
 answered_goes registers (code.InTransaction to) more blocks start levels x same c r e may = told_goes registers (code.InTransaction to ∷ more) blocks start more levels same (code.InTransaction to) to r x refl
 answered_goes registers (code.Abort outer) more blocks start levels x same c r e may = cancelled_goes registers (code.Abort outer ∷ more) blocks start more levels same outer r x
-answered_goes registers (code.Begin props to) more blocks start levels x same c r e may = by_reply r (subst (λ (y : Call). IsReplied (length blocks) y r) (sym (same_call _ c e)) may)
+answered_goes registers (code.Begin props to) more blocks start levels x same c r e may = by_reply r (subst (λ (y : Call). MayReply (length blocks) y r) (sym (same_call _ c e)) may)
   where
     t : Thread
     t = record { rest = code.Begin props to ∷ more; registers = registers; blocks = blocks }
 
-    by_reply : (r : Reply) → IsReplied (length blocks) (calls.Begin props (room (suc (length blocks)) more)) r → Goes (code.Begin props to) (length blocks) more (begun t to more r)
+    by_reply : (r : Reply) → MayReply (length blocks) (calls.Begin props (room (suc (length blocks)) more)) r → StaysNested (code.Begin props to) (length blocks) more (begun t to more r)
     by_reply (Code n) may =
         let b : Block = record { rest = code.Begin props to ∷ more; registers = registers; code = to } in
         let deep = length-deeper blocks b in
@@ -339,15 +332,15 @@ answered_goes registers (code.Begin props to) more blocks start levels x same c 
     by_reply (Bytes v) may = absurd may
 answered_goes registers code.Commit more blocks start levels x same c r e may =
     let some : 0 < length blocks = (let one = ap blocks_in x.1 in omega arith) in
-    let done : r ≡ Done = (subst (λ (y : Call). IsReplied (length blocks) y r) (sym (same_call _ c e)) may) some in
+    let done : r ≡ Done = (subst (λ (y : Call). MayReply (length blocks) y r) (sym (same_call _ c e)) may) some in
     let t : Thread = record { rest = code.Commit ∷ more; registers = registers; blocks = blocks } in
-    subst (λ (y : Reply). Goes code.Commit (length blocks) more (ended t more y)) (sym done)
+    subst (λ (y : Reply). StaysNested code.Commit (length blocks) more (ended t more y)) (sym done)
     (goes_as code.Commit (length blocks) more _
     (goes_nested (record t { blocks = closed blocks }) registers more x.0 x.2 (let one = ap blocks_in x.1 in let fewer = length-closed blocks in omega arith) (closed_start blocks start)) (length-closed blocks))
 answered_goes registers call more blocks start levels x same c r e may = plain registers (call ∷ more) blocks start more levels same call registers x refl
 
 -- the room that it tells is what is left of its blocks
-told_left : (registers : List (List ℕ)) (i : Instruction) (more : List Instruction) (d : ℕ) (c : Call) (n : ℕ) → call_at registers d (i ∷ more) ≡ Some c → room_told c ≡ Some n → room (open_past i d) more ≡ n
+told_left : (registers : List (List ℕ)) (i : Instruction) (more : List Instruction) (d : ℕ) (c : Call) (n : ℕ) → call_at registers d (i ∷ more) ≡ Some c → carried_room c ≡ Some n → room (open_past i d) more ≡ n
 told_left registers (code.Set to k) more d c n e asks = absurd (none_is_no_call c e)
 told_left registers (code.Bytes to literal) more d c n e asks = absurd (none_is_no_call c e)
 told_left registers (code.Move to from) more d c n e asks = absurd (none_is_no_call c e)
@@ -355,17 +348,17 @@ told_left registers (code.Compute operation to y z) more d c n e asks = absurd (
 told_left registers (code.IfNotZero y) more d c n e asks = absurd (none_is_no_call c e)
 told_left registers code.Else more d c n e asks = absurd (none_is_no_call c e)
 told_left registers code.EndIf more d c n e asks = absurd (none_is_no_call c e)
-told_left registers (code.Begin props to) more d c n e asks = (let both : Some (room (suc d) more) ≡ Some n = ap room_told (same_call _ c e) ∙ asks in cc)
-told_left registers code.Mode more d c n e asks = (let both : Some (room d more) ≡ Some n = ap room_told (same_call _ c e) ∙ asks in cc)
-told_left registers call more d c n e asks = absurd (let both : None ≡ Some n = ap room_told (same_call _ c e) ∙ asks in cc)
+told_left registers (code.Begin props to) more d c n e asks = (let both : Some (room (suc d) more) ≡ Some n = ap carried_room (same_call _ c e) ∙ asks in cc)
+told_left registers code.Mode more d c n e asks = (let both : Some (room d more) ≡ Some n = ap carried_room (same_call _ c e) ∙ asks in cc)
+told_left registers call more d c n e asks = absurd (let both : None ≡ Some n = ap carried_room (same_call _ c e) ∙ asks in cc)
 
 -- a reply came
 pub record Plays (t new : Thread) (c : Call) : Type 0 where
   pub nested : IsNested new
   pub falls : 0 < depth_of t → left new < left t
-  pub told : (n : ℕ) → room_told c ≡ Some n → left new ≤ n
+  pub told : (n : ℕ) → carried_room c ≡ Some n → left new ≤ n
 
-pub plays : (t : Thread) (c : Call) (r : Reply) → IsNested t → next_call t ≡ Some c → IsReplied (depth_of t) c r → Plays t (answered t r) c
+pub plays : (t : Thread) (c : Call) (r : Reply) → IsNested t → next_call t ≡ Some c → MayReply (depth_of t) c r → Plays t (answered t r) c
 plays t c r nested e may = by_code t.rest nested.nests e
   where
     by_code : (rest : List Instruction) → Nests rest nested.levels → call_at t.registers (depth_of t) rest ≡ Some c → Plays (record t { rest = rest }) (answered_at (record t { rest = rest }) rest r) c

@@ -8,14 +8,14 @@ use Rattle.shared_words.specs.declared.view.View.{View}
 use Rattle.itm_types.specs.declared.step.Step.{Step}
 use Rattle.itm_types.specs.declared.step.Step.TheVariants.{Load, Store, Cas}
 use Rattle.shared_words.specs.Views.{read, counted, wrote, freed}
-use Rattle.shared_words.specs.Steps.{Loaded, Lawful, Turns, ValueFits, finds, cells_after}
+use Rattle.shared_words.specs.Steps.{Loaded, Lawful, StepTells, ValueFits, finds, cells_after}
 use Rattle.shared_words.specs.Good.{Good}
 use Rattle.shared_words.proofs.GoodSteps.{looks, takes, writes, frees, held_word}
 use Rattle.shared_words.proofs.GoodSteps as keep
 
 module _ (cells : List ℕ) (views : List View) (g : Good cells views) (id : ℕ) (v : View) (at : get_elem? views id ≡ some v) (alive : 0 < v.share) where
   abbrev pub Result : Step → List ℕ → Type 0
-  Result st after = (w : View) × Good after (set views id w) × Turns v st (finds cells st) w × (w.share ≡ v.share)
+  Result st after = (w : View) × Good after (set views id w) × StepTells v st (finds cells st) w × (w.share ≡ v.share)
 
   loads_word : (k : ℕ) (b : Bool) → v.holds ≡ b → Result (Load (suc k)) cells
   loads_word k false is =

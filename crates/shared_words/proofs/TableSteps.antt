@@ -9,14 +9,14 @@ use Rattle.shared_words.specs.declared.view.View.{View}
 use Rattle.itm_types.specs.declared.step.Step.TheVariants.{Load, Store, Cas}
 use Rattle.shared_words.specs.Views.{wrote, cut_left, cut_right, both, spent, shares}
 use Rattle.itm_types.specs.declared.step.Step.{Step}
-use Rattle.shared_words.specs.Steps.{Loaded, Lawful, Turns, cells_after, finds}
+use Rattle.shared_words.specs.Steps.{Loaded, Lawful, StepTells, cells_after, finds}
 use Rattle.shared_words.specs.Moves.{Moves}
 use Rattle.shared_words.specs.Good.{Good}
 use Rattle.shared_words.proofs.GoodSteps.{share_of}
 use Rattle.shared_words.proofs.StepViews.{turns}
 use Rattle.shared_words.proofs.ListPlaces.{set_again, set_else, weigh_le}
 use Rattle.shared_words.proofs.PassViews as ends
-use Rattle.shared_words.specs.Rule.{Held, Kept, loads, stores, exchanges, settled}
+use Rattle.shared_words.specs.Rule.{Held, AreGood, loads, stores, exchanges, settled}
 
 same_views : (ws : List ℕ) (vs : List View) (id : ℕ) (v : View) → get_elem? vs id ≡ some v → Good ws vs → Good ws (set vs id v)
 same_views ws vs id v at g = subst (Good ws) (sym (set_again vs id v at)) g
@@ -28,24 +28,24 @@ either_set : (ws : List ℕ) (c new : ℕ) (b : Bool) → cond b (set ws c new) 
 either_set ws c new true = refl
 either_set ws c new false = sym (set-get_or ws c 0)
 
-moves : (ws : List ℕ) (vs : List View) (id : ℕ) (v : View) → Good ws vs → get_elem? vs id ≡ some v → (st : Step) → (r : (w : View) × Good (cells_after ws st) (set vs id w) × Turns v st (finds ws st) w × (w.share ≡ v.share)) → Moves v st (finds ws st) r.0
+moves : (ws : List ℕ) (vs : List View) (id : ℕ) (v : View) → Good ws vs → get_elem? vs id ≡ some v → (st : Step) → (r : (w : View) × Good (cells_after ws st) (set vs id w) × StepTells v st (finds ws st) w × (w.share ≡ v.share)) → Moves v st (finds ws st) r.0
 moves ws vs id v g at st r = record { cells = ws; views = vs; place = id; good = g; here = at; finds_it = refl; good_then = r.1 }
 
 module _ (slots id : ℕ) (me : Held) (alive : 0 < me.0.share) where
-  pub allows_load : (c : ℕ) → Lawful me.0 (Load c) → Allows Kept slots id me c (λ n. n) (loads (step slots c 0 0 none) me)
+  pub allows_load : (c : ℕ) → Lawful me.0 (Load c) → Allows AreGood slots id me c (λ n. n) (loads (step slots c 0 0 none) me)
   allows_load c can s g h at fit = let r = turns s.words s.views g id me.0 at alive (Load c) can tt in
       (r.0, keeps, tt, same_words s.words c (set s.views id r.0) r.1, (r.2, r.3, refl, moves s.words s.views id me.0 g at (Load c) r))
 
-  pub allows_store : (c x : ℕ) → Lawful me.0 (Store c x) → x < 2 ^ 64 → Allows Kept slots id me c (λ _. x) (λ _. stores (step slots c x 0 none) me x)
+  pub allows_store : (c x : ℕ) → Lawful me.0 (Store c x) → x < 2 ^ 64 → Allows AreGood slots id me c (λ _. x) (λ _. stores (step slots c x 0 none) me x)
   allows_store c x can small s g h at fit = let r = turns s.words s.views g id me.0 at alive (Store c x) can small in
       (r.0, keeps, tt, r.1, (r.2, r.3, refl, moves s.words s.views id me.0 g at (Store c x) r))
 
-  pub allows_exchange : (c old new : ℕ) → Lawful me.0 (Cas c old new) → Allows Kept slots id me c (λ n. either (n == old) new n) (exchanges (step slots c old new none) me)
+  pub allows_exchange : (c old new : ℕ) → Lawful me.0 (Cas c old new) → Allows AreGood slots id me c (λ n. either (n == old) new n) (exchanges (step slots c old new none) me)
   allows_exchange c old new can s g h at fit = let r = turns s.words s.views g id me.0 at alive (Cas c old new) can tt in
       (r.0, keeps, tt, subst (λ (l : List ℕ). Good l (set s.views id r.0)) (either_set s.words c new (get_or s.words c 0 == old)) r.1, (r.2, r.3, refl, moves s.words s.views id me.0 g at (Cas c old new) r))
 
 module _ (slots id : ℕ) (me : Held) where
-  pub allows_settle : Allows Kept slots id me 0 (λ n. n) (settled (step slots 0 0 0 none) me)
+  pub allows_settle : Allows AreGood slots id me 0 (λ n. n) (settled (step slots 0 0 0 none) me)
   allows_settle s g h at fit =
       let t = ends.settles s.words s.views g id me.0 at in
       let le : me.0.share ≤ 128 = (let a : me.0.share ≤ shares s.views = weigh_le share_of s.views id me.0 at in let b = g.whole in omega arith) in
@@ -55,27 +55,27 @@ load_one : (v w : View) (k n : ℕ) → Loaded v k n w → (b : Bool) → v.hold
 load_one v w k n l false e = ap (λ (u : View). u.holds) (l.0 e)
 load_one v w k n l true e = ap (λ (u : View). u.holds) (l.1 e).0
 
-pub load_holds : (v w : View) (c n : ℕ) → Turns v (Load c) n w → w.holds ≡ v.holds
+pub load_holds : (v w : View) (c n : ℕ) → StepTells v (Load c) n w → w.holds ≡ v.holds
 load_holds v w zero n t = ap (λ (u : View). u.holds) (t.0 refl).0
 load_holds v w (suc k) n t = (let l : Loaded v k n w = t.1 k (omega arith) in load_one v w k n l v.holds refl)
 
-pub free_holds : (v w : View) (x n : ℕ) → Turns v (Store 0 x) n w → w.holds ≡ false
+pub free_holds : (v w : View) (x n : ℕ) → StepTells v (Store 0 x) n w → w.holds ≡ false
 free_holds v w x n t = ap (λ (u : View). u.holds) (t.0 refl)
 
-pub store_holds : (v w : View) (c x n : ℕ) → c ≢ 0 → Turns v (Store c x) n w → w.holds ≡ v.holds
+pub store_holds : (v w : View) (c x n : ℕ) → c ≢ 0 → StepTells v (Store c x) n w → w.holds ≡ v.holds
 store_holds v w zero x n away t = absurd (away refl)
 store_holds v w (suc k) x n away t = (let e : w ≡ wrote v k x = t.1 k (omega arith) in ap (λ (u : View). u.holds) e)
 
-pub took_holds : (v w : View) (c s t n : ℕ) → n ≡ s → Turns v (Cas c s t) n w → w.holds ≡ true
+pub took_holds : (v w : View) (c s t n : ℕ) → n ≡ s → StepTells v (Cas c s t) n w → w.holds ≡ true
 took_holds v w c s t n is h = ap (λ (u : View). u.holds) (h.0 is).0
 
-pub missed_holds : (v w : View) (c s t n : ℕ) → n ≢ s → Turns v (Cas c s t) n w → w.holds ≡ v.holds
+pub missed_holds : (v w : View) (c s t n : ℕ) → n ≢ s → StepTells v (Cas c s t) n w → w.holds ≡ v.holds
 missed_holds v w c s t n away h = ap (λ (u : View). u.holds) (h.1 away).0
 
-pub splits : (id : ℕ) (v : View) → 1 < v.share → Splits Kept id v (cut_left v) (cut_right v)
+pub splits : (id : ℕ) (v : View) → 1 < v.share → Splits AreGood id v (cut_left v) (cut_right v)
 splits id v room s g at = ends.splits s.words s.views g id v at room
 
-pub joins : (id : ℕ) (v : View) (other : ℕ) (u : View) → 0 < v.share → u.holds ≡ false → Joins Kept id v other u (both v u) spent
+pub joins : (id : ℕ) (v : View) (other : ℕ) (u : View) → 0 < v.share → u.holds ≡ false → Joins AreGood id v other u (both v u) spent
 joins id v other u alive idle s g at apart there =
     let there' : get_elem? s.views other ≡ some u = sym (set_else s.views id other (both v u) apart) ∙ there in
     ends.joins s.words s.views g id v at other u apart there' idle alive

@@ -7,7 +7,7 @@ use Rattle.itm_types.specs.declared.step.Step.TheVariants.{Load, Store, Cas}
 use Rattle.itm_types.specs.Memory.{AllFit}
 use Rattle.shared_words.specs.declared.view.View.{View}
 use Rattle.shared_words.specs.Commits.{StoresFit, CommitsFit}
-use Rattle.shared_words.specs.Steps.{Looked, Took, Loaded, Turns, ValueFits, Joined}
+use Rattle.shared_words.specs.Steps.{Looked, Took, Loaded, StepTells, ValueFits, Joined}
 use Rattle.shared_words.specs.Passes.{IsOver}
 use Rattle.shared_words.proofs.StoredWords.{stores_snoc, commits_snoc}
 
@@ -22,7 +22,7 @@ module _ (cells : ℕ) (v w : View) (o : IsOver cells v) where
   by_load k n l false e = subst (IsOver cells) (sym (l.0 e)) (record { size = o.size; base_fits = o.base_fits; seen_fits = o.seen_fits; done_fits = o.done_fits })
   by_load k n l true e = subst (IsOver cells) (sym (l.1 e).0) (record { size = o.size; base_fits = o.base_fits; seen_fits = o.seen_fits; done_fits = o.done_fits })
 
-  pub over_step : (st : Step) (n : ℕ) → ValueFits st → Turns v st n w → IsOver cells w
+  pub over_step : (st : Step) (n : ℕ) → ValueFits st → StepTells v st n w → IsOver cells w
   over_step (Load zero) n f t = by_look n (t.0 refl)
   over_step (Load (suc k)) n f t = by_load k n (t.1 k (let e : suc k ≡ k + 1 = omega arith in e)) v.holds refl
   over_step (Store zero x) n f t = subst (IsOver cells) (sym (t.0 refl)) (record { size = o.size; base_fits = o.base_fits; seen_fits = commits_snoc v.seen v.done o.seen_fits o.done_fits; done_fits = tt })

@@ -7,7 +7,7 @@ use Rattle.itm_types.specs.declared.step.Step.{Step}
 use Rattle.itm_types.specs.declared.step.Step.TheVariants.{Load, Store, Cas}
 use Rattle.shared_words.specs.Commits.{StartsWith}
 use Rattle.shared_words.specs.Views.{opening, times}
-use Rattle.shared_words.specs.Steps.{Turns}
+use Rattle.shared_words.specs.Steps.{StepTells}
 use Rattle.shared_words.specs.Good.{Good}
 use Rattle.shared_words.specs.Moves.{Moves}
 
@@ -15,24 +15,24 @@ use Rattle.shared_words.specs.Moves.{Moves}
 abbrev pub Held : Type 0
 Held = Me ℕ View
 
-abbrev pub Kept : State ℕ View → Type 0
-Kept s = Good s.words s.views
+abbrev pub AreGood : State ℕ View → Type 0
+AreGood s = Good s.words s.views
 
 abbrev pub first_view : List ℕ → View
 first_view = opening
 
 -- the step was made among good cells and views, and the view went on by it; shares and slots stay
-abbrev pub Goes : Step → Held → ℕ → Held → Type 0
-Goes st m n w = Turns m.0 st n w.0 × (w.0.share ≡ m.0.share) × (w.1 ≡ m.1) × Moves m.0 st n w.0
+abbrev pub MakesStep : Step → Held → ℕ → Held → Type 0
+MakesStep st m n w = StepTells m.0 st n w.0 × (w.0.share ≡ m.0.share) × (w.1 ≡ m.1) × Moves m.0 st n w.0
 
 abbrev pub loads : table.Step ℕ → Held → ℕ → Held → Type 0
-loads s m n w = Goes (Load s.word) m n w
+loads s m n w = MakesStep (Load s.word) m n w
 
 abbrev pub stores : table.Step ℕ → Held → ℕ → Held → Type 0
-stores s m n w = Goes (Store s.word s.first) m 0 w
+stores s m n w = MakesStep (Store s.word s.first) m 0 w
 
 abbrev pub exchanges : table.Step ℕ → Held → ℕ → Held → Type 0
-exchanges s m n w = Goes (Cas s.word s.first s.second) m n w
+exchanges s m n w = MakesStep (Cas s.word s.first s.second) m n w
 
 -- nothing changes: of the two histories that were joined one goes on from the other, and no position was in both
 abbrev pub settled : table.Step ℕ → Held → ℕ → Held → Type 0

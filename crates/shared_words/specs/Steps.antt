@@ -38,10 +38,10 @@ Lawful v (Store c n) = (v.holds ≡ true) × (c ≡ 0 → n ≡ v.clock + 2)
 Lawful v (Cas c s t) = (c ≡ 0) × (t ≡ s + 1) × CanTake v s
 
 -- what the step tells: n is the value loaded, the one that an exchange met, or 0 after a store
-abbrev pub Turns : View → Step → ℕ → View → Type 0
-Turns v (Load c) n w = (c ≡ 0 → Looked v n w) × ((k : ℕ) → c ≡ k + 1 → Loaded v k n w)
-Turns v (Store c x) n w = (c ≡ 0 → w ≡ freed v x) × ((k : ℕ) → c ≡ k + 1 → w ≡ wrote v k x)
-Turns v (Cas c s t) n w = (n ≡ s → Took v s w) × (n ≢ s → Looked v n w)
+abbrev pub StepTells : View → Step → ℕ → View → Type 0
+StepTells v (Load c) n w = (c ≡ 0 → Looked v n w) × ((k : ℕ) → c ≡ k + 1 → Loaded v k n w)
+StepTells v (Store c x) n w = (c ≡ 0 → w ≡ freed v x) × ((k : ℕ) → c ≡ k + 1 → w ≡ wrote v k x)
+StepTells v (Cas c s t) n w = (n ≡ s → Took v s w) × (n ≢ s → Looked v n w)
 
 abbrev pub ValueFits : Step → Type 0
 ValueFits (Load c) = Unit {0}

@@ -1,6 +1,6 @@
 //! The rule of the cells, and what each operation tells. These types are for the proofs alone.
 
-ghost use Rattle.shared_words.specs.Rule.{Kept, first_view, loads, stores, exchanges, settled};
+ghost use Rattle.shared_words.specs.Rule.{AreGood, first_view, loads, stores, exchanges, settled};
 ghost use Rattle.shared_words.specs.Views.{cut_left, cut_right, both, spent};
 
 use crate::view::View;
@@ -10,7 +10,7 @@ use atomic_table::{Join, Play, Split, TableRule};
 pub struct Core;
 
 impl TableRule<u8, View, Vec<u64>> for Core {
-    ghost holds = { λ k. Kept };
+    ghost holds = { λ k. AreGood };
 
     ghost first = { λ k. first_view k.items };
 }

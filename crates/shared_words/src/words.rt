@@ -38,7 +38,7 @@ impl Words {
     ghost use Rattle.shared_words.specs.Views.{opening, cut_left, cut_right};
     ghost use Rattle.shared_words.specs.Good.{Closes, EndsWith};
     ghost use Rattle.shared_words.specs.Moves.{Moves};
-    ghost use Rattle.shared_words.specs.Steps.{Lawful, Turns, Joined, cell_of};
+    ghost use Rattle.shared_words.specs.Steps.{Lawful, StepTells, Joined, cell_of};
 
     fn of_words(alloc: Global, words: &Vec<u64>) -> Result<(Words, Pass), AllocError>
         requires fit { AllFit words.now.items }
@@ -99,7 +99,7 @@ impl Words {
         requires cell { cell_of step < cells_of self.now }
         requires lawful { Lawful (view_of pass.old) step }
         ensures own { Owns self.now pass.new }
-        ensures turn { Turns (view_of pass.old) step result (view_of pass.new) }
+        ensures turn { StepTells (view_of pass.old) step result (view_of pass.new) }
         ensures moves { Moves (view_of pass.old) step result (view_of pass.new) }
     {
         match step {

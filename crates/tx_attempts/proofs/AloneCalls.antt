@@ -9,7 +9,7 @@ use Rattle.itm_model.specs.State.{State}
 use Rattle.itm_model.specs.Machine.{after, after_unless, effect, is_open, outside, refusal, reply}
 use Rattle.itm_model.specs.Runs.{answers_within, turn}
 use Rattle.tx_player.specs.Rules.{Obeys, Rules}
-use Rattle.tx_attempts.specs.declared.attempt.Entry.{Entry}
+use Rattle.tx_attempts.specs.declared.attempt.CallRecord.{CallRecord}
 use Rattle.tx_attempts.specs.Attempts.{pair_of}
 use Rattle.tx_attempts.specs.Alone.{IsAlone, player_then, state_then}
 use Rattle.tx_attempts.specs.Opacity.{Beginning, begin_within, stays_outside}
@@ -40,7 +40,7 @@ module _ {P : Type 0} (rules : Rules P) (laws : Obeys rules) (deepest : ℕ) whe
   enough n k p s None e a b = refl
 
   -- the calls made alone come first, and then what the player gets after them
-  pub begins_alone : (n : ℕ) (p : P) (s : State) (xs : List Entry) → rules.calls_left p ≤ n → IsAlone rules deepest p s xs
+  pub begins_alone : (n : ℕ) (p : P) (s : State) (xs : List CallRecord) → rules.calls_left p ≤ n → IsAlone rules deepest p s xs
       → gets n p s (turn rules.next_call rules.answered rules.calls_left p s)
       ≡ map pair_of xs ++ gets n (player_then rules.answered p xs) (state_then deepest s xs) (turn rules.next_call rules.answered rules.calls_left (player_then rules.answered p xs) (state_then deepest s xs))
   begins_alone n p s [] l h = refl
@@ -56,16 +56,16 @@ module _ {P : Type 0} (rules : Rules P) (laws : Obeys rules) (deepest : ℕ) whe
 
 -- ## One call more
 
-pub player_snoc : {P : Type 0} (answered : P → Reply → P) (p : P) (xs : List Entry) (x : Entry) → player_then answered p (xs ++ x ∷ []) ≡ answered (player_then answered p xs) x.reply
+pub player_snoc : {P : Type 0} (answered : P → Reply → P) (p : P) (xs : List CallRecord) (x : CallRecord) → player_then answered p (xs ++ x ∷ []) ≡ answered (player_then answered p xs) x.reply
 player_snoc answered p [] x = refl
 player_snoc answered p (y ∷ ys) x = player_snoc answered (answered p y.reply) ys x
 
-pub state_snoc : (deepest : ℕ) (s : State) (xs : List Entry) (x : Entry) → state_then deepest s (xs ++ x ∷ []) ≡ after deepest (state_then deepest s xs) x.call
+pub state_snoc : (deepest : ℕ) (s : State) (xs : List CallRecord) (x : CallRecord) → state_then deepest s (xs ++ x ∷ []) ≡ after deepest (state_then deepest s xs) x.call
 state_snoc deepest s [] x = refl
 state_snoc deepest s (y ∷ ys) x = state_snoc deepest (after deepest s y.call) ys x
 
 module _ {P : Type 0} (rules : Rules P) (laws : Obeys rules) where
-  pub alone_snoc : (deepest : ℕ) (p : P) (s : State) (xs : List Entry) (x : Entry) → IsAlone rules deepest p s xs
+  pub alone_snoc : (deepest : ℕ) (p : P) (s : State) (xs : List CallRecord) (x : CallRecord) → IsAlone rules deepest p s xs
       → turn rules.next_call rules.answered rules.calls_left (player_then rules.answered p xs) (state_then deepest s xs) ≡ Some x.call → x.reply ≡ reply deepest (state_then deepest s xs) x.call
       → IsAlone rules deepest p s (xs ++ x ∷ [])
   alone_snoc deepest p s [] x h t r = (t, r, tt)

@@ -7,7 +7,7 @@ use Rattle.itm_types.specs.declared.call.Reply.{Reply}
 use Rattle.itm_model.specs.State.{State}
 use Rattle.itm_model.specs.Machine.{opened}
 use Rattle.itm_model.specs.Runs.{state_after}
-use Rattle.tx_attempts.specs.declared.attempt.Entry.{Entry}
+use Rattle.tx_attempts.specs.declared.attempt.CallRecord.{CallRecord}
 use Rattle.tx_attempts.specs.declared.attempt.Outcome.{Outcome}
 use Rattle.tx_attempts.specs.declared.attempt.Outcome.TheVariants.{Committed, ReadOnly, Cancelled, Conflict, Full, NoMemory, Unfinished}
 use Rattle.tx_attempts.specs.declared.attempt.Attempt.{Attempt}
@@ -23,15 +23,15 @@ is_committed NoMemory = false
 is_committed Unfinished = false
 
 -- the last of these calls is a commit that was accepted
-abbrev pub ByCommit : List Entry → Type 0
-ByCommit calls = (before : List Entry) × (calls ≡ before ++ record { call = Commit; reply = Done } ∷ [])
+abbrev pub ByCommit : List CallRecord → Type 0
+ByCommit calls = (before : List CallRecord) × (calls ≡ before ++ record { call = Commit; reply = Done } ∷ [])
 
 -- or an abort
-abbrev pub ByAbort : List Entry → Type 0
-ByAbort calls = (before : List Entry) × (outer : Bool) × (calls ≡ before ++ record { call = Abort outer; reply = Code 24 } ∷ [])
+abbrev pub ByAbort : List CallRecord → Type 0
+ByAbort calls = (before : List CallRecord) × (outer : Bool) × (calls ≡ before ++ record { call = Abort outer; reply = Code 24 } ∷ [])
 
 -- where the block of an attempt has ended, its last call says how
-abbrev pub ClosedBy : Outcome → List Entry → Type 0
+abbrev pub ClosedBy : Outcome → List CallRecord → Type 0
 ClosedBy Committed calls = ByCommit calls
 ClosedBy ReadOnly calls = ByCommit calls
 ClosedBy Cancelled calls = ByAbort calls
@@ -40,7 +40,7 @@ ClosedBy Full calls = Unit {0}
 ClosedBy NoMemory calls = Unit {0}
 ClosedBy Unfinished calls = Unit {0}
 
-abbrev pub pair_of : Entry → Call × Reply
+abbrev pub pair_of : CallRecord → Call × Reply
 pair_of e = (e.call, e.reply)
 
 -- the calls with their replies, as the plain machine gives them

@@ -83,11 +83,15 @@ module _ {P : Type 0} (rules : Rules P) (deepest : ℕ) where
   begin_of p arena = begin_within (rules.calls_left p) p arena (rules.next_call p)
 
 module _ {P : Type 0} (rules : Rules P) (deepest : ℕ) where
+  -- the calls of the attempt's player alone on these bytes, each with its reply, until the attempt's block has ended
+  abbrev pub answers_on : P → Attempt → List ℕ → List (Call × Reply)
+  answers_on p a memory = answers rules.next_call rules.answered rules.calls_left deepest p memory a.arena a.props
+
   -- after its calls its player makes one alone that takes the clock
   pub record LacksClock (p : P) (a : Attempt) (memory : List ℕ) : Type 0 where
     pub call : Call
     pub rest : List (Call × Reply)
-    pub answers_are : answers rules.next_call rules.answered rules.calls_left deepest p memory a.arena a.props ≡ pairs_of a ++ (call, reply deepest (alone deepest memory a) call) ∷ rest
+    pub answers_are : answers_on p a memory ≡ pairs_of a ++ (call, reply deepest (alone deepest memory a) call) ∷ rest
     pub revocable : (alone deepest memory a).irrevocable ≡ false
     pub takes : takes_clock (after deepest (alone deepest memory a) call) ≡ true
 
@@ -95,8 +99,8 @@ module _ {P : Type 0} (rules : Rules P) (deepest : ℕ) where
   pub record IsOpaque (p : P) (a : Attempt) (n : ℕ) (memory : List ℕ) : Type 0 where
     pub no_older : a.began ≤ a.at
     pub no_newer : a.at ≤ n
-    pub beginning : IsBeginningOf (pairs_of a) (answers rules.next_call rules.answered rules.calls_left deepest p memory a.arena a.props)
-    pub whole : is_open (alone deepest memory a) ≡ false → pairs_of a ≡ answers rules.next_call rules.answered rules.calls_left deepest p memory a.arena a.props
+    pub beginning : IsBeginningOf (pairs_of a) (answers_on p a memory)
+    pub whole : is_open (alone deepest memory a) ≡ false → pairs_of a ≡ answers_on p a memory
     pub ends : EndsAs a.outcome (alone deepest memory a)
     pub closed : ClosedBy a.outcome a.calls.list
     pub ran : a.ran ≡ ran_of a.outcome (alone deepest memory a)

@@ -24,7 +24,7 @@ pub enum Outcome {
 
 /// A call with its reply.
 #[derive(Debug, Drop, PartialEq, Eq)]
-pub struct Entry {
+pub struct CallRecord {
     pub call: Call,
     pub reply: Reply,
 }

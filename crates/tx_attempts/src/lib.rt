@@ -4,5 +4,5 @@
 mod attempt;
 mod lists;
 
-pub use attempt::{Attempt, Entry, Outcome};
+pub use attempt::{Attempt, CallRecord, Outcome};
 pub use lists::{Attempts, Bytes, Calls, RanActions};

@@ -3,7 +3,7 @@
 ghost use Rattle.std.specs.Prelude.{◌≡◌, ◌<◌, ◌≤◌, ◌+◌, ◌∷◌, [], ◌++◌, length, vec_len, vec_capacity, IfOk, OnErr};
 ghost use Rattle.tx_attempts.specs.Beginnings.{IsBeginningOf};
 
-use crate::attempt::{Attempt, Entry};
+use crate::attempt::{Attempt, CallRecord};
 use itm_types::Ran;
 use std::alloc::{AllocError, Global};
 use std::marker::Model;
@@ -48,7 +48,7 @@ impl Bytes {
 /// Calls with their replies, in order, with a promised room: for so many more there is a place, whatever comes.
 #[derive(Debug, Drop)]
 pub struct Calls {
-    items: Vec<Entry>,
+    items: Vec<CallRecord>,
     room: usize,
 }
 
@@ -77,7 +77,7 @@ impl Calls {
     }
 
     /// These calls, with no room. Takes no memory.
-    pub fn from_vec(items: Vec<Entry>) -> Self
+    pub fn from_vec(items: Vec<CallRecord>) -> Self
         ensures { result ≡ record { list = items.items; room = 0 } }
     {
         Calls { items, room: 0 }
@@ -93,7 +93,7 @@ impl Calls {
         Ok(Calls { items, room })
     }
 
-    pub fn as_slice(&self) -> &[Entry]
+    pub fn as_slice(&self) -> &[CallRecord]
         ensures { result.now ≡ self.now.list }
     {
         &self.items
@@ -109,7 +109,7 @@ impl Calls {
     /// One more, and where `ahead` is not 0 room for so many from then on; else it takes of the room that there is. The
     /// places are those of the room, or of `spare`, to which the calls move over.
     #[inline(always)]
-    pub fn push(&mut self, spare: &mut Vec<Entry>, entry: Entry, ahead: usize)
+    pub fn push(&mut self, spare: &mut Vec<CallRecord>, entry: CallRecord, ahead: usize)
         requires empty { spare.old.items ≡ [] }
         requires place { self.old.room ≡ 0 → length self.old.list < vec_capacity spare.old }
         requires places { 0 < ahead → length self.old.list + 1 + ahead ≤ vec_capacity spare.old }
@@ -137,7 +137,7 @@ impl Calls {
 
 /// The calls move over to `spare`, into the places that it has, and leave it their own.
 #[inline(never)]
-fn move_over(items: &mut Vec<Entry>, spare: &mut Vec<Entry>)
+fn move_over(items: &mut Vec<CallRecord>, spare: &mut Vec<CallRecord>)
     requires empty { spare.old.items ≡ [] }
     requires places { vec_len items.old ≤ vec_capacity spare.old }
     ensures items { items.new.items ≡ items.old.items }

@@ -1,36 +1,45 @@
 -- The parts of a history, one after another.
-use Rattle.std.proofs.Common.{◌≡◌, ℕ, ◌+◌, ◌<◌, ◌≤◌, List, [], ◌++◌, length, take, drop, sym, subst, get_or, flat_map, arith}
+use Rattle.std.proofs.Common.{◌≡◌, ℕ, ◌+◌, ◌<◌, ◌≤◌, All, List, [], ◌++◌, length, take, drop, Option, sym, subst, get_or, flat_map, rules, arith}
 use Rattle.std.proofs.lemmas.Grind.{common_steps}
+use Rattle.std.proofs.lemmas.List.Elements.{All-more}
 use Rattle.std.specs.Prelude.{decimal}
 use Rattle.hex.specs.Hex.{encode_lower, encode_with}
-use Rattle.tx_history.specs.Spelling.{Grows, Sheet}
-use Rattle.tx_history.proofs.PagedTexts.{grows_nil, grows_then}
+use Rattle.tx_history.specs.declared.page.Page.{Page}
+use Rattle.tx_history.specs.Pages.{Carries, Spells}
+use Rattle.tx_history.proofs.PagedTexts.{carries_none, carries_then}
 use Rattle.tx_history.proofs.TextPieces.{encode_more, take_past}
 
-nothing : (a : Sheet) → Grows a a []
-nothing a = grows_nil a.failed a.written a.page
+module _ {W : Type 0} {contents : W → Option (List ℕ)} where
+  pub hex_starts : (a : Page W) (bytes : List ℕ) → Carries contents a a (encode_lower (take 0 bytes))
+  unfolding encode_with
+  hex_starts a bytes = carries_none a
 
-pub hex_starts : (a : Sheet) (bytes : List ℕ) → Grows a a (encode_lower (take 0 bytes))
-unfolding encode_with
-hex_starts a bytes = nothing a
+  pub hex_grown : (a b c : Page W) (bytes : List ℕ) (i n : ℕ) → Carries contents a b (encode_lower (take i bytes)) → Carries contents b c (encode_lower (take n (drop i bytes))) → Carries contents a c (encode_lower (take (i + n) bytes))
+  hex_grown a b c bytes i n p q = subst (Carries contents a c) (sym (encode_more bytes i n)) (carries_then p q)
 
-pub hex_grown : (a b c : Sheet) (bytes : List ℕ) (i n : ℕ) → Grows a b (encode_lower (take i bytes)) → Grows b c (encode_lower (take n (drop i bytes))) → Grows a c (encode_lower (take (i + n) bytes))
-hex_grown a b c bytes i n p q = subst (Grows a c) (sym (encode_more bytes i n)) (grows_then a b c _ _ p q)
-
-pub hex_whole : (a b : Sheet) (bytes : List ℕ) (i : ℕ) → Grows a b (encode_lower (take i bytes)) → length bytes ≤ i → Grows a b (encode_lower bytes)
-hex_whole a b bytes i p h = subst (λ (l : List ℕ). Grows a b (encode_lower l)) (take_past i bytes h) p
+  pub hex_whole : (a b : Page W) (bytes : List ℕ) (i : ℕ) → Carries contents a b (encode_lower (take i bytes)) → length bytes ≤ i → Carries contents a b (encode_lower bytes)
+  hex_whole a b bytes i p h = subst (λ (l : List ℕ). Carries contents a b (encode_lower l)) (take_past i bytes h) p
 
 -- ## The lines of each one of a list
 
-module _ {A : Type 0} (lines : A → List ℕ) where
-  pub grows_none : (a : Sheet) (rows : List A) → Grows a a (flat_map lines (take 0 rows))
-  grows_none a rows = nothing a
+module _ {W : Type 0} {contents : W → Option (List ℕ)} {A : Type 0} (lines : A → List ℕ) (typed : A → Type 0) where
+  pub spells_none : (a : Page W) (rows : List A) → Spells contents a a (flat_map lines (take 0 rows)) (All typed (take 0 rows))
+  spells_none a rows = record { carries = carries_none a; fits = search rules }
 
-  pub grows_next : (a b c : Sheet) (rows : List A) (i : ℕ) (d : A)
-      → i < length rows → Grows a b (flat_map lines (take i rows)) → Grows b c (lines (get_or rows i d)) → Grows a c (flat_map lines (take (i + 1) rows))
-  grows_next a b c rows i d l p q =
+  pub spells_next : (a b c : Page W) (rows : List A) (i : ℕ) (d : A)
+      → i < length rows → Spells contents a b (flat_map lines (take i rows)) (All typed (take i rows)) → Spells contents b c (lines (get_or rows i d)) (typed (get_or rows i d))
+      → Spells contents a c (flat_map lines (take (i + 1) rows)) (All typed (take (i + 1) rows))
+  spells_next a b c rows i d l p q =
       let e : flat_map lines (take (i + 1) rows) ≡ flat_map lines (take i rows) ++ lines (get_or rows i d) = grind (arith, common_steps) in
-      subst (Grows a c) (sym e) (grows_then a b c _ _ p q)
+      record {
+        carries = subst (Carries contents a c) (sym e) (carries_then p.carries q.carries);
+        fits = All-more typed rows i _ l p.fits q.fits;
+      }
+
+  pub spells_all : (a b : Page W) (rows : List A) (i : ℕ) → Spells contents a b (flat_map lines (take i rows)) (All typed (take i rows)) → length rows ≤ i → Spells contents a b (flat_map lines rows) (All typed rows)
+  spells_all a b rows i p h =
+      let e : take i rows ≡ rows = grind (arith, common_steps) in
+      subst (λ (xs : List A). Spells contents a b (flat_map lines xs) (All typed xs)) e p
 
 -- two texts, each with a number after it
 pub numbers_spelled : (a b : List ℕ) (m k n : ℕ) → m ≡ k → a ++ (decimal m ++ (b ++ (decimal n ++ []))) ≡ ((a ++ decimal k) ++ b) ++ decimal n

@@ -6,3 +6,4 @@ pub mod WorkedLines
 pub mod WorkedStreams
 pub mod PlainSizes
 mod WorkedBounds
+pub mod Runs

@@ -1,12 +1,15 @@
 -- A text that goes to its writer page by page.
-use Rattle.std.proofs.Common.{◌≡◌, refl, ℕ, ◌+◌, ◌<◌, Bool, true, false, List, [], ◌++◌, length, take, Option, Result, Ok, Err, sym, ap, ◌∙◌, subst, append-nil, append_assoc, arith}
+use Rattle.std.proofs.Common.{◌≡◌, refl, ℕ, ◌+◌, ◌<◌, Bool, true, false, List, [], ◌++◌, length, take, Option, None, Result, Ok, Err, sym, ap, ◌∙◌, subst, append-nil, append_assoc, arith}
 use Rattle.std.proofs.KnownBytes.{Appends-nil, Appends-trans}
 use Rattle.std.proofs.lemmas.List.{length-append, take-append-le}
 use Rattle.std.proofs.Math.Seq.{take-append-add}
 use Rattle.std.specs.Prelude.{is_err, is_some}
 use Rattle.std.specs.Result.{result_err}
 use Rattle.std.specs.Io.KnownBytes.{Appends}
-use Rattle.tx_history.specs.Spelling.{Goes, Grows, Puts, Sheet}
+use Rattle.std.specs.declared.io.Error.{Error}
+use Rattle.tx_history.specs.declared.page.Page.{Page}
+use Rattle.tx_history.specs.Pages.{Carries, IsSent, Grows, Sheet, Spells}
+use Rattle.tx_history.specs.Spelling.{Puts}
 
 -- nothing is written
 pub grows_nil : (f : Bool) (w : Option (List ℕ)) (p : List ℕ) → Grows (record { failed = f; written = w; page = p }) (record { failed = f; written = w; page = p }) []
@@ -35,7 +38,7 @@ given w v (Err e) text q = record { gone = take q.0 text; written = q.2; goes = 
 joined : (p x y gone page : List ℕ) → p ++ x ≡ gone ++ page → p ++ (x ++ y) ≡ gone ++ (page ++ y)
 joined p x y gone page e = sym (append_assoc p x y) ∙ ap (λ (l : List ℕ). l ++ y) e ∙ append_assoc gone page y
 
-goes_then : (f g h : Bool) (p x gone q y more r : List ℕ) → Goes f g (p ++ x) gone q → Goes g h (q ++ y) more r → Goes f h (p ++ (x ++ y)) (gone ++ more) r
+goes_then : (f g h : Bool) (p x gone q y more r : List ℕ) → IsSent f g (p ++ x) gone q → IsSent g h (q ++ y) more r → IsSent f h (p ++ (x ++ y)) (gone ++ more) r
 goes_then false false false p x gone q y more r a b = joined p x y gone q a ∙ ap (λ (l : List ℕ). gone ++ l) b ∙ sym (append_assoc gone more r)
 goes_then false false true p x gone q y more r a b =
     let whole = joined p x y gone q a in (
@@ -61,30 +64,51 @@ grows_then a b c x y p q = record {
   goes = goes_then a.failed b.failed c.failed a.page x p.gone b.page y q.gone c.page p.goes q.goes;
 }
 
-pub grows_as : (a b : Sheet) (x y : List ℕ) → Grows a b x → x ≡ y → Grows a b y
-grows_as a b x y p e = subst (Grows a b) e p
-
--- one after another that is two
-pub grows_both : (a b c : Sheet) (x y z : List ℕ) → Grows a b x → Grows b c (y ++ z) → Grows a c ((x ++ y) ++ z)
-grows_both a b c x y z p q = subst (Grows a c) (sym (append_assoc x y z)) (grows_then a b c x (y ++ z) p q)
-
--- or three
-pub grows_three : (a b c : Sheet) (x y z w : List ℕ) → Grows a b x → Grows b c ((y ++ z) ++ w) → Grows a c (((x ++ y) ++ z) ++ w)
-grows_three a b c x y z w p q =
-    subst (Grows a c) (ap (λ (l : List ℕ). x ++ l) (append_assoc y z w) ∙ sym (append_assoc x y (z ++ w)) ∙ sym (append_assoc (x ++ y) z w)) (grows_then a b c x ((y ++ z) ++ w) p q)
-
 -- nothing more is written
 pub grows_end : (a b c : Sheet) (x : List ℕ) → Grows a b x → Grows b c [] → Grows a c x
 grows_end a b c x p q = subst (Grows a c) (append-nil x) (grows_then a b c x [] p q)
 
-told_by : {A E : Type 0} (w v : Option (List ℕ)) (r : Result A E) (text gone : List ℕ) → Appends w v gone → Goes false (is_some (result_err r)) text gone [] → Puts w v r text
+told_by : {A E : Type 0} (w v : Option (List ℕ)) (r : Result A E) (text gone : List ℕ) → Appends w v gone → IsSent false (is_some (result_err r)) text gone [] → Puts w v r text
 told_by w v (Ok x) text gone p q = subst (Appends w v) (sym (append-nil gone) ∙ sym q) p
 told_by w v (Err e) text gone p q = (q.0, q.1, subst (Appends w v) q.2 p)
 
--- what is told as a text ends
-pub closes : {A E : Type 0} (w v : Option (List ℕ)) (r : Result A E) (a b c : Sheet) (text : List ℕ)
+closed : {A E : Type 0} (w v : Option (List ℕ)) (r : Result A E) (a b c : Sheet) (text : List ℕ)
     → Grows a b text → Grows b c [] → a.failed ≡ false → a.page ≡ [] → is_some (result_err r) ≡ c.failed → c.page ≡ [] → w ≡ a.written → v ≡ c.written → Puts w v r text
-closes w v r a b c text p q fresh empty told last first end =
+closed w v r a b c text p q fresh empty told last first end =
     let all = grows_end a b c text p q in
-    let goes : Goes false (is_some (result_err r)) text all.gone [] = rw (sym fresh) (rw told (subst (λ (l : List ℕ). Goes a.failed c.failed (l ++ text) all.gone []) empty (subst (Goes a.failed c.failed (a.page ++ text) all.gone) last all.goes))) in
+    let goes : IsSent false (is_some (result_err r)) text all.gone [] = rw (sym fresh) (rw told (subst (λ (l : List ℕ). IsSent a.failed c.failed (l ++ text) all.gone []) empty (subst (IsSent a.failed c.failed (a.page ++ text) all.gone) last all.goes))) in
     rw first (rw end (told_by a.written c.written r text all.gone all.written goes))
+
+-- ## What functions over a page do
+
+module _ {W : Type 0} {contents : W → Option (List ℕ)} where
+  pub carries_none : (a : Page W) → Carries contents a a []
+  carries_none a = record { same = refl; grows = grows_nil (is_some a.error) (contents a.writer.now) a.bytes.items }
+
+  -- one text after another
+  pub carries_then : {a b c : Page W} {x y : List ℕ} → Carries contents a b x → Carries contents b c y → Carries contents a c (x ++ y)
+  carries_then {a} {b} {c} {x} {y} p q = record { same = q.same ∙ p.same; grows = grows_then _ _ _ x y p.grows q.grows }
+
+  pub carries_as : (a b : Page W) (x y : List ℕ) → Carries contents a b x → x ≡ y → Carries contents a b y
+  carries_as a b x y p e = subst (Carries contents a b) e p
+
+  -- one after another that is two
+  pub carries_both : {a b c : Page W} {x : List ℕ} (y z : List ℕ) → Carries contents a b x → Carries contents b c (y ++ z) → Carries contents a c ((x ++ y) ++ z)
+  carries_both {a} {b} {c} {x} y z p q = carries_as a c _ _ (carries_then p q) (sym (append_assoc x y z))
+
+  -- or three
+  pub carries_three : {a b c : Page W} {x : List ℕ} (y z w : List ℕ) → Carries contents a b x → Carries contents b c ((y ++ z) ++ w) → Carries contents a c (((x ++ y) ++ z) ++ w)
+  carries_three {a} {b} {c} {x} y z w p q =
+      carries_as a c _ _ (carries_then p q) (ap (λ (l : List ℕ). x ++ l) (append_assoc y z w) ∙ sym (append_assoc x y (z ++ w)) ∙ sym (append_assoc (x ++ y) z w))
+
+  -- nothing more is written
+  carries_end : {a b c : Page W} {x : List ℕ} → Carries contents a b x → Carries contents b c [] → Carries contents a c x
+  carries_end {a} {b} {c} {x} p q = record { same = q.same ∙ p.same; grows = grows_end _ _ _ x p.grows q.grows }
+
+  pub spells_end : (a b c : Page W) (x : List ℕ) (typed : Type 0) → Spells contents a b x typed → Carries contents b c [] → Spells contents a c x typed
+  spells_end a b c x typed p q = record { carries = carries_end p.carries q; fits = p.fits }
+
+  -- what is told as a text ends
+  pub closes : {A : Type 0} (w v : Option (List ℕ)) (r : Result A Error) (a b c : Page W) (text : List ℕ)
+      → Carries contents a b text → Carries contents b c [] → a.error ≡ None → a.bytes.items ≡ [] → result_err r ≡ c.error → c.bytes.items ≡ [] → w ≡ contents a.writer.now → v ≡ contents c.writer.now → Puts w v r text
+  closes w v r a b c text p q fresh empty told last first end = closed w v r _ _ _ text p.grows q.grows (ap is_some fresh) empty (ap is_some told) last first end

@@ -4,7 +4,7 @@ use Rattle.std.specs.Option.{option_map}
 use Rattle.std.proofs.lemmas.Bool.{leb-true}
 use Rattle.std.proofs.lemmas.List.{length-replicate, length-take-le}
 use Rattle.itm_types.specs.Access.{size_of}
-use Rattle.itm_types.specs.Kept.{also_kept, restored}
+use Rattle.itm_types.specs.KeptBytes.{also_kept, restored}
 use Rattle.itm_types.specs.Slices.{slice, with_slice}
 use Rattle.itm_types.specs.declared.limits.TheConstants.{MAX_OPEN_BLOCKS}
 use Rattle.itm_types.specs.declared.call.Call.{Call}

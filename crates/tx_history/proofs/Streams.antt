@@ -3,14 +3,16 @@ use Rattle.std.proofs.Common.{◌≡◌, false, true≢false, refl, ℕ, ◌+◌
 use Rattle.std.proofs.KnownBytes.{Appends-nil, Appends-trans, Appends-kept, Keeps-refl, Keeps-trans}
 use Rattle.std.proofs.lemmas.Grind.{common_steps, flat_map-append}
 use Rattle.std.proofs.lemmas.List.{length-append, take-append-drop, take-append-le}
-use Rattle.std.specs.Prelude.{IsErr, get_or, flat_map, is_some}
+use Rattle.std.specs.Prelude.{IsErr, OnOk, get_or, flat_map, is_some}
 use Rattle.std.specs.Result.{result_err}
 use Rattle.std.specs.declared.io.Error.{Error}
 use Rattle.std.specs.Io.KnownBytes.{Appends}
 use Rattle.tx_attempts.specs.declared.attempt.Attempt.{Attempt}
 use Rattle.tx_history.specs.Histories.{attempt_lines, first_lines, last_line, history_text}
-use Rattle.tx_history.specs.Spelling.{Grows, IsCut, Puts}
-use Rattle.tx_history.specs.Streams.{Adds, Leaves, Standing, lines_so_far}
+use Rattle.tx_history.specs.Pages.{Grows, Spells}
+use Rattle.tx_history.specs.declared.page.Page.{Page}
+use Rattle.tx_history.specs.Spelling.{IsCut, Puts}
+use Rattle.tx_history.specs.Streams.{Adds, Leaves, Sends, Standing, lines_so_far, standing}
 use Rattle.tx_history.proofs.TextPieces.{cut_short}
 
 leaves_nothing : (f : Option Error) (u : Option (List ℕ)) → Leaves f f u u []
@@ -48,10 +50,6 @@ pub adds_lost : (a : Standing) (e : Error) (y : List ℕ) → a.fault ≡ Some e
 unfolding Adds
 adds_lost a e y failed = subst (λ (f : Option Error). Leaves f f a.written a.written y) (sym failed) (leaves_lost e a.written y)
 
--- so does one that answers its fault before it writes
-pub adds_refused : {A : Type 0} (a : Standing) (r : Result A Error) (e : Error) (y : List ℕ) → result_err r ≡ a.fault → r ≡ Err e → Adds a a y
-adds_refused {A} a r e y told failed = adds_lost a e y (sym told ∙ ap (result_err {T = A} {E = Error}) failed)
-
 -- where a write has failed, what is written is a beginning of more too
 pub adds_failed : (a b : Standing) (e : Error) (x y : List ℕ) → Adds a b x → b.fault ≡ Some e → Adds a b (x ++ y)
 adds_failed a b e x y p failed = adds_then a b b x y p (adds_lost b e y failed)
@@ -66,13 +64,38 @@ grown_leaves w v (Some e) p q x h k c =
     (c.goes.0, subst (λ (l : List ℕ). c.goes.0 < length l) all c.goes.1, subst (Appends w v) (c.goes.2 ∙ ap (take c.goes.0) all) c.written)
 
 -- a stream that had not failed, which began on an empty page and ended on one, has written a text
-pub adds_grown : (a b : Standing) (w : Option (List ℕ)) (f : Option Error) (p q x : List ℕ) → a.fault ≡ None → w ≡ a.written → f ≡ a.fault → p ≡ [] → q ≡ []
+adds_grown : (a b : Standing) (w : Option (List ℕ)) (f : Option Error) (p q x : List ℕ) → a.fault ≡ None → w ≡ a.written → f ≡ a.fault → p ≡ [] → q ≡ []
     → Grows (record { failed = is_some f; written = w; page = p }) (record { failed = is_some b.fault; written = b.written; page = q }) x → Adds a b x
 unfolding Adds
 adds_grown a b w f p q x fresh first same h k c =
     let before = subst (λ (e : Option Error). Grows (record { failed = is_some e; written = w; page = p }) (record { failed = is_some b.fault; written = b.written; page = q }) x) (same ∙ fresh) c in
     let from_none = grown_leaves w b.written b.fault p q x h k before in
     subst (λ (e : Option Error). Leaves e b.fault a.written b.written x) (sym fresh) (subst (λ (u : Option (List ℕ)). Leaves None b.fault u b.written x) first from_none)
+
+on_ok : {A E P : Type 0} (r : Result A E) → P → OnOk r P
+on_ok (Ok x) p = p
+on_ok (Err e) p = record {}
+
+module _ {W A : Type 0} {contents : W → Option (List ℕ)} where
+  -- a stream that had failed answers its fault before it writes
+  pub sends_refused : (a : Page W) (r : Result A Error) (e : Error) (text : List ℕ) (typed : Type 0) → a.error ≡ Some e → r ≡ Err e → Sends contents a a text typed r
+  sends_refused a r e text typed failed told = record {
+    same = refl;
+    adds = adds_lost (standing contents a) e text failed;
+    answer = failed ∙ sym (ap (result_err {T = A} {E = Error}) told);
+    fits = subst (λ (q : Result A Error). OnOk q typed) (sym told) (record {});
+  }
+
+  -- one that had not begins on an empty page, and writes it
+  pub sends_grown : (a b : Page W) (p : Page W) (r : Result A Error) (text : List ℕ) (typed : Type 0) → a.error ≡ None
+      → p.writer.ghost_name ≡ a.writer.ghost_name → (p.writer.now ≡ a.writer.now) × (p.error ≡ a.error) → p.bytes.items ≡ [] → b.bytes.items ≡ []
+      → Spells contents p b text typed → result_err r ≡ b.error → Sends contents a b text typed r
+  sends_grown a b p r text typed fresh name kept first last q told = record {
+    same = q.carries.same ∙ name;
+    adds = adds_grown (standing contents a) (standing contents b) _ _ _ _ text fresh (ap contents kept.0) kept.1 first last q.carries.grows;
+    answer = sym told;
+    fits = on_ok r q.fits;
+  }
 
 told_as_put : {A : Type 0} (r : Result A Error) (u v : Option (List ℕ)) (x : List ℕ) → Leaves None (result_err r) u v x → Puts u v r x
 told_as_put (Ok a) u v x p = p

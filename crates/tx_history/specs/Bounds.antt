@@ -13,7 +13,7 @@ use Rattle.itm_types.specs.declared.call.Reply.TheVariants as replies
 use Rattle.itm_types.specs.declared.datum.Datum.{Datum}
 use Rattle.itm_types.specs.declared.limits.TheConstants.{MAX_MEMORY, MAX_ARENA, MAX_ACTORS, MAX_RETRIES}
 use Rattle.tx_attempts.specs.declared.attempt.Attempt.{Attempt}
-use Rattle.tx_attempts.specs.declared.attempt.Entry.{Entry}
+use Rattle.tx_attempts.specs.declared.attempt.CallRecord.{CallRecord}
 use Rattle.tx_history.specs.declared.history.History.{History}
 use Rattle.tx_history.specs.declared.pieces.Piece.{Piece}
 use Rattle.tx_history.specs.declared.pieces.Piece.TheVariants.{Text, Number, Hex}
@@ -66,7 +66,7 @@ ReplyFits (replies.Bytes value) = IsBytes value.items
 ReplyFits (replies.Code n) = n ≤ 4294967295
 ReplyFits (replies.Refused refusal) = Unit {0}
 
-abbrev pub EntryFits : Entry → Type 0
+abbrev pub EntryFits : CallRecord → Type 0
 EntryFits e = CallFits e.call × ReplyFits e.reply
 
 abbrev pub RanFits : Ran → Type 0
@@ -115,7 +115,7 @@ pub record IsLimited (a : Attempt) : Type 0 where
   pub thread : a.thread ≤ MAX_ACTORS - 1
   pub nth : (1 ≤ a.nth) × (a.nth ≤ MAX_RETRIES + 1)
   pub arena : length a.arena ≤ MAX_ARENA
-  pub widths : All (λ (e : Entry). HasArenaWidth e.call) a.calls.list
+  pub widths : All (λ (e : CallRecord). HasArenaWidth e.call) a.calls.list
 
 -- a memory of 1 to 8,192 words of 8 bytes
 abbrev pub IsMemorySize : ℕ → Type 0

@@ -20,7 +20,7 @@ use Rattle.itm_types.specs.declared.call.Reply.TheVariants as replies
 use Rattle.itm_types.specs.declared.entry.Entry.TheVariants as entry
 use Rattle.tx_attempts.specs.declared.attempt.Outcome.{Outcome}
 use Rattle.tx_attempts.specs.declared.attempt.Outcome.TheVariants as outcomes
-use Rattle.tx_attempts.specs.declared.attempt.Entry.{Entry}
+use Rattle.tx_attempts.specs.declared.attempt.CallRecord.{CallRecord}
 use Rattle.tx_attempts.specs.declared.attempt.Attempt.{Attempt}
 use Rattle.tx_history.specs.declared.history.History.{History}
 
@@ -86,7 +86,7 @@ reply_text (replies.Bytes value) = encode_lower value.items
 reply_text (replies.Code n) = codes "code " ++ decimal n
 reply_text (replies.Refused refusal) = codes "refused " ++ decimal (number_of refusal)
 
-unfoldable pub call_line : Entry → List ℕ
+unfoldable pub call_line : CallRecord → List ℕ
 call_line e = codes "call " ++ body_text e.call ++ codes " = " ++ reply_text e.reply ++ codes "\n"
 
 abbrev pub kind_text : ActionKind → List ℕ

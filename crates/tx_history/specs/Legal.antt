@@ -7,7 +7,7 @@ use Rattle.itm_model.specs.State.{State}
 use Rattle.itm_model.specs.Machine.{is_open, opened, undone}
 use Rattle.itm_model.specs.Runs.{replies, state_after}
 use Rattle.tx_attempts.specs.declared.attempt.Attempt.{Attempt}
-use Rattle.tx_attempts.specs.declared.attempt.Entry.{Entry}
+use Rattle.tx_attempts.specs.declared.attempt.CallRecord.{CallRecord}
 use Rattle.tx_attempts.specs.declared.attempt.Outcome.{Outcome}
 use Rattle.tx_attempts.specs.declared.attempt.Outcome.TheVariants.{Committed, ReadOnly, Cancelled, Conflict, Full, NoMemory, Unfinished}
 use Rattle.tx_attempts.specs.Attempts.{ClosedBy, calls_of, replies_of, alone, memory_after}
@@ -21,14 +21,14 @@ abbrev pub may_begin : Props → Bool
 may_begin props = not (props.goes_irrevocable && props.no_irrevocable)
 
 -- the plain state once so many of the first calls are made
-abbrev pub state_at : List ℕ → Attempt → List Entry → State
-state_at memory a calls = state_after MAX_OPEN_BLOCKS (opened memory a.arena a.props) (map (λ (e : Entry). e.call) calls)
+abbrev pub state_at : List ℕ → Attempt → List CallRecord → State
+state_at memory a calls = state_after MAX_OPEN_BLOCKS (opened memory a.arena a.props) (map (λ (e : CallRecord). e.call) calls)
 
 -- What the outcome says of the plain state after the calls; of `readonly` also that the memory is as it was, and that the transaction was not irrevocable as it was to commit.
 abbrev pub EndsIn : Outcome → List ℕ → Attempt → State → Type 0
 EndsIn Committed memory a s = is_open s ≡ false
 EndsIn ReadOnly memory a s = (is_open s ≡ false) × (s.memory ≡ memory)
-    × ((before : List Entry) (last : Entry) → a.calls.list ≡ before ++ last ∷ [] → (state_at memory a before).irrevocable ≡ false)
+    × ((before : List CallRecord) (last : CallRecord) → a.calls.list ≡ before ++ last ∷ [] → (state_at memory a before).irrevocable ≡ false)
 EndsIn Cancelled memory a s = is_open s ≡ false
 EndsIn Conflict memory a s = (is_open s ≡ true) × (s.irrevocable ≡ false)
 EndsIn Full memory a s = (is_open s ≡ true) × (s.irrevocable ≡ false)
@@ -49,7 +49,7 @@ ran_alone Unfinished s = s.actions.ran
 pub record IsAlone (memory : List ℕ) (a : Attempt) : Type 0 where
   pub props : may_begin a.props ≡ true
   pub replies : replies_of a ≡ replies MAX_OPEN_BLOCKS (opened memory a.arena a.props) (calls_of a)
-  pub stays_open : (before : List Entry) (e : Entry) (rest : List Entry) → a.calls.list ≡ before ++ e ∷ rest → is_open (state_at memory a before) ≡ true  -- no call stands after the block's end
+  pub stays_open : (before : List CallRecord) (e : CallRecord) (rest : List CallRecord) → a.calls.list ≡ before ++ e ∷ rest → is_open (state_at memory a before) ≡ true  -- no call stands after the block's end
   pub ends : EndsIn a.outcome memory a (alone MAX_OPEN_BLOCKS memory a)
   pub closed : ClosedBy a.outcome a.calls.list
   pub ran : a.ran ≡ ran_alone a.outcome (alone MAX_OPEN_BLOCKS memory a)

@@ -1,4 +1,5 @@
 pub mod Spelling
+pub mod Pages
 pub mod Histories
 pub mod Streams
 pub mod Legal

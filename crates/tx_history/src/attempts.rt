@@ -3,51 +3,44 @@
 ghost use Rattle.std.specs.Prelude.{◌≡◌, ◌++◌, All, [], codes, flat_map};
 ghost use Rattle.hex.specs.Hex.{IsBytes};
 ghost use Rattle.tx_history.specs.Bounds.{AttemptFits, EntryFits, IsWord, RanFits};
-ghost use Rattle.tx_history.specs.Spelling.{Grows, sheet};
+ghost use Rattle.tx_history.specs.Pages.{Carries, Spells};
 ghost use Rattle.tx_history.specs.Histories.{outcome_name, try_text, props_end, head_line, arena_line, call_line, kind_text, ran_line, attempt_lines};
 
 use crate::bodies::{function_number, put_body, put_reply};
-use crate::paging::Stream;
+use crate::page::Page;
 use crate::pieces::Piece;
 use itm_types::{ActionKind, Props, Ran};
 use script_fields::props_text;
 use std::io::Write;
-use tx_attempts::{Attempt, Entry, Outcome};
+use tx_attempts::{Attempt, CallRecord, Outcome};
 
 /// Writes a blank and the outcome. Each text stands in the code, so that it is copied with no loop.
-fn put_outcome<W: Write>(stream: &mut Stream<'_, W>, outcome: Outcome)
-    ensures same { stream.new.writer.ghost_name ≡ stream.old.writer.ghost_name }
-    ensures grows { Grows (sheet W.contents stream.old) (sheet W.contents stream.new)
-        (codes " " ++ outcome_name outcome) }
+fn put_outcome<W: Write>(page: &mut Page<'_, W>, outcome: Outcome)
+    ensures { Carries W.contents page.old page.new (codes " " ++ outcome_name outcome) }
 {
     match outcome {
-        Outcome::Committed => stream.text(b" committed"),
-        Outcome::ReadOnly => stream.text(b" readonly"),
-        Outcome::Cancelled => stream.text(b" cancelled"),
-        Outcome::Conflict => stream.text(b" conflict"),
-        Outcome::Full => stream.text(b" full"),
-        Outcome::NoMemory => stream.text(b" nomemory"),
-        Outcome::Unfinished => stream.text(b" unfinished"),
+        Outcome::Committed => page.text(b" committed"),
+        Outcome::ReadOnly => page.text(b" readonly"),
+        Outcome::Cancelled => page.text(b" cancelled"),
+        Outcome::Conflict => page.text(b" conflict"),
+        Outcome::Full => page.text(b" full"),
+        Outcome::NoMemory => page.text(b" nomemory"),
+        Outcome::Unfinished => page.text(b" unfinished"),
     }
 }
 
-fn put_try<W: Write>(stream: &mut Stream<'_, W>, attempt: &Attempt)
-    ensures same { stream.new.writer.ghost_name ≡ stream.old.writer.ghost_name }
-    ensures grows { Grows (sheet W.contents stream.old) (sheet W.contents stream.new)
-        (try_text attempt.now) }
-    ensures fits { IsWord attempt.now.at }
+fn put_try<W: Write>(page: &mut Page<'_, W>, attempt: &Attempt)
+    ensures { Spells W.contents page.old page.new (try_text attempt.now) (IsWord attempt.now.at) }
 {
-    stream.text(b"attempt");
-    stream.blank_number(u64::from(attempt.thread));
-    stream.blank_number(u64::from(attempt.nth));
-    stream.blank_number(attempt.at);
-    put_outcome(stream, attempt.outcome);
+    page.text(b"attempt");
+    page.blank_number(u64::from(attempt.thread));
+    page.blank_number(u64::from(attempt.nth));
+    page.blank_number(attempt.at);
+    put_outcome(page, attempt.outcome);
 }
 
-fn put_props<W: Write>(stream: &mut Stream<'_, W>, props: Props)
-    ensures same { stream.new.writer.ghost_name ≡ stream.old.writer.ghost_name }
-    ensures grows { Grows (sheet W.contents stream.old) (sheet W.contents stream.new)
-        (props_end props) }
+fn put_props<W: Write>(page: &mut Page<'_, W>, props: Props)
+    ensures { Carries W.contents page.old page.new (props_end props) }
 {
     match props {
         // most blocks have none
@@ -55,36 +48,30 @@ fn put_props<W: Write>(stream: &mut Stream<'_, W>, props: Props)
             no_abort: false,
             no_irrevocable: false,
             goes_irrevocable: false,
-        } => stream.text(b" -\n"),
+        } => page.text(b" -\n"),
         _ => {
-            stream.text(b" ");
-            stream.text(props_text(props).as_bytes());
-            stream.text(b"\n");
+            page.text(b" ");
+            page.text(props_text(props).as_bytes());
+            page.text(b"\n");
         }
     }
 }
 
-fn put_head<W: Write>(stream: &mut Stream<'_, W>, attempt: &Attempt)
-    ensures same { stream.new.writer.ghost_name ≡ stream.old.writer.ghost_name }
-    ensures grows { Grows (sheet W.contents stream.old) (sheet W.contents stream.new)
-        (head_line attempt.now) }
-    ensures fits { IsWord attempt.now.at }
+fn put_head<W: Write>(page: &mut Page<'_, W>, attempt: &Attempt)
+    ensures { Spells W.contents page.old page.new (head_line attempt.now) (IsWord attempt.now.at) }
 {
-    put_try(stream, attempt);
-    put_props(stream, attempt.props);
+    put_try(page, attempt);
+    put_props(page, attempt.props);
 }
 
-#[tactic(auto, unfolding(crate::specs::Histories::arena_line), using(crate::proofs::PagedTexts::grows_as))]
-fn put_arena<W: Write>(stream: &mut Stream<'_, W>, bytes: &[u8])
-    ensures same { stream.new.writer.ghost_name ≡ stream.old.writer.ghost_name }
-    ensures grows { Grows (sheet W.contents stream.old) (sheet W.contents stream.new)
-        (arena_line bytes.now) }
-    ensures fits { IsBytes bytes.now }
+#[tactic(auto, unfolding(crate::specs::Histories::arena_line), using(crate::proofs::PagedTexts::carries_as))]
+fn put_arena<W: Write>(page: &mut Page<'_, W>, bytes: &[u8])
+    ensures { Spells W.contents page.old page.new (arena_line bytes.now) (IsBytes bytes.now) }
 {
     if bytes.is_empty() {
-        stream.text(b"arena -\n");
+        page.text(b"arena -\n");
     } else {
-        stream.put(&[
+        page.put(&[
             Piece::Text(b"arena "),
             Piece::Hex(bytes),
             Piece::Text(b"\n"),
@@ -92,26 +79,19 @@ fn put_arena<W: Write>(stream: &mut Stream<'_, W>, bytes: &[u8])
     }
 }
 
-pub fn put_call<W: Write>(stream: &mut Stream<'_, W>, entry: &Entry)
-    ensures same { stream.new.writer.ghost_name ≡ stream.old.writer.ghost_name }
-    ensures grows { Grows (sheet W.contents stream.old) (sheet W.contents stream.new)
-        (call_line entry.now) }
-    ensures fits { EntryFits entry.now }
+pub fn put_call<W: Write>(page: &mut Page<'_, W>, entry: &CallRecord)
+    ensures { Spells W.contents page.old page.new (call_line entry.now) (EntryFits entry.now) }
 {
-    stream.text(b"call ");
-    put_body(stream, &entry.call);
-    put_reply(stream, &entry.reply);
+    page.text(b"call ");
+    put_body(page, &entry.call);
+    put_reply(page, &entry.reply);
 }
 
-#[tactic(auto, using(crate::proofs::AppendedTexts::grows_none, crate::proofs::AppendedTexts::grows_next))]
-fn put_calls<W: Write>(stream: &mut Stream<'_, W>, calls: &[Entry])
-    ensures same { stream.new.writer.ghost_name ≡ stream.old.writer.ghost_name }
-    ensures grows { Grows (sheet W.contents stream.old) (sheet W.contents stream.new)
-        (flat_map call_line calls.now) }
-    ensures fits { All EntryFits calls.now }
+fn put_calls<W: Write>(page: &mut Page<'_, W>, calls: &[CallRecord])
+    ensures { Spells W.contents page.old page.new (flat_map call_line calls.now) (All EntryFits calls.now) }
 {
     for entry in calls {
-        put_call(stream, entry);
+        put_call(page, entry);
     }
 }
 
@@ -125,14 +105,11 @@ fn kind_text(kind: ActionKind) -> &'static [u8]
 }
 
 /// An action that has run.
-#[tactic(auto, unfolding(crate::specs::Histories::ran_line), using(crate::proofs::PagedTexts::grows_as))]
-fn put_ran<W: Write>(stream: &mut Stream<'_, W>, ran: Ran)
-    ensures same { stream.new.writer.ghost_name ≡ stream.old.writer.ghost_name }
-    ensures grows { Grows (sheet W.contents stream.old) (sheet W.contents stream.new)
-        (ran_line ran) }
-    ensures fits { RanFits ran }
+#[tactic(auto, unfolding(crate::specs::Histories::ran_line), using(crate::proofs::PagedTexts::carries_as))]
+fn put_ran<W: Write>(page: &mut Page<'_, W>, ran: Ran)
+    ensures { Spells W.contents page.old page.new (ran_line ran) (RanFits ran) }
 {
-    stream.put(&[
+    page.put(&[
         Piece::Text(b"ran "),
         Piece::Text(kind_text(ran.kind)),
         Piece::Text(b" "),
@@ -143,53 +120,38 @@ fn put_ran<W: Write>(stream: &mut Stream<'_, W>, ran: Ran)
     ]);
 }
 
-#[tactic(auto, using(crate::proofs::AppendedTexts::grows_none, crate::proofs::AppendedTexts::grows_next))]
-pub fn put_all_ran<W: Write>(stream: &mut Stream<'_, W>, all: &[Ran])
-    ensures same { stream.new.writer.ghost_name ≡ stream.old.writer.ghost_name }
-    ensures grows { Grows (sheet W.contents stream.old) (sheet W.contents stream.new)
-        (flat_map ran_line all.now) }
-    ensures fits { All RanFits all.now }
+pub fn put_all_ran<W: Write>(page: &mut Page<'_, W>, all: &[Ran])
+    ensures { Spells W.contents page.old page.new (flat_map ran_line all.now) (All RanFits all.now) }
 {
     for ran in all {
-        put_ran(stream, *ran);
+        put_ran(page, *ran);
     }
 }
 
-fn put_attempt<W: Write>(stream: &mut Stream<'_, W>, attempt: &Attempt)
-    ensures same { stream.new.writer.ghost_name ≡ stream.old.writer.ghost_name }
-    ensures grows { Grows (sheet W.contents stream.old) (sheet W.contents stream.new)
-        (attempt_lines attempt.now) }
-    ensures fits { AttemptFits attempt.now }
+fn put_attempt<W: Write>(page: &mut Page<'_, W>, attempt: &Attempt)
+    ensures { Spells W.contents page.old page.new (attempt_lines attempt.now) (AttemptFits attempt.now) }
 {
-    put_head(stream, attempt);
-    put_arena(stream, attempt.arena.as_slice());
-    put_calls(stream, attempt.calls.as_slice());
-    put_all_ran(stream, attempt.ran.as_slice());
-    stream.text(b"end\n");
+    put_head(page, attempt);
+    put_arena(page, attempt.arena.as_slice());
+    put_calls(page, attempt.calls.as_slice());
+    put_all_ran(page, attempt.ran.as_slice());
+    page.text(b"end\n");
 }
 
 /// The lines of attempts.
-#[tactic(auto, using(crate::proofs::AppendedTexts::grows_none, crate::proofs::AppendedTexts::grows_next))]
-pub fn put_attempts<W: Write>(stream: &mut Stream<'_, W>, attempts: &[Attempt])
-    ensures same { stream.new.writer.ghost_name ≡ stream.old.writer.ghost_name }
-    ensures grows { Grows (sheet W.contents stream.old) (sheet W.contents stream.new)
-        (flat_map attempt_lines attempts.now) }
-    ensures fits { All AttemptFits attempts.now }
+pub fn put_attempts<W: Write>(page: &mut Page<'_, W>, attempts: &[Attempt])
+    ensures { Spells W.contents page.old page.new (flat_map attempt_lines attempts.now) (All AttemptFits attempts.now) }
 {
     for attempt in attempts {
-        put_attempt(stream, attempt);
+        put_attempt(page, attempt);
     }
 }
 
 /// Writes the lines of an attempt, and gives the writer the last page of them.
-#[tactic(auto, using(crate::proofs::PagedTexts::grows_end))]
-pub fn write_attempt<W: Write>(stream: &mut Stream<'_, W>, attempt: &Attempt)
-    ensures same { stream.new.writer.ghost_name ≡ stream.old.writer.ghost_name }
-    ensures grows { Grows (sheet W.contents stream.old) (sheet W.contents stream.new)
-        (attempt_lines attempt.now) }
-    ensures page { stream.new.page.items ≡ [] }
-    ensures fits { AttemptFits attempt.now }
+pub fn write_attempt<W: Write>(page: &mut Page<'_, W>, attempt: &Attempt)
+    ensures spells { Spells W.contents page.old page.new (attempt_lines attempt.now) (AttemptFits attempt.now) }
+    ensures empty { page.new.bytes.items ≡ [] }
 {
-    put_attempt(stream, attempt);
-    stream.turn();
+    put_attempt(page, attempt);
+    page.flush();
 }

@@ -4,12 +4,11 @@
 mod attempts;
 mod bodies;
 mod history;
-mod paging;
+mod page;
 mod pieces;
 mod rows;
 mod stream;
 
-pub use history::History;
-pub use paging::Stream;
+pub use history::{History, write_history};
+pub use page::Page as Stream;
 pub use pieces::{Piece, put_pieces};
-pub use stream::write_history;

@@ -3,7 +3,7 @@
 ghost use Rattle.std.specs.Prelude.{flat_map};
 ghost use Rattle.tx_history.specs.Spelling.{Puts, spelled};
 
-use crate::paging::Stream;
+use crate::page::Page;
 use std::io;
 use std::io::Write;
 
@@ -39,7 +39,7 @@ pub(crate) fn put_bytes<W: Write>(writer: &mut W, bytes: &[u8]) -> io::Result<()
 pub fn put_pieces<W: Write>(writer: &mut W, pieces: &[Piece<'_>]) -> io::Result<()>
     ensures { Puts (W.contents writer.old) (W.contents writer.new) result (flat_map spelled pieces.now) }
 {
-    let mut stream = Stream::blank(writer);
-    stream.put(pieces);
-    stream.close()
+    let mut page = Page::empty(writer);
+    page.put(pieces);
+    page.close()
 }

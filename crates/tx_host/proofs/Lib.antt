@@ -1,13 +1,4 @@
 pub mod Numbers
-pub mod Parts
-pub mod Courses
-pub mod WorkersDone
-pub mod JoinedWorkers
-pub mod PositionTotals
-pub mod CommitPositions
-pub mod ThreadAttempts
-pub mod LegalRuns
-pub mod WholeRun
+pub mod Passes
+pub mod Histories
 pub mod Examples
-pub mod ScriptWidths
-pub mod LimitedReports

@@ -17,7 +17,7 @@ use Rattle.tx_attempts.specs.Attempts.{ClosedBy, alone, pair_of}
 use Rattle.tx_attempts.specs.Opacity.{Beginning, Between, EndsAs, IsTryAt, LacksClock, begin_code, ran_of, takes_clock}
 use Rattle.tx_attempts.specs.declared.attempt.Attempt.{Attempt}
 use Rattle.tx_attempts.specs.Kept.{grown}
-use Rattle.tx_attempts.specs.declared.attempt.Entry.{Entry}
+use Rattle.tx_attempts.specs.declared.attempt.CallRecord.{CallRecord}
 use Rattle.tx_attempts.specs.declared.attempt.Outcome.{Outcome}
 use Rattle.tx_attempts.specs.declared.attempt.Outcome.TheVariants as outcomes
 use Rattle.tx_attempts.proofs.AloneCalls.{alone_snoc, begins_alone, gets_none, state_snoc}
@@ -30,7 +30,7 @@ begin_call (Begin props room) e = (props, room, refl)
 begin_call call e = absurd (cc)
 
 -- one whose block has not ended
-pub not_closed : (outcome : Outcome) → is_done outcome ≡ false → (calls : List Entry) → ClosedBy outcome calls
+pub not_closed : (outcome : Outcome) → is_done outcome ≡ false → (calls : List CallRecord) → ClosedBy outcome calls
 not_closed outcomes.Committed e calls = absurd (cc)
 not_closed outcomes.ReadOnly e calls = absurd (cc)
 not_closed outcomes.Cancelled e calls = absurd (cc)
@@ -46,13 +46,13 @@ pub record IsMadeAlone {P : Type 0} (rules : Rules P) (b : Between P) (start : B
 
 module _ {P : Type 0} {rules : Rules P} (laws : Obeys rules) where
   -- a call that the player makes in its open block
-  pub alone_more : (p q : P) (s : State) (xs : List Entry) (x : Entry) → IsAlone rules MAX_OPEN_BLOCKS p s xs → is_open (state_then MAX_OPEN_BLOCKS s xs) ≡ true → q ≡ player_then rules.answered p xs → rules.next_call q ≡ Some x.call
+  pub alone_more : (p q : P) (s : State) (xs : List CallRecord) (x : CallRecord) → IsAlone rules MAX_OPEN_BLOCKS p s xs → is_open (state_then MAX_OPEN_BLOCKS s xs) ≡ true → q ≡ player_then rules.answered p xs → rules.next_call q ≡ Some x.call
       → x.reply ≡ reply MAX_OPEN_BLOCKS (state_then MAX_OPEN_BLOCKS s xs) x.call → IsAlone rules MAX_OPEN_BLOCKS p s (xs ++ x ∷ [])
   alone_more p q s xs x h opened is asks =
       alone_snoc rules laws MAX_OPEN_BLOCKS p s xs x h (ap (λ (o : Bool). if o then rules.next_call (player_then rules.answered p xs) else None) opened ∙ (ap rules.next_call (sym is) ∙ asks))
 
   -- calls made alone that end their block are all that the player makes
-  pub all_alone : (p : P) (memory : List ℕ) (arena : List ℕ) (props : Props) (xs : List Entry) → IsAlone rules MAX_OPEN_BLOCKS p (opened memory arena props) xs → is_open (state_then MAX_OPEN_BLOCKS (opened memory arena props) xs) ≡ false
+  pub all_alone : (p : P) (memory : List ℕ) (arena : List ℕ) (props : Props) (xs : List CallRecord) → IsAlone rules MAX_OPEN_BLOCKS p (opened memory arena props) xs → is_open (state_then MAX_OPEN_BLOCKS (opened memory arena props) xs) ≡ false
       → answers rules.next_call rules.answered rules.calls_left MAX_OPEN_BLOCKS p memory arena props ≡ map pair_of xs
   all_alone p memory arena props xs h shut =
       let s : State = opened memory arena props in
@@ -134,7 +134,7 @@ module _ {P : Type 0} {rules : Rules P} (laws : Obeys rules) where
 
     module _ (memory : List ℕ) (call : Call) (r : Reply) (made : IsMadeAlone rules b t.start row memory) (asks : rules.next_call p ≡ Some call)
         (replied : r ≡ reply MAX_OPEN_BLOCKS (state_then MAX_OPEN_BLOCKS (opened memory t.start.arena t.start.props) row.calls.list) call) where
-      abbrev pub last : Entry
+      abbrev pub last : CallRecord
       last = record { call = call; reply = r }
 
       abbrev pub by : P

@@ -91,9 +91,9 @@ module _ {P : Type 0} (rules : Rules P) where
     pub retries : new.retries ≡ old.retries
 
   -- it goes on, or it has stopped
-  abbrev pub Turns : Words → Bool → Worker P → Option End → Worker P → Type 0
-  Turns words shuts old None new = GoesOn words old new
-  Turns words shuts old (Some end) new = (c : Course P) (b : Bounds) → IsWorking words c b old → IsStopped words c b shuts end new
+  abbrev pub GoesOnOrStops : Words → Bool → Worker P → Option End → Worker P → Type 0
+  GoesOnOrStops words shuts old None new = GoesOn words old new
+  GoesOnOrStops words shuts old (Some end) new = (c : Course P) (b : Bounds) → IsWorking words c b old → IsStopped words c b shuts end new
 
   -- what comes of an answer
   pub record Settles (words : Words) (c : Course P) (b : Bounds) (s : Start) (old new : Worker P) : Type 0 where

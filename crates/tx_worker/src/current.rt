@@ -8,7 +8,7 @@ ghost use Rattle.tx_worker.specs.Tallies.{row_of};
 use crate::sink::ActionSink;
 use itm_types::{Call, Props, Ran, Reply};
 use std::alloc::{AllocError, Global};
-use tx_attempts::{Attempt, Bytes, Calls, Entry, Outcome, RanActions};
+use tx_attempts::{Attempt, Bytes, CallRecord, Calls, Outcome, RanActions};
 
 /// The attempt that is under way. There is room for each action that its transaction may still run.
 #[derive(Drop)]
@@ -18,7 +18,7 @@ pub(crate) struct OpenAttempt {
     pub(crate) props: Props,
     /// The arena at the begin.
     pub(crate) arena: Vec<u8>,
-    pub(crate) calls: Vec<Entry>,
+    pub(crate) calls: Vec<CallRecord>,
     /// The actions that have run, in order.
     pub(crate) ran: Vec<Ran>,
 }
@@ -80,7 +80,7 @@ impl OpenAttempt {
             × (self.new.ran ≡ self.old.ran) }
         ensures added { self.new.calls.items ≡ self.old.calls.items ++ record { call = call; reply = reply } ∷ [] }
     {
-        self.calls.push_reserved(Entry { call, reply });
+        self.calls.push_reserved(CallRecord { call, reply });
     }
 
     /// These have come to run, of which the first have run already: the sink runs the others.

@@ -50,7 +50,7 @@ pub(crate) struct Worker<P> {
 
 impl<P: Player> Worker<P> {
     ghost use Rattle.tx_worker.specs.Progress.{Course};
-    ghost use Rattle.tx_worker.specs.Workers.{IsWorking, IsStopped, IsAnswered, IsSame, GoesOn, Turns, SettlesAs};
+    ghost use Rattle.tx_worker.specs.Workers.{IsWorking, IsStopped, IsAnswered, IsSame, GoesOn, GoesOnOrStops, SettlesAs};
     ghost use Rattle.tx_worker.specs.Works.{IsFinished};
 
     /// The player's next call, where the gate lets it through. Answers how the thread ended, if it did.
@@ -62,7 +62,7 @@ impl<P: Player> Worker<P> {
         sink: &A,
     ) -> Option<End>
         requires { (c : Course P) × (b : Bounds) × IsWorking P.Player words.now c b self.old }
-        ensures { Turns P.Player words.now G.shuts self.old result self.new }
+        ensures { GoesOnOrStops P.Player words.now G.shuts self.old result self.new }
     {
         let Some(call) = self.player.next() else {
             return Some(End::Finished);
@@ -89,7 +89,7 @@ impl<P: Player> Worker<P> {
     ) -> Option<End>
         requires works { (c : Course P) × (b : Bounds) × IsWorking P.Player words.now c b self.old }
         requires asks { P.next_call self.old.player ≡ Some call }
-        ensures { (shuts : Bool) → Turns P.Player words.now shuts self.old result self.new }
+        ensures { (shuts : Bool) → GoesOnOrStops P.Player words.now shuts self.old result self.new }
     {
         match self.current.take() {
             Some(attempt) => self.call_inside(words, sink, attempt, call),
@@ -106,7 +106,7 @@ impl<P: Player> Worker<P> {
         requires asks { P.next_call self.old.player ≡ Some call.now }
         requires none { self.old.current ≡ None }
         requires begins { is_begin call.now ≡ false }
-        ensures { (shuts : Bool) → Turns P.Player words.now shuts self.old result self.new }
+        ensures { (shuts : Bool) → GoesOnOrStops P.Player words.now shuts self.old result self.new }
     {
         match self.thread.call(words, call) {
             Ok(Answer::Reply(reply)) => self.player.answer(&reply),
@@ -120,7 +120,7 @@ impl<P: Player> Worker<P> {
         requires works { (c : Course P) × (b : Bounds) × IsWorking P.Player words.now c b self.old }
         requires asks { P.next_call self.old.player ≡ Some (Call.Begin props room) }
         requires none { self.old.current ≡ None }
-        ensures { (shuts : Bool) → Turns P.Player words.now shuts self.old result self.new }
+        ensures { (shuts : Bool) → GoesOnOrStops P.Player words.now shuts self.old result self.new }
     {
         let Ok((attempt, answer)) = self.try_begin(alloc, words, props, room) else {
             return Some(End::NoMemory);
@@ -163,7 +163,7 @@ impl<P: Player> Worker<P> {
     {
         self.ended.reserve(1)?;
         let arena = self.thread.arena().bytes().to_vec(alloc)?;
-        let ahead = ahead_of(self.thread.goes(&Call::Begin { props, room }));
+        let ahead = ahead_of(self.thread.irrevocable_room(&Call::Begin { props, room }));
         let attempt = OpenAttempt::new(alloc, self.known, props, arena, ahead)?;
         let answer = self.thread.begin(words, props, room, self.again)?;
         Ok((attempt, answer))
@@ -180,9 +180,9 @@ impl<P: Player> Worker<P> {
         requires works { (c : Course P) × (b : Bounds) × IsWorking P.Player words.now c b (record self.old { current = Some attempt }) }
         requires asks { P.next_call self.old.player ≡ Some call }
         requires none { self.old.current ≡ None }
-        ensures { (shuts : Bool) → Turns P.Player words.now shuts (record self.old { current = Some attempt }) result self.new }
+        ensures { (shuts : Bool) → GoesOnOrStops P.Player words.now shuts (record self.old { current = Some attempt }) result self.new }
     {
-        let ahead = ahead_of(self.thread.goes(&call));
+        let ahead = ahead_of(self.thread.irrevocable_room(&call));
         let Ok(()) = attempt.reserve(&call, self.thread.actions(), ahead) else {
             return self.starve(sink, attempt);
         };

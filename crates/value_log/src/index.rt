@@ -33,7 +33,7 @@ impl Index {
     }
 
     /// The index of some rows.
-    #[tactic(auto, using(crate::proofs::Indexed::noted_none, crate::proofs::Indexed::noted_more, crate::proofs::Indexed::noted_all))]
+    #[tactic(auto, using(crate::proofs::IndexedRows::noted_none, crate::proofs::IndexedRows::noted_more, crate::proofs::IndexedRows::noted_all))]
     pub(crate) fn of(alloc: Global, rows: &[LogRow]) -> Result<Index, AllocError>
         requires below { AllBelow rows.now }
         requires single { AreSingle rows.now }

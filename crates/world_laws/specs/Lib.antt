@@ -5,3 +5,6 @@ pub mod ShownAlone
 pub mod Alike
 pub mod SameWorlds
 pub mod ScheduleDecides
+pub mod Limits
+pub mod Starved
+pub mod Told

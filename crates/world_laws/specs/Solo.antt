@@ -7,7 +7,7 @@ use Rattle.itm_model.specs.State.{State}
 use Rattle.itm_model.specs.Machine.{after, opened, is_open}
 use Rattle.itm_model.specs.Runs.{answers, state_after}
 use Rattle.tx_attempts.specs.Kept.{Kept, spent}
-use Rattle.tx_attempts.specs.declared.attempt.Entry.{Entry}
+use Rattle.tx_attempts.specs.declared.attempt.CallRecord.{CallRecord}
 use Rattle.tx_attempts.specs.declared.attempt.Attempt.{Attempt}
 use Rattle.tx_attempts.specs.declared.attempt.Outcome.{Outcome}
 use Rattle.tx_attempts.specs.declared.attempt.Outcome.TheVariants.{Committed, ReadOnly, Cancelled, Full, Unfinished}
@@ -32,7 +32,7 @@ pub record Solo : Type 0 where
   pub ending : End
 
 -- a call with its reply, as attempts list them
-abbrev pub entry_of : Call × Reply → Entry
+abbrev pub entry_of : Call × Reply → CallRecord
 entry_of c = record { call = c.0; reply = c.1 }
 
 -- the attempt with no place promised for more calls
@@ -57,7 +57,7 @@ row_of deepest thread b start calls outcome = record {
   props = start.props;
   arena = start.arena;
   calls = calls;
-  ran = ran_of outcome (state_after deepest (opened b.memory start.arena start.props) (map (λ (e : Entry). e.call) calls.list));
+  ran = ran_of outcome (state_after deepest (opened b.memory start.arena start.props) (map (λ (e : CallRecord). e.call) calls.list));
   outcome = outcome;
 }
 

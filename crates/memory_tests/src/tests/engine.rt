@@ -223,7 +223,7 @@ fn runs(rt: &impl Abort, engine: &Engine, wanted: &[Ran]) {
 }
 
 /// The transaction becomes irrevocable, with room for one action.
-fn goes(rt: &impl Abort, engine: &mut Engine) -> bool {
+fn turns_irrevocable(rt: &impl Abort, engine: &mut Engine) -> bool {
     begin(rt, engine);
     let mode = Call::Mode { room: 1 };
     let takes = Next::Step(Step::Cas(0, 0, 1));
@@ -263,7 +263,7 @@ fn commits(rt: &impl Abort, engine: &mut Engine) {
 
 /// An irrevocable transaction, from its begin to its commit.
 fn goes_beyond(rt: &impl Abort, engine: &mut Engine) -> bool {
-    let gone = goes(rt, engine);
+    let gone = turns_irrevocable(rt, engine);
     let registered = registers(rt, engine);
     commits(rt, engine);
     gone && registered

@@ -32,7 +32,7 @@ fn has_rows(rt: &impl Abort, log: &ValueLog, rows: u32)
 }
 
 /// Room for one more row is made, at the second time where memory was refused.
-fn make_room(rt: &impl Abort, log: &mut ValueLog, rows: u32) -> Result<(), AllocError>
+fn reserve_rows(rt: &impl Abort, log: &mut ValueLog, rows: u32) -> Result<(), AllocError>
     requires { rows ≤ 40 }
 {
     if log.reserve(1).is_err() {
@@ -48,7 +48,7 @@ fn make_room(rt: &impl Abort, log: &mut ValueLog, rows: u32) -> Result<(), Alloc
 fn values(rt: HostRuntime) -> Result<(), Fail> {
     let mut log = ValueLog::new(rt.alloc());
     for word in 0..40u32 {
-        make_room(&rt, &mut log, word)?;
+        reserve_rows(&rt, &mut log, word)?;
         add(&rt, &mut log, LAST - word, u64::from(word))?;
     }
     assert_eq!(rt; log.find(LAST - 39), Some(39));

@@ -1,7 +1,7 @@
 use Rattle.std.proofs.Common.{◌≡◌, Bool, true, false, if◌then◌else◌, refl, sym, ap, ◌∙◌}
 use Rattle.norec_core.specs.Core.{Core, in_transaction, rolled_back}
 use Rattle.norec_core.specs.Undoing.{after_undoing}
-use Rattle.norec_core.specs.declared.phase.Phase.TheVariants.{Idle}
+use Rattle.norec_core.specs.Phases.{Idle}
 use Rattle.bank.proofs.transfer.give_up.Goals as goal
 
 -- an engine that was given up has no transaction open, unless it holds the clock

@@ -2,7 +2,7 @@ use Rattle.std.proofs.Common.{◌≡◌, ℕ, Bool, ◌&&◌, ◌==◌, List, ap
 use Rattle.std.specs.Prelude.{bytes_eq}
 use Rattle.tx_history.specs.Legal.{count_holding, memory_at}
 use Rattle.history_checker.specs.Tables.{told_holding}
-use Rattle.history_checker.proofs.EndSteps.{holding_told}
+use Rattle.history_checker.proofs.Steps.Ends.{holding_told}
 use Rattle.history_checker.proofs.endings.ends_free.Goals as goal
 
 pub returns : goal.returns

@@ -3,7 +3,7 @@ use Rattle.tx_attempts.specs.declared.attempt.Attempt.{Attempt}
 use Rattle.tx_history.specs.Legal.{count_holding}
 use Rattle.history_checker.specs.Verdicts.{is_away, is_waiting}
 use Rattle.history_checker.specs.Tables.{told_away, told_holding}
-use Rattle.history_checker.proofs.EndSteps.{holding_told, away_told}
+use Rattle.history_checker.proofs.Steps.Ends.{holding_told, away_told}
 use Rattle.history_checker.proofs.endings.ends_held.Goals as goal
 
 pub returns : goal.returns

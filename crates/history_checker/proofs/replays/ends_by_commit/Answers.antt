@@ -1,10 +1,10 @@
 use Rattle.std.proofs.Common.{ap, sym, ◌∙◌, arith}
-use Rattle.tx_attempts.specs.declared.attempt.Entry.{Entry}
+use Rattle.tx_attempts.specs.declared.attempt.CallRecord.{CallRecord}
 use Rattle.history_checker.specs.Replays.{is_commit_done}
-use Rattle.history_checker.proofs.CallSteps.{last_item}
+use Rattle.history_checker.proofs.Steps.Calls.{last_item}
 use Rattle.history_checker.proofs.replays.ends_by_commit.Goals as goal
 
 pub returns-in-len1-up : goal.returns-in-len1-up
 returns-in-len1-up c =
-    let test = λ (e : Entry). is_commit_done e.call e.reply in
+    let test = λ (e : CallRecord). is_commit_done e.call e.reply in
     c.is_commit_done.ensures ∙ (ap test c.last-item.is ∙ sym (last_item test c.args.calls.now c.last-item.result (omega (arith, c.in-len1-up.len_at_least))))

@@ -4,10 +4,10 @@ use Rattle.itm_types.specs.declared.limits.TheConstants.{MAX_OPEN_BLOCKS}
 use Rattle.itm_model.specs.State.{State}
 use Rattle.itm_model.specs.Machine.{is_open, reply, after}
 use Rattle.itm_model.specs.Runs.{state_after}
-use Rattle.tx_attempts.specs.declared.attempt.Entry.{Entry}
+use Rattle.tx_attempts.specs.declared.attempt.CallRecord.{CallRecord}
 use Rattle.history_checker.specs.Matches.{same_reply}
 use Rattle.history_checker.specs.Replays.{calls_fault}
-use Rattle.history_checker.proofs.CallSteps.{made, calls_next, state_next, before_stays}
+use Rattle.history_checker.proofs.Steps.Calls.{made, calls_next, state_next, before_stays}
 use Rattle.history_checker.proofs.replays.replay_calls.Goals as goal
 
 pub returns-then-not-same_reply-clause-before : goal.returns-then-not-same_reply-clause-before
@@ -25,9 +25,9 @@ loop-place-preserved c =
     let s0 = c.args.plain.now.state in
     let open_here : is_open u.state ≡ true = lt-ltb 0 (length u.state.blocks) (omega (arith, c.depth.ensures, c.if-depth-eq0.false)) in
     let is : e ≡ get_or es i e = c.index-calls-place.is in
-    let state : c.one.new.self.state ≡ after MAX_OPEN_BLOCKS u.state (get_or es i e).call = c.in_ok-reply.ensures.after ∙ ap (λ (x : Entry). after MAX_OPEN_BLOCKS u.state x.call) is in
+    let state : c.one.new.self.state ≡ after MAX_OPEN_BLOCKS u.state (get_or es i e).call = c.in_ok-reply.ensures.after ∙ ap (λ (x : CallRecord). after MAX_OPEN_BLOCKS u.state x.call) is in
     let same : same_reply e.reply (reply MAX_OPEN_BLOCKS u.state e.call) ≡ true = ap (same_reply e.reply) (sym c.in_ok-reply.ensures.reply) ∙ (sym c.same_reply.ensures ∙ c.if-not-same_reply.false) in
-    let same_there : same_reply (get_or es i e).reply (reply MAX_OPEN_BLOCKS u.state (get_or es i e).call) ≡ true = subst (λ (x : Entry). same_reply x.reply (reply MAX_OPEN_BLOCKS u.state x.call) ≡ true) is same in
+    let same_there : same_reply (get_or es i e).reply (reply MAX_OPEN_BLOCKS u.state (get_or es i e).call) ≡ true = subst (λ (x : CallRecord). same_reply x.reply (reply MAX_OPEN_BLOCKS u.state x.call) ≡ true) is same in
     record {
       state = state ∙ (ap (λ (s : State). after MAX_OPEN_BLOCKS s (get_or es i e).call) c.loop-place.invariant.state ∙ sym (state_next MAX_OPEN_BLOCKS s0 es i e c.loop-place-test.true));
       late =

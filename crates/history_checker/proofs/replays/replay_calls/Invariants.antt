@@ -2,7 +2,7 @@ use Rattle.std.proofs.Common.{◌≡◌, ◌-◌, take, drop}
 use Rattle.itm_types.specs.declared.limits.TheConstants.{MAX_OPEN_BLOCKS}
 use Rattle.itm_model.specs.Runs.{state_after}
 use Rattle.history_checker.specs.Replays.{calls_fault}
-use Rattle.history_checker.proofs.CallSteps.{made}
+use Rattle.history_checker.proofs.Steps.Calls.{made}
 use Rattle.history_checker.proofs.replays.replay_calls.Given as goal
 
 abbrev pub invariant-loop-place : goal.invariant-loop-place

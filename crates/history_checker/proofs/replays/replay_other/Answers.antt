@@ -1,4 +1,4 @@
-use Rattle.history_checker.proofs.ReplayedFaults.{told_is}
+use Rattle.history_checker.proofs.Steps.Faults.{told_is}
 use Rattle.history_checker.proofs.replays.replay_other.Goals as goal
 
 pub returns-clause-told : goal.returns-clause-told

@@ -3,7 +3,7 @@ use Rattle.std.proofs.Math.ListN.{set}
 use Rattle.tx_attempts.specs.declared.attempt.Attempt.{Attempt}
 use Rattle.tx_attempts.specs.Attempts.{is_committed}
 use Rattle.history_checker.specs.Tables.{AreLinks}
-use Rattle.history_checker.proofs.TableSteps.{links_same, links_next, none_beyond, seen_within}
+use Rattle.history_checker.proofs.Steps.Tables.{links_same, links_next, none_beyond, seen_within}
 use Rattle.history_checker.proofs.tables.link.Goals as goal
 use Rattle.history_checker.proofs.tables.link.Goals.{then-is_committed, else-is_committed}
 

@@ -3,7 +3,7 @@ use Rattle.tx_attempts.specs.declared.attempt.Attempt.{Attempt}
 use Rattle.tx_attempts.specs.Attempts.{is_committed}
 use Rattle.history_checker.specs.declared.verdict.Fault.{Fault}
 use Rattle.history_checker.specs.Tables.{AreSlots}
-use Rattle.history_checker.proofs.TableSteps.{position_next, position_here, slots_same, slots_next, placed_free, misplaced_here, unplaced_here}
+use Rattle.history_checker.proofs.Steps.Tables.{position_next, position_here, slots_same, slots_next, placed_free, misplaced_here, unplaced_here}
 use Rattle.std.proofs.Math.ListN.{set}
 use Rattle.std.proofs.Common.{Vec, Global}
 use Rattle.history_checker.proofs.tables.place.Goals as goal

@@ -1,6 +1,6 @@
 use Rattle.std.proofs.Common.{sym, ◌∙◌, arith}
 use Rattle.tx_attempts.specs.Counts.{count_committed}
-use Rattle.history_checker.proofs.EndSteps.{committed_first}
+use Rattle.history_checker.proofs.Steps.Ends.{committed_first}
 use Rattle.history_checker.proofs.walk.walk_all.Goals as goal
 
 pub returns-then-is_some-clause-fault : goal.returns-then-is_some-clause-fault

@@ -6,7 +6,7 @@ use Rattle.tx_attempts.specs.Attempts.{alone, committed_at, is_committed, memory
 use Rattle.tx_history.specs.Legal.{memory_at}
 use Rattle.history_checker.specs.Replays.{fault_in}
 use Rattle.history_checker.specs.Verdicts.{at_place}
-use Rattle.history_checker.proofs.Walks.{found_in, found_none, found_there, place_none}
+use Rattle.history_checker.proofs.Steps.Walks.{found_in, found_none, found_there, place_none}
 use Rattle.history_checker.proofs.walk.walk_committed.Goals as goal
 
 pub returns-in_default-clause-fault : goal.returns-in_default-clause-fault

@@ -6,7 +6,7 @@ use Rattle.tx_attempts.specs.declared.attempt.Attempt.{Attempt}
 use Rattle.tx_history.specs.Legal.{memory_at}
 use Rattle.history_checker.specs.declared.replays.Told.{Told}
 use Rattle.history_checker.specs.Tables.{last_other, told_on}
-use Rattle.history_checker.proofs.Walks.{IsNext, next_in, next_is, next_then, next_none, fewer_left, left_of}
+use Rattle.history_checker.proofs.Steps.Walks.{IsNext, next_in, next_is, next_then, next_none, fewer_left, left_of}
 use Rattle.history_checker.proofs.walk.walk_others.Goals as goal
 
 pub attempt_at-attempt-requires : goal.attempt_at-attempt-requires

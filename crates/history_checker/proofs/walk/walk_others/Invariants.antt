@@ -1,6 +1,6 @@
 use Rattle.tx_history.specs.Legal.{memory_at}
 use Rattle.history_checker.specs.Tables.{IsRest}
-use Rattle.history_checker.proofs.Walks.{IsNext, left_of}
+use Rattle.history_checker.proofs.Steps.Walks.{IsNext, left_of}
 use Rattle.history_checker.proofs.walk.walk_others.Given as goal
 
 abbrev pub invariant-loop-next : goal.invariant-loop-next

@@ -6,9 +6,9 @@ use Rattle.history_checker.specs.declared.replays.Told.{Told}
 use Rattle.history_checker.specs.declared.verdict.Spot.{Spot}
 use Rattle.history_checker.specs.Verdicts.{at_fault, others_fault}
 use Rattle.history_checker.specs.Tables.{AreTold, told_fault, told_of}
-use Rattle.history_checker.proofs.EndSteps.{all_told, others_told}
-use Rattle.history_checker.proofs.LegalVerdicts.{legal_as_told}
-use Rattle.history_checker.proofs.VerdictSteps.{bad_position, bad_beyond, bad_committed, bad_other, beyond_is, told_final}
+use Rattle.history_checker.proofs.Steps.Ends.{all_told, others_told}
+use Rattle.history_checker.proofs.Legality.Verdicts.{legal_as_told}
+use Rattle.history_checker.proofs.Steps.Verdicts.{bad_position, bad_beyond, bad_committed, bad_other, beyond_is, told_final}
 use Rattle.history_checker.proofs.whole.check.Goals as goal
 
 pub returns-in-Some : goal.returns-in-Some

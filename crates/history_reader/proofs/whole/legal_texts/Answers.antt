@@ -1,4 +1,4 @@
-use Rattle.history_reader.proofs.LegalTexts.{legal_text}
+use Rattle.history_reader.proofs.Canon.LegalTexts.{legal_text}
 use Rattle.history_reader.proofs.whole.legal_texts.Goals as goal
 
 pub returns : goal.returns

@@ -3,7 +3,7 @@ use Rattle.std.specs.List.{slice_split}
 use Rattle.script_fields.specs.Text.{is_feed}
 use Rattle.history_reader.specs.Lines.{initial}
 use Rattle.history_reader.specs.Reading.{parts_say}
-use Rattle.history_reader.proofs.ReadLines.{HasRead}
+use Rattle.history_reader.proofs.RoundTrips.ReadLines.{HasRead}
 use Rattle.history_reader.proofs.whole.read_lines.Given as goal
 
 abbrev pub invariant-loop-line : goal.invariant-loop-line

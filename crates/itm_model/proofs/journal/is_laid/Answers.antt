@@ -4,8 +4,8 @@ use Rattle.std.proofs.Common.{Bool, true, false, not, get_or, refl, nat_eq}
 use Rattle.std.specs.Cmp.Lexicographic.{pointwise}
 use Rattle.itm_types.specs.Slices.{slice}
 use Rattle.itm_model.specs.declared.journal.Old.{Old}
-use Rattle.itm_model.proofs.JournalRollbacks.{length-put_back}
-use Rattle.itm_model.proofs.LaidBytes.{laid_again, laid_nothing, within_at}
+use Rattle.itm_model.proofs.Journals.Rollbacks.{length-put_back}
+use Rattle.itm_model.proofs.Journals.LaidBytes.{laid_again, laid_nothing, within_at}
 use Rattle.itm_model.proofs.journal.is_laid.Goals as goal
 
 not-not : (b : Bool) → not (not b) ≡ b

@@ -2,7 +2,7 @@ use Rattle.std.proofs.Common.{◌≡◌, ◌≤◌, ◌-◌, List, length, min, 
 use Rattle.std.proofs.lemmas.Grind.{div_ceil_times}
 use Rattle.itm_model.specs.Undoing.{AreWithin, Logged}
 use Rattle.itm_model.specs.declared.journal.Old.{Old}
-use Rattle.itm_model.proofs.KeptLogs.{logged_none, logged_more}
+use Rattle.itm_model.proofs.Journals.KeptLogs.{logged_none, logged_more}
 use Rattle.itm_model.proofs.journal.keep.Goals as goal
 
 pub loop-done-init : goal.loop-done-init

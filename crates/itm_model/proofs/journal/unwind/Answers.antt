@@ -4,7 +4,7 @@ use Rattle.std.proofs.Math.Seq.{take-append_seam}
 use Rattle.itm_types.specs.Slices.{with_slice}
 use Rattle.itm_model.specs.Undoing.{put_back, AreWithin}
 use Rattle.itm_model.specs.declared.journal.Old.{Old}
-use Rattle.itm_model.proofs.JournalRollbacks.{take-take, pop_restores, length-with_slice, AreWithin-front, AreWithin-last}
+use Rattle.itm_model.proofs.Journals.Rollbacks.{take-take, pop_restores, length-with_slice, AreWithin-front, AreWithin-last}
 use Rattle.itm_model.proofs.journal.unwind.Goals as goal
 
 pub replace-requires : goal.replace-requires

@@ -2,7 +2,7 @@ use Rattle.std.proofs.Common.{◌≡◌, ◌<◌, ◌+◌, ◌-◌, ℕ, length,
 use Rattle.std.proofs.lemmas.List.{length-set}
 use Rattle.itm_model.specs.declared.journal.Old.{Old}
 use Rattle.itm_model.specs.Pieces.{AreAmong, AreNewest, piece_of}
-use Rattle.itm_model.proofs.NewestEntries.{among_at, newest_forgotten}
+use Rattle.itm_model.proofs.Journals.NewestEntries.{among_at, newest_forgotten}
 use Rattle.itm_model.proofs.pieces.forget.Goals as goal
 
 pub index_mut-requires : goal.index_mut-requires

@@ -5,7 +5,7 @@ use Rattle.std.proofs.lemmas.List.{take_more_set, take-set-le, drop_more, length
 use Rattle.std.proofs.lemmas.List.Edits.{swap_is}
 use Rattle.itm_model.specs.declared.journal.Old.{Old}
 use Rattle.itm_model.specs.Pieces.{AreAmong, AreNewest, piece_of}
-use Rattle.itm_model.proofs.NewestEntries.{newest_pushed}
+use Rattle.itm_model.proofs.Journals.NewestEntries.{newest_pushed}
 use Rattle.itm_model.proofs.pieces.hand_on_one.Goals as goal
 
 front_stays : (xs : List Old) (i j : ℕ) (d : Old) → i ≤ j → j < length xs → take i (swap xs i j) ≡ take i xs

@@ -3,9 +3,9 @@ use Rattle.std.proofs.lemmas.List.{get_or_default}
 use Rattle.itm_model.specs.declared.journal.Old.{Old}
 use Rattle.itm_model.specs.Undoing.{put_back}
 use Rattle.itm_model.specs.Pieces.{IsIndexed, IsPiece, newest_in, piece_of}
-use Rattle.itm_model.proofs.JournalRollbacks.{length-slice}
-use Rattle.itm_model.proofs.CoveredBytes.{own_slice}
-use Rattle.itm_model.proofs.NewestEntries.{indexed_push, newest_of_it}
+use Rattle.itm_model.proofs.Journals.Rollbacks.{length-slice}
+use Rattle.itm_model.proofs.Journals.CoveredBytes.{own_slice}
+use Rattle.itm_model.proofs.Journals.NewestEntries.{indexed_push, newest_of_it}
 use Rattle.itm_model.proofs.pieces.keep_piece.Goals as goal
 
 pub returns-clause-same : goal.returns-clause-same

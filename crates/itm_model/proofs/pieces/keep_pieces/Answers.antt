@@ -2,7 +2,7 @@ use Rattle.std.proofs.Common.{◌≡◌, ◌≤◌, ◌<◌, ◌+◌, ◌/◌, �
 use Rattle.std.proofs.lemmas.Bool.{cases_lt}
 use Rattle.std.proofs.lemmas.Grind.{div_ceil_times}
 use Rattle.itm_model.specs.Pieces.{newest_in}
-use Rattle.itm_model.proofs.NewestEntries.{adds_more, adds_longer, adds_newest, newest_covers}
+use Rattle.itm_model.proofs.Journals.NewestEntries.{adds_more, adds_longer, adds_newest, newest_covers}
 use Rattle.itm_model.proofs.pieces.keep_pieces.Goals as goal
 
 pub loop-piece-preserved : goal.loop-piece-preserved

@@ -1,5 +1,5 @@
 use Rattle.shared_words.specs.Passes.{view_of, cells_of}
-use Rattle.itm_runtime.proofs.StepToStep.{lawful_of, cell_within, fits_of, waits_of, goes, smaller}
+use Rattle.itm_runtime.proofs.Steps.StepChains.{lawful_of, cell_within, fits_of, waits_of, goes, smaller}
 use Rattle.itm_runtime.proofs.drive.go_on.Goals as goal
 
 pub step-found-requires : goal.step-found-requires
@@ -11,8 +11,8 @@ step-found-requires c =
       lawful = lawful_of _ _ i.tied c.args.step i.lawful;
     }
 
-pub resume_apart-requires : goal.resume_apart-requires
-resume_apart-requires c =
+pub resume_into-requires : goal.resume_into-requires
+resume_into-requires c =
     let i = c.requires.due.1 in
     record {
       waits = waits_of c.requires.due.0 _ _ _ i;
@@ -21,12 +21,12 @@ resume_apart-requires c =
 
 pub returns : goal.returns
 returns c =
-    let r = c.resume_apart.ensures in
+    let r = c.resume_into.ensures in
     let words = cells_of c.args.words.now in
     let over = c.requires.own.over in
     let turn = c.step-found.ensures.turn in
     record {
       own = c.step-found.ensures.own;
-      due = goes words (view_of c.args.pass.now) (view_of c.step-found.new.pass) over c.step-found.ensures.own.over c.args.engine.now c.resume_apart.new.self c.args.step c.step-found.result turn _ r;
-      less = smaller words (view_of c.args.pass.now) (view_of c.step-found.new.pass) over c.step-found.ensures.own.over c.args.engine.now c.resume_apart.new.self c.args.step c.step-found.result turn _ r c.requires.due.0 c.requires.due.1;
+      due = goes words (view_of c.args.pass.now) (view_of c.step-found.new.pass) over c.step-found.ensures.own.over c.args.engine.now c.resume_into.new.self c.args.step c.step-found.result turn _ r;
+      less = smaller words (view_of c.args.pass.now) (view_of c.step-found.new.pass) over c.step-found.ensures.own.over c.args.engine.now c.resume_into.new.self c.args.step c.step-found.result turn _ r c.requires.due.0 c.requires.due.1;
     }

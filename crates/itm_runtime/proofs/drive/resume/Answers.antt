@@ -1,9 +1,9 @@
 use Rattle.shared_words.specs.Passes.{view_of, cells_of}
-use Rattle.itm_runtime.proofs.StepToStep.{fits_of, waits_of, goes}
+use Rattle.itm_runtime.proofs.Steps.StepChains.{fits_of, waits_of, goes}
 use Rattle.itm_runtime.proofs.drive.resume.Goals as goal
 
-pub resume_apart-next-requires : goal.resume_apart-next-requires
-resume_apart-next-requires c =
+pub resume_into-next-requires : goal.resume_into-next-requires
+resume_into-next-requires c =
     let d = c.requires.done.1 in
     record {
       waits = waits_of c.requires.done.0 _ _ _ d.in_call;
@@ -13,10 +13,10 @@ resume_apart-next-requires c =
 pub finish-requires-clause-due : goal.finish-requires-clause-due
 finish-requires-clause-due c =
     let d = c.requires.done.1 in
-    let r = c.resume_apart-next.ensures in
-    (c.requires.done.0, goes (cells_of c.args.words.now) d.before (view_of c.args.pass.now) d.over c.requires.own.over c.args.engine.now c.resume_apart-next.new.self d.step c.args.seen d.turn _ r c.requires.done.0 d.in_call)
+    let r = c.resume_into-next.ensures in
+    (c.requires.done.0, goes (cells_of c.args.words.now) d.before (view_of c.args.pass.now) d.over c.requires.own.over c.args.engine.now c.resume_into-next.new.self d.step c.args.seen d.turn _ r c.requires.done.0 d.in_call)
 
 pub returns : goal.returns
 returns c = λ s d.
-    (let r = c.resume_apart-next.ensures in
-    c.finish.ensures s (goes (cells_of c.args.words.now) d.before (view_of c.args.pass.now) d.over c.requires.own.over c.args.engine.now c.resume_apart-next.new.self d.step c.args.seen d.turn _ r s d.in_call))
+    (let r = c.resume_into-next.ensures in
+    c.finish.ensures s (goes (cells_of c.args.words.now) d.before (view_of c.args.pass.now) d.over c.requires.own.over c.args.engine.now c.resume_into-next.new.self d.step c.args.seen d.turn _ r s d.in_call))

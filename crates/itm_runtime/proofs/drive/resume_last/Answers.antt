@@ -1,22 +1,26 @@
+use Rattle.std.proofs.Common.{subst, sym}
+use Rattle.norec_core.specs.Core.{Core}
 use Rattle.shared_words.specs.Passes.{view_of, cells_of}
-use Rattle.itm_runtime.proofs.StepToStep.{fits_of, waits_of, goes}
+use Rattle.itm_runtime.specs.InCall.{IsDone}
+use Rattle.itm_runtime.proofs.Steps.StepChains.{fits_of, goes}
 use Rattle.itm_runtime.proofs.drive.resume_last.Goals as goal
 
-pub resume_likely-next-requires : goal.resume_likely-next-requires
-resume_likely-next-requires c =
-    let d = c.requires.done.1 in
-    record {
-      waits = waits_of c.requires.done.0 _ _ _ d.in_call;
-      fits = fits_of c.requires.done.0 _ _ _ _ d.step d.in_call d.turn;
-    }
+pub resume_fast-requires : goal.resume_fast-requires
+resume_fast-requires c =
+    let d = c.requires.done.1 in record { fits = fits_of c.requires.done.0 _ _ _ _ d.step d.in_call d.turn }
 
-pub finish_by-requires-clause-due : goal.finish_by-requires-clause-due
-finish_by-requires-clause-due c =
+pub finish_fast-requires-clause-due : goal.finish_fast-requires-clause-due
+finish_fast-requires-clause-due c =
     let d = c.requires.done.1 in
-    let r = c.resume_likely-next.ensures in
-    (c.requires.done.0, goes (cells_of c.args.words.now) d.before (view_of c.args.pass.now) d.over c.requires.own.over c.args.engine.now c.resume_likely-next.new.self d.step c.args.seen d.turn _ r c.requires.done.0 d.in_call)
+    (c.requires.done.0, goes (cells_of c.args.words.now) d.before (view_of c.args.pass.now) d.over c.requires.own.over c.args.engine.now c.resume_fast.new.self d.step c.args.seen d.turn _ c.in-Some.ensures c.requires.done.0 d.in_call)
 
-pub returns : goal.returns
-returns c = λ s d.
-    (let r = c.resume_likely-next.ensures in
-    c.finish_by.ensures s (goes (cells_of c.args.words.now) d.before (view_of c.args.pass.now) d.over c.requires.own.over c.args.engine.now c.resume_likely-next.new.self d.step c.args.seen d.turn _ r s d.in_call))
+pub returns-in-Some : goal.returns-in-Some
+returns-in-Some c = λ s d.
+    c.finish_fast.ensures s (goes (cells_of c.args.words.now) d.before (view_of c.args.pass.now) d.over c.requires.own.over c.args.engine.now c.resume_fast.new.self d.step c.args.seen d.turn _ c.in-Some.ensures s d.in_call)
+
+pub resume-requires-clause-done : goal.resume-requires-clause-done
+resume-requires-clause-done c =
+    (c.requires.done.0, subst (λ (e : Core). IsDone (cells_of c.args.words.now) c.requires.done.0 (view_of c.args.pass.now) e c.args.seen) (sym c.in-None.ensures.0) c.requires.done.1)
+
+pub returns-in-None : goal.returns-in-None
+returns-in-None c = λ s d. c.resume.ensures s (subst (λ (e : Core). IsDone (cells_of c.args.words.now) s (view_of c.args.pass.now) e c.args.seen) (sym c.in-None.ensures.0) d)

@@ -5,7 +5,7 @@ use Rattle.norec_core.specs.declared.answer.Next.{Next}
 use Rattle.norec_core.specs.declared.answer.Next.TheVariants.{Step as Asks, Answer as Answers}
 use Rattle.norec_engine.specs.NextSteps.{next_in}
 use Rattle.itm_runtime.specs.InCall.{left}
-use Rattle.itm_runtime.proofs.StepToStep.{at_step, at_answer}
+use Rattle.itm_runtime.proofs.Steps.StepChains.{at_step, at_answer}
 use Rattle.itm_runtime.proofs.drive.store.Goals as goal
 
 -- the step that is done next, as what is due

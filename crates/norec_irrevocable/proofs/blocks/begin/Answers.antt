@@ -1,33 +1,33 @@
 use Rattle.std.proofs.Common.{◌≡◌, ◌∷◌, sym, ap, ◌∙◌, true, length, ◌<◌, rules, Option, subst}
 use Rattle.itm_types.specs.declared.limits.TheConstants.{MAX_OPEN_BLOCKS}
 use Rattle.itm_types.specs.declared.call.Call.TheVariants.{Begin}
-use Rattle.norec_irrevocable.proofs.KeptStates.{begin_kept}
+use Rattle.norec_irrevocable.proofs.Replies.KeptStates.{begin_kept}
 use Rattle.nest_frames.specs.Nest.{begun}
 use Rattle.write_set.specs.Marks.{Written}
 use Rattle.norec_core.specs.Core.{may_go}
 use Rattle.norec_data.specs.declared.data.Data.{Data}
-use Rattle.norec_irrevocable.proofs.HeldBlocks.{HasEntered, begin_entered, begin_comes}
-use Rattle.norec_irrevocable.proofs.Refused.{begin_ending, begin_stage, refused_turn}
+use Rattle.norec_irrevocable.proofs.Replies.HeldBlocks.{HasEntered, begin_entered, begin_comes}
+use Rattle.norec_irrevocable.proofs.Replies.Refusals.{begin_ending, begin_stage, refused_turn}
 use Rattle.norec_core.specs.declared.answer.Answer.{Answer}
-use Rattle.norec_data.specs.declared.end.End.TheVariants as ends
-use Rattle.norec_data.specs.declared.turn.Turn.TheVariants.{Enter}
+use Rattle.norec_data.specs.declared.end.CallEnd.TheVariants as ends
+use Rattle.norec_data.specs.declared.turn.Turn.TheVariants.{EndIrrevocable}
 use Rattle.norec_data.specs.Turns.{TurnEndsSo}
 use Rattle.norec_irrevocable.proofs.blocks.begin.Goals as goal
 
 pub returns-in-Some : goal.returns-in-Some
 returns-in-Some c = (let s = c.args.state.now in
-    refused_turn s (Begin c.args.props c.args.room) c.in-Some.why c.requires.held (λ m mem. begin_kept s.frames.blocks s.arena s.frames.actions m c.args.props c.args.room ∙ (sym c.begin_refusal-refused.ensures.refusal ∙ c.in-Some.is)) (begin_stage s c.args.props c.args.room c.requires.held.is_open) (begin_ending s c.args.props c.args.room) c.come.new.self c.come.ensures)
+    refused_turn s (Begin c.args.props c.args.room) c.in-Some.why c.requires.held (λ m mem. begin_kept s.frames.blocks s.arena s.frames.actions m c.args.props c.args.room ∙ (sym c.begin_refusal-refused.ensures.refusal ∙ c.in-Some.is)) (begin_stage s c.args.props c.args.room c.requires.held.is_open) (begin_ending s c.args.props c.args.room) c.start_call.new.self c.start_call.ensures)
 
 served_so : (c : goal.After-enter) → (may_go c.args.state.now.frames.blocks c.args.props ≡ true) × (length c.args.state.now.frames.blocks < MAX_OPEN_BLOCKS)
 served_so c = rw c.in-None.is at c.begin_refusal-refused.ensures.served
 
-entered : (c : goal.After-enter) → HasEntered c.args.state.now c.args.props (record c.come.new.self { frames = c.enter.new.self })
+entered : (c : goal.After-enter) → HasEntered c.args.state.now c.args.props (record c.start_call.new.self { frames = c.enter.new.self })
 entered c = record {
-  blocks = c.enter.ensures.blocks ∙ ap (λ (x : Data). begun c.args.props x.frames.writes.rows x.frames.actions ∷ x.frames.blocks) c.come.ensures;
-  rows = ap (λ (w : Written). w.rows) c.enter.ensures.writes ∙ ap (λ (x : Data). x.frames.writes.rows) c.come.ensures;
-  actions = c.enter.ensures.actions ∙ ap (λ (x : Data). x.frames.actions) c.come.ensures;
-  room = c.enter.ensures.room ∙ ap (λ (x : Data). x.frames.room) c.come.ensures;
-  others = ap (λ (x : Data). record x { frames = c.enter.new.self }) c.come.ensures;
+  blocks = c.enter.ensures.blocks ∙ ap (λ (x : Data). begun c.args.props x.frames.writes.rows x.frames.actions ∷ x.frames.blocks) c.start_call.ensures;
+  rows = ap (λ (w : Written). w.rows) c.enter.ensures.writes ∙ ap (λ (x : Data). x.frames.writes.rows) c.start_call.ensures;
+  actions = c.enter.ensures.actions ∙ ap (λ (x : Data). x.frames.actions) c.start_call.ensures;
+  room = c.enter.ensures.room ∙ ap (λ (x : Data). x.frames.room) c.start_call.ensures;
+  others = ap (λ (x : Data). record x { frames = c.enter.new.self }) c.start_call.ensures;
 }
 
 pub returns-in-None : goal.returns-in-None
@@ -35,11 +35,11 @@ returns-in-None c = record {
   sound = search rules;
   proceeds =
       (let served = served_so c in
-      begin_entered c.args.state.now (record c.come.new.self { frames = c.enter.new.self }) c.args.props c.args.room c.requires.held.is_open served.0 served.1 (entered c));
+      begin_entered c.args.state.now (record c.start_call.new.self { frames = c.enter.new.self }) c.args.props c.args.room c.requires.held.is_open served.0 served.1 (entered c));
   comes =
       (let served = served_so c in
-      begin_comes c.args.state.now (record c.come.new.self { frames = c.enter.new.self }) c.args.props c.args.room c.requires.held.is_open served.0 served.1 (entered c));
+      begin_comes c.args.state.now (record c.start_call.new.self { frames = c.enter.new.self }) c.args.props c.args.room c.requires.held.is_open served.0 served.1 (entered c));
   stays = search rules;
   order = sym (begin_stage c.args.state.now c.args.props c.args.room c.requires.held.is_open);
-  ends = subst (λ (so : Option Answer). TurnEndsSo so (Enter ends.Entered) (record c.come.new.self { frames = c.enter.new.self })) (sym (begin_ending c.args.state.now c.args.props c.args.room)) tt;
+  ends = subst (λ (so : Option Answer). TurnEndsSo so (EndIrrevocable ends.Entered) (record c.start_call.new.self { frames = c.enter.new.self })) (sym (begin_ending c.args.state.now c.args.props c.args.room)) tt;
 }

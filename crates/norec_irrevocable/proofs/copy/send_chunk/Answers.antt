@@ -5,12 +5,12 @@ use Rattle.itm_model.specs.State.{State}
 use Rattle.word_pieces.specs.Chunks.{chunks_of}
 use Rattle.norec_core.specs.Copies.{chunks_in}
 use Rattle.norec_core.specs.Held.{ComesTo}
-use Rattle.norec_core.specs.declared.phase.Phase.TheVariants.{Idle}
+use Rattle.norec_core.specs.Phases.{Idle}
 use Rattle.norec_data.specs.Turns.{next_of}
 use Rattle.norec_irrevocable.specs.Outcomes.{held_after, kept}
-use Rattle.norec_irrevocable.proofs.ChunkPhases.{chunk_ends, out_comes_next}
-use Rattle.norec_irrevocable.proofs.HeldCopies.{copies_end, sent_comes, out_source}
-use Rattle.norec_irrevocable.proofs.HeldDone.{copy_done}
+use Rattle.norec_irrevocable.proofs.Pieces.ChunkPhases.{chunk_ends, out_comes_next}
+use Rattle.norec_irrevocable.proofs.Pieces.HeldCopies.{copies_end, sent_comes, out_source}
+use Rattle.norec_irrevocable.proofs.Replies.Completions.{copy_done}
 use Rattle.norec_irrevocable.proofs.copy.send_chunk.Goals as goal
 
 none_left : (c : goal.In_default) → slice_get (chunks_in c.args.copying) c.args.number ≡ None

@@ -8,12 +8,12 @@ use Rattle.word_pieces.specs.declared.chunk.Chunk.{Chunk}
 use Rattle.norec_core.specs.Copies.{chunks_in, direction_of}
 use Rattle.norec_core.specs.Held.{ComesTo}
 use Rattle.norec_core.specs.Parts.{copied_each}
-use Rattle.norec_core.proofs.CopyChunks.{chunk_within}
+use Rattle.norec_core.proofs.Accesses.CopyChunks.{chunk_within}
 use Rattle.norec_data.specs.Turns.{next_of}
 use Rattle.norec_irrevocable.specs.Outcomes.{held_after, kept}
-use Rattle.norec_irrevocable.proofs.ChunkPhases.{target_in_memory}
-use Rattle.norec_irrevocable.proofs.HeldAccesses.{kept_written}
-use Rattle.norec_irrevocable.proofs.HeldCopies.{some_chunk}
+use Rattle.norec_irrevocable.proofs.Pieces.ChunkPhases.{target_in_memory}
+use Rattle.norec_irrevocable.proofs.Replies.HeldAccesses.{kept_written}
+use Rattle.norec_irrevocable.proofs.Pieces.HeldCopies.{some_chunk}
 use Rattle.norec_irrevocable.proofs.copy.store_chunk.Goals as goal
 
 pub overflow_add-copying : goal.overflow_add-copying

@@ -10,13 +10,13 @@ use Rattle.word_pieces.specs.declared.chunk.Direction.TheVariants.{Up}
 use Rattle.word_pieces.specs.Chunks.{chunks_of}
 use Rattle.norec_core.specs.Held.{ComesTo}
 use Rattle.norec_core.specs.Order.{fill_stage}
-use Rattle.norec_core.specs.declared.phase.Phase.TheVariants.{Idle}
-use Rattle.norec_core.proofs.Readings.{none_drop, some_drop}
+use Rattle.norec_core.specs.Phases.{Idle}
+use Rattle.norec_core.proofs.Accesses.Readings.{none_drop, some_drop}
 use Rattle.norec_data.specs.Turns.{next_of}
 use Rattle.norec_irrevocable.specs.Outcomes.{held_after, kept}
-use Rattle.norec_irrevocable.proofs.HeldAccesses.{kept_written}
-use Rattle.norec_irrevocable.proofs.HeldCopies.{fills_end, fills_on}
-use Rattle.norec_irrevocable.proofs.HeldDone.{fill_done}
+use Rattle.norec_irrevocable.proofs.Replies.HeldAccesses.{kept_written}
+use Rattle.norec_irrevocable.proofs.Pieces.HeldCopies.{fills_end, fills_on}
+use Rattle.norec_irrevocable.proofs.Replies.Completions.{fill_done}
 use Rattle.norec_irrevocable.proofs.fill.fill_on.Goals as goal
 
 none_left : (c : goal.In_default) → slice_get (chunks_of Up c.args.size) c.args.number ≡ None

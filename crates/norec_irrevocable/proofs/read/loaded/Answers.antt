@@ -3,8 +3,8 @@ use Rattle.std.proofs.lemmas.Bool.{cond-false, cond-true, ne_eqb}
 use Rattle.word_pieces.specs.declared.piece.Piece.{Piece}
 use Rattle.word_pieces.specs.Pieces.{count_of, gathered, part_of, pieces_of}
 use Rattle.word_pieces.proofs.Covers.{word-pieces_of}
-use Rattle.norec_core.specs.declared.phase.Phase.TheVariants.{Load}
-use Rattle.norec_core.specs.declared.phase.Reading.{Reading}
+use Rattle.norec_core.specs.Phases.{Load}
+use Rattle.norec_core.specs.declared.call_parts.Reading.{Reading}
 use Rattle.norec_core.specs.Accesses.{part}
 use Rattle.norec_core.specs.Core.{Core, handed}
 use Rattle.norec_core.specs.Held.{ComesTo, answered, reading as reading_of}
@@ -16,10 +16,10 @@ use Rattle.norec_data.specs.declared.turn.Turn.TheVariants.{Wait}
 use Rattle.norec_data.specs.Turns.{counted, next_of}
 use Rattle.norec_data.specs.View.{call_for, held}
 use Rattle.norec_irrevocable.specs.Outcomes.{held_after, in_call, kept, HeldTurns, IsSoundAfter, Steps}
-use Rattle.norec_irrevocable.proofs.ChunkPhases.{first_piece}
-use Rattle.norec_irrevocable.proofs.HeldAccesses.{gathers_on}
-use Rattle.norec_irrevocable.proofs.LoadedPieces.{gathers_all, loads_later, longer, more_left, none_left, read_ends, reading_next, whole_length}
-use Rattle.norec_irrevocable.proofs.PlacedPieces.{none_there, piece_there}
+use Rattle.norec_irrevocable.proofs.Pieces.ChunkPhases.{first_piece}
+use Rattle.norec_irrevocable.proofs.Replies.HeldAccesses.{gathers_on}
+use Rattle.norec_irrevocable.proofs.Pieces.LoadedPieces.{gathers_all, loads_later, longer, more_left, none_left, read_ends, reading_next, whole_length}
+use Rattle.norec_irrevocable.proofs.Pieces.PlacedPieces.{none_there, piece_there}
 use Rattle.norec_irrevocable.proofs.read.loaded.Goals as goal
 
 pub unreachable-requires : goal.unreachable-requires

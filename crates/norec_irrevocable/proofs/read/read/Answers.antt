@@ -8,12 +8,12 @@ use Rattle.norec_irrevocable.specs.Outcomes.{kept}
 use Rattle.itm_model.specs.Machine.{bytes_reply}
 use Rattle.word_pieces.specs.Pieces.{gathered, pieces_of}
 use Rattle.norec_data.specs.declared.data.Data.{Data}
-use Rattle.norec_irrevocable.proofs.HeldAccesses.{accepted, read_comes}
-use Rattle.norec_irrevocable.proofs.Refused.{refused_access}
+use Rattle.norec_irrevocable.proofs.Replies.HeldAccesses.{accepted, read_comes}
+use Rattle.norec_irrevocable.proofs.Replies.Refusals.{refused_access}
 use Rattle.norec_irrevocable.proofs.read.read.Goals as goal
 
 pub returns-in-Some : goal.returns-in-Some
-returns-in-Some c = refused_access c.args.state.now (Read c.args.hint c.args.width c.args.at) c.in-Some.why c.args.at (size_of c.args.width) c.come.new.self c.requires.held refl (sym (c.access_refusal-refused.ensures.value ∙ ap (λ (n : ℕ). access_refusal (in_block c.args.state.now) c.args.state.now.words c.args.at n) (c.from.ensures ∙ c.size.ensures.value)) ∙ c.in-Some.is) c.come.ensures
+returns-in-Some c = refused_access c.args.state.now (Read c.args.hint c.args.width c.args.at) c.in-Some.why c.args.at (size_of c.args.width) c.start_call.new.self c.requires.held refl (sym (c.access_refusal-refused.ensures.value ∙ ap (λ (n : ℕ). access_refusal (in_block c.args.state.now) c.args.state.now.words c.args.at n) (c.from.ensures ∙ c.size.ensures.value)) ∙ c.in-Some.is) c.start_call.ensures
 
 pub returns : goal.returns
 returns c = record {
@@ -24,7 +24,7 @@ returns c = record {
       (let s = c.args.state.now in
       let l : c.args.at + size_of c.args.width ≤ 8 * s.words = accepted (in_block s) s.words c.args.at (size_of c.args.width) (sym (c.access_refusal-refused.ensures.value ∙ ap (λ (n : ℕ). access_refusal (in_block s) s.words c.args.at n) (c.from.ensures ∙ c.size.ensures.value)) ∙ c.in_default.is) in
       let t = read_comes s c.requires.held.is_open m mem c.args.hint c.args.width c.args.at l in
-      (ap (λ (x : Data). kept x m) c.come.ensures ∙ t.0, ap bytes_reply (λ i. c.new-state.ensures i ++ gathered m (pieces_of c.args.at (c.size-2.ensures.value i))) ∙ t.1)));
+      (ap (λ (x : Data). kept x m) c.start_call.ensures ∙ t.0, ap bytes_reply (λ i. c.new-state.ensures i ++ gathered m (pieces_of c.args.at (c.size-2.ensures.value i))) ∙ t.1)));
   stays = search rules;
   order = grind (arith, common_steps);
   ends = search rules;

@@ -9,9 +9,9 @@ use Rattle.itm_types.specs.Slices.{with_slice}
 use Rattle.itm_model.specs.State.{State}
 use Rattle.itm_model.specs.Machine.{target_written, written}
 use Rattle.word_pieces.specs.Pieces.{count_of}
-use Rattle.norec_core.specs.declared.phase.Phase.TheVariants.{Idle}
-use Rattle.norec_core.specs.declared.phase.Purpose.{Purpose}
-use Rattle.norec_core.specs.declared.phase.Target.TheVariants as into
+use Rattle.norec_core.specs.Phases.{Idle}
+use Rattle.norec_core.specs.declared.call_parts.Purpose.{Purpose}
+use Rattle.norec_core.specs.declared.call_parts.Target.TheVariants as into
 use Rattle.norec_core.specs.Copies.{chunks_in, copy_refusal, WritesShared}
 use Rattle.norec_core.specs.Held.{ComesTo, answered, reading as reading_of}
 use Rattle.norec_core.specs.Order.{place_from, read_past}
@@ -20,8 +20,8 @@ use Rattle.norec_core.specs.Parts.{copied_each}
 use Rattle.norec_data.specs.Turns.{next_of}
 use Rattle.norec_irrevocable.specs.Outcomes.{held_after, kept, in_call, HeldTurns}
 use Rattle.norec_irrevocable.specs.Phases.{is_in}
-use Rattle.norec_irrevocable.proofs.ChunkPhases.{few_chunks, read_in_next, read_within_next, steps_in, steps_within, target_in_arena}
-use Rattle.norec_irrevocable.proofs.HeldDone.{read_done}
+use Rattle.norec_irrevocable.proofs.Pieces.ChunkPhases.{few_chunks, read_in_next, read_within_next, steps_in, steps_within, target_in_arena}
+use Rattle.norec_irrevocable.proofs.Replies.Completions.{read_done}
 use Rattle.norec_irrevocable.proofs.read.whole.Goals as goal
 
 pub overflow_add-start : goal.overflow_add-start

@@ -7,16 +7,16 @@ use Rattle.itm_model.specs.State.{State}
 use Rattle.word_pieces.specs.declared.chunk.Direction.TheVariants.{Up}
 use Rattle.word_pieces.specs.Chunks.{chunks_of}
 use Rattle.word_pieces.specs.Pieces.{count_of}
-use Rattle.norec_core.specs.declared.phase.Target.{Target}
+use Rattle.norec_core.specs.declared.call_parts.Target.{Target}
 use Rattle.norec_core.specs.Copies.{chunks_in}
 use Rattle.norec_core.specs.Held.{ComesTo, rest_of}
 use Rattle.norec_core.specs.Parts.{copied_each, filled_each}
-use Rattle.norec_core.proofs.CopyChunks.{chunk_there}
-use Rattle.norec_core.proofs.Readings.{words_in-next}
+use Rattle.norec_core.proofs.Accesses.CopyChunks.{chunk_there}
+use Rattle.norec_core.proofs.Accesses.Readings.{words_in-next}
 use Rattle.norec_data.specs.Turns.{next_of}
 use Rattle.norec_irrevocable.specs.Outcomes.{held_after, kept, in_call, HeldTurns}
-use Rattle.norec_irrevocable.proofs.ChunkPhases.{few_chunks, steps_placed}
-use Rattle.norec_irrevocable.proofs.HeldDone.{write_done}
+use Rattle.norec_irrevocable.proofs.Pieces.ChunkPhases.{few_chunks, steps_placed}
+use Rattle.norec_irrevocable.proofs.Replies.Completions.{write_done}
 use Rattle.norec_irrevocable.proofs.write.past.Goals as goal
 
 pub overflow_add-number : goal.overflow_add-number

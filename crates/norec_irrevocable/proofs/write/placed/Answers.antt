@@ -5,9 +5,9 @@ use Rattle.itm_types.specs.Slices.{AreBytes}
 use Rattle.itm_model.specs.State.{State}
 use Rattle.word_pieces.specs.declared.piece.Piece.{Piece}
 use Rattle.word_pieces.specs.Pieces.{pieces_of, written}
-use Rattle.norec_core.specs.declared.phase.Phase.{Phase}
-use Rattle.norec_core.specs.declared.phase.Phase.TheVariants.{Place}
-use Rattle.norec_core.specs.declared.phase.Writing.{Writing}
+use Rattle.norec_core.specs.Phases.{Phase}
+use Rattle.norec_core.specs.Phases.{Place}
+use Rattle.norec_core.specs.declared.call_parts.Writing.{Writing}
 use Rattle.norec_core.specs.declared.answer.Next.TheVariants.{Step as Asks}
 use Rattle.norec_core.specs.Held.{ComesTo, StepsHeld, rest_of}
 use Rattle.norec_data.specs.declared.data.Data.{Data}
@@ -16,9 +16,9 @@ use Rattle.norec_core.specs.Order.{place_from, placed_past, placed_piece, placed
 use Rattle.norec_core.specs.Proceeds.{Got}
 use Rattle.norec_data.specs.Turns.{counted, next_of}
 use Rattle.norec_irrevocable.specs.Outcomes.{held_after, kept}
-use Rattle.norec_irrevocable.proofs.HeldAccesses.{fits_stored, stores_on}
-use Rattle.norec_irrevocable.proofs.NextPlaces.{next_sound, places_later}
-use Rattle.norec_irrevocable.proofs.PlacedPieces.{is_piece, no_pieces, piece_here, placing_facts}
+use Rattle.norec_irrevocable.proofs.Replies.HeldAccesses.{fits_stored, stores_on}
+use Rattle.norec_irrevocable.proofs.Pieces.NextPlaces.{next_sound, places_later}
+use Rattle.norec_irrevocable.proofs.Pieces.PlacedPieces.{is_piece, no_pieces, piece_here, placing_facts}
 use Rattle.norec_irrevocable.proofs.write.placed.Goals as goal
 
 -- the piece was stored, and the next one is waited for in this phase

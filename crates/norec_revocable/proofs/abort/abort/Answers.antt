@@ -1,14 +1,14 @@
 use Rattle.std.proofs.Common.{◌≡◌, Bool, false, sym, ap, ◌∙◌, rules}
 use Rattle.nest_frames.specs.Nest.{is_kept}
 use Rattle.norec_core.specs.Core.{is_outermost}
-use Rattle.norec_revocable.proofs.Cancels.{kept_replies, cancelled_replies, cancelled_sound, all_replies, not_both}
+use Rattle.norec_revocable.proofs.Blocks.Cancels.{kept_replies, cancelled_replies, cancelled_sound, all_replies, not_both}
 use Rattle.norec_revocable.proofs.abort.abort.Goals.{then-outer, else-outer}
 use Rattle.norec_revocable.proofs.abort.abort.Goals as goal
 
 pub returns-then-is_kept : goal.returns-then-is_kept
 returns-then-is_kept c = record {
   sound = search rules;
-  proceeds = kept_replies c.args.state.now c.come.new.self c.args.outer c.come.ensures c.requires.sound (sym c.is_open.ensures ∙ c.if-not-is_open.false) (sym c.is_kept.ensures ∙ c.if-is_kept.true);
+  proceeds = kept_replies c.args.state.now c.start_call.new.self c.args.outer c.start_call.ensures c.requires.sound (sym c.is_open.ensures ∙ c.if-not-is_open.false) (sym c.is_kept.ensures ∙ c.if-is_kept.true);
   stays = search rules;
   order = search rules;
   ends = search rules;
@@ -19,7 +19,7 @@ pub returns-then-is_outermost : goal.returns-then-is_outermost
 returns-then-is_outermost c = record {
   sound = search rules;
   proceeds =
-      (all_replies c.args.state.now c.come.new.self c.args.outer c.roll_back.new.state c.come.ensures c.requires.sound (record {
+      (all_replies c.args.state.now c.start_call.new.self c.args.outer c.roll_back.new.state c.start_call.ensures c.requires.sound (record {
         is_open = sym c.is_open.ensures ∙ c.if-not-is_open.false;
         all =
             λ inner. (elim c.if-outer.branch [
@@ -39,14 +39,14 @@ returns-then-is_outermost c = record {
 pub returns-else-is_outermost : goal.returns-else-is_outermost
 returns-else-is_outermost c = record {
   sound =
-      (let inner : is_outermost c.come.new.self.frames.blocks ≡ false = (elim c.if-outer.branch [
+      (let inner : is_outermost c.start_call.new.self.frames.blocks ≡ false = (elim c.if-outer.branch [
         | then-outer v ↦ not_both (sym v.if-outer.true ∙ (sym v.value-is ∙ c.if-is_outermost.false))
         | else-outer v ↦ sym v.is_outermost.ensures ∙ (sym v.value-is ∙ c.if-is_outermost.false)
       ]) in
       let left = c.cancel.ensures in
       record {
         asked = tt;
-        sound = cancelled_sound c.args.state.now c.come.new.self c.cancel.new.self c.cancel.new.arena c.come.ensures c.requires.sound (sym c.is_open.ensures ∙ c.if-not-is_open.false) inner left.blocks left.rows left.size left.arena_size;
+        sound = cancelled_sound c.args.state.now c.start_call.new.self c.cancel.new.self c.cancel.new.arena c.start_call.ensures c.requires.sound (sym c.is_open.ensures ∙ c.if-not-is_open.false) inner left.blocks left.rows left.size left.arena_size;
       });
   proceeds =
       (let may = sym c.is_kept.ensures ∙ c.if-is_kept.false in
@@ -54,14 +54,14 @@ returns-else-is_outermost c = record {
         | then-outer v ↦ (let not = c.if-is_outermost.false in let is = v.value-is in absurd (cc))
         | else-outer v ↦ v.if-outer.false
       ]) in
-      let inner : is_outermost c.come.new.self.frames.blocks ≡ false = (elim c.if-outer.branch [
+      let inner : is_outermost c.start_call.new.self.frames.blocks ≡ false = (elim c.if-outer.branch [
         | then-outer v ↦ (let not = c.if-is_outermost.false in let is = v.value-is in absurd (cc))
         | else-outer v ↦ sym v.is_outermost.ensures ∙ (sym v.value-is ∙ c.if-is_outermost.false)
       ]) in
-      cancelled_replies c.args.state.now c.come.new.self c.cancel.new.self c.cancel.new.arena c.args.outer c.come.ensures outer c.requires.sound (record {
+      cancelled_replies c.args.state.now c.start_call.new.self c.cancel.new.self c.cancel.new.arena c.args.outer c.start_call.ensures outer c.requires.sound (record {
         is_open = sym c.is_open.ensures ∙ c.if-not-is_open.false;
         inner = inner;
-        may = sym (ap (λ (o : Bool). is_kept c.come.new.self.frames.blocks o) outer) ∙ may;
+        may = sym (ap (λ (o : Bool). is_kept c.start_call.new.self.frames.blocks o) outer) ∙ may;
         blocks = c.cancel.ensures.blocks;
         room = c.cancel.ensures.room;
         actions = c.cancel.ensures.actions;

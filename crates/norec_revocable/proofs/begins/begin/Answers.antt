@@ -3,22 +3,22 @@ use Rattle.itm_types.specs.declared.call.Call.TheVariants.{Begin as Begins}
 use Rattle.itm_types.specs.declared.call.Reply.TheVariants.{Code}
 use Rattle.write_set.specs.Marks.{place_of}
 use Rattle.nest_frames.specs.Nest.{Nest, begun}
-use Rattle.norec_core.specs.declared.phase.Aim.TheVariants as aims
-use Rattle.norec_core.specs.declared.phase.Phase.TheVariants.{Idle}
-use Rattle.norec_core.specs.declared.phase.Taking.TheVariants.{Begin}
+use Rattle.norec_core.specs.Aims as aims
+use Rattle.norec_core.specs.Phases.{Idle}
+use Rattle.norec_core.specs.declared.call_parts.Taking.TheVariants.{Begin}
 use Rattle.norec_core.specs.Core.{Core, came}
 use Rattle.norec_core.specs.Proceeds.{Replies}
 use Rattle.norec_data.specs.declared.data.Data.{Data}
 use Rattle.norec_data.specs.Turns.{Turns}
 use Rattle.norec_data.specs.View.{core, in_block}
 use Rattle.norec_revocable.specs.Between.{between, moved}
-use Rattle.norec_revocable.proofs.BlockBegins.{begin_came, begin_denied, begun_with, denied_ends, denied_order, nested, nested_replies}
+use Rattle.norec_revocable.proofs.Blocks.Begins.{begin_came, begin_denied, begun_with, denied_ends, denied_order, nested, nested_replies}
 use Rattle.norec_revocable.proofs.begins.begin.Goals as goal
 
 pub returns-in-Some : goal.returns-in-Some
 returns-in-Some c = record {
   sound = search rules;
-  proceeds = (rw c.come.ensures (begin_denied c.args.state.now c.args.props c.args.room c.args.again c.in-Some.why c.requires.sound (sym c.begin_refusal.ensures.refusal ∙ c.in-Some.is)));
+  proceeds = (rw c.start_call.ensures (begin_denied c.args.state.now c.args.props c.args.room c.args.again c.in-Some.why c.requires.sound (sym c.begin_refusal.ensures.refusal ∙ c.in-Some.is)));
   stays = search rules;
   order = denied_order c.args.state.now c.args.props c.args.room c.args.again c.in-Some.why (sym c.begin_refusal.ensures.refusal ∙ c.in-Some.is);
   ends = denied_ends c.args.state.now c.args.props c.args.room c.args.again c.in-Some.why (sym c.begin_refusal.ensures.refusal ∙ c.in-Some.is);
@@ -33,7 +33,7 @@ returns-then-props c = record {
       let props = c.args.props in
       let room = c.args.room in
       let served = c.in_default.ensures.served in
-      let come : c.come-2.new.self ≡ begun_with s props room = c.come-2.ensures ∙ ap (λ (frames : Nest). record s { frames = frames; spent = 0; entry = length s.log.rows }) c.in_ok-reserve_room.ensures.ok in
+      let come : c.start_call-2.new.self ≡ begun_with s props room = c.start_call-2.ensures ∙ ap (λ (frames : Nest). record s { frames = frames; spent = 0; entry = length s.log.rows }) c.in_ok-reserve_room.ensures.ok in
       let is_open = ap in_block (sym come) ∙ (sym c.is_open.ensures ∙ c.if-not-is_open.false) in
       subst (λ (mid : Core). Turns mid c.exchange.result c.exchange.new.state)
       (ap (λ (d : Data). moved (between (record d { tries = 0 }) (aims.Take (Begin props room))) s.snapshot) come ∙ begin_came s props room c.args.again served.0 served.1 is_open) (c.exchange.ensures.proceeds s.snapshot));
@@ -52,7 +52,7 @@ returns-else-props c = record {
       let room = c.args.room in
       let again = c.args.again in
       let served = c.in_default.ensures.served in
-      let come : c.come-2.new.self ≡ begun_with s props room = c.come-2.ensures ∙ ap (λ (frames : Nest). record s { frames = frames; spent = 0; entry = length s.log.rows }) c.in_ok-reserve_room.ensures.ok in
+      let come : c.start_call-2.new.self ≡ begun_with s props room = c.start_call-2.ensures ∙ ap (λ (frames : Nest). record s { frames = frames; spent = 0; entry = length s.log.rows }) c.in_ok-reserve_room.ensures.ok in
       let is_open = ap in_block (sym come) ∙ (sym c.is_open.ensures ∙ c.if-not-is_open.false) in
       let enter = c.enter.ensures in
       let frames : c.enter.new.self ≡ (nested s props room again served.0 served.1).frames = (λ i. record {
@@ -62,7 +62,7 @@ returns-else-props c = record {
         actions = (enter.actions ∙ ap (λ (d : Data). d.frames.actions) come) i;
         room = (enter.room ∙ ap (λ (d : Data). d.frames.room) come) i;
       }) in
-      let is : record c.come-2.new.self { frames = c.enter.new.self } ≡ nested s props room again served.0 served.1 = (λ i. record (come i) { frames = frames i }) in
+      let is : record c.start_call-2.new.self { frames = c.enter.new.self } ≡ nested s props room again served.0 served.1 = (λ i. record (come i) { frames = frames i }) in
       subst (λ (d : Data). Replies (came (core s Idle) (Begins props room) again) (Begins props room) (Code 5) (core d Idle)) (sym is) (nested_replies s props room again served.0 served.1 is_open c.if-props.false c.requires.sound));
   stays = search rules;
   order = search rules;

@@ -1,12 +1,12 @@
 use Rattle.std.proofs.Common.{ℕ, refl, sym, ap, ◌∙◌, arith, rules}
 use Rattle.norec_core.specs.Core.{rolled_back}
-use Rattle.norec_core.specs.declared.phase.Aim.TheVariants as aims
-use Rattle.norec_core.specs.declared.phase.Phase.TheVariants.{Idle}
+use Rattle.norec_core.specs.Aims as aims
+use Rattle.norec_core.specs.Phases.{Idle}
 use Rattle.norec_data.specs.View.{core}
 use Rattle.norec_revocable.specs.Between.{between, moved}
-use Rattle.norec_revocable.proofs.Ended.{ended_undone}
-use Rattle.norec_data.proofs.Ended.{core_ended}
-use Rattle.norec_revocable.proofs.IrrevocableEntries.{wants_clock}
+use Rattle.norec_revocable.proofs.Blocks.EndedTransactions.{ended_undone}
+use Rattle.norec_data.proofs.EndedTransactions.{core_ended}
+use Rattle.norec_revocable.proofs.Blocks.IrrevocableEntries.{wants_clock}
 use Rattle.norec_revocable.proofs.commits.exchange.Goals as goal
 
 pub returns-else-at-state-clause-proceeds : goal.returns-else-at-state-clause-proceeds

@@ -1,24 +1,24 @@
 use Rattle.std.proofs.Common.{◌≡◌, ◌≢◌, ℕ, Option, None, ◌<◌, ◌+◌, ◌*◌, ◌==◌, nat_lt, length, arith, refl, sym, ap, subst, ◌∙◌, eq-eqb, rules}
 use Rattle.itm_types.specs.declared.call.Reply.TheVariants.{Done, Code}
 use Rattle.norec_data.specs.declared.data.Data.{Data}
-use Rattle.norec_data.specs.declared.end.End.{End}
-use Rattle.norec_data.specs.declared.turn.Turn.TheVariants.{Enter}
+use Rattle.norec_data.specs.declared.end.CallEnd.{CallEnd}
+use Rattle.norec_data.specs.declared.turn.Turn.TheVariants.{EndIrrevocable}
 use Rattle.norec_data.specs.Turns.{Turns}
-use Rattle.norec_core.specs.declared.phase.Aim.TheVariants as aims
-use Rattle.norec_core.specs.declared.phase.Taking.{Taking}
+use Rattle.norec_core.specs.Aims as aims
+use Rattle.norec_core.specs.declared.call_parts.Taking.{Taking}
 use Rattle.norec_core.specs.Proceeds.{Enters}
 use Rattle.norec_data.specs.View.{call_of, core_held}
 use Rattle.norec_revocable.specs.InPhases.{IsHolding}
 use Rattle.norec_revocable.specs.Between.{in_stores}
-use Rattle.norec_revocable.proofs.IrrevocableEntries.{begin_entered, mode_entered}
+use Rattle.norec_revocable.proofs.Blocks.IrrevocableEntries.{begin_entered, mode_entered}
 use Rattle.std.proofs.lemmas.Bool.{cond-true, cond-false, lt-ltb, ne_eqb}
 use Rattle.write_set.specs.declared.row.Row.{Row}
 use Rattle.word_pieces.specs.Masks.{whole}
-use Rattle.norec_core.specs.declared.phase.Phase.TheVariants.{BackLoad, Store}
+use Rattle.norec_core.specs.Phases.{BackLoad, Store}
 use Rattle.norec_core.specs.Rows.{write_at}
 use Rattle.norec_core.specs.Order.{row_store, stored_stage}
-use Rattle.norec_revocable.proofs.Loads.{wants_later}
-use Rattle.norec_core.proofs.Overlays.{AllWritesWithin-at, write_at_of, stores_whole}
+use Rattle.norec_revocable.proofs.ReadCalls.Loads.{wants_later}
+use Rattle.norec_core.proofs.Accesses.Overlays.{AllWritesWithin-at, write_at_of, stores_whole}
 use Rattle.norec_revocable.proofs.commits.next_store.Goals as goal
 
 -- the clock is held as one step more is asked for
@@ -110,7 +110,7 @@ returns-in-Mode c = record {
       let stored : row ≡ length s.frames.writes.rows = omega (arith, c.if-row-len.false, c.len.ensures.len, c.requires.may.far) in
       let holding = subst (λ (t : Taking). IsHolding s t (2 * row)) c.in-Mode.is c.requires.may.holding in
       let enters = mode_entered s new row stored c.requires.may.bounds.even c.in-Mode.room (2 * row) holding (record { frames = gone.frames; log = gone.log; others = gone.others }) in
-      subst (λ (end : End). Turns (in_stores s s.taking row) (Enter end) new) (sym gone.end)
+      subst (λ (end : CallEnd). Turns (in_stores s s.taking row) (EndIrrevocable end) new) (sym gone.end)
       (subst (λ (t : Taking). Enters (in_stores s t row) (call_of (aims.Take t)) Done (core_held new)) (sym c.in-Mode.is) enters));
   stays = search rules;
   order = search rules;
@@ -129,7 +129,7 @@ returns-in-Begin c = record {
       let stored : row ≡ length s.frames.writes.rows = omega (arith, c.if-row-len.false, c.len.ensures.len, c.requires.may.far) in
       let holding = subst (λ (t : Taking). IsHolding s t (2 * row)) c.in-Begin.is c.requires.may.holding in
       let enters = begin_entered s new row stored c.requires.may.bounds.even c.in-Begin.props c.in-Begin.room (2 * row) holding (record { frames = gone.frames; log = gone.log; others = gone.others }) in
-      subst (λ (end : End). Turns (in_stores s s.taking row) (Enter end) new) (sym gone.end)
+      subst (λ (end : CallEnd). Turns (in_stores s s.taking row) (EndIrrevocable end) new) (sym gone.end)
       (subst (λ (t : Taking). Enters (in_stores s t row) (call_of (aims.Take t)) (Code 5) (core_held new)) (sym c.in-Begin.is) enters));
   stays = search rules;
   order = search rules;

@@ -4,14 +4,14 @@ use Rattle.write_set.specs.declared.row.Row.{Row}
 use Rattle.write_set.specs.Rows.{overlay, AreRows}
 use Rattle.norec_core.specs.Copies.{source_in}
 use Rattle.norec_core.specs.Core.{is_inside}
-use Rattle.norec_core.specs.declared.phase.Phase.TheVariants.{Idle}
+use Rattle.norec_core.specs.Phases.{Idle}
 use Rattle.norec_data.specs.View.{core, rows_before}
 use Rattle.norec_revocable.specs.InPhases.{AreFrames}
-use Rattle.norec_core.specs.Proceeds.{arena_copied, writes_copied}
+use Rattle.norec_core.specs.Effects.{arena_copied, writes_copied}
 use Rattle.norec_core.specs.Rows.{AllWritesWithin}
 use Rattle.norec_core.specs.Stands.{state_over}
-use Rattle.norec_revocable.proofs.Copies.{copies}
-use Rattle.norec_revocable.proofs.Sources.{rows_before-fit, copied_fits, overlay_for, length-arena_copied}
+use Rattle.norec_revocable.proofs.Copies.Effects.{copies}
+use Rattle.norec_revocable.proofs.Copies.Sources.{rows_before-fit, copied_fits, overlay_for, length-arena_copied}
 use Rattle.norec_revocable.proofs.copy.copied.Goals as goal
 
 pub returns-clause-proceeds : goal.returns-clause-proceeds

@@ -10,14 +10,14 @@ use Rattle.write_set.specs.Rows.{overlay}
 use Rattle.norec_core.specs.Copies.{chunks_in, copy_refusal, is_out, source_refusal}
 use Rattle.norec_core.specs.Core.{is_inside}
 use Rattle.norec_data.specs.declared.data.Data.{Data}
-use Rattle.norec_core.specs.declared.phase.Phase.{Phase}
+use Rattle.norec_core.specs.Phases.{Phase}
 use Rattle.norec_data.specs.View.{in_block, rows_before}
 use Rattle.norec_revocable.specs.Between.{in_copy, logged}
 use Rattle.norec_data.specs.Turns.{phase_after, Turns}
 use Rattle.norec_core.specs.Order.{load_chunks, tries_after, tries_at}
-use Rattle.norec_core.proofs.CopyRefusals.{accepted_sides, arena_within}
-use Rattle.norec_revocable.proofs.ReadyCopies.{ready, taken, before, ready_bounds, ready_open, ready_settled, ready_served, ready_came, ready_to_copy, copy_stage_is, out_source}
-use Rattle.norec_core.proofs.Readings.{starts_chunks}
+use Rattle.norec_core.proofs.Replies.CopyRefusals.{accepted_sides, arena_within}
+use Rattle.norec_revocable.proofs.Copies.ReadyCopies.{ready, taken, before, ready_bounds, ready_open, ready_settled, ready_served, ready_came, ready_to_copy, copy_stage_is, out_source}
+use Rattle.norec_core.proofs.Accesses.Readings.{starts_chunks}
 use Rattle.norec_revocable.proofs.copy.copy.Goals as goal
 
 pub next_chunk-requires : goal.next_chunk-requires
@@ -30,7 +30,7 @@ next_chunk-requires c =
       | inl is ↦ ap is_out is.1
       | inr is ↦ ap is_out is.2
     ] in
-    rw c.come.ensures (rw made.frame (rw c.len-written.ensures.len (record {
+    rw c.start_call.ensures (rw made.frame (rw c.len-written.ensures.len (record {
       may = ready_to_copy s e k c.requires.sound (sym c.in_default.ensures) made.log made.blocks made.size made.actions made.room_left made.rows made.may_put shared made.buffer (made.room shared);
     })))
 
@@ -42,13 +42,13 @@ copied-requires c =
     let made = c.in_ok-reserve.ensures in
     let sound = c.requires.sound in
     let accepted = sym c.in_default.ensures in
-    let arena_is : c.come.new.self.arena ≡ s.arena = ap (λ (d : Data). d.arena) c.come.ensures ∙ ap (λ (d : Data). d.arena) made.frame in
+    let arena_is : c.start_call.new.self.arena ≡ s.arena = ap (λ (d : Data). d.arena) c.start_call.ensures ∙ ap (λ (d : Data). d.arena) made.frame in
     let bytes = c.take_source.ensures.bytes ∙ ap (λ (a : List ℕ). slice a k.from k.size) arena_is in
     let fits = taken s e k sound accepted made.log made.blocks made.size made.actions made.room_left made.rows made.may_put in
     let source = subst (λ (pair : CopyPair). source_refusal s.words (length s.arena) pair k.from k.size ≡ None) c.in-Out.is (accepted_sides s.words (length s.arena) k fits).1 in
     let many = ap (length {A = ℕ}) bytes ∙ length-slice s.arena k.from k.size (arena_within (length s.arena) k.from k.size source) in
     let ready_is = ready_open s e k sound accepted made.log made.blocks made.size made.actions made.room_left made.rows made.may_put in
-    rw c.take_source.ensures.frame (rw c.come.ensures (rw made.frame (rw c.len-written.ensures.len (record {
+    rw c.take_source.ensures.frame (rw c.start_call.ensures (rw made.frame (rw c.len-written.ensures.len (record {
       may = record {
         bounds = ready_bounds s e k sound accepted made.log made.blocks made.size made.actions made.room_left made.rows made.may_put;
         is_open = record { is_open = ready_is.is_open; log = ready_is.log; writes = ready_is.writes; rows = ready_is.rows; frames = ready_is.frames; tries = ready_is.tries };
@@ -71,7 +71,7 @@ returns-in-Out c = record {
       let b = c.take_source.new.state.buffer in
       let is : c.take_source.new.state ≡ record (ready s e) { buffer = b } =
       c.take_source.ensures.frame
-      ∙ ((λ i. record (c.come.ensures i) { tries = 0; written = c.len-written.ensures.len i; buffer = b })
+      ∙ ((λ i. record (c.start_call.ensures i) { tries = 0; written = c.len-written.ensures.len i; buffer = b })
       ∙ (λ i. record (made.frame i) { spent = 0; entry = length e.log.rows; tries = 0; written = length s.frames.writes.rows; buffer = b })) in
       subst (λ mid. Turns mid c.copied.result c.copied.new.state)
       (ap (λ (d : Data). logged (in_copy d k) s.log.rows) is ∙ ready_came s e k c.requires.sound (sym c.in_default.ensures) made.log made.blocks made.size made.actions made.room_left made.rows made.may_put)
@@ -95,9 +95,9 @@ returns-in-In c =
       | inl is ↦ ap is_out is.1
       | inr is ↦ ap is_out is.2
     ] in
-    let came_at : Data = record c.come.new.self { tries = 0; written = c.len-written.result } in
+    let came_at : Data = record c.start_call.new.self { tries = 0; written = c.len-written.result } in
     let is : came_at ≡ ready s e =
-    (λ i. record (c.come.ensures i) { tries = 0; written = c.len-written.ensures.len i })
+    (λ i. record (c.start_call.ensures i) { tries = 0; written = c.len-written.ensures.len i })
     ∙ (λ i. record (made.frame i) { spent = 0; entry = length e.log.rows; tries = 0; written = length s.frames.writes.rows }) in
     let rows : List Row = s.frames.writes.rows in
     let old : rows_before came_at ≡ rows = ap rows_before is ∙ before s e k sound accepted made.log made.blocks made.size made.actions made.room_left made.rows made.may_put in

@@ -12,10 +12,10 @@ use Rattle.norec_core.specs.Copies.{target_refusal, chunks_in, direction_of, Wri
 use Rattle.norec_core.specs.Rows.{range_pieces, reserved_all, put_chunks}
 use Rattle.norec_data.specs.View.{rows_before}
 use Rattle.norec_revocable.specs.InPhases.{reserved_for}
-use Rattle.norec_core.specs.Proceeds.{writes_copied, arena_copied}
-use Rattle.norec_core.proofs.Writings.{all_reserved}
-use Rattle.norec_core.proofs.CopyRefusals.{accepted_sides, arena_within}
-use Rattle.norec_revocable.proofs.AcceptedCopies.{target_within, reserved_shared, may_put_shared, writes_shared, arena_shared}
+use Rattle.norec_core.specs.Effects.{writes_copied, arena_copied}
+use Rattle.norec_core.proofs.Accesses.Writings.{all_reserved}
+use Rattle.norec_core.proofs.Replies.CopyRefusals.{accepted_sides, arena_within}
+use Rattle.norec_revocable.proofs.Copies.AcceptedCopies.{target_within, reserved_shared, may_put_shared, writes_shared, arena_shared}
 use Rattle.norec_revocable.proofs.copy.deliver.Goals as goal
 
 pub put-requires : goal.put-requires

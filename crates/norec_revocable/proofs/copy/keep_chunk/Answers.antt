@@ -10,8 +10,8 @@ use Rattle.write_set.proofs.Overlays.{length-overlay}
 use Rattle.norec_core.specs.Copies.{direction_of}
 use Rattle.norec_core.specs.Accesses.{parts, count}
 use Rattle.norec_revocable.specs.InPhases.{IsFor}
-use Rattle.norec_core.specs.declared.phase.Purpose.{Purpose}
-use Rattle.norec_core.proofs.CopyChunks.{chunk_there, chunk_within, length-gathered-all}
+use Rattle.norec_core.specs.declared.call_parts.Purpose.{Purpose}
+use Rattle.norec_core.proofs.Accesses.CopyChunks.{chunk_there, chunk_within, length-gathered-all}
 use Rattle.norec_revocable.proofs.copy.keep_chunk.Goals as goal
 
 pub overflow_sub-start : goal.overflow_sub-start

@@ -9,21 +9,21 @@ use Rattle.norec_data.specs.declared.pending.Pending.TheVariants as waits
 use Rattle.norec_data.specs.declared.turn.Turn.TheVariants.{Wait}
 use Rattle.norec_data.specs.Turns.{Turns}
 use Rattle.norec_revocable.specs.Between.{in_copy}
-use Rattle.norec_core.specs.declared.phase.Phase.{Phase}
-use Rattle.norec_core.specs.declared.phase.Reading.{Reading}
+use Rattle.norec_core.specs.Phases.{Phase}
+use Rattle.norec_core.specs.declared.call_parts.Reading.{Reading}
 use Rattle.norec_core.specs.Copies.{chunks_in, direction_of}
 use Rattle.norec_core.specs.Order.{chunk_reading, load_among, load_chunks}
 use Rattle.norec_core.specs.Accesses.{parts}
 use Rattle.norec_data.specs.View.{rows_before}
 use Rattle.norec_revocable.specs.InPhases.{IsReading}
-use Rattle.norec_revocable.proofs.AcceptedCopies.{source_within}
-use Rattle.norec_core.proofs.CopyChunks.{chunk_there}
-use Rattle.norec_revocable.proofs.Loads.{open_gathering, load_proceeds, load_sound, logs_chunk, may_read, reading_of, no_reading, starts_chunk, whole_source}
-use Rattle.norec_core.proofs.Readings.{none_drop, some_drop, some_count, words_in-next}
+use Rattle.norec_revocable.proofs.Copies.AcceptedCopies.{source_within}
+use Rattle.norec_core.proofs.Accesses.CopyChunks.{chunk_there}
+use Rattle.norec_revocable.proofs.ReadCalls.Loads.{open_gathering, load_proceeds, load_sound, logs_chunk, may_read, reading_of, no_reading, starts_chunk, whole_source}
+use Rattle.norec_core.proofs.Accesses.Readings.{none_drop, some_drop, some_count, words_in-next}
 use Rattle.norec_revocable.proofs.copy.next_chunk.Goals as goal
 
-pub take_had-requires : goal.take_had-requires
-take_had-requires c =
+pub take_known-requires : goal.take_known-requires
+take_known-requires c =
     let s = c.loop-reading.state in
     let k = c.args.copying in
     let n = c.loop-reading.number in
@@ -37,23 +37,23 @@ take_had-requires c =
       );
     }
 
-pub returns-in-Some-take_had-clause-goes : goal.returns-in-Some-take_had-clause-goes
-returns-in-Some-take_had-clause-goes c =
+pub returns-in-Some-take_known-clause-goes : goal.returns-in-Some-take_known-clause-goes
+returns-in-Some-take_known-clause-goes c =
     let s = c.loop-reading.state in
     let may = c.loop-reading.invariant.may in
     let k = c.args.copying in
     let n = c.loop-reading.number in
     let at = reading_of k n c.in-Some.reading (sym c.in-Some.is ∙ c.chunk_reading.ensures.value) in
-    let next : Reading = record c.in-Some.reading { number = c.in-Some-take_had.number } in
-    let found = c.in-Some-take_had.ensures.next in
-    let same : next ≡ record (chunk_reading k n at.0) { number = next.number } = ap (λ (r : Reading). record r { number = c.in-Some-take_had.number }) at.2 in
-    let g = c.take_had.new.state.gathered in
-    let read = may_read (record s { gathered = c.new-state.result }) (chunk_reading k n at.0) next g same (omega arith) (logs_chunk s k n at.0 c.new-state.result may) (rw (← c.take_had.ensures.frame) found.1) (rw (← c.take_had.ensures.frame) found.2) in
+    let next : Reading = record c.in-Some.reading { number = c.in-Some-take_known.number } in
+    let found = c.in-Some-take_known.ensures.next in
+    let same : next ≡ record (chunk_reading k n at.0) { number = next.number } = ap (λ (r : Reading). record r { number = c.in-Some-take_known.number }) at.2 in
+    let g = c.take_known.new.state.gathered in
+    let read = may_read (record s { gathered = c.new-state.result }) (chunk_reading k n at.0) next g same (omega arith) (logs_chunk s k n at.0 c.new-state.result may) (rw (← c.take_known.ensures.frame) found.1) (rw (← c.take_known.ensures.frame) found.2) in
     record {
-      sound = rw c.take_had.ensures.frame (load_sound (record s { gathered = g }) (chunk_reading k n at.0) next same (omega arith) may.bounds (open_gathering s _ may.is_open) read may.settled (omega (arith, may.spent)));
+      sound = rw c.take_known.ensures.frame (load_sound (record s { gathered = g }) (chunk_reading k n at.0) next same (omega arith) may.bounds (open_gathering s _ may.is_open) read may.settled (omega (arith, may.spent)));
       proceeds =
-          subst (λ mid. Turns mid (Wait waits.Load) (record c.take_had.new.state { reading = next })) (ap (λ (d : Data). in_copy d k) c.loop-reading.invariant.frame)
-          (rw c.take_had.ensures.frame (load_proceeds (record s { gathered = g }) (chunk_reading k n at.0) next same (omega arith) may.bounds (open_gathering s _ may.is_open) read may.settled (omega (arith, may.spent)) s.log.rows));
+          subst (λ mid. Turns mid (Wait waits.Load) (record c.take_known.new.state { reading = next })) (ap (λ (d : Data). in_copy d k) c.loop-reading.invariant.frame)
+          (rw c.take_known.ensures.frame (load_proceeds (record s { gathered = g }) (chunk_reading k n at.0) next same (omega arith) may.bounds (open_gathering s _ may.is_open) read may.settled (omega (arith, may.spent)) s.log.rows));
       stays = search rules;
       order =
           (let before = rows_before c.args.state.now in
@@ -62,7 +62,7 @@ returns-in-Some-take_had-clause-goes c =
           let past : Phase = load_chunks before log k (suc n) rest in
           let rows = ap rows_before c.loop-reading.invariant.frame in
           let logs = ap (λ (d : Data). d.log.rows) c.loop-reading.invariant.frame in
-          c.in-Some-take_had.ensures.order past
+          c.in-Some-take_known.ensures.order past
           ∙ ((λ i. load_among (rows i) (logs i) past (at.2 i) (drop (at.2 i).number (parts (at.2 i))))
           ∙ (sym (ap (load_chunks before log k n) (some_drop (chunks_in k) n at.0 at.1)) ∙ sym c.loop-reading.invariant.order)));
       ends = tt;
@@ -102,7 +102,7 @@ loop-reading-preserved c =
     let rows = ap rows_before c.loop-reading.invariant.frame in
     let logs = ap (λ (d : Data). d.log.rows) c.loop-reading.invariant.frame in
     let kept = ap (λ (d : Data). d.gathered) c.keep_chunk.ensures.frame in
-    let frame = c.keep_chunk.ensures.frame ∙ (λ i. record (c.take_had.ensures.frame i) { buffer = c.keep_chunk.new.state.buffer }) in
+    let frame = c.keep_chunk.ensures.frame ∙ (λ i. record (c.take_known.ensures.frame i) { buffer = c.keep_chunk.new.state.buffer }) in
     record {
       may = record {
         bounds = rw frame may.bounds;
@@ -115,13 +115,13 @@ loop-reading-preserved c =
         spent = rw frame (omega (arith, may.spent, more));
       };
       frame =
-          frame ∙ ((λ i. record (c.loop-reading.invariant.frame i) { gathered = c.take_had.new.state.gathered; buffer = c.keep_chunk.new.state.buffer })
+          frame ∙ ((λ i. record (c.loop-reading.invariant.frame i) { gathered = c.take_known.new.state.gathered; buffer = c.keep_chunk.new.state.buffer })
           ∙ (λ i. record c.args.state.now { gathered = sym kept i; buffer = c.keep_chunk.new.state.buffer }));
       order =
           c.loop-reading.invariant.order
           ∙ (ap (load_chunks before log k n) (some_drop cs n at.0 at.1)
           ∙ ((λ i. load_among (sym rows i) (sym logs i) (load_chunks before log k (suc n) (drop (suc n) cs)) (sym at.2 i) (drop (sym at.2 i).number (parts (sym at.2 i))))
-          ∙ (sym (c.in_default-take_had.ensures.order (load_chunks before log k (suc n) (drop (suc n) cs))) ∙ next)));
+          ∙ (sym (c.in_default-take_known.ensures.order (load_chunks before log k (suc n) (drop (suc n) cs))) ∙ next)));
     }
 
 pub copied-requires : goal.copied-requires

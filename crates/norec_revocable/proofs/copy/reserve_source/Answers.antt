@@ -2,8 +2,8 @@ use Rattle.std.proofs.Common.{◌≡◌, ◌*◌, ◌≤◌, false, length, arit
 use Rattle.word_pieces.specs.Chunks.{chunks_of}
 use Rattle.norec_core.specs.Copies.{chunks_in, is_out}
 use Rattle.norec_revocable.specs.declared.read.TheConstants.{MOST_PIECES}
-use Rattle.norec_core.proofs.CopyChunks.{source_few}
-use Rattle.norec_core.proofs.Writings.{map_ok}
+use Rattle.norec_core.proofs.Accesses.CopyChunks.{source_few}
+use Rattle.norec_core.proofs.Accesses.Writings.{map_ok}
 use Rattle.norec_revocable.proofs.copy.reserve_source.Goals as goal
 
 pub returns-in-In : goal.returns-in-In

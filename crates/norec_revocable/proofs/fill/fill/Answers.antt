@@ -3,7 +3,7 @@ use Rattle.std.proofs.lemmas.List.{length-replicate}
 use Rattle.std.proofs.lemmas.List.Elements.{All-from_recursion}
 use Rattle.itm_types.specs.declared.access.WriteHint.{WriteHint}
 use Rattle.itm_types.specs.declared.call.Call.TheVariants.{Fill}
-use Rattle.norec_data.specs.declared.end.End.TheVariants as ends
+use Rattle.norec_data.specs.declared.end.CallEnd.TheVariants as ends
 use Rattle.norec_data.specs.declared.turn.Turn.TheVariants.{End}
 use Rattle.word_pieces.specs.declared.piece.Piece.{Piece}
 use Rattle.word_pieces.specs.declared.chunk.Direction.TheVariants.{Up}
@@ -12,8 +12,8 @@ use Rattle.write_set.specs.declared.row.Row.{Row}
 use Rattle.write_set.specs.Rows.{lookup}
 use Rattle.norec_core.specs.Rows.{range_pieces, reserved_all}
 use Rattle.norec_revocable.specs.Moves.{CallTurns}
-use Rattle.norec_revocable.proofs.Fills.{none_filled, some_filled, fill_turns}
-use Rattle.norec_core.proofs.Writings.{all_reserved}
+use Rattle.norec_revocable.proofs.Copies.Fills.{none_filled, some_filled, fill_turns}
+use Rattle.norec_core.proofs.Accesses.Writings.{all_reserved}
 use Rattle.norec_revocable.proofs.fill.fill.Goals.{then-size-gt0+in_ok-set_all+in_ok-reserve_range, else-size-gt0}
 use Rattle.norec_revocable.proofs.fill.fill.Goals as goal
 
@@ -31,14 +31,14 @@ put_range-requires-clause-room c =
     (All-from_recursion (λ (p : Piece). IsSome (lookup p.word (reserved_all old ps))) ps (all_reserved old ps))
 
 -- the bytes are put, if there are some
-filled_turn : (c : goal.After-come) (hint : WriteHint) → CallTurns c.args.state.now (Fill hint c.args.to c.args.byte c.args.size) false (End ends.Done) c.come.new.self
+filled_turn : (c : goal.After-start_call) (hint : WriteHint) → CallTurns c.args.state.now (Fill hint c.args.to c.args.byte c.args.size) false (End ends.Done) c.start_call.new.self
 filled_turn c hint =
     let s = c.args.state.now in
     let to = c.args.to in
     let byte = c.args.byte in
     let size = c.args.size in
     let accepted = sym c.in_default.ensures.value in
-    rw c.come.ensures (elim c.if-size-gt0.branch [
+    rw c.start_call.ensures (elim c.if-size-gt0.branch [
       | then-size-gt0+in_ok-set_all+in_ok-reserve_range w ↦ (
           let made = w.in_ok-reserve_range.ensures.rows ∙ (λ i. reserved_all s.frames.writes.rows (range_pieces to (chunks_of (w.new.ensures.direction i) (w.new.ensures.size i)))) in
           let is = some_filled s to byte size w.reserve_range.new.frames.writes.rows w.deref.result.now w.put_range.new.frames accepted made

@@ -3,29 +3,29 @@ use Rattle.std.proofs.lemmas.Result.{err_from_is_err_and}
 use Rattle.itm_types.specs.declared.call.Call.{Call}
 use Rattle.itm_types.specs.declared.call.Refusal.TheVariants.{Outside, OutOfArena}
 use Rattle.itm_types.specs.Calls.{logged_of}
-use Rattle.itm_types.specs.Kept.{also_kept}
+use Rattle.itm_types.specs.KeptBytes.{also_kept}
 use Rattle.itm_model.specs.Machine.{or_else, unless}
 use Rattle.undo_log.specs.Rollback.{found, kept_of}
 use Rattle.nest_frames.specs.Nest.{Nest, log_of}
 use Rattle.norec_data.specs.declared.data.Data.{Data}
 use Rattle.norec_data.specs.declared.turn.Turn.TheVariants.{End}
-use Rattle.norec_data.specs.declared.end.End.TheVariants as ends
+use Rattle.norec_data.specs.declared.end.CallEnd.TheVariants as ends
 use Rattle.norec_revocable.specs.Moves.{CallTurns}
-use Rattle.norec_revocable.proofs.AtOnce.{answered, logged_at_once, logged_starves, refused_as_it_was, starved}
-use Rattle.norec_revocable.proofs.Cancels.{come}
-use Rattle.norec_revocable.proofs.LocalReplies.{logged_replies, logged_sound, not_within, unlogged_replies, with_log}
+use Rattle.norec_revocable.proofs.Replies.ImmediateReplies.{answered, logged_at_once, logged_starves, refused_as_it_was, starved}
+use Rattle.norec_revocable.proofs.Blocks.Cancels.{come}
+use Rattle.norec_revocable.proofs.Replies.LocalReplies.{logged_replies, logged_sound, not_within, unlogged_replies, with_log}
 use Rattle.norec_revocable.proofs.local.log.Goals.{then-not-is_open, else-not-is_open+then-not-contains, else-not-is_open+else-not-contains+in_ok-log}
 use Rattle.norec_revocable.proofs.local.log.Goals as goal
 
 -- the bytes are logged, or the call is refused
-logged_turn : (c : goal.After-come) (call : Call) → logged_of call ≡ Some (c.args.at, c.args.size) → CallTurns c.args.state.now call false (End c.if-not-is_open.end) c.come.new.self
+logged_turn : (c : goal.After-start_call) (call : Call) → logged_of call ≡ Some (c.args.at, c.args.size) → CallTurns c.args.state.now call false (End c.if-not-is_open.end) c.start_call.new.self
 logged_turn c call by =
     let s = c.args.state.now in
     let place = c.args.at in
     let size = c.args.size in
     let sound = c.requires.sound in
     let none = logged_at_once s call place size by in
-    rw c.come.ensures (elim c.if-not-is_open.branch [
+    rw c.start_call.ensures (elim c.if-not-is_open.branch [
       | then-not-is_open w ↦ (
           let shut = sym c.is_open.ensures ∙ w.if-not-is_open.true in
           rw w.end-is (rw w.state-is (refused_as_it_was s call Outside none sound

@@ -6,23 +6,23 @@ use Rattle.nest_frames.specs.Nest.{Nest}
 use Rattle.itm_types.specs.declared.call.Refusal.TheVariants.{Outside}
 use Rattle.norec_data.specs.declared.data.Data.{Data}
 use Rattle.norec_data.specs.declared.turn.Turn.TheVariants.{End}
-use Rattle.norec_data.specs.declared.end.End.TheVariants as ends
+use Rattle.norec_data.specs.declared.end.CallEnd.TheVariants as ends
 use Rattle.norec_revocable.specs.Moves.{CallTurns}
-use Rattle.norec_revocable.proofs.AtOnce.{answered, refused_as_it_was, registered_at_once, registered_starves, starved}
-use Rattle.norec_revocable.proofs.Cancels.{come}
-use Rattle.norec_revocable.proofs.LocalReplies.{registered_replies, registered_sound, unregistered_replies, with_action}
+use Rattle.norec_revocable.proofs.Replies.ImmediateReplies.{answered, refused_as_it_was, registered_at_once, registered_starves, starved}
+use Rattle.norec_revocable.proofs.Blocks.Cancels.{come}
+use Rattle.norec_revocable.proofs.Replies.LocalReplies.{registered_replies, registered_sound, unregistered_replies, with_action}
 use Rattle.norec_revocable.proofs.local.register.Goals.{then-is_open+in_ok-register, else-is_open}
 use Rattle.norec_revocable.proofs.local.register.Goals as goal
 
 -- the action is registered, or the call is refused
-registered_turn : (c : goal.After-come) (call : Call) → registered_by call ≡ Some (c.args.kind, c.args.action) → CallTurns c.args.state.now call false (End c.if-is_open.end) c.come.new.self
+registered_turn : (c : goal.After-start_call) (call : Call) → registered_by call ≡ Some (c.args.kind, c.args.action) → CallTurns c.args.state.now call false (End c.if-is_open.end) c.start_call.new.self
 registered_turn c call by =
     let s = c.args.state.now in
     let kind = c.args.kind in
     let action = c.args.action in
     let sound = c.requires.sound in
     let none = registered_at_once s call kind action by in
-    rw c.come.ensures (elim c.if-is_open.branch [
+    rw c.start_call.ensures (elim c.if-is_open.branch [
       | then-is_open+in_ok-register w ↦ (
           let o = sym c.is_open.ensures ∙ w.if-is_open.true in
           let is : come (record s { frames = w.register.new.self }) ≡ with_action s kind action = ap (λ (frames : Nest). come (record s { frames = frames })) w.in_ok-register.ensures.ok in

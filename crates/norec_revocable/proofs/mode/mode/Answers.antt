@@ -3,9 +3,9 @@ use Rattle.itm_types.specs.declared.call.Reply.TheVariants.{Refused}
 use Rattle.nest_frames.specs.Nest.{Nest, stays_revocable}
 use Rattle.norec_core.specs.declared.answer.Answer.{Answer}
 use Rattle.norec_core.specs.declared.answer.Answer.TheVariants.{Full, Reply}
-use Rattle.norec_core.specs.declared.phase.Aim.TheVariants as aims
-use Rattle.norec_core.specs.declared.phase.Phase.TheVariants.{Idle}
-use Rattle.norec_core.specs.declared.phase.Taking.TheVariants.{Mode}
+use Rattle.norec_core.specs.Aims as aims
+use Rattle.norec_core.specs.Phases.{Idle}
+use Rattle.norec_core.specs.declared.call_parts.Taking.TheVariants.{Mode}
 use Rattle.norec_core.specs.Core.{Core}
 use Rattle.norec_core.specs.Endings.{IsEnding, going_ending}
 use Rattle.norec_core.specs.Order.{exchange_stage, going_stage}
@@ -13,13 +13,13 @@ use Rattle.norec_data.specs.declared.data.Data.{Data}
 use Rattle.norec_data.specs.Turns.{TurnEndsSo, Turns}
 use Rattle.norec_data.specs.View.{core, in_block}
 use Rattle.norec_revocable.specs.Between.{between, moved}
-use Rattle.norec_revocable.proofs.IrrevocableEntries.{mode_accepted, mode_came, mode_denied, no_room}
+use Rattle.norec_revocable.proofs.Blocks.IrrevocableEntries.{mode_accepted, mode_came, mode_denied, no_room}
 use Rattle.norec_revocable.proofs.mode.mode.Goals as goal
 
 pub returns-in-Some : goal.returns-in-Some
 returns-in-Some c = record {
   sound = search rules;
-  proceeds = (rw c.come.ensures (mode_denied c.args.state.now c.args.room c.in-Some.why c.requires.sound (sym c.mode_refusal.ensures ∙ c.in-Some.is)));
+  proceeds = (rw c.start_call.ensures (mode_denied c.args.state.now c.args.room c.in-Some.why c.requires.sound (sym c.mode_refusal.ensures ∙ c.in-Some.is)));
   stays = search rules;
   order =
       (ap (λ (room : Option ℕ). going_stage (core c.args.state.now Idle) room (Mode c.args.room))
@@ -37,8 +37,8 @@ returns c = record {
       (let s = c.args.state.now in
       let room = c.args.room in
       let accepted = mode_accepted (in_block s) (stays_revocable s.frames.blocks) (sym c.in_default.ensures) in
-      let come : record c.come-2.new.self { tries = 0 } ≡ record s { frames = record s.frames { room = room }; spent = 0; entry = length s.log.rows; tries = 0 } =
-      ap (λ (d : Data). record d { tries = 0 }) c.come-2.ensures
+      let come : record c.start_call-2.new.self { tries = 0 } ≡ record s { frames = record s.frames { room = room }; spent = 0; entry = length s.log.rows; tries = 0 } =
+      ap (λ (d : Data). record d { tries = 0 }) c.start_call-2.ensures
       ∙ ap (λ (frames : Nest). record s { frames = frames; spent = 0; entry = length s.log.rows; tries = 0 }) c.in_ok-reserve_actions.ensures.ok in
       subst (λ (mid : Core). Turns mid c.exchange.result c.exchange.new.state)
       (ap (λ (d : Data). moved (between d (aims.Take (Mode room))) s.snapshot) come ∙ mode_came s room accepted.0 accepted.1) (c.exchange.ensures.proceeds s.snapshot));
@@ -47,13 +47,13 @@ returns c = record {
       (let s = c.args.state.now in
       let accepted = mode_accepted (in_block s) (stays_revocable s.frames.blocks) (sym c.in_default.ensures) in
       c.exchange.ensures.goes.order
-      ∙ (ap (λ (d : Data). exchange_stage d.limits.max_commits d.snapshot (Mode c.args.room)) c.come-2.ensures
+      ∙ (ap (λ (d : Data). exchange_stage d.limits.max_commits d.snapshot (Mode c.args.room)) c.start_call-2.ensures
       ∙ (λ i. going_stage (core s Idle) (if (sym accepted.0 i) && not (sym accepted.1 i) && not false then Some c.args.room else None) (Mode c.args.room))));
   ends =
       (let s = c.args.state.now in
       let accepted = mode_accepted (in_block s) (stays_revocable s.frames.blocks) (sym c.in_default.ensures) in
       subst (λ (so : Option Answer). TurnEndsSo so c.exchange.result c.exchange.new.state)
-      (ap (λ (d : Data). Some (Full (d.snapshot / 2))) c.come-2.ensures
+      (ap (λ (d : Data). Some (Full (d.snapshot / 2))) c.start_call-2.ensures
       ∙ (λ i. going_ending (core s Idle) (if (sym accepted.0 i) && not (sym accepted.1 i) && not false then Some c.args.room else None)))
       c.exchange.ensures.goes.ends);
   tries = search rules;

@@ -7,8 +7,8 @@ use Rattle.word_pieces.specs.Pieces.{pieces_of}
 use Rattle.write_set.specs.Marks.{MayPut}
 use Rattle.write_set.specs.Rows.{lookup}
 use Rattle.norec_core.specs.Rows.{put_all, put_chunks}
-use Rattle.norec_core.proofs.Ranges.{all_of_chunk, put_chunks_more}
-use Rattle.norec_core.proofs.Writings.{some_words}
+use Rattle.norec_core.proofs.Accesses.Ranges.{all_of_chunk, put_chunks_more}
+use Rattle.norec_core.proofs.Accesses.Writings.{some_words}
 use Rattle.norec_revocable.proofs.range.put_range.Goals as goal
 
 pub loop-number-init : goal.loop-number-init

@@ -11,8 +11,8 @@ use Rattle.write_set.specs.Marks.{MayPut}
 use Rattle.write_set.specs.Rows.{AreEmpty}
 use Rattle.nest_frames.specs.Nest.{Nest, Frame}
 use Rattle.norec_core.specs.Rows.{range_pieces, reserved_all}
-use Rattle.norec_core.proofs.Ranges.{range_pieces_more, reserved_all-append}
-use Rattle.norec_core.proofs.Writings.{cut-reserved_all, on_err, on_ok}
+use Rattle.norec_core.proofs.Accesses.Ranges.{range_pieces_more, reserved_all-append}
+use Rattle.norec_core.proofs.Accesses.Writings.{cut-reserved_all, on_err, on_ok}
 use Rattle.norec_revocable.proofs.range.reserve_range.Goals as goal
 
 pub loop-number-init : goal.loop-number-init

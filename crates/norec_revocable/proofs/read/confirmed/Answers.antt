@@ -10,11 +10,11 @@ use Rattle.word_pieces.specs.Pieces.{gathered, part_of}
 use Rattle.write_set.specs.Rows.{overlay}
 use Rattle.norec_core.specs.Rows.{is_had}
 use Rattle.norec_core.specs.Accesses.{count, parts}
-use Rattle.norec_core.proofs.Overlays.{index_of}
-use Rattle.norec_core.proofs.Readings.{none_left, part_is, length-part_of, passed_next, total_left}
-use Rattle.norec_revocable.proofs.JoinedRows.{agreed_before, has_value, joined_open, joined_for, joins, stage_joined, log_joined}
-use Rattle.norec_revocable.proofs.ReadingFields.{among}
-use Rattle.norec_revocable.proofs.Sources.{unlogged}
+use Rattle.norec_core.proofs.Accesses.Overlays.{index_of}
+use Rattle.norec_core.proofs.Accesses.Readings.{none_left, part_is, length-part_of, passed_next, total_left}
+use Rattle.norec_revocable.proofs.ReadCalls.JoinedRows.{agreed_before, has_value, joined_open, joined_for, joins, stage_joined, log_joined}
+use Rattle.norec_revocable.proofs.ReadCalls.ReadingFields.{among}
+use Rattle.norec_revocable.proofs.Copies.Sources.{unlogged}
 use Rattle.norec_revocable.proofs.read.confirmed.Goals as goal
 
 -- the rows with one of this word

@@ -6,18 +6,18 @@ use Rattle.itm_types.specs.declared.row.LogRow.{LogRow}
 use Rattle.write_set.specs.Rows.{overlay}
 use Rattle.norec_core.specs.Accesses.{count, part}
 use Rattle.norec_core.specs.declared.answer.Answer.{Answer}
-use Rattle.norec_core.specs.declared.phase.Reading.{Reading}
-use Rattle.norec_core.proofs.Readings.{total_left}
+use Rattle.norec_core.specs.declared.call_parts.Reading.{Reading}
+use Rattle.norec_core.proofs.Accesses.Readings.{total_left}
 use Rattle.norec_data.specs.declared.data.Data.{Data}
-use Rattle.norec_data.specs.declared.end.End.TheVariants.{Word}
+use Rattle.norec_data.specs.declared.end.CallEnd.TheVariants.{Word}
 use Rattle.norec_data.specs.declared.turn.Turn.TheVariants.{End}
 use Rattle.norec_data.specs.Turns.{TurnEndsSo}
 use Rattle.norec_data.specs.View.{rows_before}
-use Rattle.norec_revocable.proofs.JoinedRows.{has_value, joined_open, joined_for, joins, stage_joined, log_joined}
-use Rattle.norec_revocable.proofs.ReadReplies.{Finds, replies, loads_no_more}
-use Rattle.norec_revocable.proofs.ReadingFields.{among}
-use Rattle.norec_revocable.proofs.Sources.{unlogged}
-use Rattle.norec_revocable.proofs.WholeWords.{bytes_there, one_piece, word_is}
+use Rattle.norec_revocable.proofs.ReadCalls.JoinedRows.{has_value, joined_open, joined_for, joins, stage_joined, log_joined}
+use Rattle.norec_revocable.proofs.ReadCalls.Replies.{Finds, replies, loads_no_more}
+use Rattle.norec_revocable.proofs.ReadCalls.ReadingFields.{among}
+use Rattle.norec_revocable.proofs.Copies.Sources.{unlogged}
+use Rattle.norec_revocable.proofs.ReadCalls.WholeWords.{bytes_there, one_piece, word_is}
 use Rattle.norec_revocable.proofs.read.confirmed_word.Goals as goal
 
 -- the rows with one of this word

@@ -4,7 +4,7 @@ use Rattle.write_set.specs.declared.row.Row.{Row}
 use Rattle.write_set.specs.Rows.{overlay, laid}
 use Rattle.word_pieces.specs.Pieces.{part_of}
 use Rattle.word_pieces.proofs.Covers.{AllFit-at}
-use Rattle.norec_core.proofs.Overlays.{index_of, got_at, lookup_fits}
+use Rattle.norec_core.proofs.Accesses.Overlays.{index_of, got_at, lookup_fits}
 use Rattle.norec_revocable.proofs.read.covered.Goals as goal
 
 pub returns-in-Some-clause-part : goal.returns-in-Some-clause-part

@@ -1,12 +1,12 @@
 use Rattle.std.proofs.Common.{◌≡◌, ℕ, ◌+◌, ◌*◌, length, take, drop, refl, sym, ap, subst, ◌∙◌, arith, add-one, rules}
 use Rattle.word_pieces.specs.Pieces.{count_of}
 use Rattle.norec_data.specs.declared.data.Data.{Data}
-use Rattle.norec_core.specs.declared.phase.Aim.TheVariants as aims
-use Rattle.norec_core.specs.declared.phase.Purpose.{Purpose}
-use Rattle.norec_core.specs.declared.phase.Reading.{Reading}
+use Rattle.norec_core.specs.Aims as aims
+use Rattle.norec_core.specs.declared.call_parts.Purpose.{Purpose}
+use Rattle.norec_core.specs.declared.call_parts.Reading.{Reading}
 use Rattle.norec_core.specs.Copies.{chunks_in, direction_of, source_words, words_in}
-use Rattle.norec_revocable.proofs.AcceptedCopies.{source_within}
-use Rattle.norec_core.proofs.CopyChunks.{chunk_there}
+use Rattle.norec_revocable.proofs.Copies.AcceptedCopies.{source_within}
+use Rattle.norec_core.proofs.Accesses.CopyChunks.{chunk_there}
 use Rattle.norec_core.specs.Core.{Core}
 use Rattle.norec_core.specs.Order.{load_chunks, load_past}
 use Rattle.norec_core.specs.Accesses.{count, passed, passed_for, total, total_for}
@@ -14,12 +14,12 @@ use Rattle.norec_data.specs.View.{rows_before}
 use Rattle.norec_revocable.specs.InPhases.{IsFor}
 use Rattle.norec_revocable.specs.Between.{between, in_copy, logged, IsValue}
 use Rattle.norec_data.specs.Turns.{Turns}
-use Rattle.norec_revocable.proofs.Loads.{open_gathering, load_sound, load_proceeds, may_read}
-use Rattle.norec_core.proofs.Readings.{some_count, words_in-next}
+use Rattle.norec_revocable.proofs.ReadCalls.Loads.{open_gathering, load_sound, load_proceeds, may_read}
+use Rattle.norec_core.proofs.Accesses.Readings.{some_count, words_in-next}
 use Rattle.norec_revocable.proofs.read.go_on.Goals as goal
 
-pub take_had-requires : goal.take_had-requires
-take_had-requires c =
+pub take_known-requires : goal.take_known-requires
+take_known-requires c =
     let may = c.requires.may in
     record { may = (may.bounds.small, may.is_open, may.reading) }
 
@@ -29,8 +29,8 @@ returns-in-Some-clause-proceeds c log =
     let may = c.requires.may in
     let found = c.in-Some.ensures.next in
     let next : Reading = record c.args.reading { number = c.in-Some.number } in
-    let read = may_read s c.args.reading next c.take_had.new.state.gathered refl found.0 may.logging (rw (← c.take_had.ensures.frame) found.1) (rw (← c.take_had.ensures.frame) found.2) in
-    rw c.take_had.ensures.frame (load_proceeds (record s { gathered = c.take_had.new.state.gathered }) c.args.reading next refl found.0 may.bounds (open_gathering s _ may.is_open) read may.settled may.spent log)
+    let read = may_read s c.args.reading next c.take_known.new.state.gathered refl found.0 may.logging (rw (← c.take_known.ensures.frame) found.1) (rw (← c.take_known.ensures.frame) found.2) in
+    rw c.take_known.ensures.frame (load_proceeds (record s { gathered = c.take_known.new.state.gathered }) c.args.reading next refl found.0 may.bounds (open_gathering s _ may.is_open) read may.settled may.spent log)
 
 pub returns-in-Some-clause-goes : goal.returns-in-Some-clause-goes
 returns-in-Some-clause-goes c = record {
@@ -39,8 +39,8 @@ returns-in-Some-clause-goes c = record {
       let may = c.requires.may in
       let found = c.in-Some.ensures.next in
       let next : Reading = record c.args.reading { number = c.in-Some.number } in
-      let read = may_read s c.args.reading next c.take_had.new.state.gathered refl found.0 may.logging (rw (← c.take_had.ensures.frame) found.1) (rw (← c.take_had.ensures.frame) found.2) in
-      rw c.take_had.ensures.frame (load_sound (record s { gathered = c.take_had.new.state.gathered }) c.args.reading next refl found.0 may.bounds (open_gathering s _ may.is_open) read may.settled may.spent));
+      let read = may_read s c.args.reading next c.take_known.new.state.gathered refl found.0 may.logging (rw (← c.take_known.ensures.frame) found.1) (rw (← c.take_known.ensures.frame) found.2) in
+      rw c.take_known.ensures.frame (load_sound (record s { gathered = c.take_known.new.state.gathered }) c.args.reading next refl found.0 may.bounds (open_gathering s _ may.is_open) read may.settled may.spent));
   proceeds = returns-in-Some-clause-proceeds c c.args.state.now.log.rows;
   stays = search rules;
   order = c.in-Some.ensures.order (load_past (rows_before c.args.state.now) c.args.state.now.log.rows c.args.reading.purpose);
@@ -71,7 +71,7 @@ next_chunk-requires c =
     let passed_is : passed r ≡ words_in k.from (take n (chunks_in k)) + r.number = ap (λ (what : Purpose). passed_for what r.number) c.in-Chunk.is in
     let total_is : total r ≡ source_words k = ap (λ (what : Purpose). total_for what (count r)) c.in-Chunk.is in
     let rounds : s.tries * (s.entry + total r + 4) ≡ s.tries * (s.entry + source_words k + 4) = ap (λ (t : ℕ). s.tries * (s.entry + t + 4)) total_is in
-    let frame = c.keep_chunk.ensures.frame ∙ (λ i. record (c.take_had.ensures.frame i) { buffer = c.keep_chunk.new.state.buffer }) in
+    let frame = c.keep_chunk.ensures.frame ∙ (λ i. record (c.take_known.ensures.frame i) { buffer = c.keep_chunk.new.state.buffer }) in
     record {
       may = record {
         bounds = rw frame may.bounds;
@@ -92,18 +92,18 @@ reply_gathered-requires c =
     let o = may.is_open in
     record {
       may = record {
-        bounds = rw c.take_had.ensures.frame may.bounds;
-        is_open = rw c.take_had.ensures.frame (record { is_open = o.is_open; log = o.log; writes = o.writes; rows = o.rows; frames = o.frames; tries = o.tries });
+        bounds = rw c.take_known.ensures.frame may.bounds;
+        is_open = rw c.take_known.ensures.frame (record { is_open = o.is_open; log = o.log; writes = o.writes; rows = o.rows; frames = o.frames; tries = o.tries });
         value = subst IsValue (sym c.in-Value.is) tt;
         whole = c.in_default.ensures.whole;
-        settled = rw c.take_had.ensures.frame may.settled;
+        settled = rw c.take_known.ensures.frame may.settled;
       };
     }
 
 pub returns-in-Value-clause-proceeds : goal.returns-in-Value-clause-proceeds
 returns-in-Value-clause-proceeds c log =
     let s = c.args.state.now in
-    subst (λ (mid : Core). Turns (logged mid log) c.reply_gathered.result c.reply_gathered.new.state) (ap (λ (d : Data). between d (aims.Read c.args.reading)) c.take_had.ensures.frame) (c.reply_gathered.ensures.proceeds log)
+    subst (λ (mid : Core). Turns (logged mid log) c.reply_gathered.result c.reply_gathered.new.state) (ap (λ (d : Data). between d (aims.Read c.args.reading)) c.take_known.ensures.frame) (c.reply_gathered.ensures.proceeds log)
 
 pub returns-in-Value-clause-goes : goal.returns-in-Value-clause-goes
 returns-in-Value-clause-goes c = record {
@@ -122,7 +122,7 @@ returns-in-Chunk-clause-proceeds c log =
     let s = c.args.state.now in
     let r = c.args.reading in
     let k = c.in-Chunk.copying in
-    let frame = c.keep_chunk.ensures.frame ∙ (λ i. record (c.take_had.ensures.frame i) { buffer = c.keep_chunk.new.state.buffer }) in
+    let frame = c.keep_chunk.ensures.frame ∙ (λ i. record (c.take_known.ensures.frame i) { buffer = c.keep_chunk.new.state.buffer }) in
     let same : in_copy c.keep_chunk.new.state k ≡ between s (aims.Read r) =
     ap (λ (d : Data). in_copy d k) frame ∙ ap (λ (what : Purpose). between s (aims.Read (record r { purpose = what }))) (sym c.in-Chunk.is) in
     subst (λ mid. Turns (logged mid log) c.next_chunk.result c.next_chunk.new.state) same (c.next_chunk.ensures.proceeds log)
@@ -137,7 +137,7 @@ returns-in-Chunk-clause-goes c = record {
       let k = c.in-Chunk.copying in
       let n = c.in-Chunk.number in
       let before = rows_before s in
-      let frame = c.keep_chunk.ensures.frame ∙ (λ i. record (c.take_had.ensures.frame i) { buffer = c.keep_chunk.new.state.buffer }) in
+      let frame = c.keep_chunk.ensures.frame ∙ (λ i. record (c.take_known.ensures.frame i) { buffer = c.keep_chunk.new.state.buffer }) in
       c.next_chunk.ensures.goes.order
       ∙ ((λ i. load_chunks (rows_before (frame i)) (frame i).log.rows k (add-one n i) (drop (add-one n i) (chunks_in k)))
       ∙ (ap (load_past before s.log.rows) (sym c.in-Chunk.is) ∙ c.in_default.ensures.order (load_past before s.log.rows c.args.reading.purpose))));

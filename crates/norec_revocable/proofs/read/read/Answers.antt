@@ -8,15 +8,15 @@ use Rattle.itm_types.specs.declared.call.Call.TheVariants.{Read}
 use Rattle.value_log.specs.Log.{Log}
 use Rattle.word_pieces.specs.Pieces.{count_of}
 use Rattle.write_set.specs.declared.row.Row.{Row}
-use Rattle.norec_core.specs.declared.phase.Aim.TheVariants as aims
-use Rattle.norec_core.specs.declared.phase.Phase.{Phase}
-use Rattle.norec_core.specs.declared.phase.Phase.TheVariants.{Idle, Load}
-use Rattle.norec_core.specs.declared.phase.Purpose.TheVariants as for
-use Rattle.norec_core.specs.declared.phase.Reading.{Reading}
+use Rattle.norec_core.specs.Aims as aims
+use Rattle.norec_core.specs.Phases.{Phase}
+use Rattle.norec_core.specs.Phases.{Idle, Load}
+use Rattle.norec_core.specs.declared.call_parts.Purpose.TheVariants as for
+use Rattle.norec_core.specs.declared.call_parts.Reading.{Reading}
 use Rattle.norec_core.specs.Accesses.{parts, total}
 use Rattle.norec_core.specs.Core.{Core}
 use Rattle.norec_core.specs.Order.{load_among, load_stage, value_reading}
-use Rattle.norec_core.proofs.CopyChunks.{few_words}
+use Rattle.norec_core.proofs.Accesses.CopyChunks.{few_words}
 use Rattle.norec_data.specs.declared.data.Data.{Data}
 use Rattle.norec_data.specs.declared.pending.Pending.TheVariants as waits
 use Rattle.norec_data.specs.declared.turn.Turn.TheVariants.{Wait}
@@ -24,9 +24,9 @@ use Rattle.norec_data.specs.Turns.{Turns}
 use Rattle.norec_data.specs.View.{in_block}
 use Rattle.norec_revocable.specs.InPhases.{IsMissing, IsReading, MayRead}
 use Rattle.norec_revocable.specs.Between.{between, logged, IsSoundTurn}
-use Rattle.norec_revocable.proofs.Loads.{load_sound}
-use Rattle.norec_revocable.proofs.ReadyReads.{gathering, ready, ready_came, ready_missing, ready_open, ready_reading, settled}
-use Rattle.norec_revocable.proofs.Refusals.{served}
+use Rattle.norec_revocable.proofs.ReadCalls.Loads.{load_sound}
+use Rattle.norec_revocable.proofs.ReadCalls.ReadyReads.{gathering, ready, ready_came, ready_missing, ready_open, ready_reading, settled}
+use Rattle.norec_revocable.proofs.Replies.Refusals.{served}
 use Rattle.norec_revocable.proofs.read.read.Goals as goal
 
 -- where it stands as it comes, by the pieces that are to be had
@@ -43,15 +43,15 @@ returns-in-Some c =
     c.refuse.ensures (Read c.args.hint c.args.width c.args.at) c.args.at c.from.result
     (ap (λ (n : ℕ). Some (c.args.at, n)) (sym (c.from.ensures ∙ c.size.ensures.value))) (sym c.access_refusal.ensures.value ∙ c.in-Some.is)
 
-pub returns-in_err-reserve-in-Some-take_had : goal.returns-in_err-reserve-in-Some-take_had
-returns-in_err-reserve-in-Some-take_had c =
+pub returns-in_err-reserve-in-Some-take_known : goal.returns-in_err-reserve-in-Some-take_known
+returns-in_err-reserve-in-Some-take_known c =
     let s = c.args.state.now in
     let bytes = c.from.ensures ∙ c.size.ensures.value in
     let may = served (in_block s) s.words c.args.at c.from.result (sym c.in_default.ensures.value) in
     let first : Reading = value_reading c.args.hint c.args.width c.args.at in
     let accepted : (in_block s && nat_le (first.at + first.size) (8 * s.words)) ≡ true = (λ i. in_block s && nat_le (c.args.at + sym bytes i) (8 * s.words)) ∙ sym c.in_default.ensures.served in
-    let at : Load (record { purpose = for.Value c.args.hint c.args.width; at = c.args.at; size = c.size-2.result; number = c.in-Some-take_had.number }) ≡ load_stage s.frames.writes.rows s.log.rows first =
-    c.in-Some-take_had.ensures.order Idle
+    let at : Load (record { purpose = for.Value c.args.hint c.args.width; at = c.args.at; size = c.size-2.result; number = c.in-Some-take_known.number }) ≡ load_stage s.frames.writes.rows s.log.rows first =
+    c.in-Some-take_known.ensures.order Idle
     ∙ (stands s c.len-state.result (record { purpose = for.Value c.args.hint c.args.width; at = c.args.at; size = c.size-2.result; number = 0 }) first accepted c.len-state.ensures.len (λ i. record { purpose = for.Value c.args.hint c.args.width; at = c.args.at; size = c.size-2.ensures.value i; number = 0 }) Idle
     ∙ cond-true (in_block s && nat_le (first.at + first.size) (8 * s.words)) _ _ accepted) in
     let e = err_from_is_err_and c.from_residual.result c.from_residual.ensures.1 in
@@ -61,8 +61,8 @@ returns-in_err-reserve-in-Some-take_had c =
       starves = (may.0, subst (λ (n : ℕ). c.args.at + n ≤ 8 * s.words) bytes may.1, λ idle. (let loads = at ∙ idle in absurd (cc)));
     })
 
-pub returns-in_ok-reserve-in-Some-take_had : goal.returns-in_ok-reserve-in-Some-take_had
-returns-in_ok-reserve-in-Some-take_had c = record {
+pub returns-in_ok-reserve-in-Some-take_known : goal.returns-in_ok-reserve-in-Some-take_known
+returns-in_ok-reserve-in-Some-take_known c = record {
   sound =
       (let s = c.args.state.now in
       let hint = c.args.hint in
@@ -72,19 +72,19 @@ returns-in_ok-reserve-in-Some-take_had c = record {
       let may = served (in_block s) s.words c.args.at c.from.result (sym c.in_default.ensures.value) in
       let within = subst (λ (n : ℕ). c.args.at + n ≤ 8 * s.words) bytes may.1 in
       let small : size_of width ≤ 32 = omega (arith, c.size.ensures.value, c.size.ensures.most) in
-      let g = c.take_had.new.state.gathered in
+      let g = c.take_known.new.state.gathered in
       let log : Log = c.reserve.new.self in
       let first : Reading = value_reading hint width c.args.at in
-      let next : Reading = record { purpose = for.Value hint width; at = c.args.at; size = c.size-2.result; number = c.in-Some-take_had.number } in
-      let found = c.in-Some-take_had.ensures.next in
-      let st : c.take_had.new.state ≡ gathering s g = c.take_had.ensures.frame ∙ (λ i. record (gathering s g) { written = c.len-state.ensures.len i }) in
+      let next : Reading = record { purpose = for.Value hint width; at = c.args.at; size = c.size-2.result; number = c.in-Some-take_known.number } in
+      let found = c.in-Some-take_known.ensures.next in
+      let st : c.take_known.new.state ≡ gathering s g = c.take_known.ensures.frame ∙ (λ i. record (gathering s g) { written = c.len-state.ensures.len i }) in
       let rows : log.rows ≡ s.log.rows = c.reserve.ensures.rows ∙ ap (λ (d : Data). d.log.rows) st in
       let is : c.start.new.state ≡ ready s g log = c.start.ensures ∙ (λ i. record (st i) { log = log; spent = 0; entry = length log.rows; tries = 0 }) in
       let on : next ≡ record first { number = next.number } = (λ i. record { purpose = for.Value hint width; at = c.args.at; size = c.size-2.ensures.value i; number = next.number }) in
       let words : total next ≡ count_of c.args.at (size_of width) = ap total on in
       let read : MayRead (ready s g log) next = record {
         reading = ready_reading s hint width c.args.at sound may.0 within small g log rows next (subst (λ (d : Data). IsReading d next) st found.1);
-        logging = record { room = omega (arith, words, few_words c.args.at (size_of width) small, c.in_ok-reserve-in-Some-take_had.ensures.ok); grown = omega arith };
+        logging = record { room = omega (arith, words, few_words c.args.at (size_of width) small, c.in_ok-reserve-in-Some-take_known.ensures.ok); grown = omega arith };
         missing = ready_missing s hint width c.args.at sound may.0 within small g log rows next (subst (λ (d : Data). IsMissing d next) st found.2);
       } in
       subst (λ (r : Reading). IsSoundTurn (Wait waits.Load) (record c.start.new.state { reading = r }))
@@ -98,8 +98,8 @@ returns-in_ok-reserve-in-Some-take_had c = record {
       let bytes = c.from.ensures ∙ c.size.ensures.value in
       let first : Reading = value_reading c.args.hint c.args.width c.args.at in
       let accepted : (in_block s && nat_le (first.at + first.size) (8 * s.words)) ≡ true = (λ i. in_block s && nat_le (c.args.at + sym bytes i) (8 * s.words)) ∙ sym c.in_default.ensures.served in
-      ap Load (c.set_value.ensures ∙ sym (λ i. record { purpose = for.Value c.args.hint c.args.width; at = c.args.at; size = c.size-2.ensures.value i; number = c.in-Some-take_had.number }))
-      ∙ c.in-Some-take_had.ensures.order Idle
+      ap Load (c.set_value.ensures ∙ sym (λ i. record { purpose = for.Value c.args.hint c.args.width; at = c.args.at; size = c.size-2.ensures.value i; number = c.in-Some-take_known.number }))
+      ∙ c.in-Some-take_known.ensures.order Idle
       ∙ stands s c.len-state.result (record { purpose = for.Value c.args.hint c.args.width; at = c.args.at; size = c.size-2.result; number = 0 }) first accepted c.len-state.ensures.len (λ i. record { purpose = for.Value c.args.hint c.args.width; at = c.args.at; size = c.size-2.ensures.value i; number = 0 }) Idle);
   ends = search rules;
   tries = search rules;
@@ -116,8 +116,8 @@ returns-in-None c = record {
       let may = served (in_block s) s.words c.args.at c.from.result (sym c.in_default.ensures.value) in
       let within = subst (λ (n : ℕ). c.args.at + n ≤ 8 * s.words) bytes may.1 in
       let small : size_of width ≤ 32 = omega (arith, c.size.ensures.value, c.size.ensures.most) in
-      let g = c.take_had.new.state.gathered in
-      let st : c.take_had.new.state ≡ gathering s g = c.take_had.ensures.frame ∙ (λ i. record (gathering s g) { written = c.len-state.ensures.len i }) in
+      let g = c.take_known.new.state.gathered in
+      let st : c.take_known.new.state ≡ gathering s g = c.take_known.ensures.frame ∙ (λ i. record (gathering s g) { written = c.len-state.ensures.len i }) in
       let is : c.start-in-None.new.state ≡ ready s g s.log = c.start-in-None.ensures ∙ (λ i. record (st i) { spent = 0; entry = length (st i).log.rows; tries = 0 }) in
       let first : (n : ℕ) → Reading = λ n. record { purpose = for.Value hint width; at = c.args.at; size = n; number = 0 } in
       subst (λ (mid : Core). Turns mid c.reply_gathered.result c.reply_gathered.new.state)

@@ -4,7 +4,7 @@ use Rattle.write_set.proofs.Overlays.{length-overlay}
 use Rattle.word_pieces.proofs.Covers.{gathered-pieces_of, take_all-pieces_of}
 use Rattle.word_pieces.specs.Pieces.{gathered}
 use Rattle.norec_core.specs.Accesses.{count}
-use Rattle.norec_revocable.proofs.ReadReplies.{Finds, replies}
+use Rattle.norec_revocable.proofs.ReadCalls.Replies.{Finds, replies}
 use Rattle.norec_revocable.proofs.read.reply_gathered.Goals as goal
 
 pub returns-clause-proceeds : goal.returns-clause-proceeds

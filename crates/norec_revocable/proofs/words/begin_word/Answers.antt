@@ -2,13 +2,13 @@ use Rattle.std.proofs.Common.{◌≡◌, length, sym, subst, ◌∙◌, rules, a
 use Rattle.std.proofs.lemmas.Grind.{common_steps}
 use Rattle.value_log.specs.Log.{Log}
 use Rattle.norec_core.specs.Order.{value_reading}
-use Rattle.norec_core.specs.declared.phase.Reading.{Reading}
+use Rattle.norec_core.specs.declared.call_parts.Reading.{Reading}
 use Rattle.norec_data.specs.declared.data.Data.{Data}
 use Rattle.norec_data.specs.declared.pending.Pending.TheVariants as waits
 use Rattle.norec_data.specs.declared.turn.Turn.TheVariants.{Wait}
 use Rattle.norec_revocable.specs.Between.{IsSoundTurn}
-use Rattle.norec_revocable.proofs.ReadyReads.{ready}
-use Rattle.norec_revocable.proofs.WholeReads.{starts}
+use Rattle.norec_revocable.proofs.ReadCalls.ReadyReads.{ready}
+use Rattle.norec_revocable.proofs.ReadCalls.WholeReads.{starts}
 use Rattle.norec_revocable.proofs.words.begin_word.Goals as goal
 
 pub returns-clause-called : goal.returns-clause-called

@@ -4,7 +4,7 @@ use Rattle.word_pieces.specs.declared.piece.Piece.{Piece}
 use Rattle.write_set.specs.Rows.{put}
 use Rattle.nest_frames.specs.Nest.{Nest}
 use Rattle.norec_core.specs.Rows.{put_all}
-use Rattle.norec_core.proofs.Writings.{put_all_more, some_words}
+use Rattle.norec_core.proofs.Accesses.Writings.{put_all_more, some_words}
 use Rattle.norec_revocable.proofs.writes.put_all.Goals as goal
 
 pub loop-piece-init : goal.loop-piece-init

@@ -5,7 +5,7 @@ use Rattle.write_set.specs.declared.row.Row.{Row}
 use Rattle.write_set.specs.Rows.{lookup}
 use Rattle.nest_frames.specs.Nest.{rows_of}
 use Rattle.norec_core.specs.Rows.{reserved_all, put_all, AreRoomy}
-use Rattle.norec_core.proofs.Writings.{all_reserved, either_way}
+use Rattle.norec_core.proofs.Accesses.Writings.{all_reserved, either_way}
 use Rattle.norec_revocable.proofs.writes.put_pieces.Goals as goal
 
 pub put_all-requires-clause-room : goal.put_all-requires-clause-room

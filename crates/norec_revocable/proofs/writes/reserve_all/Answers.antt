@@ -8,7 +8,7 @@ use Rattle.write_set.specs.Marks.{MayPut}
 use Rattle.write_set.specs.Rows.{lookup, reserved, AreEmpty}
 use Rattle.nest_frames.specs.Nest.{Nest, Frame, rows_of}
 use Rattle.norec_core.specs.Rows.{reserved_all}
-use Rattle.norec_core.proofs.Writings.{cut-reserved_all, reserved_all_more, some_kept_all, not_ok, on_err, on_ok}
+use Rattle.norec_core.proofs.Accesses.Writings.{cut-reserved_all, reserved_all_more, some_kept_all, not_ok, on_err, on_ok}
 use Rattle.norec_revocable.proofs.writes.reserve_all.Goals as goal
 
 pub loop-piece-init : goal.loop-piece-init

@@ -11,12 +11,12 @@ use Rattle.nest_frames.specs.Nest.{rows_of}
 use Rattle.norec_core.specs.Rows.{reserved_all, put_all, AllWritesWithin, AreRoomy}
 use Rattle.itm_types.specs.Access.{size_of}
 use Rattle.itm_types.specs.Memory.{bytes_of, IsMemory}
-use Rattle.norec_revocable.proofs.Refusals.{served}
-use Rattle.norec_core.proofs.Machines.{writes, some_put, some_bytes}
+use Rattle.norec_revocable.proofs.Replies.Refusals.{served}
+use Rattle.norec_core.proofs.Engines.Machines.{writes, some_put, some_bytes}
 use Rattle.word_pieces.specs.Pieces.{pieces_of}
 use Rattle.word_pieces.proofs.Covers.{words_of-pieces_of}
 use Rattle.itm_types.specs.Slices.{AreBytes}
-use Rattle.norec_core.proofs.Writings.{AllFitIn, some_pieces, bytes_of-put_all, fit_pieces, AllWritesWithin-put_all, AllWritesWithin-reserved_all, AreRows-put_all, AreRows-reserved_all}
+use Rattle.norec_core.proofs.Accesses.Writings.{AllFitIn, some_pieces, bytes_of-put_all, fit_pieces, AllWritesWithin-put_all, AllWritesWithin-reserved_all, AreRows-put_all, AreRows-reserved_all}
 use Rattle.itm_types.specs.declared.call.Call.TheVariants.{Write}
 use Rattle.norec_revocable.proofs.writes.write.Goals as goal
 
@@ -54,7 +54,7 @@ returns c = record {
       let within : c.args.at + size_of w ≤ 8 * s.words = subst (λ (n : ℕ). c.args.at + n ≤ 8 * s.words) (c.from.ensures ∙ c.size.ensures.value) may.1 in
       let fit : AllFitIn s.words ps bytes = fit_pieces s.words c.args.at (size_of w) bytes within
       (omega (arith, c.size.ensures.value, c.size.ensures.most)) (subst AreBytes c.deref.ensures.0 c.put_value.ensures.bytes) in
-      rw c.come.ensures (record {
+      rw c.start_call.ensures (record {
         asked = tt;
         sound = record {
           bounds = subst (λ (n : ℕ). IsBounded s.words s.limits s.snapshot n s.arena) (sym c.put_value.ensures.size) sound.bounds;
@@ -94,7 +94,7 @@ returns c = record {
       (ap is_some_row rows ∙ some_put (reserved_all s.frames.writes.rows ps) ps bytes some)
       (ap (λ (xs : List Row). bytes_of (overlay m xs)) rows
       ∙ bytes_of-put_all m s.frames.writes.rows c.args.at size bytes mem.1 idle.0.rows (omega (arith, within, mem.0)) (omega (arith, c.size.ensures.value, c.size.ensures.most)) (subst AreBytes c.deref.ensures.0 c.put_value.ensures.bytes) value.sized) in
-      rw c.come.ensures (record {
+      rw c.start_call.ensures (record {
         meets = λ m mem agrees. (λ i. state_over c.put_value.new.frames.writes.rows (blocks i) s.arena (actions i) m) ∙ (all m mem).0;
         reply_is = λ m mem agrees. (all m mem).1;
         stays = search rules;

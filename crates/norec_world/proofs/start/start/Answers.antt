@@ -1,9 +1,9 @@
 use Rattle.std.proofs.Common.{◌≡◌, ℕ, true, refl, replicate, length, ◌∙◌, ap, subst, sym, rules}
 use Rattle.norec_world.proofs.Common.{Core, RunsFrom, active_of, bytes_of, first_of, is_ready, opening, prior_of}
-use Rattle.norec_world.proofs.RunOthers.{fresh_runs, laid_first}
-use Rattle.norec_world.proofs.TryChains.{starts_between}
+use Rattle.norec_world.proofs.Runs.Others.{fresh_runs, laid_first}
+use Rattle.norec_world.proofs.Attempts.TryChains.{starts_between}
 use Rattle.norec_core.specs.Proceeds.{IsSettled}
-use Rattle.norec_world.proofs.TiedEngines.{opening_settled}
+use Rattle.norec_world.proofs.Engines.TiedEngines.{opening_settled}
 use Rattle.norec_world.proofs.start.start.Goals as goal
 
 pub work-requires : goal.work-requires

@@ -1,8 +1,8 @@
 use Rattle.std.proofs.Common.{rules, ◌≡◌, ◌≢◌, ◌+◌, ◌<◌, ◌≤◌, ℕ, zero, suc, Option, None, Some, [], ◌∷◌, ◌++◌, inl, inr, slice_get, drop, replicate, List, length, length-append, ap, sym, subst, refl, ◌∙◌, arith}
 use Rattle.norec_world.proofs.Common.{same_Some, Actor, AreActors, Attempt, ChangesOwn, HasStarted, IsFirst, MAX_ACTORS, RunsFrom, bytes_of, count_pending, ending_in, first_of, opening, slice_index_or}
-use Rattle.norec_world.proofs.RunOthers.{other_runs, laid_first}
-use Rattle.norec_world.proofs.TryChains.{fed_joined, first_still}
-use Rattle.norec_world.proofs.SoundOthers.{actors_joined, joined_place, none_active}
+use Rattle.norec_world.proofs.Runs.Others.{other_runs, laid_first}
+use Rattle.norec_world.proofs.Attempts.TryChains.{fed_joined, first_still}
+use Rattle.norec_world.proofs.Events.SoundOthers.{actors_joined, joined_place, none_active}
 use Rattle.norec_world.proofs.start.start_all.Goals as goal
 
 -- the next one of a list

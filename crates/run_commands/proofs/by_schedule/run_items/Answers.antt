@@ -12,13 +12,13 @@ use Rattle.run_commands.proofs.by_schedule.run_items.Goals as goal
 pub returns-in_err-write_run : goal.returns-in_err-write_run
 returns-in_err-write_run g c =
     let p = err_from_is_err_and c.from_residual.result c.from_residual.ensures.1 in
-    let stops = subst (λ (items : List Item). IsCutOff thread_rules items c.args.world c.write_run.new.world (g.W.Write.contents c.args.writer.now) (g.W.Write.contents c.write_run.new.writer)) c.requires.items c.in_err-write_run.ensures.stops in
-    rw (p.1, p.2, c.in_err-write_run.ensures.failure) (begun c.args.program.now c.args.world c.write_run.new.world _ _ c.requires.nested c.requires.begins c.in_err-write_run.ensures.commits c.in_err-write_run.ensures.opaque c.in_err-write_run.ensures.tied stops)
+    let stops = subst (λ (items : List Item). IsCutOff thread_rules items c.args.world c.write_run.new.world (g.W.Write.contents c.args.writer.now) (g.W.Write.contents c.write_run.new.writer)) c.requires.items c.in_err-write_run.ensures.played.stops in
+    rw (p.1, p.2, c.in_err-write_run.ensures.failure) (begun c.args.program.now c.args.world c.write_run.new.world _ _ c.requires.nested c.requires.begins c.in_err-write_run.ensures.played.commits c.in_err-write_run.ensures.played.opaque c.in_err-write_run.ensures.played.tied stops)
 
 pub returns : goal.returns
 returns g c =
     let w = c.write_run.new.world in
-    let leads = subst (λ (items : List Item). ItemsLead thread_rules items c.args.world w) c.requires.items c.in_ok-write_run.ensures.leads in
-    let is = world_of_run c.args.program.now w c.requires.nested (c.args.world, c.requires.begins, leads) c.in_ok-write_run.ensures.commits c.in_ok-write_run.ensures.opaque c.in_ok-write_run.ensures.tied in
+    let leads = subst (λ (items : List Item). ItemsLead thread_rules items c.args.world w) c.requires.items c.in_ok-write_run.ensures.played.leads in
+    let is = world_of_run c.args.program.now w c.requires.nested (c.args.world, c.requires.begins, leads) c.in_ok-write_run.ensures.played.commits c.in_ok-write_run.ensures.played.opaque c.in_ok-write_run.ensures.played.tied in
     let threads = ap (λ (n : ℕ). endings_of n w) c.threads.ensures.value in
     told c.args.program.now w _ _ is c.in_ok-write_run.ensures.fits c.requires.limits c.endings.result (c.endings.ensures ∙ threads) c.in_ok-write_run.ensures.text

@@ -1,16 +1,13 @@
-use Rattle.std.proofs.Common.{◌≡◌, ℕ, length, true, None, IsSome}
+use Rattle.std.proofs.Common.{◌≡◌, ℕ, length, true, Ok, IsSome}
 use Rattle.norec_world.specs.World.{waits_at}
 use Rattle.norec_world.specs.WorldEvents.{Takes}
-use Rattle.norec_world.proofs.WorldEvents.{LeavesLessSoFar, call_left_at}
-use Rattle.tx_history.specs.Streams.{fault_of, lent, standing}
-use Rattle.run_commands.specs.Plays.{AddsEnded}
+use Rattle.norec_world.proofs.Events.WorldEvents.{LeavesLessSoFar, call_left_at}
+use Rattle.run_commands.specs.Plays.{SendsEnded}
 use Rattle.run_commands.proofs.playing.finish_call.Given as goal
 
 abbrev pub invariant-loop-goes_on : goal.invariant-loop-goes_on
 invariant-loop-goes_on g l = record {
-  same : lent l.stream ≡ lent l.fn.stream;
-  fresh : fault_of l.stream ≡ None;
-  adds : AddsEnded l.fn.world l.world (standing g.W.Write.contents l.fn.stream) (standing g.W.Write.contents l.stream);
+  sends : SendsEnded {A = Unit {0}} g.W.Write.contents l.fn.world l.world l.fn.stream l.stream (Ok tt);
   took : (n : ℕ) × Takes g.P.Player l.thread n l.fn.world l.world;
   actors : length l.world.actors ≡ length l.fn.world.actors;
   waits : l.goes_on ≡ true → IsSome (waits_at l.world l.thread);

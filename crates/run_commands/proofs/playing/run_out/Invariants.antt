@@ -1,15 +1,12 @@
-use Rattle.std.proofs.Common.{◌≡◌, ℕ, length, None}
+use Rattle.std.proofs.Common.{◌≡◌, ℕ, length, Ok}
 use Rattle.norec_world.specs.WorldEvents.{Takes}
-use Rattle.norec_world.proofs.WorldEvents.{LeavesNoMore, run_left_at, whole_at}
-use Rattle.tx_history.specs.Streams.{fault_of, lent, standing}
-use Rattle.run_commands.specs.Plays.{AddsEnded}
+use Rattle.norec_world.proofs.Events.WorldEvents.{LeavesNoMore, run_left_at, whole_at}
+use Rattle.run_commands.specs.Plays.{SendsEnded}
 use Rattle.run_commands.proofs.playing.run_out.Given as goal
 
 abbrev pub invariant-loop-alloc : goal.invariant-loop-alloc
 invariant-loop-alloc g l = record {
-  same : lent l.stream ≡ lent l.fn.stream;
-  fresh : fault_of l.stream ≡ None;
-  adds : AddsEnded l.fn.world l.world (standing g.W.Write.contents l.fn.stream) (standing g.W.Write.contents l.stream);
+  sends : SendsEnded {A = Unit {0}} g.W.Write.contents l.fn.world l.world l.fn.stream l.stream (Ok tt);
   took : (n : ℕ) × Takes g.P.Player l.thread n l.fn.world l.world;
   actors : length l.world.actors ≡ length l.fn.world.actors;
   less : LeavesNoMore g.P.Player l.thread l.fn.world l.world;

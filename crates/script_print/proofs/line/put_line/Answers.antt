@@ -1,5 +1,5 @@
 use Rattle.std.proofs.Common.{◌≡◌, [], ◌∷◌, ◌++◌}
-use Rattle.script_print.proofs.LineTexts.{field_put, line_put}
+use Rattle.script_print.proofs.Texts.LineTexts.{field_put, line_put}
 use Rattle.script_print.proofs.line.put_line.Goals as goal
 
 pub loop-field-preserved : goal.loop-field-preserved

@@ -1,5 +1,5 @@
 use Rattle.script_print.specs.Printing.{instruction_fields}
-use Rattle.script_print.proofs.LineTexts.{none_put, each_put}
+use Rattle.script_print.proofs.Texts.LineTexts.{none_put, each_put}
 use Rattle.script_print.proofs.section.put_code.Goals as goal
 
 pub loop-instruction-init : goal.loop-instruction-init

@@ -1,7 +1,7 @@
 use Rattle.std.proofs.Common.{[], ◌∷◌, map}
 use Rattle.std.proofs.lemmas.Result.{on_ok_weaker}
 use Rattle.script_print.specs.Printing.{instruction_fields, thread_fields}
-use Rattle.script_print.proofs.LineTexts.{lines_put}
+use Rattle.script_print.proofs.Texts.LineTexts.{lines_put}
 use Rattle.script_print.proofs.section.put_section.Goals as goal
 
 pub returns : goal.returns

@@ -1,5 +1,5 @@
 use Rattle.script_print.specs.Printing.{init_fields}
-use Rattle.script_print.proofs.LineTexts.{none_put, each_put}
+use Rattle.script_print.proofs.Texts.LineTexts.{none_put, each_put}
 use Rattle.script_print.proofs.whole.put_inits.Goals as goal
 
 pub loop-init-init : goal.loop-init-init

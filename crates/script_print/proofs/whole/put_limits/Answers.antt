@@ -4,7 +4,7 @@ use Rattle.std.proofs.lemmas.Result.{on_ok_weaker}
 use Rattle.itm_types.specs.declared.limits.Limits.{Limits}
 use Rattle.script_print.specs.Fields.{lines_text}
 use Rattle.script_print.specs.Printing.{number_fields}
-use Rattle.script_print.proofs.LineTexts.{lines_put}
+use Rattle.script_print.proofs.Texts.LineTexts.{lines_put}
 use Rattle.script_print.proofs.whole.put_limits.Goals as goal
 
 pub returns : goal.returns

@@ -1,4 +1,4 @@
-use Rattle.script_print.proofs.LineTexts.{none_put, part_put}
+use Rattle.script_print.proofs.Texts.LineTexts.{none_put, part_put}
 use Rattle.script_print.proofs.whole.put_sections.Goals as goal
 
 pub loop-index-init : goal.loop-index-init

@@ -1,13 +1,13 @@
-use Rattle.std.proofs.Common.{◌∙◌}
-use Rattle.std.proofs.lemmas.List.Elements.{All-more}
 use Rattle.tx_history.specs.Bounds.{RanFits}
 use Rattle.tx_history.specs.Histories.{ran_line}
-use Rattle.tx_history.proofs.AppendedTexts.{grows_next}
+use Rattle.tx_history.proofs.AppendedTexts.{spells_all, spells_next, spells_none}
 use Rattle.tx_history.proofs.attempts.put_all_ran.Goals as goal
 
+pub loop-ran-init : goal.loop-ran-init
+loop-ran-init g c = spells_none ran_line RanFits _ c.args.all.now
+
 pub loop-ran-preserved : goal.loop-ran-preserved
-loop-ran-preserved g c = record {
-  same = c.put_ran.ensures.same ∙ c.loop-ran.invariant.same;
-  grows = grows_next ran_line _ _ _ c.args.all.now c.loop-ran.ran-index _ c.loop-ran-test.true c.loop-ran.invariant.grows c.put_ran.ensures.grows;
-  fits = All-more RanFits c.args.all.now c.loop-ran.ran-index _ c.loop-ran-test.true c.loop-ran.invariant.fits c.put_ran.ensures.fits;
-}
+loop-ran-preserved g c = spells_next ran_line RanFits _ _ _ c.args.all.now c.loop-ran.ran-index _ c.loop-ran-test.true c.loop-ran.invariant c.put_ran.ensures
+
+pub returns : goal.returns
+returns g c = spells_all ran_line RanFits _ _ c.args.all.now c.loop-ran.ran-index c.loop-ran.invariant c.loop-ran-test.false

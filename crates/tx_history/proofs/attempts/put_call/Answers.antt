@@ -1,9 +1,11 @@
 use Rattle.std.specs.Prelude.{codes}
 use Rattle.tx_history.specs.Histories.{call_line}
-use Rattle.tx_history.proofs.PagedTexts.{grows_then, grows_three}
+use Rattle.tx_history.proofs.PagedTexts.{carries_then, carries_three}
 use Rattle.tx_history.proofs.attempts.put_call.Goals as goal
 
-pub returns-clause-grows : goal.returns-clause-grows
+pub returns : goal.returns
 unfolding call_line
-returns-clause-grows g c =
-    grows_three _ _ _ _ (codes " = ") _ (codes "\n") (grows_then _ _ _ _ _ c.text.ensures.grows c.put_body.ensures.grows) c.put_reply.ensures.grows
+returns g c = record {
+  carries = carries_three (codes " = ") _ (codes "\n") (carries_then c.text.ensures c.put_body.ensures.carries) c.put_reply.ensures.carries;
+  fits = (c.put_body.ensures.fits, c.put_reply.ensures.fits);
+}

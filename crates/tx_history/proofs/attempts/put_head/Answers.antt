@@ -1,7 +1,7 @@
 use Rattle.tx_history.specs.Histories.{head_line}
-use Rattle.tx_history.proofs.PagedTexts.{grows_then}
+use Rattle.tx_history.proofs.PagedTexts.{carries_then}
 use Rattle.tx_history.proofs.attempts.put_head.Goals as goal
 
-pub returns-clause-grows : goal.returns-clause-grows
+pub returns : goal.returns
 unfolding head_line
-returns-clause-grows g c = grows_then _ _ _ _ _ c.put_try.ensures.grows c.put_props.ensures.grows
+returns g c = record { carries = carries_then c.put_try.ensures.carries c.put_props.ensures; fits = c.put_try.ensures.fits }

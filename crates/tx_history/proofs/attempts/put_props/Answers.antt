@@ -2,7 +2,7 @@ use Rattle.std.proofs.Common.{◌≡◌, false, refl}
 use Rattle.std.specs.Prelude.{codes}
 use Rattle.itm_types.specs.declared.call.Props.{Props}
 use Rattle.tx_history.specs.Histories.{props_end}
-use Rattle.tx_history.proofs.PagedTexts.{grows_as, grows_then}
+use Rattle.tx_history.proofs.PagedTexts.{carries_as, carries_then}
 use Rattle.tx_history.proofs.attempts.put_props.Goals as goal
 
 -- of no properties
@@ -10,15 +10,15 @@ bare : (p : Props) → p.no_abort ≡ false → p.no_irrevocable ≡ false → p
 unfolding props_end
 bare p a b c = rw (a, b, c) refl
 
-pub returns-in-false-clause-grows : goal.returns-in-false-clause-grows
-returns-in-false-clause-grows g c =
+pub returns-in-false : goal.returns-in-false
+returns-in-false g c =
     let abort : c.args.props.no_abort ≡ false = cc in
     let irrevocable : c.args.props.no_irrevocable ≡ false = cc in
     let goes : c.args.props.goes_irrevocable ≡ false = cc in
-    grows_as _ _ _ _ c.text.ensures.grows (bare c.args.props abort irrevocable goes)
+    carries_as _ _ _ _ c.text.ensures (bare c.args.props abort irrevocable goes)
 
-pub returns-in_default-clause-grows : goal.returns-in_default-clause-grows
+pub returns-in_default : goal.returns-in_default
 unfolding props_end
-returns-in_default-clause-grows g c =
-    let props = rw c.props_text.ensures at rw c.as_bytes.ensures.value at c.text-in_default-2.ensures.grows in
-    grows_then _ _ _ _ _ (grows_then _ _ _ _ _ c.text-in_default.ensures.grows props) c.text-in_default-3.ensures.grows
+returns-in_default g c =
+    let props = rw c.props_text.ensures at rw c.as_bytes.ensures.value at c.text-in_default-2.ensures in
+    carries_then (carries_then c.text-in_default.ensures props) c.text-in_default-3.ensures

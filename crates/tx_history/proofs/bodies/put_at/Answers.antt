@@ -1,6 +1,6 @@
 use Rattle.std.specs.Prelude.{codes}
-use Rattle.tx_history.proofs.PagedTexts.{grows_both}
+use Rattle.tx_history.proofs.PagedTexts.{carries_both}
 use Rattle.tx_history.proofs.bodies.put_at.Goals as goal
 
-pub returns-clause-grows : goal.returns-clause-grows
-returns-clause-grows g c = grows_both _ _ _ _ (codes " ") _ c.put_name.ensures.grows c.blank_number.ensures.grows
+pub returns : goal.returns
+returns g c = record { carries = carries_both (codes " ") _ c.put_name.ensures c.blank_number.ensures.carries; fits = c.blank_number.ensures.fits }

@@ -1,7 +1,7 @@
-use Rattle.tx_history.proofs.PagedTexts.{grows_then}
+use Rattle.tx_history.proofs.PagedTexts.{carries_then}
 use Rattle.tx_history.proofs.bodies.put_begin.Goals as goal
 
-pub returns-clause-grows : goal.returns-clause-grows
-returns-clause-grows g c =
-    let props = rw c.props_text.ensures at rw c.as_bytes.ensures.value at c.text-2.ensures.grows in
-    grows_then _ _ _ _ _ c.text.ensures.grows props
+pub returns : goal.returns
+returns g c =
+    let props = rw c.props_text.ensures at rw c.as_bytes.ensures.value at c.text-2.ensures in
+    carries_then c.text.ensures props

@@ -1,13 +1,13 @@
 use Rattle.std.proofs.Common.{arith}
 use Rattle.std.proofs.lemmas.Grind.{common_steps}
 use Rattle.tx_history.specs.Histories.{fill_text}
-use Rattle.tx_history.proofs.PagedTexts.{grows_as}
 use Rattle.tx_history.specs.declared.pieces.Piece.TheVariants.{Number}
+use Rattle.tx_history.proofs.PagedTexts.{carries_as}
 use Rattle.tx_history.proofs.bodies.put_fill.Goals as goal
 
-pub returns-clause-grows : goal.returns-clause-grows
+pub returns : goal.returns
 unfolding fill_text
-returns-clause-grows g c = grows_as _ _ _ _ c.put.ensures.grows (grind (arith, common_steps, c.as_bytes.ensures.value, c.name_of.ensures))
-
-pub returns-clause-fits : goal.returns-clause-fits
-returns-clause-fits g c = (c.put.ensures.fit 2 (Number 0) (omega arith), c.put.ensures.fit 6 (Number 0) (omega arith))
+returns g c = record {
+  carries = carries_as _ _ _ _ c.put.ensures.carries (grind (arith, common_steps, c.as_bytes.ensures.value, c.name_of.ensures));
+  fits = (c.put.ensures.fits 2 (Number 0) (omega arith), c.put.ensures.fits 6 (Number 0) (omega arith));
+}

@@ -1,9 +1,12 @@
 use Rattle.std.specs.Prelude.{codes}
-use Rattle.tx_history.proofs.PagedTexts.{grows_both, grows_then}
+use Rattle.tx_history.proofs.PagedTexts.{carries_both, carries_then}
 use Rattle.tx_history.proofs.bodies.put_save.Goals as goal
 
-pub returns-clause-grows : goal.returns-clause-grows
-returns-clause-grows g c =
-    let size = rw c.size.ensures.value at rw c.from.ensures at c.number.ensures.grows in
-    let bytes = rw c.as_slice.ensures.value at c.blank_hex.ensures.grows in
-    grows_both _ _ _ _ (codes " ") _ (grows_both _ _ _ _ (codes " ") _ (grows_then _ _ _ _ _ c.text.ensures.grows size) c.blank_number.ensures.grows) bytes
+pub returns : goal.returns
+returns g c =
+    let size = rw c.size.ensures.value at rw c.from.ensures at c.number.ensures.carries in
+    let value = rw c.as_slice.ensures.value at c.blank_hex.ensures in
+    record {
+      carries = carries_both (codes " ") _ (carries_both (codes " ") _ (carries_then c.text.ensures size) c.blank_number.ensures.carries) value.carries;
+      fits = (c.blank_number.ensures.fits, value.fits);
+    }

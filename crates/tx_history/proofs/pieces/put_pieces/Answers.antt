@@ -1,10 +1,9 @@
 use Rattle.std.proofs.Common.{ap, sym, ◌∙◌}
-use Rattle.std.specs.Prelude.{is_some}
 use Rattle.tx_history.proofs.PagedTexts.{closes}
 use Rattle.tx_history.proofs.pieces.put_pieces.Goals as goal
 
 pub returns : goal.returns
 returns g c =
-    let name = sym (c.close.ensures.same ∙ c.put.ensures.same ∙ c.blank-stream.ensures.same) in
-    closes _ _ c.close.result _ _ _ _ c.put.ensures.grows c.close.ensures.grows (ap is_some c.blank-stream.ensures.nothing.1) c.blank-stream.ensures.nothing.0 (ap is_some c.close.ensures.told) c.close.ensures.page
-    (ap g.W.Write.contents (sym c.blank-stream.ensures.writer)) (ap g.W.Write.contents (c.writer-1.given.1 name))
+    let name = sym (c.close.ensures.carries.same ∙ c.put.ensures.carries.same ∙ c.empty-page.ensures.same) in
+    closes _ _ c.close.result _ _ _ _ c.put.ensures.carries c.close.ensures.carries c.empty-page.ensures.nothing.1 c.empty-page.ensures.nothing.0 c.close.ensures.told c.close.ensures.empty
+    (ap g.W.Write.contents (sym c.empty-page.ensures.writer)) (ap g.W.Write.contents (c.writer-1.given.1 name))

@@ -5,8 +5,8 @@ use Rattle.script_program.specs.Listing.{Listing}
 use Rattle.tx_host.specs.declared.join.Done.{Done}
 use Rattle.tx_host.specs.Starts.{Promised}
 use Rattle.tx_host.specs.Joins.{Joins}
-use Rattle.tx_host.proofs.WorkersDone.{its_back, joined_left}
-use Rattle.tx_host.proofs.JoinedWorkers.{joins_more}
+use Rattle.tx_host.proofs.Passes.WorkerViews.{its_back, joined_left}
+use Rattle.tx_host.proofs.Passes.JoinedWorkers.{joins_more}
 use Rattle.tx_host.proofs.join.join_all.Goals as goal
 use Rattle.tx_host.proofs.join.join_all.Goals.{then-held, else-held}
 

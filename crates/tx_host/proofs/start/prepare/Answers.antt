@@ -4,7 +4,7 @@ use Rattle.script_program.specs.Listing.{Listing}
 use Rattle.tx_host.specs.declared.start.Ready.{Ready}
 use Rattle.tx_host.specs.Starts.{AllReady, IsReady}
 use Rattle.tx_host.proofs.Numbers.{numbered_push}
-use Rattle.tx_host.proofs.Parts.{cut_same, cut_share, is_fresh}
+use Rattle.tx_host.proofs.Passes.Parts.{cut_same, cut_share, is_fresh}
 use Rattle.tx_host.proofs.start.prepare.Goals as goal
 
 pub loop-number-preserved : goal.loop-number-preserved

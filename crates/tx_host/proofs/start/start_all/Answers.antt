@@ -5,7 +5,7 @@ use Rattle.shared_words.specs.Passes.{view_of}
 use Rattle.script_program.specs.Listing.{Listing}
 use Rattle.tx_host.specs.Starts.{Promised, AllReady}
 use Rattle.tx_host.proofs.Numbers.{numbered_push}
-use Rattle.tx_host.proofs.Parts.{is_for, is_outside, is_flat}
+use Rattle.tx_host.proofs.Passes.Parts.{is_for, is_outside, is_flat}
 use Rattle.tx_host.proofs.start.start_all.Goals as goal
 
 pub start_one-requires : goal.start_one-requires

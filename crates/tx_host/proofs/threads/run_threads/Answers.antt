@@ -2,8 +2,8 @@ use Rattle.std.proofs.Common.{rules, ◌≡◌, List, ℕ, ◌∙◌, sym}
 use Rattle.itm_types.specs.Memory.{bytes_of}
 use Rattle.shared_words.specs.Passes.{view_of}
 use Rattle.tx_host.specs.declared.report.Report.{Report}
-use Rattle.tx_host.proofs.LimitedReports.{limited_report}
-use Rattle.tx_host.proofs.WholeRun.{ran}
+use Rattle.tx_host.proofs.Histories.LimitedReports.{limited_report}
+use Rattle.tx_host.proofs.Histories.WholeRuns.{ran}
 use Rattle.tx_host.proofs.threads.run_threads.Goals as goal
 
 pub returns-clause-ran : goal.returns-clause-ran

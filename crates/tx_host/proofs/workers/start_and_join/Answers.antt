@@ -1,6 +1,6 @@
 use Rattle.std.proofs.Common.{rules, ◌≡◌, ℕ, ◌∙◌, length, vec_len}
 use Rattle.shared_words.specs.Passes.{view_of}
-use Rattle.tx_host.proofs.JoinedWorkers.{gathers}
+use Rattle.tx_host.proofs.Passes.JoinedWorkers.{gathers}
 use Rattle.tx_host.proofs.workers.start_and_join.Goals as goal
 
 pub returns-clause-gathers : goal.returns-clause-gathers

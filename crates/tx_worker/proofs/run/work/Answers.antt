@@ -1,7 +1,7 @@
 use Rattle.std.proofs.Common.{ap, refl, ◌∙◌, arith, ◌/◌, ℕ}
 use Rattle.tx_worker.specs.Workers.{bounds_of}
 use Rattle.tx_worker.specs.Works.{course_of}
-use Rattle.tx_worker.proofs.NewWorkers.{begins_bound, begins_works}
+use Rattle.tx_worker.proofs.Workers.NewWorkers.{begins_bound, begins_works}
 use Rattle.tx_worker.proofs.run.work.Goals as goal
 
 pub loop-end-init : goal.loop-end-init

@@ -1,6 +1,6 @@
 use Rattle.std.proofs.Common.{length, subst, sym}
 use Rattle.itm_model.specs.Pieces.{AreAmong}
-use Rattle.itm_model.proofs.Overwrites.{in_table}
+use Rattle.itm_model.proofs.Journals.Overwrites.{in_table}
 use Rattle.itm_model.proofs.plain.Plain.again.Goals as goal
 
 pub forget-requires-clause-among : goal.forget-requires-clause-among

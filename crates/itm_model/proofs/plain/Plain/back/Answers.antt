@@ -7,9 +7,9 @@ use Rattle.itm_model.specs.Pieces.{AreAmong, AreNewest, AreOnce}
 use Rattle.itm_model.specs.Undoable.{Undoable}
 use Rattle.itm_model.specs.Machine.{back}
 use Rattle.itm_model.specs.Undoing.{AreUnder}
-use Rattle.itm_model.proofs.Overwrites.{in_table, is_cut}
+use Rattle.itm_model.proofs.Journals.Overwrites.{in_table, is_cut}
 use Rattle.itm_model.proofs.OpenBlocks.{AreUnder-more, under_last, back_is, back_nothing, fewer_blocks, state_of}
-use Rattle.itm_model.proofs.JournalRollbacks.{AreWithin-drop}
+use Rattle.itm_model.proofs.Journals.Rollbacks.{AreWithin-drop}
 use Rattle.itm_model.proofs.plain.Plain.back.Goals as goal
 
 pub returns-in-Some-clause-back : goal.returns-in-Some-clause-back

@@ -5,9 +5,9 @@ use Rattle.itm_model.specs.Undoable.{Undoable}
 use Rattle.itm_model.specs.Machine.{closed}
 use Rattle.itm_model.specs.Pieces.{AreOnce, handed_on, top_of}
 use Rattle.itm_model.specs.Undoing.{AreUnder, IsSound, put_back}
-use Rattle.itm_model.proofs.FewEntries.{under_top}
+use Rattle.itm_model.proofs.Journals.EntryBounds.{under_top}
 use Rattle.itm_model.proofs.OpenBlocks.{under_last, actions_stay, mode_stay, blocks_same, closed_is, state_of}
-use Rattle.itm_model.proofs.Overwrites.{IsHandedOn, in_table, is_handed_on}
+use Rattle.itm_model.proofs.Journals.Overwrites.{IsHandedOn, in_table, is_handed_on}
 use Rattle.itm_model.proofs.plain.Plain.close.Goals as goal
 use Rattle.itm_model.proofs.plain.Plain.close.Goals.{After-hand_on}
 

@@ -2,7 +2,7 @@ use Rattle.std.proofs.Common.{◌≡◌, ◌≤◌, ◌+◌, ◌||◌, nat_lt, l
 use Rattle.std.proofs.lemmas.List.{length-replicate}
 use Rattle.itm_model.specs.Undoable.{Undoable}
 use Rattle.itm_model.specs.Machine.{written}
-use Rattle.itm_model.proofs.Overwrites.{IsWritten, is_written}
+use Rattle.itm_model.proofs.Journals.Overwrites.{IsWritten, is_written}
 use Rattle.itm_model.proofs.plain.Plain.fill.Goals as goal
 use Rattle.itm_model.proofs.plain.Plain.fill.Goals.{then-self, else-self}
 

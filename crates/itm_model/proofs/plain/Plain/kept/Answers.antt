@@ -3,9 +3,9 @@ use Rattle.std.proofs.lemmas.List.{length-reverse}
 use Rattle.itm_model.specs.Pieces.{pieces_in}
 use Rattle.itm_model.specs.Undoable.{Undoable}
 use Rattle.itm_model.specs.Undoing.{blocks_of}
-use Rattle.itm_model.proofs.FewEntries.{few_entries}
+use Rattle.itm_model.proofs.Journals.EntryBounds.{few_entries}
 use Rattle.itm_model.proofs.OpenBlocks.{length-blocks_of}
-use Rattle.itm_model.proofs.Overwrites.{in_table}
+use Rattle.itm_model.proofs.Journals.Overwrites.{in_table}
 use Rattle.itm_model.proofs.plain.Plain.kept.Goals as goal
 
 pub returns-clause-few : goal.returns-clause-few

@@ -3,7 +3,7 @@ use Rattle.itm_model.specs.declared.journal.Old.{Old}
 use Rattle.itm_model.specs.declared.journal.Mark.{Mark}
 use Rattle.itm_model.specs.Pieces.{AreAmong, AreNewest, AreOnce}
 use Rattle.itm_model.specs.Undoing.{AreUnder}
-use Rattle.itm_model.proofs.Overwrites.{in_table, is_cut}
+use Rattle.itm_model.proofs.Journals.Overwrites.{in_table, is_cut}
 use Rattle.itm_model.proofs.plain.Plain.take_back.Goals as goal
 
 pub forget-requires-clause-among : goal.forget-requires-clause-among

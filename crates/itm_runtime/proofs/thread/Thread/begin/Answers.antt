@@ -1,11 +1,11 @@
-use Rattle.itm_runtime.proofs.CallResults.{answered, due, left_standing}
+use Rattle.itm_runtime.proofs.Calls.Results.{answered, due, left_standing}
 use Rattle.itm_runtime.proofs.thread.Thread.begin.Goals as goal
 
-pub finish_by-requires-clause-due : goal.finish_by-requires-clause-due
-finish_by-requires-clause-due c = due c.self-2.inside.pass c.self-2.invariant c.in_ok-first.ensures
+pub finish_fast-requires-clause-due : goal.finish_fast-requires-clause-due
+finish_fast-requires-clause-due c = due c.self.inside.pass c.self.invariant c.in-Some.ensures
 
-pub returns : goal.returns
-returns c = answered c.self-2.inside.pass c.self-2.invariant c.in_ok-first.ensures c.finish_by.ensures c.args.self.now c.self-2.view_is
+pub invariant_of-self : goal.invariant_of-self
+invariant_of-self c = left_standing c.self.inside.pass c.self.invariant c.in-Some.ensures c.finish_fast.ensures
 
-pub invariant_of-self-2 : goal.invariant_of-self-2
-invariant_of-self-2 c = left_standing c.self-2.inside.pass c.self-2.invariant c.in_ok-first.ensures c.finish_by.ensures
+pub returns-in-Some : goal.returns-in-Some
+returns-in-Some c = answered c.self.inside.pass c.self.invariant c.in-Some.ensures c.finish_fast.ensures c.args.self.now c.self.view_is

@@ -1,11 +1,11 @@
-use Rattle.itm_runtime.proofs.CallResults.{answered, due, left_standing}
+use Rattle.itm_runtime.proofs.Calls.Results.{answered, due, left_standing}
 use Rattle.itm_runtime.proofs.thread.Thread.commit.Goals as goal
 
 pub finish_commit-requires-clause-due : goal.finish_commit-requires-clause-due
-finish_commit-requires-clause-due c = due c.self.inside.pass c.self.invariant c.in-Ok.ensures
-
-pub returns : goal.returns
-returns c = answered c.self.inside.pass c.self.invariant c.in-Ok.ensures c.finish_commit.ensures c.args.self.now c.self.view_is
+finish_commit-requires-clause-due c = due c.self.inside.pass c.self.invariant c.in-Some.ensures
 
 pub invariant_of-self : goal.invariant_of-self
-invariant_of-self c = left_standing c.self.inside.pass c.self.invariant c.in-Ok.ensures c.finish_commit.ensures
+invariant_of-self c = left_standing c.self.inside.pass c.self.invariant c.in-Some.ensures c.finish_commit.ensures
+
+pub returns-in-Some : goal.returns-in-Some
+returns-in-Some c = answered c.self.inside.pass c.self.invariant c.in-Some.ensures c.finish_commit.ensures c.args.self.now c.self.view_is

@@ -2,7 +2,7 @@ use Rattle.std.proofs.Common.{sym, subst}
 use Rattle.itm_types.specs.declared.access.ReadHint.TheVariants.{R}
 use Rattle.shared_words.specs.Passes.{view_of}
 use Rattle.itm_runtime.specs.Stops.{HasNumber}
-use Rattle.itm_runtime.proofs.NumberAnswers.{read_number}
+use Rattle.itm_runtime.proofs.Calls.NumberAnswers.{read_number}
 use Rattle.itm_runtime.proofs.thread.Thread.read_u64.Goals as goal
 
 pub number_in-requires : goal.number_in-requires

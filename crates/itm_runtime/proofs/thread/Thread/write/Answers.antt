@@ -1,11 +1,31 @@
-use Rattle.itm_runtime.proofs.CallResults.{answered, due, left_standing}
+use Rattle.std.proofs.Common.{◌≡◌, ◌∙◌, ap, false, subst}
+use Rattle.itm_types.specs.declared.call.Call.TheVariants.{Write}
+use Rattle.itm_types.specs.declared.datum.Datum.{Datum}
+use Rattle.norec_core.specs.Core.{Core}
+use Rattle.shared_words.specs.declared.pass.Pass.{Pass}
+use Rattle.itm_runtime.specs.CallResults.{Returns}
+use Rattle.itm_runtime.specs.Standing.{Standing}
+use Rattle.itm_runtime.proofs.Calls.Results.{answered, due, left_standing}
 use Rattle.itm_runtime.proofs.thread.Thread.write.Goals as goal
 
+abbrev standing : Pass → Core → Standing
+standing p e = record { pass = p; engine = e }
+
 pub finish-requires-clause-due : goal.finish-requires-clause-due
-finish-requires-clause-due c = due c.self.inside.pass c.self.invariant c.in_ok-first.ensures
+finish-requires-clause-due c = due c.self.inside.pass c.self.invariant c.in-Some.ensures
 
-pub returns : goal.returns
-returns c = answered c.self.inside.pass c.self.invariant c.in_ok-first.ensures c.finish.ensures c.args.self.now c.self.view_is
+pub invariant_of-self : goal.invariant_of-self
+invariant_of-self c = left_standing c.self.inside.pass c.self.invariant c.in-Some.ensures c.finish.ensures
 
-pub invariant_of-self-2 : goal.invariant_of-self-2
-invariant_of-self-2 c = left_standing c.self.inside.pass c.self.invariant c.in_ok-first.ensures c.finish.ensures
+pub returns-in-Some : goal.returns-in-Some
+returns-in-Some c = answered c.self.inside.pass c.self.invariant c.in-Some.ensures c.finish.ensures c.args.self.now c.self.view_is
+
+pub returns-in-None : goal.returns-in-None
+returns-in-None c =
+    let w = c.args.words.now in
+    let result = c.call_slow.result in
+    let new = c.call_slow.new.self in
+    let here : Standing = record { pass = c.self.inside.pass; engine = c.write_fast.new.self } in
+    let is : here ≡ c.args.self.now = ap (standing c.self.inside.pass) c.in-None.ensures.0 ∙ c.self.view_is in
+    subst (λ (t : Standing). Returns (λ a. a) w t (Write c.args.hint c.args.at c.args.value.now) false result new) is
+    (subst (λ (d : Datum). Returns (λ a. a) w here (Write c.args.hint c.args.at d) false result new) c.copy_of-value.ensures c.call_slow.ensures)

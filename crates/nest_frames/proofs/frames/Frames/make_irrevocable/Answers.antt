@@ -1,9 +1,6 @@
-use Rattle.std.proofs.Common.{◌≡◌, ◌+◌, ◌<◌, ◌≤◌, suc, refl, rules, arith, length, map, take, drop, ◌++◌, List, [], ap, sym, subst, ◌∙◌, slice_index_or, slice_set}
+use Rattle.std.proofs.Common.{◌≡◌, ◌+◌, ◌<◌, ◌≤◌, suc, arith, length, map, take, drop, ◌++◌, List, [], ap, sym, subst, ◌∙◌, slice_index_or, slice_set}
 use Rattle.std.specs.List.{refill}
-use Rattle.undo_log.specs.Rollback.{Undo}
-use Rattle.user_actions.specs.Actions.{ActionList}
-use Rattle.write_set.specs.Marks.{Written, unwritten}
-use Rattle.nest_frames.specs.Moments.{IsSound, frames_of}
+use Rattle.write_set.specs.Marks.{unwritten}
 use Rattle.nest_frames.specs.declared.moment.Moment.{Moment}
 use Rattle.nest_frames.specs.Nest.{Nest, made_irrevocable}
 use Rattle.nest_frames.proofs.ForgottenMoments.{all_forgotten, forgotten, next_forgotten, nest_so, sound_so}

@@ -1,12 +1,12 @@
 use Rattle.std.proofs.Common.{◌≡◌, ℕ, Bool, true, false, true≢false, if◌then◌else◌, Option, None, Some, unwrap_or, refl, sym, ap, subst, ◌∙◌, IfOk, vec_capacity, arith, rules}
 use Rattle.user_actions.specs.Actions.{total}
-use Rattle.norec_core.specs.Core.{Core, came, goes}
+use Rattle.norec_core.specs.Core.{Core, came, irrevocable_room}
 use Rattle.norec_engine.specs.NextSteps.{next_in, ComesInto}
 use Rattle.norec_world.specs.ActionRoom.{MayRunOn}
-use Rattle.norec_world.proofs.ActionRoom.{asked_inside, asked_served, called_acting, gave_acting, grown_acting, on_err, places_for, starves_begin, unasked_acting}
-use Rattle.norec_world.proofs.CallRoom.{backed_came, promised_came, wanted_came}
-use Rattle.norec_world.proofs.HeldRoom.{came_room}
-use Rattle.norec_world.proofs.SoundOthers.{has_row_same}
+use Rattle.norec_world.proofs.Rooms.ActionRoom.{asked_inside, asked_served, called_acting, gave_acting, grown_acting, on_err, places_for, starves_begin, unasked_acting}
+use Rattle.norec_world.proofs.Rooms.CallRoom.{backed_came, promised_came, wanted_came}
+use Rattle.norec_world.proofs.Rooms.HeldRoom.{came_room}
+use Rattle.norec_world.proofs.Events.SoundOthers.{has_row_same}
 use Rattle.norec_world.proofs.Common.{Actor, Attempt, Begin, Call, HasRow, Rows, Step, active_of, in_transaction, same_Some}
 use Rattle.norec_world.proofs.actor.Actor.ask.Goals.{After-call_into-in_default-2}
 use Rattle.norec_world.proofs.actor.Actor.ask.Goals as goal
@@ -104,8 +104,8 @@ returns-in_ok-next-in-Begin-clause-acts g c =
     let shut : in_transaction a.engine ≡ false = (let o = c.is_open.ensures in let tested = c.if-not-is_open.true in cc) in
     let has : HasRow (in_transaction a.engine) r a.thread = has_row_same (in_transaction a.engine) c.args.recorded.now r a.thread (ap (λ (x : Rows). active_of a.thread x.active) c.reserve.ensures.same) c.requires.kept.row in
     let none : active_of a.thread r.active ≡ None = subst (λ (b : Bool). HasRow b r a.thread) shut has in
-    let asked : c.ahead_of-ahead.result ≡ unwrap_or (goes a.engine call) 0 =
-    c.ahead_of-ahead.ensures.value ∙ (ap (λ (o : Option ℕ). unwrap_or o 0) c.goes.ensures ∙ ap (λ (x : Call). unwrap_or (goes a.engine x) 0) c.in-Begin.is) in
+    let asked : c.ahead_of-ahead.result ≡ unwrap_or (irrevocable_room a.engine call) 0 =
+    c.ahead_of-ahead.ensures.value ∙ (ap (λ (o : Option ℕ). unwrap_or o 0) c.irrevocable_room.ensures ∙ ap (λ (x : Call). unwrap_or (irrevocable_room a.engine x) 0) c.in-Begin.is) in
     let new : Actor g.row.P.Denot = record a { engine = c.begin_into.new.self; end_room = c.reserve-in-Begin.new.self; cancel_room = c.reserve-in-Begin-2.new.self; pending = Some attempt } in
     subst (λ (x : Call). MayRunOn r new x (next_in c.in_ok-next-in-Begin.next c.begin_into.new.answer)) (sym c.in-Begin.is)
     (gave_acting r new (came a.engine call a.again) call (in_transaction a.engine) refl has refl

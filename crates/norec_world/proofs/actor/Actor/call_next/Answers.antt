@@ -1,15 +1,15 @@
 use Rattle.norec_core.specs.Proceeds.{IsSettled}
 use Rattle.norec_engine.specs.NextSteps.{next_in}
 use Rattle.norec_world.specs.ActionRoom.{MayRunOn}
-use Rattle.norec_world.proofs.CallRoom.{used_up}
+use Rattle.norec_world.proofs.Rooms.CallRoom.{used_up}
 use Rattle.std.proofs.Common.{◌≡◌, ◌/◌, ℕ, true, Option, None, Some, refl, sym, ap, subst, ◌∙◌}
 use Rattle.norec_world.proofs.Common.{Answer, Answers, Asks, Core, IsTied, Rows, Starves, StatusIs, Step, StopsAt, Waits, after_undoing, in_transaction}
 use Rattle.tx_attempts.specs.declared.attempt.Outcome.TheVariants as outcomes
-use Rattle.norec_world.proofs.OthersAttempts.{others_twice}
-use Rattle.norec_world.proofs.SoundSteps.{call_falls, call_taken, calling, rests}
-use Rattle.norec_world.proofs.TiedEngines.{idle_still}
-use Rattle.norec_world.proofs.Taken.{due}
-use Rattle.norec_world.proofs.Worked.{call_worked, finish_worked, starve_worked}
+use Rattle.norec_world.proofs.Attempts.OthersAttempts.{others_twice}
+use Rattle.norec_world.proofs.Engines.SoundSteps.{call_falls, call_taken, calling, rests}
+use Rattle.norec_world.proofs.Engines.TiedEngines.{idle_still}
+use Rattle.norec_world.proofs.Engines.Intakes.{due}
+use Rattle.norec_world.proofs.Events.WorkChains.{call_worked, finish_worked, starve_worked}
 use Rattle.norec_world.proofs.actor.Actor.call_next.Goals as goal
 
 -- what the engine gave, by what it told

@@ -2,8 +2,8 @@ use Rattle.tx_attempts.specs.Kept.{grown, spent}
 use Rattle.norec_world.proofs.Common.{Attempt, Rows, active_of, with_ended}
 use Rattle.std.proofs.Common.{◌≡◌, ◌++◌, List, Some, length, refl, sym, ap, ◌∙◌, arith}
 use Rattle.itm_types.specs.declared.call.Ran.{Ran}
-use Rattle.norec_world.proofs.ActiveRows.{changed_here, row_from}
-use Rattle.norec_world.proofs.RecordedRows.{ended_changed}
+use Rattle.norec_world.proofs.Attempts.ActiveRows.{changed_here, row_from}
+use Rattle.norec_world.proofs.Attempts.RecordedRows.{ended_changed}
 use Rattle.norec_world.proofs.actor.Actor.close.Goals as goal
 
 pub stop-requires-clause-first : goal.stop-requires-clause-first

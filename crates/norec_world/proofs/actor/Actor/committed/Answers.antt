@@ -3,8 +3,8 @@ use Rattle.itm_types.specs.declared.call.Ran.{Ran}
 use Rattle.tx_attempts.specs.declared.attempt.Outcome.TheVariants as outcomes
 use Rattle.std.proofs.Common.{List, if◌then◌else◌, ◌≡◌, Bool, true, length, refl, sym, ap, subst, ◌∙◌}
 use Rattle.norec_world.proofs.Common.{Actor, Committed, Done, HasRow, IsAnswered, IsSettledBy, Outcome, depth_after, with_ended}
-use Rattle.norec_world.proofs.OthersAttempts.{others_ended}
-use Rattle.norec_world.proofs.PlayerLaws.{after_close, deep_of}
+use Rattle.norec_world.proofs.Attempts.OthersAttempts.{others_ended}
+use Rattle.norec_world.proofs.Engines.PlayerLaws.{after_close, deep_of}
 use Rattle.tx_runs.specs.Nesting.{IsDeep}
 use Rattle.norec_world.proofs.actor.Actor.committed.Goals as goal
 

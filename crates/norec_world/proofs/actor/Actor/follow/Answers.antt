@@ -1,9 +1,9 @@
-use Rattle.norec_world.proofs.ActionRoom.{changed_acting}
+use Rattle.norec_world.proofs.Rooms.ActionRoom.{changed_acting}
 use Rattle.norec_world.proofs.Common.{in_transaction}
-use Rattle.norec_world.proofs.OthersAttempts.{others_changed}
+use Rattle.norec_world.proofs.Attempts.OthersAttempts.{others_changed}
 use Rattle.std.proofs.Common.{refl, sym, ◌∙◌, ◌/◌}
-use Rattle.norec_world.proofs.ReadPositions.{told_same}
-use Rattle.norec_world.proofs.RecordedRows.{told_kept, told_status}
+use Rattle.norec_world.proofs.Attempts.ReadPositions.{told_same}
+use Rattle.norec_world.proofs.Attempts.RecordedRows.{told_kept, told_status}
 use Rattle.norec_world.proofs.actor.Actor.follow.Goals as goal
 
 pub returns-then-is_open-clause-kept : goal.returns-then-is_open-clause-kept

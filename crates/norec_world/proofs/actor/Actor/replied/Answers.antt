@@ -2,12 +2,12 @@ use Rattle.tx_attempts.specs.Kept.{grown}
 use Rattle.itm_types.specs.declared.call.Ran.{Ran}
 use Rattle.user_actions.specs.Actions.{total}
 use Rattle.norec_world.specs.ActionRoom.{AsksAs, NoCancel}
-use Rattle.norec_world.proofs.ActiveRows.{changed_then, opened_here, row_from}
-use Rattle.norec_world.proofs.OthersAttempts.{others_opened, others_changed, others_ended}
+use Rattle.norec_world.proofs.Attempts.ActiveRows.{changed_then, opened_here, row_from}
+use Rattle.norec_world.proofs.Attempts.OthersAttempts.{others_opened, others_changed, others_ended}
 use Rattle.std.proofs.Common.{rules, ◌≡◌, ◌/◌, refl, Some, subst, ◌++◌, ◌∷◌, [], ap, ◌∙◌, sym, Bool, true, List, ℕ, None, is_some, length, arith}
 use Rattle.norec_world.proofs.Common.{Actor, Attempt, HasRow, IsAnswered, IsSettledBy, RecordsReply, Reply, Rows, active_of, in_transaction, with_changed, with_opened}
-use Rattle.norec_world.proofs.PlayerLaws.{after_close, after_reply, deep_of}
-use Rattle.norec_world.proofs.RecordedRows.{has_active, no_active, row_stays, was_open, row_opened, row_changed, row_none}
+use Rattle.norec_world.proofs.Engines.PlayerLaws.{after_close, after_reply, deep_of}
+use Rattle.norec_world.proofs.Attempts.RecordedRows.{has_active, no_active, row_stays, was_open, row_opened, row_changed, row_none}
 use Rattle.norec_world.proofs.actor.Actor.replied.Goals as goal
 
 pub returns-else-is_open-clause-recorded : goal.returns-else-is_open-clause-recorded
@@ -17,7 +17,7 @@ returns-else-is_open-clause-recorded g c was d =
     record {
       done =
           after_reply g.P.Player g.met.P.Player.laws r r a c.args.call
-          was c.args.reply d c.answer.new.self c.answer.ensures a.spare a.end_room a.cancel_room d.kept.empty c.taken.new.pending c.taken.ensures.after a.again
+          was c.args.reply d c.answer.new.self c.answer.ensures a.spare a.end_room a.cancel_room d.kept.empty c.take_pending.new.pending c.take_pending.ensures.after a.again
           (row_stays r a.thread (in_transaction a.engine) (sym c.is_open-is_open.ensures ∙ c.if-is_open.false)
           (row_none r a.thread was (λ e. (let n = d.in_call.inside e in absurd (let none = sym n ∙ sym c.in-Some.ensures.value in cc))) d.kept.row));
       tells = search rules;
@@ -36,12 +36,12 @@ returns-then-is_open-clause-recorded g c was d =
     record {
       done =
           after_reply g.P.Player g.met.P.Player.laws r c.open.new.self a c.args.call
-          was c.args.reply d c.answer.new.self c.answer.ensures a.spare a.end_room a.cancel_room d.kept.empty c.taken.new.pending c.taken.ensures.after true
+          was c.args.reply d c.answer.new.self c.answer.ensures a.spare a.end_room a.cancel_room d.kept.empty c.take_pending.new.pending c.take_pending.ensures.after true
           (row_opened r c.open.new.self a.thread (in_transaction a.engine) row opened c.open.ensures (row_none r a.thread was shut d.kept.row) p.thread p.outcome);
       tells = search rules;
       others =
           others_opened c.args.self.now _ c.args.recorded.now c.open.new.self row c.in-Some.attempt (d.in_call.opens c.in-Some.attempt some).thread
-          (row_none c.args.recorded.now c.args.self.now.thread was (λ e. (let n = d.in_call.inside e in absurd (cc))) d.kept.row) refl some c.taken.ensures.after c.open.ensures;
+          (row_none c.args.recorded.now c.args.self.now.thread was (λ e. (let n = d.in_call.inside e in absurd (cc))) d.kept.row) refl some c.take_pending.ensures.after c.open.ensures;
     }
 
 pub returns-then-is_open-2-clause-recorded : goal.returns-then-is_open-2-clause-recorded
@@ -56,16 +56,16 @@ returns-then-is_open-2-clause-recorded g c was d =
     record {
       done =
           after_reply g.P.Player g.met.P.Player.laws r c.run.new.self a c.args.call
-          was c.args.reply d c.answer.new.self c.answer.ensures c.add.new.spare a.end_room c.run.new.spare c.add.ensures.empty c.taken.new.pending c.taken.ensures.after a.again
+          was c.args.reply d c.answer.new.self c.answer.ensures c.add.new.spare a.end_room c.run.new.spare c.add.ensures.empty c.take_pending.new.pending c.take_pending.ensures.after a.again
           (row_changed r c.run.new.self a.thread (in_transaction a.engine) (λ row. record row { calls = grown row.calls (record { call = c.args.call; reply = c.args.reply }) c.args.self.now.ahead; ran = c.due.result.now }) (λ x. refl) (λ x. refl)
           changed h opened);
       tells =
           let rows = changed ∙ ap (λ (ran : List Ran). with_changed a.thread (λ row. record row { calls = grown row.calls (record { call = c.args.call; reply = c.args.reply }) c.args.self.now.ahead; ran = ran }) r) c.due.ensures in
-          subst (λ (b : Bool). RecordsReply g.P.Player b (in_transaction a.engine) r c.run.new.self a (record a { player = c.answer.new.self; spare = c.add.new.spare; cancel_room = c.run.new.spare; pending = c.taken.new.pending }) c.args.call c.args.reply) (sym open_before)
-          (subst (λ (n : Bool). RecordsReply g.P.Player true n r c.run.new.self a (record a { player = c.answer.new.self; spare = c.add.new.spare; cancel_room = c.run.new.spare; pending = c.taken.new.pending }) c.args.call c.args.reply) (sym opened) (rows, c.answer.ensures, refl, refl, refl));
+          subst (λ (b : Bool). RecordsReply g.P.Player b (in_transaction a.engine) r c.run.new.self a (record a { player = c.answer.new.self; spare = c.add.new.spare; cancel_room = c.run.new.spare; pending = c.take_pending.new.pending }) c.args.call c.args.reply) (sym open_before)
+          (subst (λ (n : Bool). RecordsReply g.P.Player true n r c.run.new.self a (record a { player = c.answer.new.self; spare = c.add.new.spare; cancel_room = c.run.new.spare; pending = c.take_pending.new.pending }) c.args.call c.args.reply) (sym opened) (rows, c.answer.ensures, refl, refl, refl));
       others =
           others_changed a _ r c.run.new.self (λ row. record row { calls = grown row.calls (record { call = c.args.call; reply = c.args.reply }) c.args.self.now.ahead; ran = c.due.result.now }) (λ x. refl) refl
-          (c.taken.ensures.after ∙ c.in-None.ensures.value) changed;
+          (c.take_pending.ensures.after ∙ c.in-None.ensures.value) changed;
     }
 
 -- no transaction was open, nor is one now
@@ -76,7 +76,7 @@ returns-else-has_open-clause-recorded g c was d =
     record {
       done =
           after_reply g.P.Player g.met.P.Player.laws r r a c.args.call
-          was c.args.reply d c.answer.new.self c.answer.ensures a.spare a.end_room a.cancel_room d.kept.empty c.taken.new.pending c.taken.ensures.after a.again
+          was c.args.reply d c.answer.new.self c.answer.ensures a.spare a.end_room a.cancel_room d.kept.empty c.take_pending.new.pending c.take_pending.ensures.after a.again
           (row_stays r a.thread (in_transaction a.engine) (sym c.is_open-is_open.ensures ∙ c.if-is_open-2.false) (no_active (active_of a.thread r.active) (sym c.has_open.ensures ∙ c.if-has_open.false)));
       tells = search rules;
       others = search rules;
@@ -96,11 +96,11 @@ returns-then-has_open-clause-recorded g c was d =
           subst (λ (b : Bool). IsSettledBy g.P.Player b c.close.new.recorded a c.close.new.self) (sym open_before)
           (subst (IsSettledBy g.P.Player true c.close.new.recorded a) (sym c.close.ensures.actor)
           (after_close g.P.Player g.met.P.Player.laws r c.close.new.recorded a c.args.call
-          d' c.args.reply (sym c.is_open-is_open.ensures ∙ c.if-is_open-2.false) d.fits.0 c.answer.new.self c.answer.ensures c.close.new.self.spare c.close.new.self.end_room a.cancel_room c.close.ensures.empty c.taken.new.pending c.taken.ensures.after c.close.ensures.gone));
+          d' c.args.reply (sym c.is_open-is_open.ensures ∙ c.if-is_open-2.false) d.fits.0 c.answer.new.self c.answer.ensures c.close.new.self.spare c.close.new.self.end_room a.cancel_room c.close.ensures.empty c.take_pending.new.pending c.take_pending.ensures.after c.close.ensures.gone));
       tells = search rules;
       others =
           others_ended a c.close.new.self c.args.recorded.now c.close.new.recorded h.0 _ h.1 refl (ap (λ (x : Actor g.row.P.Denot). x.thread) c.close.ensures.actor)
-          (ap (λ (x : Actor g.row.P.Denot). x.pending) c.close.ensures.actor ∙ (c.taken.ensures.after ∙ c.in-None.ensures.value)) (c.close.ensures.ended h.0 h.1);
+          (ap (λ (x : Actor g.row.P.Denot). x.pending) c.close.ensures.actor ∙ (c.take_pending.ensures.after ∙ c.in-None.ensures.value)) (c.close.ensures.ended h.0 h.1);
     }
 
 no_length : (xs : List Ran) → length xs ≡ 0 → xs ≡ []
@@ -132,7 +132,7 @@ returns-then-is_open-2-clause-acts g c =
       empty = record { end_room = c.requires.acts.empty.end_room; cancel_room = c.run.ensures.empty };
       all = λ row e. ap (λ (x : Attempt). x.ran) (was row e).2 ∙ c.due.ensures;
       places = λ row e. (let w = was row e in c.requires.acts.places w.0 w.1);
-      pending = λ row e. absurd (let none : None ≡ Some row = sym c.taken.ensures.after ∙ e in cc);
+      pending = λ row e. absurd (let none : None ≡ Some row = sym c.take_pending.ensures.after ∙ e in cc);
       status = subst NoCancel (sym c.requires.answered.1.status) tt;
       room = λ held some.
           (let both = c.requires.acts.room held some in
@@ -168,7 +168,7 @@ returns-then-is_open-clause-acts g c =
       empty = record { end_room = c.requires.acts.empty.end_room; cancel_room = c.requires.acts.empty.cancel_room };
       all = λ row e. (let same : attempt ≡ row = (let both : Some attempt ≡ Some row = sym there ∙ e in cc) in ap (λ (x : Attempt). x.ran) (sym same) ∙ (empty ∙ sym none_ran));
       places = λ row e. omega arith;
-      pending = λ row e. absurd (let gone : None ≡ Some row = sym c.taken.ensures.after ∙ e in cc);
+      pending = λ row e. absurd (let gone : None ≡ Some row = sym c.take_pending.ensures.after ∙ e in cc);
       status = subst NoCancel (sym d.status) tt;
       room = c.requires.acts.room;
       backed = λ row e. (let same : attempt ≡ row = (let both : Some attempt ≡ Some row = sym there ∙ e in cc) in

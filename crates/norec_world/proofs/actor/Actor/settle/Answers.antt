@@ -1,9 +1,9 @@
-use Rattle.norec_world.proofs.OthersAttempts.{others_stopped, retried_counts, retried_is}
+use Rattle.norec_world.proofs.Attempts.OthersAttempts.{others_stopped, retried_counts, retried_is}
 use Rattle.tx_runs.specs.Nesting.{IsDeep}
 use Rattle.std.proofs.Common.{rules, ◌≡◌, ◌/◌, length, ap, ◌∙◌, refl, sym, subst, Bool, true, false, None, [], is_some}
 use Rattle.norec_world.proofs.Common.{Actor, AnswerFits, Attempt, Busy, Conflict, Ended, Full, GaveUp, HasRow, IsSettledBy, Records, StopsIf, in_transaction, whole}
 use Rattle.tx_attempts.specs.declared.attempt.Outcome.TheVariants as outcomes
-use Rattle.norec_world.proofs.PlayerLaws.{after_try, ends_inside, ends_outside, settled_as}
+use Rattle.norec_world.proofs.Engines.PlayerLaws.{after_try, ends_inside, ends_outside, settled_as}
 use Rattle.norec_world.proofs.actor.Actor.settle.Goals.{then-is_none, else-is_none, then-is_none-2, else-is_none-2}
 use Rattle.norec_world.proofs.actor.Actor.settle.Goals as goal
 

@@ -2,9 +2,9 @@ use Rattle.std.proofs.Common.{◌≡◌, ◌++◌, ◌/◌, List, length, sym, a
 use Rattle.itm_types.specs.declared.call.Ran.{Ran}
 use Rattle.norec_world.proofs.Common.{IsTied, in_transaction}
 use Rattle.tx_attempts.specs.declared.attempt.Outcome.TheVariants.{NoMemory}
-use Rattle.norec_world.proofs.LaterActions.{given_up_free, given_up_later, given_up_most}
-use Rattle.norec_world.proofs.OthersAttempts.{others_starved}
-use Rattle.norec_world.proofs.TiedEngines.{tied_undone}
+use Rattle.norec_world.proofs.Rooms.LaterActions.{given_up_free, given_up_later, given_up_most}
+use Rattle.norec_world.proofs.Attempts.OthersAttempts.{others_starved}
+use Rattle.norec_world.proofs.Engines.TiedEngines.{tied_undone}
 use Rattle.norec_world.proofs.actor.Actor.starve.Goals.{in-Done, in_default}
 use Rattle.norec_world.proofs.actor.Actor.starve.Goals as goal
 

@@ -3,13 +3,13 @@ use Rattle.norec_engine.specs.NextSteps.{next_in}
 use Rattle.norec_world.specs.ActionRoom.{MayRunOn}
 use Rattle.norec_world.proofs.Common.{Call, Core, Ready, Status, Step, Waits, cells_after, in_transaction, is_waiting, prior_of, waiting_step}
 use Rattle.norec_world.specs.Sound.{IsDue}
-use Rattle.norec_world.proofs.CommitCounts.{counted_after}
-use Rattle.norec_world.proofs.OthersAttempts.{others_twice}
-use Rattle.norec_world.proofs.ReadPositions.{still_reads}
-use Rattle.norec_world.proofs.RunCalls.{step_runs}
-use Rattle.norec_world.proofs.SoundSteps.{step_acts, step_clocks, step_falls, step_on, step_taken, stepping, takes_in, IsStepping, rests}
-use Rattle.norec_world.proofs.Taken.{due, now}
-use Rattle.norec_world.proofs.TryCalls.{step_tries, step_unfinished}
+use Rattle.norec_world.proofs.Commits.CommitCounts.{counted_after}
+use Rattle.norec_world.proofs.Attempts.OthersAttempts.{others_twice}
+use Rattle.norec_world.proofs.Attempts.ReadPositions.{still_reads}
+use Rattle.norec_world.proofs.Runs.Calls.{step_runs}
+use Rattle.norec_world.proofs.Engines.SoundSteps.{step_acts, step_clocks, step_falls, step_on, step_taken, stepping, takes_in, IsStepping, rests}
+use Rattle.norec_world.proofs.Engines.Intakes.{due, now}
+use Rattle.norec_world.proofs.Attempts.TryCalls.{step_tries, step_unfinished}
 use Rattle.norec_world.proofs.actor.Actor.step.Goals as goal
 use Rattle.norec_world.proofs.actor.Actor.step.Goals.{After-resume_into-next}
 

@@ -1,7 +1,7 @@
 use Rattle.tx_attempts.specs.Kept.{grown}
 use Rattle.std.proofs.Common.{refl, ap, ◌∙◌, drop}
 use Rattle.norec_world.proofs.Common.{Rows, is_of, with_changed}
-use Rattle.norec_world.proofs.ActiveRows.{IsFirstAt, place_first, place_none, row_at_place, put_from, put_rows, same_rows}
+use Rattle.norec_world.proofs.Attempts.ActiveRows.{IsFirstAt, place_first, place_none, row_at_place, put_from, put_rows, same_rows}
 use Rattle.norec_world.proofs.recorded.Recorded.add.Goals as goal
 
 first : (c : goal.After-push-arg-in-Some-1) → IsFirstAt (is_of c.args.thread) (drop c.self.inside.ended c.self.inside.rows.items) c.in-Some.place

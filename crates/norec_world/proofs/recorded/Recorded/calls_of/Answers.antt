@@ -1,6 +1,6 @@
 use Rattle.std.proofs.Common.{◌≡◌, Some, length, sym, ap, ◌∙◌}
 use Rattle.norec_world.proofs.Common.{Attempt, active_of}
-use Rattle.norec_world.proofs.ActiveRows.{place_first, place_none, is_row, no_row}
+use Rattle.norec_world.proofs.Attempts.ActiveRows.{place_first, place_none, is_row, no_row}
 use Rattle.norec_world.proofs.recorded.Recorded.calls_of.Goals as goal
 
 -- the open row is the one at its place

@@ -2,7 +2,7 @@ use Rattle.std.proofs.Common.{◌≡◌, ℕ, ◌+◌, ◌-◌, ◌<◌, ◌≤�
 use Rattle.std.proofs.lemmas.Grind.{common_steps}
 use Rattle.tx_attempts.specs.Kept.{Kept, spent}
 use Rattle.norec_world.proofs.Common.{Attempt, Rows, active_of, insert, is_of, remove, with_ended}
-use Rattle.norec_world.proofs.ActiveRows.{IsFirstAt, place_first, place_none, is_row, no_row, moved_from, moved_rows, without_here}
+use Rattle.norec_world.proofs.Attempts.ActiveRows.{IsFirstAt, place_first, place_none, is_row, no_row, moved_from, moved_rows, without_here}
 use Rattle.norec_world.proofs.recorded.Recorded.end.Goals as goal
 
 first : (c : goal.After-self-in-Some-1) → IsFirstAt (is_of c.args.thread) (drop c.self.inside.ended c.self.inside.rows.items) c.in-Some.place

@@ -1,5 +1,5 @@
 use Rattle.std.proofs.Common.{◌∙◌}
-use Rattle.norec_world.proofs.ActiveRows.{has_row}
+use Rattle.norec_world.proofs.Attempts.ActiveRows.{has_row}
 use Rattle.norec_world.proofs.recorded.Recorded.has_open.Goals as goal
 
 pub returns : goal.returns

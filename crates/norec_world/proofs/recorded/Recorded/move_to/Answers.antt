@@ -1,6 +1,6 @@
 use Rattle.std.proofs.Common.{refl, ap, ◌∙◌, drop}
 use Rattle.norec_world.proofs.Common.{Rows, is_of, with_changed}
-use Rattle.norec_world.proofs.ActiveRows.{IsFirstAt, place_first, place_none, put_from, put_rows, same_rows}
+use Rattle.norec_world.proofs.Attempts.ActiveRows.{IsFirstAt, place_first, place_none, put_from, put_rows, same_rows}
 use Rattle.norec_world.proofs.recorded.Recorded.move_to.Goals as goal
 
 first : (c : goal.After-self-1) → IsFirstAt (is_of c.args.thread) (drop c.self.inside.ended c.self.inside.rows.items) c.in-Some.place

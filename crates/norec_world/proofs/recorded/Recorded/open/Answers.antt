@@ -1,6 +1,6 @@
 use Rattle.std.proofs.Common.{◌-◌, ◌≤◌, length, arith, ap, ◌∙◌, vec_len, vec_capacity}
 use Rattle.norec_world.proofs.Common.{Rows, active_of, with_opened}
-use Rattle.norec_world.proofs.ActiveRows.{opened_from, opened_rows}
+use Rattle.norec_world.proofs.Attempts.ActiveRows.{opened_from, opened_rows}
 use Rattle.norec_world.proofs.recorded.Recorded.open.Goals as goal
 
 within : (c : goal.After-insert_within) → c.self.inside.ended ≤ length c.self.inside.rows.items

@@ -1,8 +1,8 @@
 use Rattle.std.proofs.Common.{◌≡◌, Some, refl, ap, ◌∙◌}
 use Rattle.tx_attempts.specs.Kept.{spent}
 use Rattle.norec_world.proofs.Common.{Attempt, Rows, active_of, with_ended}
-use Rattle.norec_world.proofs.ActiveRows.{changed_here}
-use Rattle.norec_world.proofs.RecordedRows.{ended_changed}
+use Rattle.norec_world.proofs.Attempts.ActiveRows.{changed_here}
+use Rattle.norec_world.proofs.Attempts.RecordedRows.{ended_changed}
 use Rattle.norec_world.proofs.recorded.Recorded.stop.Goals as goal
 
 pub returns-clause-stops : goal.returns-clause-stops

@@ -1,7 +1,7 @@
 use Rattle.std.proofs.Common.{subst}
 use Rattle.norec_world.proofs.Common.{AreOpaque, AreOpen, AreTied, World, observed, world_of}
-use Rattle.norec_world.proofs.RunOthers.{world_opaque, world_tied}
-use Rattle.norec_world.proofs.SoundOthers.{are_open}
+use Rattle.norec_world.proofs.Runs.Others.{world_opaque, world_tied}
+use Rattle.norec_world.proofs.Events.SoundOthers.{are_open}
 use Rattle.norec_world.proofs.world.World.attempts.Goals as goal
 
 pub returns-clause-unfinished : goal.returns-clause-unfinished

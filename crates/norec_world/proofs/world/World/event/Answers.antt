@@ -1,9 +1,9 @@
 use Rattle.std.proofs.Common.{◌≡◌, ℕ, ap, ◌∙◌, sym, subst, IsSome, slice_get, slice_set}
-use Rattle.norec_world.proofs.Common.{same_Some, Actor, Goes, HasLess, World, active_of, ending_at, slice_get-set_same, told, waits_at, world_of, slice_get_within}
-use Rattle.norec_world.proofs.Worlds.{going_here}
-use Rattle.norec_world.proofs.LessLeft.{event_less}
-use Rattle.norec_world.proofs.RunOthers.{world_tied}
-use Rattle.norec_world.proofs.EventWorlds.{goes_after, world_after}
+use Rattle.norec_world.proofs.Common.{same_Some, Actor, Goes, HasLess, World, active_of, ending_at, slice_get-set_same, event_result, waits_at, world_of, slice_get_within}
+use Rattle.norec_world.proofs.Events.Worlds.{going_here}
+use Rattle.norec_world.proofs.Events.Measures.{event_less}
+use Rattle.norec_world.proofs.Runs.Others.{world_tied}
+use Rattle.norec_world.proofs.Events.EventWorlds.{goes_after, world_after}
 use Rattle.norec_world.proofs.world.World.event.Goals as goal
 
 pub step-requires-clause-sound : goal.step-requires-clause-sound
@@ -41,7 +41,7 @@ returns-clause-goes g c =
     let old : World g.row.P.Denot = world_of c.self.inside in
     let here = going_here old c.args.actor c.index_mut-a.result.now waits c.index_mut-a.ensures.value in
     let new : World g.row.P.Denot = record old { cells = c.step.new.memory; actors = slice_set old.actors c.args.actor c.work.new.self; attempts = c.work.new.recorded; events = c.saturating_add-self-inside.result } in
-    subst (λ (w : World g.row.P.Denot). Goes g.P.Player c.args.actor w (told (ending_at new c.args.actor)) new) c.self.view_is
+    subst (λ (w : World g.row.P.Denot). Goes g.P.Player c.args.actor w (event_result (ending_at new c.args.actor)) new) c.self.view_is
     (goes_after g.met.P.Player.laws old c.self.invariant c.args.actor c.index_mut-a.result.now here.0 c.step.ensures c.work.ensures.worked c.work.ensures.done waits c.saturating_add-self-inside.result c.saturating_add-self-inside.ensures)
 
 pub returns-clause-less : goal.returns-clause-less

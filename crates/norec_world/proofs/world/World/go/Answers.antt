@@ -1,7 +1,7 @@
 use Rattle.std.proofs.Common.{slice_get, IsSome, Result, sym, ap, subst, ◌∙◌}
-use Rattle.norec_world.proofs.Common.{Actor, Goes, WorldFault, is_waiting, option_and_then, told, waiting_step}
-use Rattle.norec_world.proofs.Worlds.{some_waiting}
-use Rattle.norec_world.proofs.WorldEvents.{mapped_none, mapped_some, goes_nowhere, goes_no_more}
+use Rattle.norec_world.proofs.Common.{Actor, Goes, WorldFault, is_waiting, option_and_then, event_result, waiting_step}
+use Rattle.norec_world.proofs.Events.Worlds.{some_waiting}
+use Rattle.norec_world.proofs.Events.WorldEvents.{mapped_none, mapped_some, goes_nowhere, goes_no_more}
 use Rattle.norec_world.proofs.world.World.go.Goals as goal
 
 pub returns-in-None-clause-goes : goal.returns-in-None-clause-goes
@@ -25,4 +25,4 @@ event-goes_on-requires g c =
 
 pub returns-in-Some-true-clause-goes : goal.returns-in-Some-true-clause-goes
 returns-in-Some-true-clause-goes g c =
-    subst (λ (r : Result (Unit {0}) WorldFault). Goes g.P.Player c.args.actor c.args.self.now r c.event-goes_on.new.self) (ap told (sym c.ending.ensures) ∙ sym c.told.ensures) c.event-goes_on.ensures.goes
+    subst (λ (r : Result (Unit {0}) WorldFault). Goes g.P.Player c.args.actor c.args.self.now r c.event-goes_on.new.self) (ap event_result (sym c.ending.ensures) ∙ sym c.event_result.ensures) c.event-goes_on.ensures.goes

@@ -1,7 +1,7 @@
 use Rattle.std.proofs.Common.{slice_get, IsSome, sym, ap, subst, ◌∙◌}
 use Rattle.norec_world.proofs.Common.{Actor, is_waiting, option_and_then, waiting_step}
-use Rattle.norec_world.proofs.Worlds.{some_waiting}
-use Rattle.norec_world.proofs.WorldEvents.{ended_there, mapped_none, mapped_some, not_there}
+use Rattle.norec_world.proofs.Events.Worlds.{some_waiting}
+use Rattle.norec_world.proofs.Events.WorldEvents.{ended_there, mapped_none, mapped_some, not_there}
 use Rattle.norec_world.proofs.world.World.is_waiting.Goals as goal
 
 pub returns-in-None-clause-ended : goal.returns-in-None-clause-ended

@@ -1,9 +1,9 @@
 use Rattle.std.proofs.Common.{rules, ◌≡◌, ◌/◌, ℕ, length, replicate, List, slice_get, sym, ap, subst, ◌∙◌}
 use Rattle.norec_world.proofs.Common.{AreFrom, AreOfActors, HasStarted, IsBetween, RunsFrom, World, bytes_of, first_of, opening, words_of}
 use Rattle.itm_types.proofs.WordLists.{words_of-bytes_of}
-use Rattle.norec_world.proofs.RunOthers.{laid_first, world_opaque, world_tied}
-use Rattle.norec_world.proofs.CommitCounts.{commits_first}
-use Rattle.norec_world.proofs.Dates.{dated_first}
+use Rattle.norec_world.proofs.Runs.Others.{laid_first, world_opaque, world_tied}
+use Rattle.norec_world.proofs.Commits.CommitCounts.{commits_first}
+use Rattle.norec_world.proofs.Attempts.Dates.{dated_first}
 use Rattle.norec_world.proofs.world.World.new.Goals as goal
 
 pub invariant_of-result : goal.invariant_of-result

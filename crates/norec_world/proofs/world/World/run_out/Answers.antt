@@ -1,7 +1,7 @@
 use Rattle.std.proofs.Common.{refl, ◌∙◌, arith, rules}
 use Rattle.norec_world.proofs.Common.{slice_get_within}
-use Rattle.norec_world.proofs.WorldEvents.{counted_both, events_both, opening_same, opening_both, takes_both, run_falls, no_more_on, no_more_first}
-use Rattle.norec_world.proofs.Worlds.{waits_there}
+use Rattle.norec_world.proofs.Events.WorldEvents.{counted_both, events_both, opening_same, opening_both, takes_both, run_falls, no_more_on, no_more_first}
+use Rattle.norec_world.proofs.Events.Worlds.{waits_there}
 use Rattle.norec_world.proofs.world.World.run_out.Goals as goal
 
 pub loop-alloc-init : goal.loop-alloc-init

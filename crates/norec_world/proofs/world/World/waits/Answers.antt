@@ -1,6 +1,6 @@
 use Rattle.std.proofs.Common.{subst}
 use Rattle.norec_world.proofs.Common.{AreOpaque, AreTied, World, observed, world_of}
-use Rattle.norec_world.proofs.RunOthers.{world_opaque, world_tied}
+use Rattle.norec_world.proofs.Runs.Others.{world_opaque, world_tied}
 use Rattle.norec_world.proofs.world.World.waits.Goals as goal
 
 pub returns-clause-opaque : goal.returns-clause-opaque

@@ -21,8 +21,8 @@ overflow_mul-size c =
     let group : c.split_at.result.1.now ≡ drop start s.code = c.split_at.ensures.back ∙ ap (drop start) (c.deref.ensures.value ∙ ap (λ (t : Sections). t.code) c.self.view_is) in
     omega (arith, few_more s start c.args.times c.split_at.result.1.now group c.requires)
 
-pub returns-in_err-make_room-clause-refused : goal.returns-in_err-make_room-clause-refused
-returns-in_err-make_room-clause-refused c = whatever c.from_residual-in_err-make_room.result (longer c.args.self.now c.args.start c.args.times c.code_len-end.result c.code_len-end.ensures (omega arith) (omega arith), c.make_room.ensures)
+pub returns-in_err-reserve_code-clause-refused : goal.returns-in_err-reserve_code-clause-refused
+returns-in_err-reserve_code-clause-refused c = whatever c.from_residual-in_err-reserve_code.result (longer c.args.self.now c.args.start c.args.times c.code_len-end.result c.code_len-end.ensures (omega arith) (omega arith), c.reserve_code.ensures)
 
 pub split_at-requires-in-loop-count : goal.split_at-requires-in-loop-count
 split_at-requires-in-loop-count c =

@@ -3,9 +3,9 @@ use Rattle.itm_types.specs.declared.call.Call.TheVariants.{Begin}
 use Rattle.norec_core.specs.Core.{in_transaction}
 use Rattle.tx_runs.specs.declared.ending.End.TheVariants as ends
 use Rattle.tx_worker.specs.declared.worker.Worker.{Worker}
-use Rattle.tx_worker.specs.Workers.{GoesOn, IsStopped, Turns}
-use Rattle.tx_worker.proofs.Outside.{busy_falls, busy_on, busy_over, full_over, lost_falls, lost_on, lost_over, opens_falls, opens_on, passes_falls, passes_on}
-use Rattle.tx_worker.proofs.BetweenCalls.{by_tries}
+use Rattle.tx_worker.specs.Workers.{GoesOn, IsStopped, GoesOnOrStops}
+use Rattle.tx_worker.proofs.Begins.OutsideAnswers.{busy_falls, busy_on, busy_over, full_over, lost_falls, lost_on, lost_over, opens_falls, opens_on, passes_falls, passes_on}
+use Rattle.tx_worker.proofs.Workers.BetweenCalls.{by_tries}
 use Rattle.tx_worker.proofs.worker.Worker.begin.Goals as goal
 
 pub returns-then-is_open : goal.returns-then-is_open
@@ -41,7 +41,7 @@ returns-in-Conflict g c shuts =
     let old = c.args.self.now in
     let new = c.try_begin.new.self in
     let e = c.in-Ok.ensures in
-    by_tries (Turns g.P.Player c.args.words.now shuts old) new c.retry.result c.retry.new.self c.retry.ensures.end c.retry.ensures.tries
+    by_tries (GoesOnOrStops g.P.Player c.args.words.now shuts old) new c.retry.result c.retry.new.self c.retry.ensures.end c.retry.ensures.tries
     (λ few course b k. subst (IsStopped g.P.Player c.args.words.now course b shuts ends.GaveUp) (sym e.same)
     (lost_over g.met.P.Player.laws k c.requires.none new.thread new.ended e.ended e.own e.stands (Begin c.args.props c.args.room) old.again c.requires.asks e.served c.in-Conflict.clock c.in-Conflict.word c.in-Conflict.is shuts (subst (λ (x : Worker g.row.P.Denot). x.retries < x.nth) e.same few)))
     (λ may. subst (λ (x : Worker g.row.P.Denot). GoesOn g.P.Player c.args.words.now old (record x { nth = x.nth + 1 })) (sym e.same)
@@ -56,7 +56,7 @@ returns-in-Busy g c shuts =
     let old = c.args.self.now in
     let new = c.try_begin.new.self in
     let e = c.in-Ok.ensures in
-    by_tries (Turns g.P.Player c.args.words.now shuts old) new c.retry-in-Busy.result c.retry-in-Busy.new.self c.retry-in-Busy.ensures.end c.retry-in-Busy.ensures.tries
+    by_tries (GoesOnOrStops g.P.Player c.args.words.now shuts old) new c.retry-in-Busy.result c.retry-in-Busy.new.self c.retry-in-Busy.ensures.end c.retry-in-Busy.ensures.tries
     (λ few course b k. subst (IsStopped g.P.Player c.args.words.now course b shuts ends.GaveUp) (sym e.same)
     (busy_over g.met.P.Player.laws k c.requires.none new.thread new.ended e.ended e.own e.stands (Begin c.args.props c.args.room) old.again c.requires.asks e.served c.in-Busy.clock c.in-Busy.is shuts (subst (λ (x : Worker g.row.P.Denot). x.retries < x.nth) e.same few)))
     (λ may. subst (λ (x : Worker g.row.P.Denot). GoesOn g.P.Player c.args.words.now old (record x { nth = x.nth + 1 })) (sym e.same)

@@ -1,8 +1,8 @@
 use Rattle.std.proofs.Common.{◌<◌, ℕ, Option, Some, false, sym, subst, vec_capacity}
 use Rattle.itm_runtime.specs.Standing.{Standing, start_of}
 use Rattle.tx_runs.specs.declared.ending.End.{End}
-use Rattle.tx_worker.specs.Workers.{IsWorking, Turns}
-use Rattle.tx_worker.proofs.CallsInside.{answers, reserved, turns_settled}
+use Rattle.tx_worker.specs.Workers.{IsWorking, GoesOnOrStops}
+use Rattle.tx_worker.proofs.Transactions.Calls.{answers, reserved, turns_settled}
 use Rattle.tx_worker.proofs.worker.Worker.call_inside.Goals as goal
 
 pub starve-requires-clause-works : goal.starve-requires-clause-works
@@ -14,7 +14,7 @@ pub returns-in_default : goal.returns-in_default
 returns-in_default g c shuts =
     let w = c.args.self.now in
     let e = c.reserve.ensures in
-    subst (λ (x : Option End). Turns g.P.Player c.args.words.now shuts (record w { current = Some c.args.attempt }) x c.starve.new.self) (sym c.starve.ensures.end)
+    subst (λ (x : Option End). GoesOnOrStops g.P.Player c.args.words.now shuts (record w { current = Some c.args.attempt }) x c.starve.new.self) (sym c.starve.ensures.end)
     (λ course b k. c.starve.ensures.stopped c.args.words.now course b shuts (reserved w c.args.attempt c.reserve.new.self (record { began = e.same.0; props = e.same.1; arena = e.same.2; calls = e.same.3; ran = e.same.4; room = e.kept }) k))
 
 pub settle-requires-clause-answered : goal.settle-requires-clause-answered
@@ -57,7 +57,7 @@ pub returns-in-Err : goal.returns-in-Err
 returns-in-Err g c shuts =
     let w = c.args.self.now in
     let e = c.reserve.ensures in
-    subst (λ (x : Option End). Turns g.P.Player c.args.words.now shuts (record w { current = Some c.args.attempt }) x c.starve-in-Err.new.self) (sym c.starve-in-Err.ensures.end)
+    subst (λ (x : Option End). GoesOnOrStops g.P.Player c.args.words.now shuts (record w { current = Some c.args.attempt }) x c.starve-in-Err.new.self) (sym c.starve-in-Err.ensures.end)
     (λ course b k. c.starve-in-Err.ensures.stopped c.args.words.now course b shuts
     (subst (λ (t : Standing). IsWorking g.P.Player c.args.words.now course b (record w { thread = t; current = Some c.reserve.new.self })) (sym c.in-Err.ensures.err)
     (reserved w c.args.attempt c.reserve.new.self (record { began = e.same.0; props = e.same.1; arena = e.same.2; calls = e.same.3; ran = e.same.4; room = e.kept }) k)))

@@ -1,4 +1,4 @@
-use Rattle.tx_worker.proofs.BetweenCalls.{turns_counted}
+use Rattle.tx_worker.proofs.Workers.BetweenCalls.{turns_counted}
 use Rattle.tx_worker.proofs.worker.Worker.call_next.Goals as goal
 
 pub returns : goal.returns

@@ -3,9 +3,9 @@ use Rattle.norec_core.specs.declared.answer.Answer.{Answer}
 use Rattle.itm_runtime.specs.Served.{Served}
 use Rattle.itm_runtime.specs.Standing.{start_of}
 use Rattle.shared_words.specs.Passes.{view_of}
-use Rattle.tx_worker.proofs.Outside.{passes_falls, passes_on}
-use Rattle.tx_worker.proofs.OutsideCalls.{stays_shut}
-use Rattle.tx_worker.proofs.BetweenCalls.{none_open}
+use Rattle.tx_worker.proofs.Begins.OutsideAnswers.{passes_falls, passes_on}
+use Rattle.tx_worker.proofs.Begins.OutsideCalls.{stays_shut}
+use Rattle.tx_worker.proofs.Workers.BetweenCalls.{none_open}
 use Rattle.tx_worker.proofs.worker.Worker.call_outside.Goals as goal
 
 pub returns : goal.returns

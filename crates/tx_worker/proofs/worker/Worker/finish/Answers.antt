@@ -3,7 +3,7 @@ use Rattle.shared_words.specs.Passes.{Owns, view_of}
 use Rattle.itm_runtime.specs.Standing.{Standing}
 use Rattle.itm_runtime.specs.Ties.{Stands}
 use Rattle.tx_worker.specs.declared.worker.Worker.{Worker}
-use Rattle.tx_worker.proofs.StoppedWorkers.{Parts, finished_in, finished_out, parts}
+use Rattle.tx_worker.proofs.Workers.StoppedWorkers.{Parts, finished_in, finished_out, parts}
 use Rattle.tx_worker.proofs.worker.Worker.finish.Goals.{in-Some, in_default}
 use Rattle.tx_worker.proofs.worker.Worker.finish.Goals as goal
 

@@ -6,8 +6,8 @@ use Rattle.tx_worker.specs.declared.worker.Worker.{Worker}
 use Rattle.tx_worker.specs.Positions.{known_by}
 use Rattle.tx_worker.specs.Tallies.{ending_as, row_of}
 use Rattle.tx_worker.specs.Workers.{SettlesAs}
-use Rattle.tx_worker.proofs.AnswersInside.{bounds_are, cancels_so, commits_shut, commits_so, conflict_runs, conflict_shut, full_runs, full_shut, looked_out, may_again, ran_room, runs_on, settles_closed, settles_open, settles_over, settles_tried}
-use Rattle.tx_worker.proofs.BetweenCalls.{by_tries, row_grown, row_ran}
+use Rattle.tx_worker.proofs.Transactions.Answers.{bounds_are, cancels_so, commits_shut, commits_so, conflict_runs, conflict_shut, full_runs, full_shut, looked_out, may_again, ran_room, runs_on, settles_closed, settles_open, settles_over, settles_tried}
+use Rattle.tx_worker.proofs.Workers.BetweenCalls.{by_tries, row_grown, row_ran}
 use Rattle.tx_worker.proofs.worker.Worker.settle.Goals as goal
 
 committed_ends : (b : Bool) → (if b then outcomes.Committed else outcomes.ReadOnly) ≡ outcomes.Unfinished → ⊥

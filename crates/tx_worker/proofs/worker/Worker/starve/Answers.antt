@@ -1,6 +1,6 @@
 use Rattle.std.proofs.Common.{length, refl, sym, ap, ◌∙◌, arith}
-use Rattle.tx_worker.proofs.RefusedMemory.{held_on, starve_revocable, starve_room, starve_runs, starved}
-use Rattle.tx_worker.proofs.BetweenCalls.{row_ran}
+use Rattle.tx_worker.proofs.Workers.RefusedMemory.{held_on, starve_revocable, starve_room, starve_runs, starved}
+use Rattle.tx_worker.proofs.Workers.BetweenCalls.{row_ran}
 use Rattle.tx_worker.proofs.worker.Worker.starve.Goals as goal
 
 pub run-requires-clause-first : goal.run-requires-clause-first

@@ -1,6 +1,6 @@
 use Rattle.std.proofs.Common.{rules, tests, ◌∙◌}
 use Rattle.std.proofs.lemmas.Option.{gets, slice_get_past}
-use Rattle.value_log.proofs.Indexed.{no_place, no_row, its_row, other_row}
+use Rattle.value_log.proofs.IndexedRows.{no_place, no_row, its_row, other_row}
 use Rattle.value_log.proofs.index.Index.find.Goals as goal
 
 pub returns-in_err-place : goal.returns-in_err-place

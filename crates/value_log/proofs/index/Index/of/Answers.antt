@@ -1,5 +1,5 @@
 use Rattle.std.proofs.Common.{sym, ◌∙◌}
-use Rattle.value_log.proofs.Indexed.{noted_none}
+use Rattle.value_log.proofs.IndexedRows.{noted_none}
 use Rattle.value_log.proofs.index.Index.of.Goals as goal
 
 pub loop-place-init : goal.loop-place-init

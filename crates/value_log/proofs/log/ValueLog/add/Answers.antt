@@ -4,7 +4,7 @@ use Rattle.itm_types.specs.LogRows.{value_of, AreSingle}
 use Rattle.value_log.specs.Log.{Log}
 use Rattle.itm_types.proofs.LogRows.{single_push}
 use Rattle.value_log.specs.Index.{AllBelow, IsIndex}
-use Rattle.value_log.proofs.Indexed.{below_push, index_push, some_places, no_places}
+use Rattle.value_log.proofs.IndexedRows.{below_push, index_push, some_places, no_places}
 use Rattle.value_log.proofs.log.ValueLog.add.Goals as goal
 
 pub invariant_of-self : goal.invariant_of-self

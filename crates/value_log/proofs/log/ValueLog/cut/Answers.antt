@@ -2,7 +2,7 @@ use Rattle.std.proofs.Common.{sym, subst, ◌∙◌}
 use Rattle.itm_types.specs.LogRows.{AreSingle}
 use Rattle.itm_types.proofs.LogRows.{single_cut}
 use Rattle.value_log.specs.Index.{AllBelow, IsIndex}
-use Rattle.value_log.proofs.Indexed.{below_cut, index_cut}
+use Rattle.value_log.proofs.IndexedRows.{below_cut, index_cut}
 use Rattle.value_log.proofs.log.ValueLog.cut.Goals as goal
 
 pub invariant_of-self : goal.invariant_of-self

@@ -1,0 +1,3 @@
+-- Worked verdicts, computed.
+pub mod Histories
+pub mod Verdicts

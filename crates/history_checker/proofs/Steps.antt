@@ -1,0 +1,7 @@
+-- How far the checker has come: one call, one attempt, one fault after the other.
+pub mod Calls
+pub mod Ends
+pub mod Faults
+pub mod Tables
+pub mod Verdicts
+pub mod Walks

@@ -1,0 +1,140 @@
+-- What a history's end says, one attempt after the other.
+use Rattle.std.proofs.Common.{◌≡◌, ℕ, zero, suc, ◌+◌, ◌<◌, ◌≤◌, Bool, true, false, not, ◌&&◌, ◌||◌, ◌==◌, if◌then◌else◌, is_some, List, [], ◌∷◌, length, get_or, take, drop, map, sum_by, refl, ap, sym, ◌∙◌, arith, add-one, drop-cons, inl, inr, Option, None, Some}
+use Rattle.std.proofs.lemmas.Grind.{common_steps}
+use Rattle.std.proofs.lemmas.Bool.{cases_lt}
+use Rattle.tx_attempts.specs.declared.attempt.Attempt.{Attempt}
+use Rattle.tx_attempts.specs.Attempts.{alone, is_committed}
+use Rattle.itm_types.specs.declared.limits.TheConstants.{MAX_OPEN_BLOCKS}
+use Rattle.tx_attempts.specs.declared.attempt.Outcome.{Outcome}
+use Rattle.tx_attempts.specs.declared.attempt.Outcome.TheVariants.{Committed, ReadOnly, Cancelled, Conflict, Full, NoMemory, Unfinished}
+use Rattle.tx_attempts.specs.Counts.{one_where}
+use Rattle.tx_history.specs.declared.history.History.{History}
+use Rattle.tx_history.specs.Legal.{is_unfinished, is_holding, count_holding, memory_at}
+use Rattle.history_checker.specs.declared.verdict.Fault.{Fault}
+use Rattle.history_checker.specs.declared.verdict.Spot.{Spot}
+use Rattle.history_checker.specs.declared.replays.Told.{Told}
+use Rattle.history_checker.specs.Replays.{first_of, fault_in}
+use Rattle.history_checker.specs.Verdicts.{at_fault, at_place, committed_fault, fault_at, is_beyond, head_row, is_away, is_waiting, line_count, others_fault, told_row}
+use Rattle.history_checker.specs.Tables.{AreTold, IsTold, nothing_told, told_away, told_fault, told_holding, told_of, told_on, unless_fault}
+use Rattle.history_checker.proofs.Steps.Tables.{none_beyond, seen_within}
+use Rattle.history_checker.proofs.Steps.Walks.{place_none}
+
+-- ## The first fault of a committed attempt
+
+fault_stays : (h : History) (k : ℕ) (s : Spot) (n : ℕ) → committed_fault h k ≡ Some s → k ≤ n → committed_fault h n ≡ Some s
+fault_stays h k s zero e l = let is : 0 ≡ k = omega (arith, l) in ap (committed_fault h) is ∙ e
+fault_stays h k s (suc n) e l = elim (cases_lt n k) [
+  | inl b ↦ let is : suc n ≡ k = omega (arith, l, b) in ap (committed_fault h) is ∙ e
+  | inr g ↦ ap (λ (o : Option Spot). first_of o (fault_at (memory_at h n) n 0 h.attempts)) (fault_stays h k s n e g)
+]
+
+some_stays : (h : History) (k n : ℕ) (f : Option Spot) → f ≡ committed_fault h k → is_some f ≡ true → k ≤ n → f ≡ committed_fault h n
+some_stays h k n None e s l = cc
+some_stays h k n (Some x) e s l = sym (fault_stays h k x n (sym e) l)
+
+pub committed_first : (h : History) (k n : ℕ) (f : Option Spot) → committed_fault h k ≡ None → f ≡ fault_at (memory_at h k) k 0 h.attempts → is_some f ≡ true → k < n → f ≡ committed_fault h n
+committed_first h k n f none e s l =
+    some_stays h (suc k) n f (e ∙ ap (λ (o : Option Spot). first_of o (fault_at (memory_at h k) k 0 h.attempts)) (sym none)) s (omega (arith, l))
+
+-- ## Rows
+
+pub row_next : (ts : List Attempt) (i : ℕ) (d : Attempt) (row : ℕ) → i < length ts → row ≡ told_row (head_row ts i) → told_row (row + line_count (get_or ts i d)) ≡ told_row (head_row ts (i + 1))
+row_next ts i d row h e =
+    let sum : sum_by line_count (take (i + 1) ts) ≡ sum_by line_count (take i ts) + line_count (get_or ts i d) = grind (arith, common_steps) in
+    omega (arith, e, sum)
+
+pub row_last : (ts : List Attempt) (i place : ℕ) → length ts ≤ i → i ≤ place → head_row ts i ≡ head_row ts place
+row_last ts i place h l =
+    let whole : take i ts ≡ take place ts = grind (arith, common_steps) in
+    ap (λ (xs : List Attempt). 3 + sum_by line_count xs) whole
+
+-- ## What is told
+
+pub told_next : (told : List Told) (i : ℕ) (d : Told) → i < length told → (get_or told i d).fault ≡ None → told_fault i (drop i told) ≡ told_fault (i + 1) (drop (i + 1) told)
+told_next told i d h e = rw (add-one) (ap (told_fault i) (drop-cons told i d h) ∙ ap (λ (f : Option Fault). first_of (at_place i f) (told_fault (suc i) (drop (suc i) told))) e)
+
+pub told_first : (told : List Told) (i : ℕ) (d : Told) (f : Fault) → i < length told → (get_or told i d).fault ≡ Some f → told_fault i (drop i told) ≡ Some (record { attempt = i; fault = f })
+told_first told i d f h e = ap (told_fault i) (drop-cons told i d h) ∙ ap (λ (g : Option Fault). first_of (at_place i g) (told_fault (suc i) (drop (suc i) told))) e
+
+pub waiting_next : (n : ℕ) (ts : List Attempt) (i : ℕ) (d : Attempt) (b : Bool) → i < length ts → (is_unfinished (get_or ts i d).outcome && ((get_or ts i d).at == n)) ≡ b → is_waiting n (drop i ts) ≡ (b || is_waiting n (drop (i + 1) ts))
+waiting_next n ts i d b h e = rw (add-one) (ap (is_waiting n) (drop-cons ts i d h) ∙ ap (λ (c : Bool). c || is_waiting n (drop (suc i) ts)) e)
+
+pub holding_next : (told : List Told) (i : ℕ) (d : Told) → i < length told → told_holding (drop i told) ≡ one_where (get_or told i d).holds + told_holding (drop (i + 1) told)
+holding_next told i d h = rw (add-one) (ap told_holding (drop-cons told i d h))
+
+pub away_next : (n : ℕ) (ts : List Attempt) (told : List Told) (i : ℕ) (d : Attempt) (e : Told) (b : Bool) → i < length ts → i < length told → ((get_or told i e).holds && not ((get_or ts i d).at == n)) ≡ b
+    → told_away n (drop i ts) (drop i told) ≡ (b || told_away n (drop (i + 1) ts) (drop (i + 1) told))
+away_next n ts told i d e b h h' is =
+    rw (add-one) (ap (λ (xs : List Attempt). told_away n xs (drop i told)) (drop-cons ts i d h)
+    ∙ (ap (told_away n (get_or ts i d ∷ drop (suc i) ts)) (drop-cons told i e h')
+    ∙ ap (λ (c : Bool). c || told_away n (drop (suc i) ts) (drop (suc i) told)) is))
+
+-- ## All that is told
+
+lists_same : (f : Attempt → Told) (told : List Told) (ts : List Attempt) (e : Told) → length told ≡ length ts → ((j : ℕ) (d : Attempt) → j < length ts → get_or told j e ≡ f (get_or ts j d)) → told ≡ map f ts
+lists_same f [] [] e h g = refl
+lists_same f [] (t ∷ ts) e h g = absurd (omega (arith, h))
+lists_same f (x ∷ xs) [] e h g = absurd (omega (arith, h))
+lists_same f (x ∷ xs) (t ∷ ts) e h g =
+    let head : x ≡ f t = g 0 t (omega arith) in
+    let tail = lists_same f xs ts e (omega (arith, h)) (λ j d l. g (suc j) d (omega (arith, l))) in
+    (λ i. head i ∷ tail i)
+
+is_told : (n j : ℕ) (ts : List Attempt) (a : Attempt) (b : Bool) → is_committed a.outcome ≡ b → is_beyond n a ≡ false → IsTold (suc n) (length ts) j a
+is_told n j ts a true e off = inl e
+is_told n j ts a false e off = let w = seen_within n a e off in inr (inl (omega (arith, w)))
+
+pub all_told : (h : History) (n : ℕ) (told : List Told) → at_fault n 0 h.attempts ≡ None → AreTold h (suc n) (length h.attempts) told → told ≡ map (told_of h) h.attempts
+all_told h n told off t = lists_same (told_of h) told h.attempts nothing_told t.size
+    (λ j d l. t.each j d l (is_told n j h.attempts (get_or h.attempts j d) (is_committed (get_or h.attempts j d).outcome) refl (none_beyond n 0 h.attempts j d off l)))
+
+other_told : (h : History) (i : ℕ) (a : Attempt) (b : Bool) → (if b then None else at_place i (fault_in (memory_at h a.at) a)) ≡ at_place i (if b then nothing_told else told_on (memory_at h a.at) a).fault
+unfolding told_on
+other_told h i a true = refl
+other_told h i a false = refl
+
+pub others_told : (h : History) (i : ℕ) (ts : List Attempt) → others_fault h i ts ≡ told_fault i (map (told_of h) ts)
+others_told h i [] = refl
+others_told h i (a ∷ ts) =
+    let here : (if is_committed a.outcome then None else at_place i (fault_in (memory_at h a.at) a)) ≡ at_place i (told_of h a).fault = other_told h i a (is_committed a.outcome) in
+    let rest = others_told h (suc i) ts in
+    (λ t. first_of (here t) (rest t))
+
+-- with no fault
+first_nothing : (f g : Option Spot) → first_of f g ≡ None → (f ≡ None) × (g ≡ None)
+first_nothing None g e = (refl, e)
+first_nothing (Some s) g e = cc
+
+ended_or_not : (o : Outcome) → is_committed o ≡ true → is_unfinished o ≡ false
+ended_or_not Committed e = refl
+ended_or_not ReadOnly e = refl
+ended_or_not Cancelled e = refl
+ended_or_not Conflict e = refl
+ended_or_not Full e = refl
+ended_or_not NoMemory e = refl
+ended_or_not Unfinished e = sym e
+
+held : (h : History) (i : ℕ) (a : Attempt) (b : Bool) → is_committed a.outcome ≡ b → (if b then None else at_place i (fault_in (memory_at h a.at) a)) ≡ None → (if b then nothing_told else told_on (memory_at h a.at) a).holds ≡ is_holding h a
+unfolding told_on
+held h i a true e f = sym (ap (λ (u : Bool). u && (alone MAX_OPEN_BLOCKS (memory_at h a.at) a).irrevocable) (ended_or_not a.outcome e))
+held h i a false e f = ap (λ (g : Option Fault). unless_fault g (is_unfinished a.outcome && (alone MAX_OPEN_BLOCKS (memory_at h a.at) a).irrevocable)) (place_none i (fault_in (memory_at h a.at) a) f)
+
+pub held_here : (h : History) (i : ℕ) (a : Attempt) (ts : List Attempt) → others_fault h i (a ∷ ts) ≡ None → (told_of h a).holds ≡ is_holding h a
+held_here h i a ts e = held h i a (is_committed a.outcome) refl (first_nothing (if is_committed a.outcome then None else at_place i (fault_in (memory_at h a.at) a)) (others_fault h (suc i) ts) e).0
+
+none_later : (h : History) (i : ℕ) (a : Attempt) (ts : List Attempt) → others_fault h i (a ∷ ts) ≡ None → others_fault h (suc i) ts ≡ None
+none_later h i a ts e = (first_nothing (if is_committed a.outcome then None else at_place i (fault_in (memory_at h a.at) a)) (others_fault h (suc i) ts) e).1
+
+pub holding_told : (h : History) (i : ℕ) (ts : List Attempt) → others_fault h i ts ≡ None → told_holding (map (told_of h) ts) ≡ count_holding h ts
+holding_told h i [] e = refl
+holding_told h i (a ∷ ts) e =
+    let here = held_here h i a ts e in
+    let rest = holding_told h (suc i) ts (none_later h i a ts e) in
+    (λ t. one_where (here t) + rest t)
+
+pub away_told : (h : History) (n i : ℕ) (ts : List Attempt) → others_fault h i ts ≡ None → told_away n ts (map (told_of h) ts) ≡ is_away h n ts
+away_told h n i [] e = refl
+away_told h n i (a ∷ ts) e =
+    let here = held_here h i a ts e in
+    let rest = away_told h n (suc i) ts (none_later h i a ts e) in
+    (λ t. (here t && not (a.at == n)) || rest t)

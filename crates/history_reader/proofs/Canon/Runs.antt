@@ -1,0 +1,98 @@
+-- The plain machine gives the calls of a history and those of its canonical one the same replies and leaves the same state: it looks at no room, and of a fill's byte at the low 8 bits.
+use Rattle.std.proofs.Common.{◌≡◌, ℕ, replicate, List, [], ◌∷◌, map, refl, ap, ◌∙◌}
+use Rattle.itm_types.specs.declared.call.Call.{Call}
+use Rattle.itm_types.specs.declared.call.Call.TheVariants as calls
+use Rattle.itm_types.specs.declared.call.Reply.{Reply}
+use Rattle.itm_model.specs.State.{State}
+use Rattle.itm_model.specs.Machine.{after, after_unless, answer, effect, opened, refusal, reply, reply_unless, written}
+use Rattle.itm_model.specs.Runs.{replies, state_after}
+use Rattle.tx_attempts.specs.declared.attempt.Attempt.{Attempt}
+use Rattle.tx_attempts.specs.declared.attempt.CallRecord.{CallRecord}
+use Rattle.tx_attempts.specs.Attempts.{alone}
+use Rattle.history_reader.specs.Canonical.{canonical_attempt, canonical_call, canonical_entry}
+use Rattle.history_reader.proofs.Canon.Texts.{low_again}
+
+-- the calls of entries
+abbrev pub calls_in : List CallRecord → List Call
+calls_in es = map (λ (e : CallRecord). e.call) es
+
+abbrev pub replies_in : List CallRecord → List Reply
+replies_in es = map (λ (e : CallRecord). e.reply) es
+
+module _ (deepest : ℕ) where
+  same_refusal : (s : State) (c : Call) → refusal deepest s (canonical_call c) ≡ refusal deepest s c
+  same_refusal s (calls.Begin props room) = refl
+  same_refusal s calls.Commit = refl
+  same_refusal s (calls.Abort outer) = refl
+  same_refusal s (calls.Mode room) = refl
+  same_refusal s calls.InTransaction = refl
+  same_refusal s (calls.Read hint width at) = refl
+  same_refusal s (calls.Write hint at value) = refl
+  same_refusal s (calls.Log width at) = refl
+  same_refusal s (calls.LogBytes at size) = refl
+  same_refusal s (calls.Copy c) = refl
+  same_refusal s (calls.Fill hint to byte size) = refl
+  same_refusal s (calls.CommitAction action) = refl
+  same_refusal s (calls.UndoAction action) = refl
+  same_refusal s (calls.Load width at) = refl
+  same_refusal s (calls.Save at value) = refl
+
+  same_answer : (s : State) (c : Call) → answer s (canonical_call c) ≡ answer s c
+  same_answer s (calls.Begin props room) = refl
+  same_answer s calls.Commit = refl
+  same_answer s (calls.Abort outer) = refl
+  same_answer s (calls.Mode room) = refl
+  same_answer s calls.InTransaction = refl
+  same_answer s (calls.Read hint width at) = refl
+  same_answer s (calls.Write hint at value) = refl
+  same_answer s (calls.Log width at) = refl
+  same_answer s (calls.LogBytes at size) = refl
+  same_answer s (calls.Copy c) = refl
+  same_answer s (calls.Fill hint to byte size) = refl
+  same_answer s (calls.CommitAction action) = refl
+  same_answer s (calls.UndoAction action) = refl
+  same_answer s (calls.Load width at) = refl
+  same_answer s (calls.Save at value) = refl
+
+  same_effect : (s : State) (c : Call) → effect s (canonical_call c) ≡ effect s c
+  same_effect s (calls.Begin props room) = refl
+  same_effect s calls.Commit = refl
+  same_effect s (calls.Abort outer) = refl
+  same_effect s (calls.Mode room) = refl
+  same_effect s calls.InTransaction = refl
+  same_effect s (calls.Read hint width at) = refl
+  same_effect s (calls.Write hint at value) = refl
+  same_effect s (calls.Log width at) = refl
+  same_effect s (calls.LogBytes at size) = refl
+  same_effect s (calls.Copy c) = refl
+  same_effect s (calls.Fill hint to byte size) = ap (λ (low : ℕ). written s to (replicate size low)) (low_again byte)
+  same_effect s (calls.CommitAction action) = refl
+  same_effect s (calls.UndoAction action) = refl
+  same_effect s (calls.Load width at) = refl
+  same_effect s (calls.Save at value) = refl
+
+  same_reply : (s : State) (c : Call) → reply deepest s (canonical_call c) ≡ reply deepest s c
+  same_reply s c = λ i. reply_unless (same_refusal s c i) (same_answer s c i)
+
+  same_after : (s : State) (c : Call) → after deepest s (canonical_call c) ≡ after deepest s c
+  same_after s c = λ i. after_unless (same_refusal s c i) s (same_effect s c i)
+
+  pub same_replies : (s : State) (es : List CallRecord) → replies deepest s (calls_in (map canonical_entry es)) ≡ replies deepest s (calls_in es)
+  same_replies s [] = refl
+  same_replies s (e ∷ es) =
+      let later : replies deepest (after deepest s (canonical_call e.call)) (calls_in (map canonical_entry es)) ≡ replies deepest (after deepest s e.call) (calls_in es) =
+      ap (λ (t : State). replies deepest t (calls_in (map canonical_entry es))) (same_after s e.call) ∙ same_replies (after deepest s e.call) es in
+      λ i. same_reply s e.call i ∷ later i
+
+  pub same_state : (s : State) (es : List CallRecord) → state_after deepest s (calls_in (map canonical_entry es)) ≡ state_after deepest s (calls_in es)
+  same_state s [] = refl
+  same_state s (e ∷ es) = ap (λ (t : State). state_after deepest t (calls_in (map canonical_entry es))) (same_after s e.call) ∙ same_state (after deepest s e.call) es
+
+  -- the attempt alone
+  pub same_alone : (memory : List ℕ) (a : Attempt) → alone deepest memory (canonical_attempt a) ≡ alone deepest memory a
+  same_alone memory a = same_state (opened memory a.arena a.props) a.calls.list
+
+-- what is answered is told
+pub same_told : (es : List CallRecord) → replies_in (map canonical_entry es) ≡ replies_in es
+same_told [] = refl
+same_told (e ∷ es) = ap (λ (rs : List Reply). e.reply ∷ rs) (same_told es)

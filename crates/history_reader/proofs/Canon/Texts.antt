@@ -1,0 +1,59 @@
+-- A history and its canonical one have one text.
+use Rattle.std.proofs.Common.{◌≡◌, ℕ, ◌%◌, List, [], ◌∷◌, ◌++◌, map, refl, ap, arith}
+use Rattle.std.specs.Prelude.{codes, decimal, flat_map}
+use Rattle.itm_types.specs.Names.{name_of}
+use Rattle.itm_types.specs.declared.call.Call.{Call}
+use Rattle.itm_types.specs.declared.call.Call.TheVariants as calls
+use Rattle.itm_types.specs.declared.entry.Entry.TheVariants as points
+use Rattle.tx_attempts.specs.declared.attempt.Attempt.{Attempt}
+use Rattle.tx_attempts.specs.declared.attempt.CallRecord.{CallRecord}
+use Rattle.tx_history.specs.declared.history.History.{History}
+use Rattle.tx_history.specs.Histories.{arena_line, attempt_lines, body_text, call_line, fill_text, first_lines, head_line, history_text, last_line, ran_line, reply_text, try_text}
+use Rattle.history_reader.specs.Canonical.{canonical, canonical_attempt, canonical_call, canonical_entry}
+
+-- the low bits of low bits are these
+pub low_again : (byte : ℕ) → (byte % 256) % 256 ≡ byte % 256
+low_again byte = omega arith
+
+canonical_body : (c : Call) → body_text (canonical_call c) ≡ body_text c
+unfolding body_text fill_text
+canonical_body (calls.Begin props room) = refl
+canonical_body calls.Commit = refl
+canonical_body (calls.Abort outer) = refl
+canonical_body (calls.Mode room) = refl
+canonical_body calls.InTransaction = refl
+canonical_body (calls.Read hint width at) = refl
+canonical_body (calls.Write hint at value) = refl
+canonical_body (calls.Log width at) = refl
+canonical_body (calls.LogBytes at size) = refl
+canonical_body (calls.Copy c) = refl
+canonical_body (calls.Fill hint to byte size) =
+    ap (λ (low : ℕ). name_of (points.Fill hint) ++ codes " " ++ decimal to ++ codes " " ++ decimal low ++ codes " " ++ decimal size) (low_again byte)
+canonical_body (calls.CommitAction action) = refl
+canonical_body (calls.UndoAction action) = refl
+canonical_body (calls.Load width at) = refl
+canonical_body (calls.Save at value) = refl
+
+canonical_line : (e : CallRecord) → call_line (canonical_entry e) ≡ call_line e
+unfolding call_line
+canonical_line e = ap (λ (body : List ℕ). codes "call " ++ body ++ codes " = " ++ reply_text e.reply ++ codes "\n") (canonical_body e.call)
+
+canonical_lines : (es : List CallRecord) → flat_map call_line (map canonical_entry es) ≡ flat_map call_line es
+canonical_lines [] = refl
+canonical_lines (e ∷ es) = λ i. canonical_line e i ++ canonical_lines es i
+
+canonical_head : (a : Attempt) → head_line (canonical_attempt a) ≡ head_line a
+unfolding head_line try_text
+canonical_head a = refl
+
+canonical_tried : (a : Attempt) → attempt_lines (canonical_attempt a) ≡ attempt_lines a
+unfolding attempt_lines
+canonical_tried a = λ i. canonical_head a i ++ arena_line a.arena ++ canonical_lines a.calls.list i ++ flat_map ran_line a.ran ++ codes "end\n"
+
+canonical_all : (all : List Attempt) → flat_map attempt_lines (map canonical_attempt all) ≡ flat_map attempt_lines all
+canonical_all [] = refl
+canonical_all (a ∷ rest) = λ i. canonical_tried a i ++ canonical_all rest i
+
+pub canonical_text : (h : History) → history_text (canonical h) ≡ history_text h
+unfolding history_text
+canonical_text h = ap (λ (lines : List ℕ). first_lines h.memory ++ lines ++ last_line h.clock h.bytes) (canonical_all h.attempts)

@@ -1,0 +1,111 @@
+-- A line of a history is its fields with single spaces between them, and the feed.
+use Rattle.std.proofs.Common.{◌≡◌, ℕ, ◌%◌, Bool, true, false, cond, eqb, List, [], ◌∷◌, ◌++◌, length, refl, sym, ap, ◌∙◌, append_assoc}
+use Rattle.std.specs.Prelude.{decimal, codes}
+use Rattle.hex.specs.Hex.{encode_lower}
+use Rattle.itm_types.specs.Access.{size_of}
+use Rattle.itm_types.specs.Names.{name_of}
+use Rattle.itm_types.specs.declared.call.Call.{Call}
+use Rattle.itm_types.specs.declared.call.Call.TheVariants as calls
+use Rattle.itm_types.specs.declared.call.Ran.{Ran}
+use Rattle.itm_types.specs.declared.call.Reply.{Reply}
+use Rattle.itm_types.specs.declared.call.Reply.TheVariants as replies
+use Rattle.itm_types.specs.declared.entry.Entry.TheVariants as points
+use Rattle.script_fields.specs.Properties.{props_text}
+use Rattle.script_fields.specs.Text.{joined}
+use Rattle.tx_attempts.specs.declared.attempt.Attempt.{Attempt}
+use Rattle.tx_attempts.specs.declared.attempt.CallRecord.{CallRecord}
+use Rattle.tx_history.specs.Histories.{outcome_name, kind_text, try_text, props_end, head_line, arena_line, copy_text, fill_text, commit_action_text, undo_action_text, body_text, reply_text, call_line, ran_line, first_lines, last_line}
+use Rattle.history_reader.specs.LineFields.{verb_text, verb_in, operands_of, reply_fields, call_fields, ran_fields, head_fields, arena_fields, memory_fields, final_fields}
+
+-- ## Texts put together from the left, and from the right
+
+four : (a b c d : List ℕ) → a ++ b ++ c ++ d ≡ a ++ (b ++ (c ++ d))
+four a b c d = simp append_assoc
+
+five : (a b c d e : List ℕ) → a ++ b ++ c ++ d ++ e ≡ a ++ (b ++ (c ++ (d ++ e)))
+five a b c d e = simp append_assoc
+
+seven : (a b c d e f g : List ℕ) → a ++ b ++ c ++ d ++ e ++ f ++ g ≡ a ++ (b ++ (c ++ (d ++ (e ++ (f ++ g)))))
+seven a b c d e f g = simp append_assoc
+
+ending : (a b c d n : List ℕ) → a ++ b ++ c ++ d ++ n ≡ a ++ (b ++ (c ++ d)) ++ n
+ending a b c d n = simp append_assoc
+
+long_ending : (a b c d e f n : List ℕ) → a ++ b ++ c ++ d ++ e ++ f ++ n ≡ a ++ (b ++ (c ++ (d ++ (e ++ f)))) ++ n
+long_ending a b c d e f n = simp append_assoc
+
+two_ends : (a b c d e s f n : List ℕ) → (a ++ b ++ s ++ c ++ s ++ d ++ s ++ e) ++ (s ++ f ++ n) ≡ a ++ (b ++ (s ++ (c ++ (s ++ (d ++ (s ++ (e ++ (s ++ f)))))))) ++ n
+two_ends a b c d e s f n = simp append_assoc
+
+-- ## Lines
+
+-- the line of these fields
+abbrev pub line_of : List (List ℕ) → List ℕ
+line_of fs = joined fs ++ 10 ∷ []
+
+pub head_joined : (a : Attempt) → head_line a ≡ line_of (head_fields a)
+unfolding head_line try_text props_end
+head_joined a = two_ends (codes "attempt ") (decimal a.thread) (decimal a.nth) (decimal a.at) (outcome_name a.outcome) (codes " ") (props_text a.props) (codes "\n")
+
+arena_chosen : (b : Bool) (digits : List ℕ) → cond b (codes "arena -\n") (codes "arena " ++ digits ++ codes "\n") ≡ line_of (codes "arena" ∷ cond b (codes "-") digits ∷ [])
+arena_chosen true digits = refl
+arena_chosen false digits = refl
+
+pub arena_joined : (bytes : List ℕ) → arena_line bytes ≡ line_of (arena_fields bytes)
+unfolding arena_line
+arena_joined bytes = arena_chosen (eqb (length bytes) 0) (encode_lower bytes)
+
+pub memory_joined : (bytes : List ℕ) → first_lines bytes ≡ codes "itm-history 1\n" ++ line_of (memory_fields bytes)
+unfolding first_lines
+memory_joined bytes = refl
+
+pub final_joined : (clock : ℕ) (bytes : List ℕ) → last_line clock bytes ≡ line_of (final_fields clock bytes)
+unfolding last_line
+final_joined clock bytes = ending (codes "final ") (decimal clock) (codes " ") (encode_lower bytes) (codes "\n")
+
+pub ran_joined : (r : Ran) → ran_line r ≡ line_of (ran_fields r)
+unfolding ran_line
+ran_joined r = long_ending (codes "ran ") (kind_text r.kind) (codes " ") (decimal r.action.fun) (codes " ") (decimal r.action.arg) (codes "\n")
+
+-- ## Calls
+
+-- what is called and its operands
+body_joined : (c : Call) → body_text c ≡ joined (verb_text (verb_in c) ∷ operands_of c)
+unfolding body_text copy_text fill_text commit_action_text undo_action_text
+body_joined (calls.Begin props room) = refl
+body_joined calls.Commit = refl
+body_joined (calls.Abort outer) = refl
+body_joined (calls.Mode room) = refl
+body_joined calls.InTransaction = refl
+body_joined (calls.Read hint width at) = append_assoc (name_of (points.Read hint width)) (codes " ") (decimal at)
+body_joined (calls.Write hint at value) = five (name_of (points.Write hint value.width)) (codes " ") (decimal at) (codes " ") (encode_lower value.bytes.items)
+body_joined (calls.Log width at) = append_assoc (name_of (points.Log width)) (codes " ") (decimal at)
+body_joined (calls.LogBytes at size) = five (name_of points.LogBytes) (codes " ") (decimal at) (codes " ") (decimal size)
+body_joined (calls.Copy c) = seven (name_of (points.Copy c.moves c.pair)) (codes " ") (decimal c.to) (codes " ") (decimal c.from) (codes " ") (decimal c.size)
+body_joined (calls.Fill hint to byte size) = seven (name_of (points.Fill hint)) (codes " ") (decimal to) (codes " ") (decimal (byte % 256)) (codes " ") (decimal size)
+body_joined (calls.CommitAction action) = four (codes "_ITM_addUserCommitAction ") (decimal action.fun) (codes " _ITM_noTransactionId ") (decimal action.arg)
+body_joined (calls.UndoAction action) = four (codes "_ITM_addUserUndoAction ") (decimal action.fun) (codes " ") (decimal action.arg)
+body_joined (calls.Load width at) = append_assoc (codes "ld" ++ decimal (size_of width)) (codes " ") (decimal at)
+body_joined (calls.Save at value) = five (codes "st" ++ decimal (size_of value.width)) (codes " ") (decimal at) (codes " ") (encode_lower value.bytes.items)
+
+reply_joined : (r : Reply) → codes " = " ++ reply_text r ≡ 32 ∷ joined (codes "=" ∷ reply_fields r)
+unfolding reply_text
+reply_joined replies.Done = refl
+reply_joined (replies.Bytes value) = refl
+reply_joined (replies.Code n) = refl
+reply_joined (replies.Refused refusal) = refl
+
+-- fields that stand behind other ones
+joined_after : (f : List ℕ) (fs : List (List ℕ)) (g : List ℕ) (gs : List (List ℕ)) → joined (f ∷ fs ++ g ∷ gs) ≡ joined (f ∷ fs) ++ 32 ∷ joined (g ∷ gs)
+joined_after f [] g gs = refl
+joined_after f (h ∷ fs) g gs = ap (λ (l : List ℕ). f ++ 32 ∷ l) (joined_after h fs g gs) ∙ sym (append_assoc f (32 ∷ joined (h ∷ fs)) (32 ∷ joined (g ∷ gs)))
+
+pub call_joined : (e : CallRecord) → call_line e ≡ line_of (call_fields e)
+unfolding call_line
+call_joined e =
+    let body = joined (verb_text (verb_in e.call) ∷ operands_of e.call) in
+    let reply = 32 ∷ joined (codes "=" ∷ reply_fields e.reply) in
+    ending (codes "call ") (body_text e.call) (codes " = ") (reply_text e.reply) (codes "\n")
+    ∙ ap (λ (t : List ℕ). codes "call " ++ (t ++ (codes " = " ++ reply_text e.reply)) ++ codes "\n") (body_joined e.call)
+    ∙ ap (λ (t : List ℕ). codes "call " ++ (body ++ t) ++ codes "\n") (reply_joined e.reply)
+    ∙ ap (λ (t : List ℕ). codes "call " ++ t ++ codes "\n") (sym (joined_after (verb_text (verb_in e.call)) (operands_of e.call) (codes "=") (reply_fields e.reply)))

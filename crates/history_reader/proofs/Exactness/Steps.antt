@@ -1,0 +1,223 @@
+-- A line that is read adds just itself to the text that the state stands for.
+use Rattle.std.proofs.Common.{◌≡◌, ℕ, true, cond, List, [], ◌∷◌, ◌++◌, length, Result, Ok, Err, refl, sym, ap, subst, ◌∙◌, inl, inr}
+use Rattle.std.specs.Prelude.{codes, bytes_eq}
+use Rattle.std.specs.List.{flat_map}
+use Rattle.std.proofs.lemmas.List.{append-nil}
+use Rattle.std.proofs.lemmas.List.Elements.{All-nil, All-same, All-push}
+use Rattle.std.proofs.lemmas.List.Splits.{join_with_byte-slice_split}
+use Rattle.std.proofs.lemmas.Slice.Eq.{bytes_eq-Decides}
+use Rattle.script_fields.specs.declared.fault.AsmKind.{AsmKind}
+use Rattle.script_fields.specs.declared.fault.AsmKind.TheVariants as operands
+use Rattle.script_fields.specs.Operands.{◌>>=◌, exactly}
+use Rattle.script_fields.proofs.FirstLines.{chosen}
+use Rattle.tx_attempts.specs.declared.attempt.Attempt.{Attempt}
+use Rattle.tx_history.specs.Histories.{attempt_lines, first_lines}
+use Rattle.history_reader.specs.declared.fault.ReadKind.TheVariants as kinds
+use Rattle.history_reader.specs.declared.state.Head.{Head}
+use Rattle.history_reader.specs.declared.state.Place.{Place}
+use Rattle.history_reader.specs.declared.state.Place.TheVariants as places
+use Rattle.history_reader.specs.declared.state.State.{State}
+use Rattle.history_reader.specs.Faults.{told}
+use Rattle.history_reader.specs.Fields.{fields, next, none}
+use Rattle.history_reader.specs.Lines.{memory_of, arena_of, head_of, ran_of, final_of, ended, memory_line, head_line, final_line, arena_line, call_line, ran_line, end_line, between_line, later_line, call_or_later, placed, header_line, fields_line, by_place, meaning}
+use Rattle.history_reader.specs.Calls.{call_of}
+use Rattle.history_reader.specs.Tellable.{IsAttempt, IsEntry, IsRan}
+use Rattle.history_reader.specs.LineFields.{arena_fields, memory_fields}
+use Rattle.history_reader.proofs.Exactness.Fields.{bind_ok, exactly_exact}
+use Rattle.history_reader.proofs.Exactness.Calls.{next_exact, none_exact}
+use Rattle.history_reader.proofs.Exactness.Entries.{call_exact}
+use Rattle.history_reader.proofs.Exactness.Heads.{head_exact, memory_of_exact, arena_of_exact, final_exact, ran_exact}
+use Rattle.history_reader.proofs.Exactness.Lines.{line_of, arena_joined, memory_joined, final_joined, ran_joined, call_joined}
+use Rattle.history_reader.proofs.Exactness.States.{attempt_of, head_text, open_lines, done_lines, so_far, IsOpen, IsSoFar, Follows, arena_grows, call_grows, ran_grows, end_grows}
+
+-- ## Each line
+
+memory_step : (s t : State) (word : List ℕ) (fs : List (List ℕ)) → IsSoFar places.AtMemory s → memory_line s word fs ≡ Ok t → Follows places.AtMemory s t (line_of (word ∷ fs))
+unfolding memory_line
+memory_step s t word fs k e =
+    let x = bind_ok (exactly (codes "memory") word) (λ _. memory_of fs >>= λ bytes. Ok (record s { place = places.Between; memory = bytes })) t e in
+    let y = bind_ok (memory_of fs) (λ bytes. Ok (record s { place = places.Between; memory = bytes })) t x.2 in
+    let is : record s { place = places.Between; memory = y.0 } ≡ t = cc in
+    let m = memory_of_exact fs y.0 y.1 in
+    let all : word ∷ fs ≡ memory_fields y.0 = cc (exactly_exact (codes "memory") word x.0 x.1, m.0) in
+    subst (λ (u : State). Follows places.AtMemory s u (line_of (word ∷ fs))) is (record {
+      text = ap (λ (l : List Attempt). first_lines y.0 ++ flat_map attempt_lines l) k.0 ∙ append-nil (first_lines y.0) ∙ memory_joined y.0
+          ∙ ap (λ (l : List (List ℕ)). codes "itm-history 1\n" ++ line_of l) (sym all);
+      kept = ((m.1, All-same IsAttempt s.attempts [] k.0 (All-nil IsAttempt)), k.1);
+    })
+
+head_step : (s t : State) (fs : List (List ℕ)) → IsSoFar places.Between s → head_line s fs ≡ Ok t → Follows places.Between s t (line_of (codes "attempt" ∷ fs))
+unfolding head_line
+head_step s t fs k e =
+    let x = bind_ok (head_of fs) (λ h. Ok (record s { place = places.AtArena h })) t e in
+    let is : record s { place = places.AtArena x.0 } ≡ t = cc in
+    let h = head_exact fs x.0 x.1 in
+    subst (λ (u : State). Follows places.Between s u (line_of (codes "attempt" ∷ fs))) is (record {
+      text = ap (λ (l : List (List ℕ)). done_lines s.memory s.attempts ++ line_of (codes "attempt" ∷ l)) (sym h.0);
+      kept = (k.0, h.1, k.1);
+    })
+
+final_step : (s t : State) (fs : List (List ℕ)) → IsSoFar places.Between s → final_line s fs ≡ Ok t → Follows places.Between s t (line_of (codes "final" ∷ fs))
+unfolding final_line
+final_step s t fs k e =
+    let x = bind_ok (final_of (length s.memory) fs) (λ x. Ok (record s { place = places.AtEnd x.0; bytes = x.1 })) t e in
+    let is : record s { place = places.AtEnd x.0.0; bytes = x.0.1 } ≡ t = cc in
+    let f = final_exact (length s.memory) fs x.0 x.1 in
+    subst (λ (u : State). Follows places.Between s u (line_of (codes "final" ∷ fs))) is (record {
+      text = ap (λ (l : List ℕ). done_lines s.memory s.attempts ++ l) (final_joined x.0.0 x.0.1 ∙ ap (λ (l : List (List ℕ)). line_of (codes "final" ∷ l)) (sym f.0));
+      kept = record { memory = k.0.0; attempts = k.0.1; clock = f.1; bytes = f.2 };
+    })
+
+arena_step : (h : Head) (s t : State) (word : List ℕ) (fs : List (List ℕ)) → IsSoFar (places.AtArena h) s → arena_line s h word fs ≡ Ok t → Follows (places.AtArena h) s t (line_of (word ∷ fs))
+unfolding arena_line
+arena_step h s t word fs k e =
+    let x = bind_ok (exactly (codes "arena") word) (λ _. arena_of fs >>= λ bytes. Ok (record s { place = places.InCalls h; arena = bytes })) t e in
+    let y = bind_ok (arena_of fs) (λ bytes. Ok (record s { place = places.InCalls h; arena = bytes })) t x.2 in
+    let is : record s { place = places.InCalls h; arena = y.0 } ≡ t = cc in
+    let a = arena_of_exact fs y.0 y.1 in
+    let all : word ∷ fs ≡ arena_fields y.0 = cc (exactly_exact (codes "arena") word x.0 x.1, a.0) in
+    let d = done_lines s.memory s.attempts in
+    subst (λ (u : State). Follows (places.AtArena h) s u (line_of (word ∷ fs))) is (record {
+      text = arena_grows d h y.0 s.calls s.ran k.2.0 k.2.1 ∙ ap (λ (l : List ℕ). d ++ head_text h ++ l) (arena_joined y.0 ∙ ap line_of (sym all));
+      kept = (
+        record {
+          done = k.0;
+          head = k.1;
+          arena = a.1;
+          calls = All-same IsEntry s.calls [] k.2.0 (All-nil IsEntry);
+          ran = All-same IsRan s.ran [] k.2.1 (All-nil IsRan);
+        },
+        k.2.1,
+      );
+    })
+
+call_step : (h : Head) (s t : State) (fs : List (List ℕ)) → s.place ≡ places.InCalls h → IsSoFar (places.InCalls h) s → call_line s fs ≡ Ok t → Follows (places.InCalls h) s t (line_of (codes "call" ∷ fs))
+unfolding call_line
+call_step h s t fs at k e =
+    let x = bind_ok (call_of fs) (λ entry. Ok (record s { calls = s.calls ++ entry ∷ [] })) t e in
+    let u = record s { calls = s.calls ++ x.0 ∷ [] } in
+    let is : u ≡ t = cc in
+    let c = call_exact fs x.0 x.1 in
+    let d = done_lines s.memory s.attempts in
+    let text : so_far (places.InCalls h) u ≡ so_far (places.InCalls h) s ++ line_of (codes "call" ∷ fs) =
+    call_grows d h s.arena s.calls s.ran x.0 k.1
+    ∙ ap (λ (l : List ℕ). d ++ open_lines h s.arena s.calls s.ran ++ l) (call_joined x.0 ∙ ap (λ (l : List (List ℕ)). line_of (codes "call" ∷ l)) (sym c.0)) in
+    let kept : IsSoFar (places.InCalls h) u =
+    (record { done = k.0.done; head = k.0.head; arena = k.0.arena; calls = All-push IsEntry s.calls x.0 k.0.calls c.1; ran = k.0.ran }, k.1) in
+    subst (λ (v : State). Follows (places.InCalls h) s v (line_of (codes "call" ∷ fs))) is (record {
+      text = subst (λ (p : Place). so_far p u ≡ so_far (places.InCalls h) s ++ line_of (codes "call" ∷ fs)) (sym at) text;
+      kept = subst (λ (p : Place). IsSoFar p u) (sym at) kept;
+    })
+
+ran_step : (p : Place) (h : Head) (s t : State) (fs : List (List ℕ)) → so_far p s ≡ so_far (places.InRan h) s → IsOpen h s → ran_line s h fs ≡ Ok t → Follows p s t (line_of (codes "ran" ∷ fs))
+unfolding ran_line
+ran_step p h s t fs at k e =
+    let x = bind_ok (ran_of fs) (λ r. Ok (record s { place = places.InRan h; ran = s.ran ++ r ∷ [] })) t e in
+    let is : record s { place = places.InRan h; ran = s.ran ++ x.0 ∷ [] } ≡ t = cc in
+    let r = ran_exact fs x.0 x.1 in
+    let d = done_lines s.memory s.attempts in
+    subst (λ (u : State). Follows p s u (line_of (codes "ran" ∷ fs))) is (record {
+      text = ran_grows d h s.arena s.calls s.ran x.0
+          ∙ ap (λ (l : List ℕ). d ++ open_lines h s.arena s.calls s.ran ++ l) (ran_joined x.0 ∙ ap (λ (l : List (List ℕ)). line_of (codes "ran" ∷ l)) (sym r.0))
+          ∙ ap (λ (l : List ℕ). l ++ line_of (codes "ran" ∷ fs)) (sym at);
+      kept = record { done = k.done; head = k.head; arena = k.arena; calls = k.calls; ran = All-push IsRan s.ran x.0 k.ran r.1 };
+    })
+
+tellable : (h : Head) (s : State) → IsOpen h s → IsAttempt (attempt_of h s.arena s.calls s.ran)
+tellable h s k = record { thread = k.head.0; nth = k.head.1; began = refl; room = refl; at = k.head.2; arena = k.arena; calls = k.calls; ran = k.ran }
+
+end_step : (p : Place) (h : Head) (s t : State) (fs : List (List ℕ)) → so_far p s ≡ so_far (places.InRan h) s → IsOpen h s → end_line s h fs ≡ Ok t → Follows p s t (line_of (codes "end" ∷ fs))
+unfolding end_line
+end_step p h s t fs at k e =
+    let x = bind_ok (none fs) (λ _. Ok (ended s h)) t e in
+    let is : ended s h ≡ t = cc in
+    let no : fs ≡ [] = none_exact fs x.0 x.1 in
+    subst (λ (u : State). Follows p s u (line_of (codes "end" ∷ fs))) is (record {
+      text = end_grows s.memory s.attempts h s.arena s.calls s.ran ∙ ap (λ (l : List ℕ). l ++ codes "end\n") (sym at)
+          ∙ ap (λ (l : List (List ℕ)). so_far p s ++ line_of (codes "end" ∷ l)) (sym no);
+      kept = ((k.done.0, All-push IsAttempt s.attempts (attempt_of h s.arena s.calls s.ran) k.done.1 (tellable h s k)), (refl, refl));
+    })
+
+-- ## By the first field
+
+named : (p : Place) (s t : State) (name : List ℕ) (word : List ℕ) (fs : List (List ℕ)) → bytes_eq word name ≡ true → Follows p s t (line_of (name ∷ fs)) → Follows p s t (line_of (word ∷ fs))
+named p s t name word fs same f = subst (λ (w : List ℕ). Follows p s t (line_of (w ∷ fs))) (sym ((bytes_eq-Decides word name).0 same)) f
+
+between_step : (s t : State) (word : List ℕ) (fs : List (List ℕ)) → IsSoFar places.Between s → between_line s word fs ≡ Ok t → Follows places.Between s t (line_of (word ∷ fs))
+unfolding between_line
+between_step s t word fs k e =
+    elim (chosen (bytes_eq word (codes "attempt")) (head_line s fs) (cond (bytes_eq word (codes "final")) (final_line s fs) (Err operands.Operand)) (Ok t) e) [
+      | inl first ↦ named places.Between s t (codes "attempt") word fs first.0 (head_step s t fs k first.1)
+      | inr other ↦ elim (chosen (bytes_eq word (codes "final")) (final_line s fs) (Err operands.Operand) (Ok t) other.1) [
+        | inl last ↦ named places.Between s t (codes "final") word fs last.0 (final_step s t fs k last.1)
+        | inr neither ↦ absurd cc
+      ]
+    ]
+
+later_step : (p : Place) (h : Head) (s t : State) (word : List ℕ) (fs : List (List ℕ)) → so_far p s ≡ so_far (places.InRan h) s → IsOpen h s → later_line s h word fs ≡ Ok t → Follows p s t (line_of (word ∷ fs))
+unfolding later_line
+later_step p h s t word fs at k e =
+    elim (chosen (bytes_eq word (codes "ran")) (ran_line s h fs) (cond (bytes_eq word (codes "end")) (end_line s h fs) (Err operands.Operand)) (Ok t) e) [
+      | inl ran ↦ named p s t (codes "ran") word fs ran.0 (ran_step p h s t fs at k ran.1)
+      | inr other ↦ elim (chosen (bytes_eq word (codes "end")) (end_line s h fs) (Err operands.Operand) (Ok t) other.1) [
+        | inl last ↦ named p s t (codes "end") word fs last.0 (end_step p h s t fs at k last.1)
+        | inr neither ↦ absurd cc
+      ]
+    ]
+
+call_or_later_step : (h : Head) (s t : State) (word : List ℕ) (fs : List (List ℕ)) → s.place ≡ places.InCalls h → IsSoFar (places.InCalls h) s → call_or_later s h word fs ≡ Ok t
+    → Follows (places.InCalls h) s t (line_of (word ∷ fs))
+unfolding call_or_later
+call_or_later_step h s t word fs at k e =
+    elim (chosen (bytes_eq word (codes "call")) (call_line s fs) (later_line s h word fs) (Ok t) e) [
+      | inl call ↦ named (places.InCalls h) s t (codes "call") word fs call.0 (call_step h s t fs at k call.1)
+      | inr other ↦ later_step (places.InCalls h) h s t word fs refl k.0 other.1
+    ]
+
+-- ## By the place
+
+placed_step : (p : Place) (s t : State) (word : List ℕ) (fs : List (List ℕ)) → s.place ≡ p → IsSoFar p s → placed p s word fs ≡ Ok t → Follows p s t (line_of (word ∷ fs))
+unfolding placed
+placed_step places.AtHeader s t word fs at k e = absurd cc
+placed_step places.AtMemory s t word fs at k e = memory_step s t word fs k e
+placed_step places.Between s t word fs at k e = between_step s t word fs k e
+placed_step (places.AtArena h) s t word fs at k e = arena_step h s t word fs k e
+placed_step (places.InCalls h) s t word fs at k e = call_or_later_step h s t word fs at k e
+placed_step (places.InRan h) s t word fs at k e = later_step (places.InRan h) h s t word fs refl k e
+placed_step (places.AtEnd clock) s t word fs at k e = absurd cc
+
+told_ok : (r : Result State AsmKind) (t : State) → told r ≡ Ok t → r ≡ Ok t
+told_ok (Ok x) t e = cc
+told_ok (Err k) t e = absurd cc
+
+fields_step : (p : Place) (s t : State) (line : List ℕ) → s.place ≡ p → IsSoFar p s → fields_line s line ≡ Ok t → Follows p s t (line ++ 10 ∷ [])
+unfolding fields
+fields_step p s t line at k e =
+    let x = bind_ok (next (fields line)) (λ x. placed s.place s x.0 x.1) t (told_ok (next (fields line) >>= λ x. placed s.place s x.0 x.1) t e) in
+    let says : placed p s x.0.0 x.0.1 ≡ Ok t = subst (λ (q : Place). placed q s x.0.0 x.0.1 ≡ Ok t) at x.2 in
+    let whole : line_of (x.0.0 ∷ x.0.1) ≡ line ++ 10 ∷ [] = ap line_of (sym (next_exact (fields line) x.0 x.1)) ∙ ap (λ (l : List ℕ). l ++ 10 ∷ []) (join_with_byte-slice_split 32 line) in
+    subst (Follows p s t) whole (placed_step p s t x.0.0 x.0.1 at k says)
+
+header_step : (s t : State) (line : List ℕ) → IsSoFar places.AtHeader s → header_line s line ≡ Ok t → Follows places.AtHeader s t (line ++ 10 ∷ [])
+header_step s t line k e =
+    elim (chosen (bytes_eq line (codes "itm-history 1")) (Ok (record s { place = places.AtMemory })) (Err kinds.Header) (Ok t) e) [
+      | inl same ↦
+          let is : record s { place = places.AtMemory } ≡ t = cc in
+          let name : line ≡ codes "itm-history 1" = (bytes_eq-Decides line (codes "itm-history 1")).0 same.0 in
+          subst (λ (u : State). Follows places.AtHeader s u (line ++ 10 ∷ [])) is (record { text = ap (λ (l : List ℕ). l ++ 10 ∷ []) (sym name); kept = k })
+      | inr other ↦ absurd cc
+    ]
+
+by_place_step : (p : Place) (s t : State) (line : List ℕ) → s.place ≡ p → IsSoFar p s → by_place p s line ≡ Ok t → Follows p s t (line ++ 10 ∷ [])
+by_place_step places.AtHeader s t line at k e = header_step s t line k e
+by_place_step places.AtMemory s t line at k e = fields_step places.AtMemory s t line at k e
+by_place_step places.Between s t line at k e = fields_step places.Between s t line at k e
+by_place_step (places.AtArena h) s t line at k e = fields_step (places.AtArena h) s t line at k e
+by_place_step (places.InCalls h) s t line at k e = fields_step (places.InCalls h) s t line at k e
+by_place_step (places.InRan h) s t line at k e = fields_step (places.InRan h) s t line at k e
+by_place_step (places.AtEnd clock) s t line at k e = fields_step (places.AtEnd clock) s t line at k e
+
+-- one more line adds itself to the text, and what is kept is what a text can tell
+pub line_exact : (s t : State) (line : List ℕ) → IsSoFar s.place s → meaning s line ≡ Ok t → Follows s.place s t (line ++ 10 ∷ [])
+unfolding meaning
+line_exact s t line k e = by_place_step s.place s t line refl k e

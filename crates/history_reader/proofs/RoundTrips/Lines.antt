@@ -1,0 +1,111 @@
+-- What a line's fields were spelled for is what they say where they stand.
+use Rattle.std.proofs.Common.{◌≡◌, ℕ, ◌-◌, ◌+◌, ◌≤◌, Bool, true, false, List, [], ◌∷◌, ◌++◌, length, Result, Ok, refl, ap, ◌∙◌, arith}
+use Rattle.std.specs.Prelude.{decimal, codes}
+use Rattle.hex.specs.Hex.{IsBytes, encode_lower}
+use Rattle.itm_types.specs.declared.call.ActionKind.{ActionKind}
+use Rattle.itm_types.specs.declared.call.Props.{Props}
+use Rattle.itm_types.specs.declared.call.Ran.{Ran}
+use Rattle.itm_types.specs.declared.limits.TheConstants.{MAX_ARENA, MAX_ACTORS, MAX_RETRIES}
+use Rattle.script_fields.specs.declared.fault.AsmKind.{AsmKind}
+use Rattle.script_fields.specs.Operands.{◌>>=◌, both, number, function}
+use Rattle.script_fields.specs.Properties.{props_text}
+use Rattle.script_fields.specs.Text.{joined}
+use Rattle.script_fields.proofs.SpelledNumbers.{number_again, function_again}
+use Rattle.tx_attempts.specs.declared.attempt.Attempt.{Attempt}
+use Rattle.tx_attempts.specs.declared.attempt.CallRecord.{CallRecord}
+use Rattle.tx_attempts.specs.declared.attempt.Outcome.{Outcome}
+use Rattle.tx_history.specs.Histories.{outcome_name, kind_text}
+use Rattle.history_reader.specs.declared.state.Head.{Head}
+use Rattle.history_reader.specs.declared.state.Place.{Place}
+use Rattle.history_reader.specs.declared.state.Place.TheVariants as places
+use Rattle.history_reader.specs.declared.state.State.{State}
+use Rattle.history_reader.specs.Faults.{told}
+use Rattle.history_reader.specs.Fields.{next, next_three, none, one}
+use Rattle.history_reader.specs.Numbers.{thread, nth}
+use Rattle.history_reader.specs.Words.{outcome, kind, block_props}
+use Rattle.history_reader.specs.Digits.{sized}
+use Rattle.history_reader.specs.Lines as lines
+use Rattle.history_reader.specs.Lines.{head_of, ran_of, final_of, memory_of, arena_of, try_of, outcome_of, memory_line, final_line, end_line, between_line, later_line, call_or_later, placed, fields_line, meaning}
+use Rattle.tx_history.specs.Bounds.{IsWord}
+use Rattle.history_reader.specs.Tellable.{IsRan, IsAttempt, IsEntry, IsMemory}
+use Rattle.history_reader.specs.LineFields.{arena_text, verb_text, verb_in, rest_of}
+use Rattle.history_reader.proofs.RoundTrips.Fields.{ranged_again, sized_again, memory_again, arena_again, outcome_again, kind_again, block_props_again}
+use Rattle.history_reader.proofs.RoundTrips.Calls.{both_again, call_again}
+use Rattle.history_reader.proofs.RoundTrips.Spellings.{AreFields, fields_again}
+
+-- a line of fields says what its fields say where they stand
+pub says_again : (s t : State) (word : List ℕ) (fs : List (List ℕ)) → meaning s (joined (word ∷ fs)) ≡ fields_line s (joined (word ∷ fs)) → AreFields (word ∷ fs)
+    → placed s.place s word fs ≡ Ok t → meaning s (joined (word ∷ fs)) ≡ Ok t
+unfolding next
+says_again s t word fs m h e =
+    m ∙ ap (λ (l : List (List ℕ)). told (next l >>= λ x. placed s.place s x.0 x.1)) (fields_again word fs h) ∙ ap (λ (r : Result State AsmKind). told r) e
+
+-- the memory before the run
+pub memory_says : (s : State) (bytes : List ℕ) → IsMemory bytes → placed places.AtMemory s (codes "memory") (encode_lower bytes ∷ []) ≡ Ok (record s { place = places.Between; memory = bytes })
+unfolding placed memory_line memory_of next none one
+memory_says s bytes h = ap (λ (r : Result (List ℕ) AsmKind). r >>= λ b. Ok (record s { place = places.Between; memory = b })) (memory_again bytes h)
+
+-- the clock and the memory after the run
+pub final_says : (s : State) (clock : ℕ) (bytes : List ℕ) → IsWord clock → IsBytes bytes → length bytes ≡ length s.memory → 1 ≤ length s.memory
+    → placed places.Between s (codes "final") (decimal clock ∷ encode_lower bytes ∷ []) ≡ Ok (record s { place = places.AtEnd clock; bytes = bytes })
+unfolding placed between_line final_line final_of next none one
+final_says s clock bytes w h e some =
+    ap (λ (r : Result (ℕ × List ℕ) AsmKind). r >>= λ x. Ok (record s { place = places.AtEnd x.0; bytes = x.1 }))
+    (both_again (number (decimal clock)) (sized (length s.memory) (encode_lower bytes)) clock bytes (number_again clock w) (sized_again (length s.memory) bytes e some h))
+
+-- what the first line of an attempt says of it
+abbrev pub head_in : Attempt → Head
+head_in a = record { thread = a.thread; nth = a.nth; at = a.at; outcome = a.outcome; props = a.props }
+
+-- a new attempt
+pub head_says : (s : State) (a : Attempt) → IsAttempt a
+    → placed places.Between s (codes "attempt") (decimal a.thread ∷ decimal a.nth ∷ decimal a.at ∷ outcome_name a.outcome ∷ props_text a.props ∷ []) ≡ Ok (record s { place = places.AtArena (head_in a) })
+unfolding placed between_line lines.head_line head_of next next_three none one
+head_says s a h =
+    let th = ranged_again 0 (MAX_ACTORS - 1) a.thread (omega arith) h.thread (omega (arith, h.thread)) in
+    let try = ranged_again 1 (MAX_RETRIES + 1) a.nth h.nth.0 h.nth.1 (omega (arith, h.nth.1)) in
+    let tried = both_again (thread (decimal a.thread)) (both (nth (decimal a.nth)) (number (decimal a.at))) a.thread (a.nth, a.at) th
+    (both_again (nth (decimal a.nth)) (number (decimal a.at)) a.nth a.at try (number_again a.at h.at)) in
+    let came = both_again (outcome (outcome_name a.outcome)) (block_props (props_text a.props)) a.outcome a.props (outcome_again a.outcome) (block_props_again a.props) in
+    ap (λ (r : Result ((ℕ × (ℕ × ℕ)) × (Outcome × Props)) AsmKind).
+    r >>= (λ x. Ok (record { thread = x.0.0; nth = x.0.1.0; at = x.0.1.1; outcome = x.1.0; props = x.1.1 })) >>= λ head. Ok (record s { place = places.AtArena head }))
+    (both_again (try_of (decimal a.thread) (decimal a.nth) (decimal a.at)) (outcome_of (outcome_name a.outcome) (props_text a.props)) (a.thread, (a.nth, a.at)) (a.outcome, a.props) tried came)
+
+-- the arena at its begin
+pub arena_says : (s : State) (head : Head) (bytes : List ℕ) → IsBytes bytes → length bytes ≤ MAX_ARENA
+    → placed (places.AtArena head) s (codes "arena") (arena_text bytes ∷ []) ≡ Ok (record s { place = places.InCalls head; arena = bytes })
+unfolding placed lines.arena_line arena_of next none one
+arena_says s head bytes h few = ap (λ (r : Result (List ℕ) AsmKind). r >>= λ b. Ok (record s { place = places.InCalls head; arena = b })) (arena_again bytes h few)
+
+-- a call
+pub call_says : (s : State) (head : Head) (e : CallRecord) → IsEntry e
+    → placed (places.InCalls head) s (codes "call") (verb_text (verb_in e.call) ∷ rest_of e) ≡ Ok (record s { calls = s.calls ++ e ∷ [] })
+unfolding placed call_or_later lines.call_line
+call_says s head e h = ap (λ (r : Result CallRecord AsmKind). r >>= λ x. Ok (record s { calls = s.calls ++ x ∷ [] })) (call_again e h)
+
+-- where an action that ran may stand, and the attempt's end: behind the calls, and behind an action
+abbrev pub late : Bool → Head → Place
+late false head = places.InCalls head
+late true head = places.InRan head
+
+-- an action that ran is read alike in both places
+ran_later : (b : Bool) (s : State) (head : Head) (fs : List (List ℕ)) → placed (late b head) s (codes "ran") fs ≡ lines.ran_line s head fs
+unfolding placed call_or_later later_line
+ran_later false s head fs = refl
+ran_later true s head fs = refl
+
+-- an action that ran
+pub ran_says : (b : Bool) (s : State) (head : Head) (r : Ran) → IsRan r
+    → placed (late b head) s (codes "ran") (kind_text r.kind ∷ decimal r.action.fun ∷ decimal r.action.arg ∷ []) ≡ Ok (record s { place = places.InRan head; ran = s.ran ++ r ∷ [] })
+unfolding lines.ran_line ran_of next next_three none
+ran_says b s head r h =
+    let action = both_again (function (decimal r.action.fun)) (number (decimal r.action.arg)) r.action.fun r.action.arg (function_again r.action.fun (omega (arith, h.0))) (number_again r.action.arg h.1) in
+    ran_later b s head (kind_text r.kind ∷ decimal r.action.fun ∷ decimal r.action.arg ∷ [])
+    ∙ ap (λ (q : Result (ActionKind × (ℕ × ℕ)) AsmKind). q >>= (λ x. Ok (record { kind = x.0; action = record { fun = x.1.0; arg = x.1.1 } })) >>= λ y. Ok (record s { place = places.InRan head; ran = s.ran ++ y ∷ [] }))
+    (both_again (kind (kind_text r.kind)) (both (function (decimal r.action.fun)) (number (decimal r.action.arg))) r.kind (r.action.fun, r.action.arg) (kind_again r.kind) action)
+
+-- the end of an attempt
+pub end_says : (b : Bool) (s : State) (head : Head) → placed (late b head) s (codes "end") [] ≡ Ok (lines.ended s head)
+unfolding placed call_or_later later_line end_line none
+end_says false s head = refl
+end_says true s head = refl

@@ -1,6 +1,0 @@
-mod gates;
-mod interleavings;
-mod runs;
-mod sinks;
-mod texts;
-mod told;

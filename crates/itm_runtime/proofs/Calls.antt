@@ -1,0 +1,7 @@
+-- A call of a thread, from its engine's answer on.
+pub mod Closes
+pub mod ActionRoom
+pub mod Answers
+pub mod Results
+pub mod Rollbacks
+pub mod NumberAnswers

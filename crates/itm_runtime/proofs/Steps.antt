@@ -1,0 +1,10 @@
+-- The steps of a call: what is asked for, and the value that is handed in.
+pub mod CallsInHand
+pub mod NewCalls
+pub mod NextViews
+pub mod HandedValues
+pub mod HeldSteps
+pub mod Tries
+pub mod LastLoads
+pub mod StepChains
+pub mod WordReads

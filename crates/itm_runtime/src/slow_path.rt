@@ -1,0 +1,72 @@
+//! The slow path: calls that are not on the fast path, as functions of their own. They write the answer where the caller
+//! has it: the fast path, which has none of its own to hand over, then moves none about.
+
+ghost use Rattle.std.specs.Prelude.{false};
+ghost use Rattle.shared_words.specs.Passes.{Owns};
+ghost use Rattle.itm_runtime.specs.CallResults.{IsAnswered, Returns};
+ghost use Rattle.itm_runtime.specs.Standing.{start_of};
+
+use crate::drive::finish;
+use crate::thread::Thread;
+use itm_types::{Call, Props, Reply};
+use norec_core::Answer;
+use shared_words::Words;
+use std::alloc::AllocError;
+
+impl Thread {
+    /// A begin.
+    #[inline(never)]
+    pub(crate) fn begin_slow(
+        &mut self,
+        words: &Words,
+        props: Props,
+        room: u32,
+        again: bool,
+        answer: &mut Answer,
+    ) -> Result<(), AllocError>
+        requires own { Owns words.now self.old.pass }
+        ensures { Returns (λ done. answer.new) words.now self.old (Call.Begin props room) again result self.new }
+    {
+        let first = self.engine.begin_into(props, room, again, answer)?;
+        finish(words, &mut self.pass, &mut self.engine, first, answer);
+        Ok(())
+    }
+
+    /// A call.
+    #[inline(never)]
+    pub(crate) fn call_slow(&mut self, words: &Words, call: &Call) -> Result<Answer, AllocError>
+        requires own { Owns words.now self.old.pass }
+        ensures { Returns (λ a. a) words.now self.old call.now false result self.new }
+    {
+        let mut answer = Answer::Reply(Reply::Done);
+        self.call_told(words, call, &mut answer)?;
+        Ok(answer)
+    }
+
+    /// The same, with the answer where the caller has it.
+    fn call_told(
+        &mut self,
+        words: &Words,
+        call: &Call,
+        answer: &mut Answer,
+    ) -> Result<(), AllocError>
+        requires own { Owns words.now self.old.pass }
+        ensures { Returns (λ done. answer.new) words.now self.old call.now false result self.new }
+    {
+        let first = self.engine.call_into(call, answer)?;
+        finish(words, &mut self.pass, &mut self.engine, first, answer);
+        Ok(())
+    }
+
+    /// A commit. Takes no memory.
+    #[inline(never)]
+    pub(crate) fn commit_slow(&mut self, words: &Words, answer: &mut Answer)
+        requires own { Owns words.now self.old.pass }
+        ensures { IsAnswered words.now (start_of self.old Call.Commit false) answer.new self.new.pass self.new.engine }
+    {
+        match self.call_told(words, &Call::Commit, answer) {
+            Ok(()) => {}
+            Err(_) => unreachable!(),
+        }
+    }
+}

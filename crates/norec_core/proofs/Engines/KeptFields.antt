@@ -1,0 +1,93 @@
+-- What no step changes in an engine, and what follows from that.
+use Rattle.std.proofs.Common.{◌≡◌, ℕ, zero, suc, ◌+◌, ◌*◌, ◌==◌, Bool, true, false, List, [], ◌∷◌, ◌++◌, length, if◌then◌else◌, Option, None, Some, refl, ap, ◌∙◌}
+use Rattle.itm_types.specs.declared.call.Call.{Call}
+use Rattle.itm_types.specs.declared.call.Call.TheVariants as calls
+use Rattle.itm_types.specs.declared.row.LogRow.{LogRow}
+use Rattle.itm_types.specs.declared.step.Step.{Step}
+use Rattle.itm_types.specs.declared.step.Step.TheVariants.{Load, Store, Cas}
+use Rattle.itm_types.specs.Access.{size_of}
+use Rattle.word_pieces.specs.Pieces.{count_of}
+use Rattle.norec_core.specs.Phases.{Phase}
+use Rattle.norec_core.specs.Phases as at
+use Rattle.norec_core.specs.Core.{Core, handed_to, is_inside, word_loaded}
+use Rattle.norec_core.specs.OwnAccesses.{gathered_in, got_in, saved_in}
+use Rattle.norec_core.specs.Proceeds.{AsksFor, most}
+use Rattle.norec_core.specs.Copies.{source_words, words_read, words_written}
+use Rattle.norec_core.specs.Keeps.{Keeps}
+
+pub keeps_self : (e : Core) → Keeps e e
+keeps_self e = record { words = refl; patience = refl; max_commits = refl; arena = λ r. refl; irrevocable = refl; room = refl; writes = refl; blocks = refl; actions = refl; doing = refl; again = refl; entry = refl }
+
+pub keeps_twice : (a b c : Core) → Keeps a b → Keeps b c → Keeps a c
+keeps_twice a b c k l = record {
+  words = l.words ∙ k.words;
+  patience = l.patience ∙ k.patience;
+  max_commits = l.max_commits ∙ k.max_commits;
+  arena = λ r. l.arena (k.irrevocable ∙ r) ∙ k.arena r;
+  irrevocable = l.irrevocable ∙ k.irrevocable;
+  room = l.room ∙ k.room;
+  writes = l.writes ∙ k.writes;
+  blocks = l.blocks ∙ k.blocks;
+  actions = l.actions ∙ k.actions;
+  doing = l.doing ∙ k.doing;
+  again = l.again ∙ k.again;
+  entry = l.entry ∙ k.entry;
+}
+
+-- a value is handed in; the step was counted as it was asked for, and the log is as it was
+pub record IsHanded (e mid : Core) : Type 0 where
+  pub keeps : Keeps e mid
+  pub log : mid.log ≡ e.log
+  pub snapshot : mid.snapshot ≡ e.snapshot
+  pub spent : mid.spent ≡ e.spent
+
+-- what a value may change
+handed_with : (e : Core) (waits : Option Step) (stage : Phase) (tries clock done : ℕ) (fresh : List LogRow) (holds freed : Bool) (got : Option ℕ) (gathered arena : List ℕ) → (e.irrevocable ≡ false → arena ≡ e.arena)
+    → IsHanded e (record e { waits = waits; stage = stage; tries = tries; clock = clock; done = done; fresh = fresh; holds = holds; freed = freed; got = got; gathered = gathered; arena = arena })
+handed_with e waits stage tries clock done fresh holds freed got gathered arena same = record {
+  keeps = record { words = refl; patience = refl; max_commits = refl; arena = same; irrevocable = refl; room = refl; writes = refl; blocks = refl; actions = refl; doing = refl; again = refl; entry = refl };
+  log = refl;
+  snapshot = refl;
+  spent = refl;
+}
+
+-- a word that was loaded, by the holder of the clock or by another
+word_is : (e : Core) (holds : Bool) (word n : ℕ) → IsHanded e (word_loaded e holds word n)
+word_is e true word n =
+    let bytes = gathered_in e.stage e.gathered n in
+    handed_with e None at.Idle 0 e.clock e.done e.fresh e.holds e.freed (got_in e.stage n) bytes (if e.irrevocable then saved_in e.stage e.arena bytes else e.arena)
+    (λ r. ap (λ (i : Bool). if i then saved_in e.stage e.arena bytes else e.arena) r)
+word_is e false word n = handed_with e None at.Idle 0 e.clock e.done (e.fresh ++ record { word = word; value = n } ∷ []) e.holds e.freed e.got e.gathered e.arena (λ r. refl)
+
+pub handed_is : (e : Core) (step : Step) (n : ℕ) → IsHanded e (handed_to e (Some step) n)
+handed_is e (Load zero) n = handed_with e None at.Idle 0 n e.done [] e.holds e.freed e.got e.gathered e.arena (λ r. refl)
+handed_is e (Load (suc word)) n = word_is e e.holds word n
+handed_is e (Store zero value) n = handed_with e None at.Idle 0 value e.done [] false true e.got e.gathered e.arena (λ r. refl)
+handed_is e (Store (suc word) value) n = handed_with e None at.Idle 0 e.clock (if e.irrevocable then e.done else e.done + 1) e.fresh e.holds e.freed None e.gathered e.arena (λ r. refl)
+handed_is e (Cas cell from to) n = handed_with e None at.Idle 0 n 0 [] (n == from) e.freed None e.gathered e.arena (λ r. refl)
+
+-- a step is asked for
+pub keeps_asked : (mid new : Core) (step : Step) → AsksFor mid step new → Keeps mid new
+keeps_asked mid new step g = let same = g.stays in record {
+  words = ap (λ (c : Core). c.words) same;
+  patience = ap (λ (c : Core). c.patience) same;
+  max_commits = ap (λ (c : Core). c.max_commits) same;
+  arena = λ r. ap (λ (c : Core). c.arena) same;
+  irrevocable = ap (λ (c : Core). c.irrevocable) same;
+  room = ap (λ (c : Core). c.room) same;
+  writes = ap (λ (c : Core). c.writes) same;
+  blocks = ap (λ (c : Core). c.blocks) same;
+  actions = ap (λ (c : Core). c.actions) same;
+  doing = ap (λ (c : Core). c.doing) same;
+  again = ap (λ (c : Core). c.again) same;
+  entry = ap (λ (c : Core). c.entry) same;
+}
+
+-- both may ask for as many steps
+pub most_same : (a b : Core) → Keeps a b → (o : Option Call) → most b o ≡ most a o
+most_same a b k (Some (calls.Begin props room)) = λ i. if is_inside (k.blocks i) then k.patience i * (k.entry i + 3) + 2 * length (k.writes i) + 2 else 2 * k.patience i
+most_same a b k (Some calls.Commit) = λ i. k.patience i * (k.entry i + 3) + 2 * length (k.writes i) + 2
+most_same a b k (Some (calls.Mode room)) = λ i. k.patience i * (k.entry i + 3) + 2 * length (k.writes i) + 2
+most_same a b k (Some (calls.Read hint width at)) = λ i. 2 * count_of at (size_of width) + k.patience i * (k.entry i + count_of at (size_of width) + 4)
+most_same a b k (Some (calls.Copy c)) = λ i. if k.irrevocable i then words_read c c.pair + 2 * words_written c c.pair else 2 * source_words c + k.patience i * (k.entry i + source_words c + 4)
+most_same a b k _ = refl

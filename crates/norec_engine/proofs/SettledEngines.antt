@@ -1,0 +1,113 @@
+-- What is true of an engine between two steps, in a transaction of either kind.
+use Rattle.std.proofs.Common.{◌≡◌, ℕ, ◌/◌, ◌<◌, Bool, true, false, List, [], None, Some, refl, sym, subst, arith}
+use Rattle.norec_core.specs.Phases.{Phase}
+use Rattle.norec_core.specs.Phases as at
+use Rattle.norec_core.specs.Order.{snapshot_after}
+use Rattle.norec_core.specs.Rows.{IsLog}
+use Rattle.norec_core.proofs.Accesses.Overlays.{agreed}
+use Rattle.itm_types.specs.declared.row.LogRow.{LogRow}
+use Rattle.norec_core.specs.Proceeds.{IsSettled, IsWithin}
+use Rattle.norec_data.specs.declared.data.Data.{Data}
+use Rattle.norec_data.specs.Bounds.{IsOutside}
+use Rattle.norec_data.specs.View.{core, held, holds_of, in_block, waits_of}
+use Rattle.norec_revocable.specs.InPhases.{InPhase, IsSound}
+use Rattle.norec_engine.specs.Modes.{engine_in, IsSoundIn}
+use Rattle.norec_revocable.proofs.Counts.{counts}
+use Rattle.norec_revocable.proofs.Blocks.EndedTransactions.{none_written}
+use Rattle.norec_engine.proofs.HeldCounts.{held_counts}
+use Rattle.norec_irrevocable.specs.Phases.{IsSoundHeld}
+
+outside : (d : Data) (phase : Phase) → InPhase d phase → in_block d ≡ false → IsOutside d
+outside d at.Idle p o = p.1 o
+outside d (at.Begin b) p o = p.0
+outside d (at.Take b) p o = p.0
+outside d (at.Load r) p o = (let inside = p.0.is_open in absurd (cc))
+outside d (at.Confirm r value) p o = (let inside = p.0.is_open in absurd (cc))
+outside d (at.RoundStart aim) p o = (let inside = p.is_open.is_open in absurd (cc))
+outside d (at.RoundRow aim row) p o = (let inside = p.0.is_open.is_open in absurd (cc))
+outside d (at.RoundEnd aim) p o = (let inside = p.0.is_open.is_open in absurd (cc))
+outside d (at.Exchange taking) p o = (let inside = p.0.is_open in absurd (cc))
+outside d (at.BackLoad taking row) p o = (let inside = p.0.is_open.is_open in absurd (cc))
+outside d (at.Store taking row None) p o = (let inside = p.0.is_open.is_open in absurd (cc))
+outside d (at.Store taking row (Some word)) p o = (let inside = p.0.is_open.is_open in absurd (cc))
+outside d at.Free p o = (let inside = p.is_open.is_open in absurd (cc))
+outside d (at.Fetch w) p o = absurd p
+outside d (at.Place w got) p o = absurd p
+
+still : (d : Data) (phase : Phase) → InPhase d phase → waits_of d phase ≡ None → in_block d ≡ true → d.clock ≡ d.snapshot
+still d at.Idle p w o = (p.0 o).1
+still d phase p w o = absurd (cc)
+
+holding : (d : Data) (phase : Phase) → InPhase d phase → holds_of phase ≡ true → (in_block d ≡ true) × (d.clock ≡ d.snapshot) × (d.snapshot / 2 < d.limits.max_commits)
+holding d (at.BackLoad taking row) p h = (p.0.is_open.is_open, p.0.settled, p.0.free)
+holding d (at.Store taking row None) p h = (p.0.is_open.is_open, p.0.settled, p.0.free)
+holding d (at.Store taking row (Some word)) p h = (p.0.is_open.is_open, p.0.settled, p.0.free)
+holding d at.Free p h = (p.is_open.is_open, p.settled, p.free)
+holding d phase p h = absurd (cc)
+
+-- the log of every phase
+open_log : (d : Data) (phase : Phase) → InPhase d phase → in_block d ≡ true → IsLog d.words d.log.rows
+open_log d at.Idle p o = (p.0 o).0.log
+open_log d (at.Begin b) p o = (let shut = p.0.is_open in absurd (cc))
+open_log d (at.Take b) p o = (let shut = p.0.is_open in absurd (cc))
+open_log d (at.Load r) p o = p.0.log
+open_log d (at.Confirm r value) p o = p.0.log
+open_log d (at.RoundStart aim) p o = p.is_open.log
+open_log d (at.RoundRow aim row) p o = p.0.is_open.log
+open_log d (at.RoundEnd aim) p o = p.0.is_open.log
+open_log d (at.Exchange taking) p o = p.0.log
+open_log d (at.BackLoad taking row) p o = p.0.is_open.log
+open_log d (at.Store taking row None) p o = p.0.is_open.log
+open_log d (at.Store taking row (Some word)) p o = p.0.is_open.log
+open_log d at.Free p o = p.is_open.log
+open_log d (at.Fetch w) p o = absurd p
+open_log d (at.Place w got) p o = absurd p
+
+empty_log : (words : ℕ) (log : List LogRow) → log ≡ [] → IsLog words log
+empty_log words log e = subst (IsLog words) (sym e) (record { within = tt; single = tt; fit = tt })
+
+log_in : (d : Data) (phase : Phase) → InPhase d phase → (b : Bool) → in_block d ≡ b → IsLog d.words d.log.rows
+log_in d phase p true o = open_log d phase p o
+log_in d phase p false o = empty_log d.words d.log.rows (outside d phase p o).log
+
+settled : (d : Data) (phase : Phase) → IsSound d phase → IsSettled (core d phase)
+settled d phase s = (let log = log_in d phase s.in_phase (in_block d) refl in record {
+  logged = log;
+  agreed = agreed d.words d.log.rows log;
+  closed = λ o. (let out = outside d phase s.in_phase o in (out.log, none_written d phase s.in_phase o, out.commits, out.undos));
+  reached = s.reached;
+  inside = λ w o. (still d phase s.in_phase w o, s.bounds.even);
+  unfreed = refl;
+  even = s.bounds.even;
+  holder = λ h. holding d phase s.in_phase h;
+  limit = s.bounds.commits;
+  irrevocable = λ i. absurd (cc);
+})
+
+held_settled : (d : Data) (phase : Phase) → IsSoundHeld d phase → IsSettled (held d phase)
+held_settled d phase s = (let h = s.held in let log = empty_log d.words d.log.rows h.log in record {
+  logged = log;
+  agreed = agreed d.words d.log.rows log;
+  closed = λ o. (let inside = h.is_open in absurd (cc));
+  reached = omega (arith, h.settled);
+  inside = λ w o. (h.settled, h.bounds.even);
+  unfreed = refl;
+  even = h.bounds.even;
+  holder = λ y. (h.is_open, h.settled, h.free);
+  limit = h.bounds.commits;
+  irrevocable = λ i. (refl, h.writes, h.log);
+})
+
+pub settled_in : (irrevocable : Bool) (d : Data) (phase : Phase) → IsSoundIn irrevocable d phase → IsSettled (engine_in irrevocable d phase)
+settled_in false d phase s = settled d phase s
+settled_in true d phase s = held_settled d phase s
+
+pub counts_in : (irrevocable : Bool) (d : Data) (phase : Phase) → IsSoundIn irrevocable d phase → IsWithin (engine_in irrevocable d phase)
+counts_in false d phase s = counts d phase s
+counts_in true d phase s = held_counts d phase s
+
+-- no step of an irrevocable transaction moves its snapshot
+pub held_snapshot : (d : Data) (phase : Phase) (seen : ℕ) → IsSoundHeld d phase → snapshot_after (held d phase) seen ≡ d.snapshot
+held_snapshot d (at.Begin b) seen s = absurd s.in_phase
+held_snapshot d (at.RoundEnd aim) seen s = absurd s.in_phase
+held_snapshot d phase seen s = refl

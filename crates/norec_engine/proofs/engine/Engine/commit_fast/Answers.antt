@@ -1,0 +1,11 @@
+use Rattle.std.proofs.Common.{false}
+use Rattle.itm_types.specs.declared.call.Call.TheVariants.{Commit}
+use Rattle.norec_engine.proofs.EitherTurns.{called_in, revocable_call}
+use Rattle.norec_engine.proofs.engine.Engine.commit_fast.Goals as goal
+
+pub returns : goal.returns
+returns c =
+    let s = c.self.inside in
+    let revocable = c.if-self.false in
+    called_in s.state s.pending s.irrevocable c.args.self.now c.self.view_is _ _ _ _ _ _ c.take.ensures c.self.invariant c.requires.idle Commit false
+    (revocable_call s.irrevocable s.state Commit false _ _ revocable c.commit-turn.ensures)

@@ -1,0 +1,34 @@
+use Rattle.std.proofs.Common.{◌≡◌, rules, false, sym, ap, subst, ◌∙◌}
+use Rattle.norec_core.specs.Core.{Core}
+use Rattle.norec_data.specs.declared.data.Data.{Data}
+use Rattle.norec_data.specs.Turns.{counted}
+use Rattle.norec_data.specs.View.{phase_of}
+use Rattle.norec_revocable.specs.Between.{IsWord}
+use Rattle.norec_engine.proofs.SettledEngines.{counts_in, settled_in}
+use Rattle.norec_engine.proofs.WholeReads.{confirms, mode_is, same_load, same_wait, stage_is}
+use Rattle.norec_engine.proofs.engine.Engine.load_fast.Goals as goal
+
+pub returns-clause-resumed : goal.returns-clause-resumed
+returns-clause-resumed c = record {
+  proceeds = search rules;
+  joins = search rules;
+  order = search rules;
+  ends = tt;
+  tries = search rules;
+  snapshot = search rules;
+  log = search rules;
+  asks = search rules;
+  count = counts_in c.self.inside.irrevocable (counted c.loaded.new.state) (phase_of (counted c.loaded.new.state) c.in-Wait.next) (search rules);
+  settled = settled_in c.self.inside.irrevocable (counted c.loaded.new.state) (phase_of (counted c.loaded.new.state) c.in-Wait.next) (search rules);
+  held = λ h. (let r = c.requires.loads.1.revocable in absurd (cc));
+}
+
+pub returns-clause-confirms : goal.returns-clause-confirms
+returns-clause-confirms c word l =
+    let s = c.self.inside.state in
+    let b = c.self.inside.irrevocable in
+    let phase = phase_of s c.self.inside.pending in
+    let mode : b ≡ false = sym (mode_is b s phase) ∙ (ap (λ (e : Core). e.irrevocable) c.self.view_is ∙ l.revocable) in
+    let loads = sym (ap (phase_of s) c.in-Load.is) ∙ (sym (stage_is b s phase) ∙ (ap (λ (e : Core). e.stage) c.self.view_is ∙ l.stage)) in
+    let here : IsWord s.reading word = subst (λ r. IsWord r word) (sym (same_load s.reading l.reading loads)) l.is_word in
+    confirms (counted c.loaded.new.state) word c.args.value b c.in-Wait.next mode (same_wait _ _ (sym c.in-Wait.is ∙ c.loaded.ensures.turn)) (subst (λ (d : Data). IsWord d.reading word) (sym c.loaded.ensures.state) here)

@@ -1,0 +1,11 @@
+use Rattle.std.proofs.Common.{false}
+use Rattle.itm_types.specs.declared.call.Call.TheVariants.{Write}
+use Rattle.norec_engine.proofs.EitherTurns.{called_in, revocable_call}
+use Rattle.norec_engine.proofs.engine.Engine.write_fast.Goals as goal
+
+pub returns : goal.returns
+returns c =
+    let s = c.self.inside in
+    let revocable = c.if-self.false in
+    called_in s.state s.pending s.irrevocable c.args.self.now c.self.view_is _ _ _ _ _ _ c.take.ensures c.self.invariant c.requires.idle (Write c.args.hint c.args.at c.args.value.now) false
+    (revocable_call s.irrevocable s.state (Write c.args.hint c.args.at c.args.value.now) false _ _ revocable c.in-Ok.ensures)

@@ -1,0 +1,219 @@
+//! The fast path: the calls and steps of a revocable transaction that no other one gets in the way of.
+//!
+//! `begin_into`, `call_into` and `resume_into` find out what is to be done by the mode, the call and the phase. A function
+//! of the fast path does one thing of all that, and stands where it is called: a driver that knows what most often comes
+//! next has no dispatch, and moves no answer about.
+//!
+//! Where anything else is to be done, such a function changes nothing, and tells so by `None`; no one else tests for it. The
+//! driver then takes the slow path: it hands the same to the general function, in a function of its own that does the whole
+//! rest of the call. What came back onto the fast path would have to be told apart there.
+
+ghost use Rattle.std.specs.Prelude.{◌≡◌, ◌+◌, ℕ, IfNone, IfSome, IsSome, OnSome, MatchOption, None, true, false};
+ghost use Rattle.norec_core.specs.Proceeds.{Fits};
+ghost use Rattle.norec_core.specs.Moves.{IsCalled, IsResumed};
+ghost use Rattle.norec_core.specs.declared.answer.Next.TheVariants.{Step as Asks, Answer as Answers};
+ghost use Rattle.norec_engine.specs.NextSteps.{next_in};
+ghost use Rattle.norec_engine.specs.FastCalls.{ServesCall};
+ghost use Rattle.norec_engine.specs.WholeReads.{LoadsWord, ConfirmsWord};
+
+use crate::engine::Engine;
+use crate::turns::{next_step, take};
+use itm_types::{Call, Datum, MAX_WORDS, Props, ReadHint, Step, Width, WriteHint};
+use norec_core::{Answer, Taking};
+use norec_data::{CallEnd, Pending, Turn};
+use norec_revocable::{begin, begin_word, commit, confirmed_word, loaded, resumed, write};
+
+/// A step of the fast path, and what it leads to there.
+#[derive(Clone, Copy)]
+pub enum FastStep {
+    /// The clock is loaded for a begin: it is even, and the block begins.
+    Begin,
+    /// The clock is taken: a row of a whole word is stored next.
+    Exchange,
+    /// A row is stored: a row of a whole word is stored next.
+    Store,
+    /// The last row of a commit is stored: the clock is freed next.
+    LastStore,
+    /// The clock is freed: the transaction has committed.
+    Free,
+}
+
+impl Engine {
+    /// `begin_into` of an outermost block that stays revocable.
+    #[inline(always)]
+    pub fn begin_fast(
+        &mut self,
+        props: Props,
+        room: u32,
+        again: bool,
+        answer: &mut Answer,
+    ) -> Option<Option<Step>>
+        requires idle { self.old.waits ≡ None }
+        ensures { ServesCall self.old (Call.Begin props room) again answer.old result answer.new self.new }
+    {
+        // (an irrevocable transaction is open)
+        if props.goes_irrevocable || self.state.is_open() {
+            return None;
+        }
+        let Ok(turn) = begin(&mut self.state, props, room, again) else {
+            return None;
+        };
+        Some(take(
+            &mut self.state,
+            &mut self.pending,
+            &mut self.irrevocable,
+            turn,
+            answer,
+        ))
+    }
+
+    /// `call_into` of a read of one whole word that is neither written nor logged, where there is memory to log it: this
+    /// word is to be loaded.
+    #[inline(always)]
+    pub fn read_fast(&mut self, hint: ReadHint, width: Width, at: u64) -> Option<u32>
+        requires idle { self.old.waits ≡ None }
+        ensures none { IfNone result (self.new ≡ self.old) }
+        ensures called { IfSome result (λ word. IsCalled self.old (Call.Read hint width at) false (Asks (Step.Load (word + 1))) self.new) }
+        ensures revocable { OnSome result (self.old.irrevocable ≡ false) }
+        ensures loads { IfSome result (LoadsWord self.new) }
+    {
+        if self.irrevocable {
+            return None;
+        }
+        let word = begin_word(&mut self.state, hint, width, at)?;
+        self.state.spent = 1;
+        self.pending = Pending::Load;
+        Some(word)
+    }
+
+    /// `resume_into` of such a read with the word's value: the clock is to be loaded.
+    #[inline(always)]
+    pub fn load_fast(&mut self, value: u64)
+        requires loads { (word : ℕ) × LoadsWord self.old word }
+        ensures resumed { IsResumed self.old value (Asks (Step.Load 0)) self.new }
+        ensures confirms { (word : ℕ) → LoadsWord self.old word → ConfirmsWord self.new word }
+    {
+        let Pending::Load = self.pending else {
+            unreachable!();
+        };
+        let Turn::Wait(next) = loaded(&mut self.state, value) else {
+            unreachable!();
+        };
+        let _step = next_step(&self.state, false, next);
+        self.state.spent += 1;
+        self.pending = next;
+    }
+
+    /// `resume_into` of such a read with the clock, which is still the snapshot: the read is answered.
+    #[inline(always)]
+    pub fn confirm_fast(&mut self, word: u32, clock: u64, answer: &mut Answer)
+        requires confirms { ConfirmsWord self.old word }
+        requires same { clock ≡ self.old.snapshot }
+        ensures { IsResumed self.old clock (Answers answer.new) self.new }
+    {
+        let Pending::Confirm(value) = self.pending else {
+            unreachable!();
+        };
+        let end = CallEnd::Word(confirmed_word(&mut self.state, word, value, clock));
+        self.pending = Pending::Idle;
+        end.tell(&mut self.state, answer);
+    }
+
+    /// `call_into` of a write in a revocable transaction, where there is memory for it.
+    #[inline(always)]
+    pub fn write_fast(
+        &mut self,
+        hint: WriteHint,
+        at: u64,
+        value: &Datum,
+        answer: &mut Answer,
+    ) -> Option<Option<Step>>
+        requires idle { self.old.waits ≡ None }
+        ensures { ServesCall self.old (Call.Write hint at value.now) false answer.old result answer.new self.new }
+    {
+        if self.irrevocable {
+            return None;
+        }
+        let Ok(turn) = write(&mut self.state, hint, at, value) else {
+            return None;
+        };
+        Some(take(
+            &mut self.state,
+            &mut self.pending,
+            &mut self.irrevocable,
+            turn,
+            answer,
+        ))
+    }
+
+    /// `call_into` of a commit in a revocable transaction. Takes no memory.
+    #[inline(always)]
+    pub fn commit_fast(&mut self, answer: &mut Answer) -> Option<Option<Step>>
+        requires idle { self.old.waits ≡ None }
+        ensures { ServesCall self.old Call.Commit false answer.old result answer.new self.new }
+    {
+        if self.irrevocable {
+            return None;
+        }
+        let turn = commit(&mut self.state);
+        Some(take(
+            &mut self.state,
+            &mut self.pending,
+            &mut self.irrevocable,
+            turn,
+            answer,
+        ))
+    }
+
+    /// `resume_into` of this step, where it leads to what it is to lead to.
+    #[inline(always)]
+    pub fn resume_fast(
+        &mut self,
+        step: FastStep,
+        seen: u64,
+        answer: &mut Answer,
+    ) -> Option<Option<Step>>
+        requires fits { Fits self.old seen }
+        ensures { MatchOption result ((self.new ≡ self.old) × (answer.new ≡ answer.old)) (λ next. IsResumed self.old seen (next_in next answer.new) self.new) }
+    {
+        if !self.is_at(step, seen) {
+            return None;
+        }
+        let turn = resumed(&mut self.state, self.pending, seen);
+        Some(take(
+            &mut self.state,
+            &mut self.pending,
+            &mut self.irrevocable,
+            turn,
+            answer,
+        ))
+    }
+
+    /// The call waits for this step, in a revocable transaction, and this value leads to what it is to lead to. Most
+    /// phases are those of a revocable transaction alone.
+    #[inline(always)]
+    fn is_at(&self, step: FastStep, seen: u64) -> bool
+        ensures revocable { result ≡ true → self.now.irrevocable ≡ false }
+        ensures waits { result ≡ true → IsSome self.now.waits }
+    {
+        let frames = &self.state.frames;
+        let rows = frames.len();
+        match (step, self.pending) {
+            (FastStep::Begin, Pending::Begin) => {
+                seen % 2 == 0 && !self.state.opening.props.goes_irrevocable
+            }
+            (FastStep::Exchange, Pending::Exchange) => {
+                seen == self.state.snapshot && rows > 0 && frames.row(0).mask == u64::MAX
+            }
+            (FastStep::Store, Pending::Store(row)) => {
+                row + 1 < rows && frames.row(row + 1).mask == u64::MAX
+            }
+            (FastStep::LastStore, Pending::Store(row)) => match self.state.taking {
+                Taking::Commit => row + 1 == rows,
+                _ => false,
+            },
+            (FastStep::Free, Pending::Free) => !self.irrevocable,
+            _ => false,
+        }
+    }
+}

@@ -1,0 +1,71 @@
+-- A read of an irrevocable transaction goes on from piece to piece.
+use Rattle.std.proofs.Common.{◌≡◌, ℕ, suc, ◌+◌, ◌/◌, ◌<◌, ◌≤◌, nat_lt, true, false, List, [], ◌++◌, length, drop, take, Option, None, Some, is_some, slice_get, length-append, refl, sym, ap, ◌∙◌, arith}
+use Rattle.std.specs.Prelude.{slice_index}
+use Rattle.std.proofs.lemmas.Bool.{cond-false, le-ltb}
+use Rattle.std.proofs.lemmas.List.{append-nil, drop_all}
+use Rattle.std.proofs.lemmas.List.FromFn.{length-map-range_with_len}
+use Rattle.word_pieces.specs.declared.piece.Piece.{Piece}
+use Rattle.word_pieces.specs.Pieces.{count_of, gathered, part_of, piece_of, pieces_of, IsPiece}
+use Rattle.word_pieces.proofs.Covers.{take_all-pieces_of}
+use Rattle.norec_core.specs.Phases.{Phase}
+use Rattle.norec_core.specs.declared.call_parts.Purpose.{Purpose}
+use Rattle.norec_core.specs.declared.call_parts.Purpose.TheVariants as for
+use Rattle.norec_core.specs.declared.call_parts.Reading.{Reading}
+use Rattle.itm_model.specs.State.{State}
+use Rattle.norec_core.specs.Copies.{copy_refusal}
+use Rattle.norec_core.specs.Held.{reading as reading_of}
+use Rattle.norec_core.specs.Order.{read_from}
+use Rattle.norec_core.proofs.Accesses.CopyChunks.{length-gathered-all}
+use Rattle.norec_core.proofs.Accesses.Readings.{length-part_of}
+use Rattle.norec_data.specs.declared.data.Data.{Data}
+use Rattle.norec_irrevocable.specs.Phases.{LoadsFor}
+use Rattle.norec_irrevocable.proofs.Replies.HeldAccesses.{gathers_on}
+use Rattle.norec_irrevocable.proofs.Pieces.PlacedPieces.{none_there, piece_there}
+
+-- what a read is made for does not change as it goes on
+pub loads_later : (d new : Data) (what : Purpose) (at size : ℕ) → new.words ≡ d.words → new.arena ≡ d.arena → LoadsFor d what at size → LoadsFor new what at size
+loads_later d new (for.Value hint width) at size w a l = l
+loads_later d new (for.Chunk k number) at size w a l = (record { served = (λ i. copy_refusal true (w i) (length (a i)) k) ∙ (l.0).served; chunk = (l.0).chunk; is = (l.0).is; start_is = (l.0).start_is; size_is = (l.0).size_is }, l.1)
+
+-- nor what it comes to
+pub reading_next : (what : Purpose) (r : Reading) (n : ℕ) (s : State) (bytes : List ℕ) → reading_of what (record r { number = n }) s bytes ≡ reading_of what r s bytes
+reading_next (for.Value hint width) r n s bytes = refl
+reading_next (for.Chunk k number) r n s bytes = refl
+
+-- a piece more
+pub longer : (bytes : List ℕ) (at size n : ℕ) (p : Piece) (seen : ℕ) → IsPiece p
+    → gathered [] (take (n + 1) (pieces_of at size)) ≡ gathered [] (take n (pieces_of at size)) ++ part_of p (slice_index [] p.word)
+    → length bytes ≡ length (gathered [] (take n (pieces_of at size))) → length (bytes ++ part_of p seen) ≡ length (gathered [] (take (n + 1) (pieces_of at size)))
+longer bytes at size n p seen is next e =
+    omega (
+      arith,
+      e,
+      ap (length {A = ℕ}) next,
+      length-append bytes (part_of p seen),
+      length-append (gathered [] (take n (pieces_of at size))) (part_of p (slice_index [] p.word)),
+      length-part_of p seen is.in_word,
+      length-part_of p (slice_index [] p.word) is.in_word,
+    )
+
+-- and the last one
+pub whole_length : (at size n : ℕ) → size ≤ 32 → count_of at size ≤ n → length (gathered [] (take n (pieces_of at size))) ≡ size
+whole_length at size n small past = ap (λ (ps : List Piece). length (gathered [] ps)) (take_all-pieces_of at size n past) ∙ length-gathered-all [] at size small
+
+pub more_left : (at size n : ℕ) (o : Option Piece) → slice_get (pieces_of at size) n ≡ o → is_some o ≡ true → n < count_of at size
+more_left at size n None e s = absurd (cc)
+more_left at size n (Some p) e s = (piece_there at size n p e).0
+
+pub none_left : (at size n : ℕ) (o : Option Piece) → slice_get (pieces_of at size) n ≡ o → is_some o ≡ false → count_of at size ≤ n
+none_left at size n None e s = none_there at size n e
+none_left at size n (Some p) e s = absurd (cc)
+
+-- past the last piece
+pub read_ends : (past : Phase) (r : Reading) → count_of r.at r.size ≤ r.number → read_from past r ≡ past
+read_ends past r l = cond-false (nat_lt r.number (count_of r.at r.size)) _ past (le-ltb r.number (count_of r.at r.size) l)
+
+-- nothing is left to gather
+pub gathers_all : (m bytes : List ℕ) (at size n : ℕ) (p : Piece) (seen : ℕ) → slice_get (pieces_of at size) n ≡ Some p → slice_get m p.word ≡ Some seen → count_of at size ≤ suc n
+    → bytes ++ part_of p seen ≡ bytes ++ gathered m (drop n (pieces_of at size))
+gathers_all m bytes at size n p seen is found past =
+    sym (ap (λ (ps : List Piece). (bytes ++ part_of p seen) ++ gathered m ps) (drop_all (suc n) (pieces_of at size) (omega (arith, past, length-map-range_with_len (piece_of at size) (at / 8) (count_of at size)))) ∙ append-nil (bytes ++ part_of p seen))
+    ∙ gathers_on m bytes at size n p seen is found

@@ -1,0 +1,92 @@
+-- Replies in an irrevocable transaction that leave the engine as it was, but for the counts.
+use Rattle.std.proofs.Common.{◌≡◌, ℕ, zero, suc, ◌&&◌, not, Bool, true, false, List, length, replicate, Option, None, Some, unwrap_or, nat_lt, refl, sym, ap, ◌∙◌, arith, if◌then◌else◌}
+use Rattle.std.proofs.lemmas.List.{length-replicate}
+use Rattle.itm_types.specs.declared.limits.TheConstants.{MAX_OPEN_BLOCKS}
+use Rattle.itm_types.specs.declared.call.Call.{Call}
+use Rattle.itm_types.specs.declared.call.Call.TheVariants.{Begin, Mode, Read, CommitAction, Save}
+use Rattle.itm_types.specs.declared.call.Refusal.{Refusal}
+use Rattle.itm_types.specs.declared.call.Reply.TheVariants.{Refused}
+use Rattle.itm_types.specs.Memory.{AllFit, IsMemory}
+use Rattle.itm_model.specs.Machine.{after, after_unless, answer, bytes_reply, effect, refusal, reply, reply_unless}
+use Rattle.itm_model.specs.State.{State}
+use Rattle.norec_core.specs.Stands.{stands_for}
+use Rattle.norec_core.specs.Core.{Core, came, irrevocable_room, may_go}
+use Rattle.nest_frames.specs.Nest.{stays_revocable}
+use Rattle.norec_core.specs.Proceeds.{RepliesHeld, reply_held}
+use Rattle.norec_core.specs.Effects.{arena_held, room_left}
+use Rattle.norec_core.proofs.Replies.RefusedCalls.{actions_kept, blocks_kept}
+use Rattle.norec_data.specs.declared.data.Data.{Data}
+use Rattle.norec_data.specs.View.{core_held, in_block}
+use Rattle.norec_irrevocable.specs.Outcomes.{kept}
+
+-- a memory of zeros
+fit-zeros : (n : ℕ) → AllFit (replicate n 0)
+fit-zeros zero = tt
+fit-zeros (suc n) = (omega arith, fit-zeros n)
+
+pub zeros : (words : ℕ) → IsMemory words (replicate words 0)
+zeros words = (length-replicate words 0, fit-zeros words)
+
+-- an irrevocable transaction does not become so
+and_not : (a b : Bool) → (a && b && not true) ≡ false
+and_not true true = refl
+and_not true false = refl
+and_not false b = refl
+
+and_not_3 : (a b c : Bool) → (a && b && c && not true) ≡ false
+and_not_3 true b c = and_not b c
+and_not_3 false b c = refl
+
+pub goes_nowhere : (d : Data) (call : Call) → irrevocable_room (core_held d) call ≡ None
+goes_nowhere d (Begin props room) = ap (λ (b : Bool). if b then Some room else None) (and_not_3 props.goes_irrevocable (may_go d.frames.blocks props) (nat_lt (length d.frames.blocks) MAX_OPEN_BLOCKS))
+goes_nowhere d (Mode room) = ap (λ (b : Bool). if b then Some room else None) (and_not (in_block d) (not (stays_revocable d.frames.blocks)))
+goes_nowhere d call = refl
+
+-- so the room stays as a call comes
+pub room_kept : (d : Data) (call : Call) → (came (core_held d) call false).room ≡ d.frames.room
+room_kept d call = ap (λ (o : Option ℕ). unwrap_or o d.frames.room) (goes_nowhere d call)
+
+-- the state of which a reply is read off
+abbrev pub kept_in : Core → State
+kept_in c = stands_for c (replicate c.words 0)
+
+-- what is refused is told so, whatever the memory is
+pub refused_so : (c : Core) (call : Call) (why : Refusal) → refusal MAX_OPEN_BLOCKS (kept_in c) call ≡ Some why → Refused why ≡ reply_held c call
+refused_so c (Read hint width at) why e = sym (ap (λ (o : Option Refusal). reply_unless o (bytes_reply c.gathered)) e)
+refused_so c call why e = sym (ap (λ (o : Option Refusal). reply_unless o (answer (kept_in c) call)) e)
+
+arena_left : (c : Core) (call : Call) (why : Refusal) → arena_held c call (Refused why) ≡ c.arena
+arena_left c (Save at value) why = refl
+arena_left c call why = refl
+
+room_unspent : (c : Core) (call : Call) (why : Refusal) → room_left c call (Refused why) ≡ c.room
+room_unspent c (CommitAction action) why = refl
+room_unspent c call why = refl
+
+module _ (d : Data) (call : Call) (why : Refusal) (refused : (m : List ℕ) → IsMemory d.words m → refusal MAX_OPEN_BLOCKS (kept d m) call ≡ Some why) where
+  abbrev come : Data
+  come = record d { spent = 0; entry = length d.log.rows }
+
+  pub denied : RepliesHeld (came (core_held d) call false) call (Refused why) (core_held come)
+  denied =
+      let mid : Core = came (core_held d) call false in
+      let room : d.frames.room ≡ room_left mid call (Refused why) = sym (room_kept d call) ∙ sym (room_unspent mid call why) in
+      record {
+        held = refl;
+        irrevocable = refl;
+        reply_is = refused_so mid call why (refused (replicate d.words 0) (zeros d.words));
+        unfreed = refl;
+        stays = (λ i. record (core_held come) {
+          blocks = sym (blocks_kept mid call why) i;
+          actions = sym (actions_kept mid call why) i;
+          arena = sym (arena_left mid call why) i;
+          room = room i;
+        });
+        still = λ o. o;
+      }
+
+  pub denied_comes : (m : List ℕ) → IsMemory d.words m → (kept d m ≡ after MAX_OPEN_BLOCKS (kept d m) call) × (Refused why ≡ reply MAX_OPEN_BLOCKS (kept d m) call)
+  denied_comes m mem = (
+    sym (ap (λ (o : Option Refusal). after_unless o (kept d m) (effect (kept d m) call)) (refused m mem)),
+    sym (ap (λ (o : Option Refusal). reply_unless o (answer (kept d m) call)) (refused m mem)),
+  )

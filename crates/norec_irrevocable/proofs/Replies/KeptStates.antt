@@ -1,0 +1,97 @@
+-- What the plain machine refuses of an irrevocable transaction.
+use Rattle.std.proofs.Common.{◌≡◌, ℕ, suc, ◌+◌, ◌*◌, ◌&&◌, ◌||◌, not, nat_le, nat_lt, Bool, true, false, List, [], ◌∷◌, length, map, Option, None, Some, if◌then◌else◌, refl, ap, ◌∙◌, arith}
+use Rattle.std.proofs.lemmas.Bool.{lt-ltb}
+use Rattle.itm_types.specs.declared.limits.TheConstants.{MAX_OPEN_BLOCKS}
+use Rattle.itm_types.specs.declared.call.Call.{Call}
+use Rattle.itm_types.specs.declared.call.Call.TheVariants.{Begin, Abort, Mode, Copy}
+use Rattle.itm_types.specs.declared.call.Copying.{Copying}
+use Rattle.itm_types.specs.declared.call.Props.{Props}
+use Rattle.itm_types.specs.declared.call.Refusal.{Refusal}
+use Rattle.itm_types.specs.declared.call.Refusal.TheVariants.{Outside, OutOfRange, Overlap, NoAbort, IsIrrevocable, NoIrrevocable, TooDeep}
+use Rattle.itm_types.specs.Calls.{access_of}
+use Rattle.itm_types.specs.Memory.{bytes_of, IsMemory}
+use Rattle.itm_types.proofs.Words.{length-bytes_of}
+use Rattle.user_actions.specs.Actions.{Actions}
+use Rattle.nest_frames.specs.Nest.{Frame, is_kept, stays_revocable}
+use Rattle.itm_model.specs.Machine.{is_open, is_clear, keeps_any, keeps_innermost, keeps_revocable, or_else, refusal, unless}
+use Rattle.itm_model.specs.State.{State}
+use Rattle.norec_core.specs.Accesses.{access_refusal, begin_refusal, mode_refusal}
+use Rattle.norec_core.specs.Copies.{copy_refusal}
+use Rattle.norec_core.specs.Core.{is_inside, may_go}
+use Rattle.norec_core.specs.Stands.{block_kept, state_kept}
+use Rattle.norec_core.proofs.Replies.CopyRefusals.{source_is, target_is}
+use Rattle.norec_core.proofs.Engines.Machines.{refusal_of}
+
+-- ## Blocks
+
+-- they have the properties of those that the engine has open
+revocable_kept : (blocks : List Frame) → keeps_revocable (map block_kept blocks) ≡ stays_revocable blocks
+revocable_kept [] = refl
+revocable_kept (b ∷ bs) = ap (λ (t : Bool). b.props.no_irrevocable || t) (revocable_kept bs)
+
+any_kept : (blocks : List Frame) → keeps_any (map block_kept blocks) ≡ is_kept blocks true
+any_kept [] = refl
+any_kept (b ∷ bs) = ap (λ (t : Bool). b.props.no_abort || t) (any_kept bs)
+
+innermost_kept : (blocks : List Frame) → keeps_innermost (map block_kept blocks) ≡ is_kept blocks false
+innermost_kept [] = refl
+innermost_kept (b ∷ bs) = refl
+
+abort_kept : (blocks : List Frame) (outer : Bool) → (if outer then keeps_any (map block_kept blocks) else keeps_innermost (map block_kept blocks)) ≡ is_kept blocks outer
+abort_kept blocks true = any_kept blocks
+abort_kept blocks false = innermost_kept blocks
+
+length-kept : (blocks : List Frame) → length (map block_kept blocks) ≡ length blocks
+length-kept [] = refl
+length-kept (b ∷ bs) = ap suc (length-kept bs)
+
+or_none : (o : Option Refusal) → or_else o None ≡ o
+or_none None = refl
+or_none (Some why) = refl
+
+no_abort : (kept : Bool) → or_else (unless (not kept) NoAbort) (unless (not true) IsIrrevocable) ≡ Some (if kept then NoAbort else IsIrrevocable)
+no_abort true = refl
+no_abort false = refl
+
+module _ (blocks : List Frame) (arena : List ℕ) (actions : Actions) (m : List ℕ) where
+  abbrev now : State
+  now = state_kept blocks arena actions m
+
+  open_from : (bs : List Frame) → nat_lt 0 (length (map block_kept bs)) ≡ is_inside bs
+  open_from [] = refl
+  open_from (b ∷ bs) = lt-ltb 0 (length (map block_kept (b ∷ bs))) (omega arith)
+
+  pub open_kept : is_open now ≡ is_inside blocks
+  open_kept = open_from blocks
+
+  -- ## Calls
+
+  pub begin_kept : (props : Props) (room : ℕ) → refusal MAX_OPEN_BLOCKS now (Begin props room) ≡ begin_refusal (may_go blocks props) (nat_lt (length blocks) MAX_OPEN_BLOCKS)
+  begin_kept props room =
+      or_none _
+      ∙ (λ i. or_else (unless (not (props.goes_irrevocable && (props.no_irrevocable || revocable_kept blocks i))) NoIrrevocable) (unless (nat_lt (length-kept blocks i) MAX_OPEN_BLOCKS) TooDeep))
+
+  pub mode_kept : (room : ℕ) → refusal MAX_OPEN_BLOCKS now (Mode room) ≡ mode_refusal (is_inside blocks) (stays_revocable blocks)
+  mode_kept room = or_none _ ∙ (λ i. or_else (unless (open_kept i) Outside) (unless (not (revocable_kept blocks i)) NoIrrevocable))
+
+  pub abort_refused : (outer : Bool) → is_inside blocks ≡ true → refusal MAX_OPEN_BLOCKS now (Abort outer) ≡ Some (if is_kept blocks outer then NoAbort else IsIrrevocable)
+  abort_refused outer o =
+      or_none _
+      ∙ ((λ i. or_else (unless ((open_kept ∙ o) i) Outside) (or_else (unless (not (abort_kept blocks outer i)) NoAbort) (unless (not true) IsIrrevocable)))
+      ∙ no_abort (is_kept blocks outer))
+
+  module _ (words : ℕ) (mem : IsMemory words m) where
+    size : length (bytes_of m) ≡ 8 * words
+    size = (let len = length-bytes_of m in let n = mem.0 in omega arith)
+
+    -- a read, a write or a fill
+    pub access_kept : (call : Call) (at size : ℕ) → access_of call ≡ Some (at, size) → refusal MAX_OPEN_BLOCKS now call ≡ access_refusal (is_inside blocks) words at size
+    access_kept call at n is =
+        refusal_of now call at n is
+        ∙ (λ i. or_else (unless (open_kept i) Outside) (unless (nat_le (at + n) (size i)) OutOfRange))
+
+    pub copy_kept : (k : Copying) → refusal MAX_OPEN_BLOCKS now (Copy k) ≡ copy_refusal (is_inside blocks) words (length arena) k
+    copy_kept k =
+        let target = target_is now words k.pair k.to k.size size in
+        let source = source_is now words k.pair k.from k.size size in
+        (λ i. or_else (unless (open_kept i) Outside) (or_else (target i) (or_else (source i) (unless (is_clear k) Overlap))))

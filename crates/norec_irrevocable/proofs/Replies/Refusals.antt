@@ -1,0 +1,80 @@
+-- Calls of an irrevocable transaction that are refused, and what is said of those that make another one irrevocable.
+use Rattle.std.proofs.Common.{◌≡◌, ℕ, Bool, true, false, List, length, Option, None, Some, refl, sym, ap, subst, ◌∙◌, if◌then◌else◌}
+use Rattle.std.proofs.lemmas.Bool.{cond-false, cond-true}
+use Rattle.std.specs.Prelude.{is_none}
+use Rattle.itm_types.specs.declared.call.Call.{Call}
+use Rattle.itm_types.specs.declared.call.Call.TheVariants.{Begin, Copy, Mode}
+use Rattle.itm_types.specs.declared.call.Copying.{Copying}
+use Rattle.itm_types.specs.declared.call.Props.{Props}
+use Rattle.itm_types.specs.declared.call.Refusal.{Refusal}
+use Rattle.itm_types.specs.declared.limits.TheConstants.{MAX_OPEN_BLOCKS}
+use Rattle.itm_types.specs.Calls.{access_of}
+use Rattle.itm_types.specs.Memory.{IsMemory}
+use Rattle.itm_model.specs.Machine.{refusal}
+use Rattle.norec_core.specs.declared.answer.Answer.{Answer}
+use Rattle.norec_core.specs.Phases.{Idle}
+use Rattle.norec_core.specs.declared.call_parts.Taking.TheVariants as takings
+use Rattle.norec_core.specs.Accesses.{access_refusal}
+use Rattle.norec_core.specs.Copies.{copy_refusal}
+use Rattle.norec_core.specs.Endings.{ending_at, going_ending}
+use Rattle.norec_core.specs.Order.{going_stage, stage_at}
+use Rattle.norec_data.proofs.RefusedAccesses.{access_ending, refused_stage}
+use Rattle.norec_data.specs.declared.data.Data.{Data}
+use Rattle.norec_data.specs.declared.end.CallEnd.TheVariants as ends
+use Rattle.norec_data.specs.declared.turn.Turn.TheVariants.{EndIrrevocable}
+use Rattle.norec_data.specs.Bounds.{IsHeld}
+use Rattle.norec_data.specs.Turns.{TurnEndsSo}
+use Rattle.norec_data.specs.View.{core_held, in_block}
+use Rattle.norec_irrevocable.specs.Moves.{HeldCallTurns}
+use Rattle.norec_irrevocable.specs.Outcomes.{kept}
+use Rattle.norec_irrevocable.proofs.Replies.HeldReplies.{denied, denied_comes, goes_nowhere}
+use Rattle.norec_irrevocable.proofs.Replies.KeptStates.{access_kept, copy_kept}
+
+-- ## No call makes it irrevocable once more
+
+pub begin_stage : (d : Data) (props : Props) (room : ℕ) → in_block d ≡ true → stage_at (core_held d) (Begin props room) false ≡ Idle
+begin_stage d props room o = cond-true (in_block d) _ _ o ∙ ap (λ (r : Option ℕ). going_stage (core_held d) r (takings.Begin props room)) (goes_nowhere d (Begin props room))
+
+pub mode_stage : (d : Data) (room : ℕ) → stage_at (core_held d) (Mode room) false ≡ Idle
+mode_stage d room = ap (λ (r : Option ℕ). going_stage (core_held d) r (takings.Mode room)) (goes_nowhere d (Mode room))
+
+none_either_way : (b : Bool) → ◌≡◌ {A = Option Answer} (if b then None else None) None
+none_either_way true = refl
+none_either_way false = refl
+
+pub begin_ending : (d : Data) (props : Props) (room : ℕ) → ending_at (core_held d) (Begin props room) ≡ None
+begin_ending d props room = ap (λ (r : Option ℕ). if in_block d then going_ending (core_held d) r else None) (goes_nowhere d (Begin props room)) ∙ none_either_way (in_block d)
+
+pub mode_ending : (d : Data) (room : ℕ) → ending_at (core_held d) (Mode room) ≡ None
+mode_ending d room = ap (going_ending (core_held d)) (goes_nowhere d (Mode room))
+
+-- ## Refusals
+
+module _ (d : Data) (call : Call) (why : Refusal) (h : IsHeld d) (refused : (m : List ℕ) → IsMemory d.words m → refusal MAX_OPEN_BLOCKS (kept d m) call ≡ Some why)
+    (at : stage_at (core_held d) call false ≡ Idle) (none : ending_at (core_held d) call ≡ None) where
+  abbrev come : Data
+  come = record d { spent = 0; entry = length d.log.rows }
+
+  denied_turn : HeldCallTurns d call (EndIrrevocable ends.Refused) (record come { why = why })
+  denied_turn = record {
+    sound = record { bounds = h.bounds; is_open = h.is_open; log = h.log; writes = h.writes; settled = h.settled; free = h.free; tries = h.tries };
+    proceeds = denied d call why refused;
+    comes = denied_comes d call why refused;
+    stays = record { opens = λ o. o; log = λ o. refl; snapshot = refl };
+    order = sym at;
+    ends = subst (λ (so : Option Answer). TurnEndsSo so (EndIrrevocable ends.Refused) (record come { why = why })) (sym none) tt;
+  }
+
+  pub refused_turn : (new : Data) → new ≡ come → HeldCallTurns d call (EndIrrevocable ends.Refused) (record new { why = why })
+  refused_turn new is = subst (λ (x : Data). HeldCallTurns d call (EndIrrevocable ends.Refused) (record x { why = why })) (sym is) denied_turn
+
+-- accesses
+pub refused_access : (d : Data) (call : Call) (why : Refusal) (place size : ℕ) (new : Data) → IsHeld d → access_of call ≡ Some (place, size) → access_refusal (in_block d) d.words place size ≡ Some why → new ≡ record d { spent = 0; entry = length d.log.rows }
+    → HeldCallTurns d call (EndIrrevocable ends.Refused) (record new { why = why })
+refused_access d call why place size new h is e came =
+    refused_turn d call why h (λ m mem. access_kept d.frames.blocks d.arena d.frames.actions m d.words mem call place size is ∙ e) (refused_stage (core_held d) place size why e call is) (access_ending (core_held d) call place size is) new came
+
+pub refused_copy : (d : Data) (k : Copying) (why : Refusal) (new : Data) → IsHeld d → copy_refusal (in_block d) d.words (length d.arena) k ≡ Some why → new ≡ record d { spent = 0; entry = length d.log.rows }
+    → HeldCallTurns d (Copy k) (EndIrrevocable ends.Refused) (record new { why = why })
+refused_copy d k why new h e came =
+    refused_turn d (Copy k) why h (λ m mem. copy_kept d.frames.blocks d.arena d.frames.actions m d.words mem k ∙ e) (cond-false (is_none (copy_refusal (in_block d) d.words (length d.arena) k)) _ _ (ap is_none e)) refl new came

@@ -1,0 +1,102 @@
+-- What the plain machine does with copies, of the state that an engine stands for.
+use Rattle.std.proofs.Common.{◌≡◌, ℕ, ◌+◌, ◌*◌, ◌≤◌, Bool, true, false, List, length, Option, Some, None, refl, sym, ap, ◌∙◌, arith}
+use Rattle.itm_types.specs.declared.call.Call.TheVariants.{Copy}
+use Rattle.itm_types.specs.declared.call.Copying.{Copying}
+use Rattle.itm_types.specs.declared.call.Refusal.{Refusal}
+use Rattle.itm_types.specs.declared.call.Refusal.TheVariants.{Outside, Overlap}
+use Rattle.itm_types.specs.declared.call.Reply.TheVariants.{Done, Refused}
+use Rattle.itm_types.specs.declared.copy.CopyPair.{CopyPair}
+use Rattle.itm_types.specs.declared.copy.CopyPair.TheVariants.{Out, In, Within}
+use Rattle.itm_types.specs.declared.limits.TheConstants.{MAX_OPEN_BLOCKS}
+use Rattle.itm_types.specs.Memory.{bytes_of, IsMemory}
+use Rattle.itm_types.specs.Slices.{with_slice, AreBytes}
+use Rattle.itm_types.proofs.Words.{length-bytes_of}
+use Rattle.itm_model.specs.State.{State}
+use Rattle.itm_model.specs.Machine.{unless, or_else, is_clear, source_bytes, saved_in_arena, target_written, refusal, effect, after, after_unless, reply, reply_unless}
+use Rattle.word_pieces.proofs.Lists.{length-with_slice}
+use Rattle.write_set.specs.declared.row.Row.{Row}
+use Rattle.write_set.specs.Rows.{overlay, AreRows}
+use Rattle.write_set.proofs.Overlays.{length-overlay}
+use Rattle.user_actions.specs.Actions.{Actions}
+use Rattle.nest_frames.specs.Nest.{Frame}
+use Rattle.norec_data.specs.declared.data.Data.{Data}
+use Rattle.norec_core.specs.Phases.{Idle}
+use Rattle.norec_core.specs.Core.{came, is_inside}
+use Rattle.norec_core.specs.Copies.{target_refusal, copy_refusal, direction_of, source_in}
+use Rattle.norec_data.specs.View.{core, in_block}
+use Rattle.norec_revocable.specs.InPhases.{IsSound}
+use Rattle.norec_core.specs.Proceeds.{Replies}
+use Rattle.norec_core.specs.Effects.{writes_copied, arena_copied}
+use Rattle.norec_core.specs.Stands.{is_some_row, state_over}
+use Rattle.norec_core.proofs.Engines.Blocks.{blocks_over-same}
+use Rattle.norec_core.proofs.Replies.CopyRefusals.{target_is, source_is, shared_within, arena_within, accepted_sides, length-source_in}
+use Rattle.norec_core.proofs.Engines.Machines.{open_is, refuses}
+use Rattle.norec_core.proofs.Accesses.Ranges.{written_over}
+use Rattle.norec_revocable.proofs.Replies.Refusals.{denied, stands}
+
+-- ## Refusals
+
+-- a copy is refused by an engine as by the state that it stands for
+pub copy_refused : (rows : List Row) (blocks : List Frame) (arena : List ℕ) (actions : Actions) (m : List ℕ) (words : ℕ) (k : Copying) → IsMemory words m
+    → refusal MAX_OPEN_BLOCKS (state_over rows blocks arena actions m) (Copy k) ≡ copy_refusal (is_inside blocks) words (length arena) k
+copy_refused rows blocks arena actions m words k mem =
+    let s : State = state_over rows blocks arena actions m in
+    let len = length-bytes_of (overlay m rows) in
+    let same : length (overlay m rows) ≡ words = length-overlay m rows ∙ mem.0 in
+    let size : length (bytes_of (overlay m rows)) ≡ 8 * words = omega arith in
+    let target = target_is s words k.pair k.to k.size size in
+    let source = source_is s words k.pair k.from k.size size in
+    (λ i. or_else (unless (open_is rows blocks arena actions m i) Outside) (or_else (target i) (or_else (source i) (unless (is_clear k) Overlap))))
+
+pub refused_copy : (d : Data) (k : Copying) (why : Refusal) → IsSound d Idle → copy_refusal (in_block d) d.words (length d.arena) k ≡ Some why
+    → Replies (came (core d Idle) (Copy k) false) (Copy k) (Refused why) (core (record d { spent = 0; entry = length d.log.rows }) Idle)
+refused_copy d k why s e =
+    denied d (Copy k) why s refl (λ m mem. refuses (stands d m) (Copy k) why (copy_refused d.frames.writes.rows d.frames.blocks d.arena d.frames.actions m d.words k mem ∙ e))
+
+-- ## What is copied
+
+source_bytes_is : (s : State) (pair : CopyPair) (place size : ℕ) → source_bytes s pair place size ≡ source_in pair s.arena s.memory place size
+source_bytes_is s (Out to) place size = refl
+source_bytes_is s (In from) place size = refl
+source_bytes_is s (Within from to) place size = refl
+
+-- what blocks keep of the arena stays
+saved_over : (rows : List Row) (blocks : List Frame) (arena : List ℕ) (actions : Actions) (m : List ℕ) (place : ℕ) (bytes : List ℕ) → place + length bytes ≤ length arena
+    → state_over rows blocks (with_slice arena place bytes) actions m ≡ saved_in_arena (state_over rows blocks arena actions m) place bytes
+saved_over rows blocks arena actions m place bytes l =
+    let same = blocks_over-same blocks (with_slice arena place bytes) arena m (length-with_slice arena bytes place l) in
+    λ i. record { memory = bytes_of (overlay m rows); arena = with_slice arena place bytes; blocks = same i; actions = actions; wrote = is_some_row rows; irrevocable = false }
+
+-- bytes that a copy writes go to its destination
+copied_over : (pair : CopyPair) (rows : List Row) (blocks : List Frame) (arena : List ℕ) (actions : Actions) (m : List ℕ) (words : ℕ) (k : Copying) (bytes : List ℕ) → IsMemory words m → AreRows rows → AreBytes bytes
+    → length bytes ≡ k.size → target_refusal words (length arena) pair k.to k.size ≡ None
+    → state_over (writes_copied rows k pair bytes) blocks (arena_copied arena k pair bytes) actions m ≡ target_written (state_over rows blocks arena actions m) pair k.to bytes
+copied_over (Out to) rows blocks arena actions m words k bytes mem are b size ok =
+    let l = shared_within words k.to k.size ok in
+    let n = mem.0 in
+    written_over m rows blocks arena actions k.to (direction_of k) bytes mem.1 are b (omega arith)
+copied_over (In from) rows blocks arena actions m words k bytes mem are b size ok =
+    let l = arena_within (length arena) k.to k.size ok in
+    saved_over rows blocks arena actions m k.to bytes (omega arith)
+copied_over (Within from to) rows blocks arena actions m words k bytes mem are b size ok =
+    let l = shared_within words k.to k.size ok in
+    let n = mem.0 in
+    written_over m rows blocks arena actions k.to (direction_of k) bytes mem.1 are b (omega arith)
+
+-- a copy of these bytes by an open engine
+pub copies : (rows : List Row) (blocks : List Frame) (arena : List ℕ) (actions : Actions) (m : List ℕ) (words : ℕ) (k : Copying) → is_inside blocks ≡ true → IsMemory words m → AreRows rows
+    → copy_refusal true words (length arena) k ≡ None → (bytes : List ℕ) → AreBytes bytes → bytes ≡ source_in k.pair arena (bytes_of (overlay m rows)) k.from k.size
+    → (state_over (writes_copied rows k k.pair bytes) blocks (arena_copied arena k k.pair bytes) actions m ≡ after MAX_OPEN_BLOCKS (state_over rows blocks arena actions m) (Copy k))
+    × (Done ≡ reply MAX_OPEN_BLOCKS (state_over rows blocks arena actions m) (Copy k))
+copies rows blocks arena actions m words k o mem are accepted bytes b got =
+    let s : State = state_over rows blocks arena actions m in
+    let none : refusal MAX_OPEN_BLOCKS s (Copy k) ≡ None =
+    copy_refused rows blocks arena actions m words k mem ∙ (ap (λ (is : Bool). copy_refusal is words (length arena) k) o ∙ accepted) in
+    let sides = accepted_sides words (length arena) k accepted in
+    let len = length-bytes_of (overlay m rows) in
+    let same : length (overlay m rows) ≡ words = length-overlay m rows ∙ mem.0 in
+    let size = ap (length {A = ℕ}) got ∙ length-source_in k.pair words arena (bytes_of (overlay m rows)) k.from k.size (omega arith) sides.1 in (
+      copied_over k.pair rows blocks arena actions m words k bytes mem are b size sides.0
+          ∙ (ap (target_written s k.pair k.to) (got ∙ sym (source_bytes_is s k.pair k.from k.size)) ∙ sym (ap (λ (r : Option Refusal). after_unless r s (effect s (Copy k))) none)),
+      sym (ap (λ (r : Option Refusal). reply_unless r Done) none),
+    )

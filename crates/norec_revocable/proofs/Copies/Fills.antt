@@ -1,0 +1,161 @@
+-- Fills, as replies.
+use Rattle.std.proofs.Common.{◌≡◌, ℕ, zero, suc, ◌+◌, ◌*◌, ◌%◌, ◌^◌, ◌<◌, ◌≤◌, false, List, length, replicate, Option, None, refl, sym, ap, subst, ◌∙◌, arith}
+use Rattle.std.proofs.lemmas.List.{length-replicate}
+use Rattle.std.specs.Global.{Vec}
+use Rattle.itm_types.specs.declared.access.WriteHint.{WriteHint}
+use Rattle.itm_types.specs.declared.call.Call.{Call}
+use Rattle.itm_types.specs.declared.call.Call.TheVariants.{Fill}
+use Rattle.itm_types.specs.declared.call.Refusal.{Refusal}
+use Rattle.itm_types.specs.declared.call.Reply.TheVariants.{Done}
+use Rattle.itm_types.specs.declared.limits.TheConstants.{MAX_OPEN_BLOCKS}
+use Rattle.itm_types.specs.Memory.{IsMemory}
+use Rattle.itm_types.specs.Slices.{AreBytes}
+use Rattle.itm_model.specs.State.{State}
+use Rattle.itm_model.specs.Machine.{refusal, effect, after, after_unless, reply, reply_unless}
+use Rattle.word_pieces.specs.declared.chunk.Direction.TheVariants.{Up}
+use Rattle.word_pieces.specs.Chunks.{chunks_of}
+use Rattle.write_set.specs.declared.row.Row.{Row}
+use Rattle.write_set.specs.Rows.{AreRows}
+use Rattle.user_actions.specs.Actions.{Actions}
+use Rattle.nest_frames.specs.Nest.{Frame, Nest}
+use Rattle.norec_data.specs.declared.data.Data.{Data}
+use Rattle.norec_core.specs.Phases.{Idle}
+use Rattle.norec_data.specs.declared.end.CallEnd.TheVariants as ends
+use Rattle.norec_data.specs.declared.turn.Turn.TheVariants.{End}
+use Rattle.norec_core.specs.Core.{came, is_inside}
+use Rattle.norec_core.specs.Accesses.{access_refusal}
+use Rattle.norec_data.specs.View.{core, in_block}
+use Rattle.norec_revocable.specs.InPhases.{AreFrames, IsSound}
+use Rattle.norec_data.specs.Bounds.{IsBounded}
+use Rattle.norec_revocable.specs.Between.{IsSoundTurn}
+use Rattle.norec_core.specs.Proceeds.{Replies}
+use Rattle.norec_core.specs.Rows.{range_pieces, reserved_all, put_chunks, put_range, AllWritesWithin}
+use Rattle.norec_core.specs.Stands.{state_over}
+use Rattle.norec_core.proofs.Engines.Machines.{access_same}
+use Rattle.norec_core.proofs.Accesses.Ranges.{written_over, AreRows-put_range, AllWritesWithin-put_range}
+use Rattle.norec_revocable.specs.Moves.{CallTurns}
+use Rattle.norec_revocable.proofs.Replies.ImmediateReplies.{answered, filled_at_once}
+use Rattle.norec_revocable.proofs.Replies.Refusals.{served}
+
+-- so many bytes of a value
+abbrev pub bytes_set : ℕ → ℕ → List ℕ
+bytes_set size byte = replicate size (byte % 256)
+
+AreBytes-replicate : (n b : ℕ) → b < 2 ^ 8 → AreBytes (replicate n b)
+AreBytes-replicate zero b l i = omega arith
+AreBytes-replicate (suc n) b l zero = l
+AreBytes-replicate (suc n) b l (suc i) = AreBytes-replicate n b l i
+
+AreBytes-set : (size byte : ℕ) → AreBytes (bytes_set size byte)
+AreBytes-set size byte = AreBytes-replicate size (byte % 256) (omega arith)
+
+-- a fill by an engine that does not refuse it
+fills : (rows : List Row) (blocks : List Frame) (arena : List ℕ) (actions : Actions) (m : List ℕ) (words : ℕ) (hint : WriteHint) (to byte size : ℕ) → IsMemory words m → AreRows rows
+    → access_refusal (is_inside blocks) words to size ≡ None
+    → (state_over (put_range rows to Up (bytes_set size byte)) blocks arena actions m ≡ after MAX_OPEN_BLOCKS (state_over rows blocks arena actions m) (Fill hint to byte size))
+    × (Done ≡ reply MAX_OPEN_BLOCKS (state_over rows blocks arena actions m) (Fill hint to byte size))
+fills rows blocks arena actions m words hint to byte size mem are accepted =
+    let s : State = state_over rows blocks arena actions m in
+    let call : Call = Fill hint to byte size in
+    let none : refusal MAX_OPEN_BLOCKS s call ≡ None = access_same rows blocks arena actions m words call to size mem refl ∙ accepted in
+    let within = (served (is_inside blocks) words to size accepted).1 in
+    let n = mem.0 in
+    let len : length (bytes_set size byte) ≡ size = length-replicate size (byte % 256) in (
+      written_over m rows blocks arena actions to Up (bytes_set size byte) mem.1 are (AreBytes-set size byte) (omega arith) ∙ sym (ap (λ (r : Option Refusal). after_unless r s (effect s call)) none),
+      sym (ap (λ (r : Option Refusal). reply_unless r Done) none),
+    )
+
+-- what a fill leaves
+abbrev pub filled : Data → Nest → Vec ℕ → Data
+filled d frames buffer = record d { frames = frames; buffer = buffer; spent = 0; entry = length d.log.rows }
+
+pub record IsFilled (d : Data) (to byte size : ℕ) (frames : Nest) : Type 0 where
+  pub accepted : access_refusal (in_block d) d.words to size ≡ None
+  pub rows : frames.writes.rows ≡ put_range d.frames.writes.rows to Up (bytes_set size byte)
+  pub blocks : frames.blocks ≡ d.frames.blocks
+  pub sized : frames.size ≡ d.frames.size
+  pub actions : frames.actions ≡ d.frames.actions
+  pub room : frames.room ≡ d.frames.room
+
+-- a fill of no bytes
+pub none_filled : (d : Data) (to byte size : ℕ) → access_refusal (in_block d) d.words to size ≡ None → size ≡ 0 → IsFilled d to byte size d.frames
+none_filled d to byte size accepted none = record {
+  accepted = accepted;
+  rows = sym (ap (λ (n : ℕ). put_range d.frames.writes.rows to Up (bytes_set n byte)) none);
+  blocks = refl;
+  sized = refl;
+  actions = refl;
+  room = refl;
+}
+
+-- one of these bytes, whose words have rows
+pub some_filled : (d : Data) (to byte size : ℕ) (rows : List Row) (bytes : List ℕ) (frames : Nest) → access_refusal (in_block d) d.words to size ≡ None
+    → rows ≡ reserved_all d.frames.writes.rows (range_pieces to (chunks_of Up size)) → bytes ≡ bytes_set size byte → frames.writes.rows ≡ put_chunks rows to (chunks_of Up (length bytes)) bytes
+    → frames.blocks ≡ d.frames.blocks → frames.size ≡ d.frames.size → frames.actions ≡ d.frames.actions → frames.room ≡ d.frames.room → IsFilled d to byte size frames
+some_filled d to byte size rows bytes frames accepted reserved are put blocks sized actions room =
+    let len : size ≡ length (bytes_set size byte) = sym (length-replicate size (byte % 256)) in
+    let same = reserved ∙ (λ i. reserved_all d.frames.writes.rows (range_pieces to (chunks_of Up (len i)))) in
+    record {
+      accepted = accepted;
+      rows = put ∙ (λ i. put_chunks (same i) to (chunks_of Up (length (are i))) (are i));
+      blocks = blocks;
+      sized = sized;
+      actions = actions;
+      room = room;
+    }
+
+module _ (d : Data) (to byte size : ℕ) (frames : Nest) (buffer : Vec ℕ) (s : IsSound d Idle) (is : IsFilled d to byte size frames) where
+  filled_sound : IsSoundTurn (End ends.Done) (filled d frames buffer)
+  filled_sound =
+      let bytes = bytes_set size byte in
+      let may = served (in_block d) d.words to size is.accepted in
+      let idle = s.in_phase.0 may.0 in
+      let len : length bytes ≡ size = length-replicate size (byte % 256) in
+      let within = may.1 in
+      let range : to + length bytes ≤ 8 * d.words = omega arith in
+      record {
+        asked = tt;
+        sound = record {
+          bounds = subst (λ (n : ℕ). IsBounded d.words d.limits d.snapshot n d.arena) (sym is.sized) s.bounds;
+          reached = s.reached;
+          in_phase = (
+            λ o. (
+              record {
+                is_open = o;
+                log = idle.0.log;
+                writes = subst (AllWritesWithin d.words) (sym is.rows) (AllWritesWithin-put_range d.words d.frames.writes.rows to Up bytes idle.0.writes (AreBytes-set size byte) range);
+                rows = subst AreRows (sym is.rows) (AreRows-put_range d.words d.frames.writes.rows to Up bytes idle.0.rows (AreBytes-set size byte) range);
+                frames = subst (AreFrames d.words) (sym is.blocks) idle.0.frames;
+                tries = idle.0.tries;
+              },
+              idle.1,
+            ),
+            λ o. (let yes = ap is_inside is.blocks ∙ may.0 in absurd (cc)),
+          );
+        };
+      }
+
+  fill_replies : (hint : WriteHint) → Replies (came (core d Idle) (Fill hint to byte size) false) (Fill hint to byte size) Done (core (filled d frames buffer) Idle)
+  fill_replies hint =
+      let may = served (in_block d) d.words to size is.accepted in
+      let idle = s.in_phase.0 may.0 in
+      let all = λ (m : List ℕ) (mem : IsMemory d.words m). fills d.frames.writes.rows d.frames.blocks d.arena d.frames.actions m d.words hint to byte size mem idle.0.rows is.accepted in
+      record {
+        meets = λ m mem agrees. (λ i. state_over (is.rows i) (is.blocks i) d.arena (is.actions i) m) ∙ (all m mem).0;
+        reply_is = λ m mem agrees. (all m mem).1;
+        stays = ap (λ (n : ℕ). record (core (filled d frames buffer) Idle) { room = n }) is.room;
+        writes = λ m mem agrees. is.rows;
+        arena = λ m mem agrees. refl;
+        free = refl;
+        revocable = refl;
+        unfreed = refl;
+        still = λ other o. ap is_inside is.blocks ∙ o;
+        blocks = is.blocks;
+        actions = is.actions;
+        settled = λ o. (idle.1, s.bounds.even);
+      }
+
+  pub fill_turns : (hint : WriteHint) → CallTurns d (Fill hint to byte size) false (End ends.Done) (filled d frames buffer)
+  fill_turns hint =
+      answered d (Fill hint to byte size) ends.Done (filled d frames buffer) (filled_at_once d hint to byte size) filled_sound (fill_replies hint)
+      (record { opens = λ o. sym (ap is_inside is.blocks) ∙ o; log = λ o. refl; snapshot = refl }) tt

@@ -1,0 +1,8 @@
+-- Reads, piece by piece: what is loaded, confirmed and answered.
+pub mod ReadingFields
+pub mod Loads
+pub mod Replies
+pub mod JoinedRows
+pub mod WholeWords
+pub mod ReadyReads
+pub mod WholeReads

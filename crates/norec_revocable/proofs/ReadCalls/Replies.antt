@@ -1,0 +1,76 @@
+-- A value that is read whole, and its answer.
+use Rattle.std.proofs.Common.{◌≡◌, ℕ, ◌+◌, ◌*◌, ◌/◌, ◌≤◌, List, [], drop, refl, sym, ap, subst, ◌∙◌, arith}
+use Rattle.std.proofs.lemmas.List.{drop_all, take_all}
+use Rattle.std.proofs.lemmas.List.FromFn.{length-map-range_with_len}
+use Rattle.itm_types.specs.Access.{size_of}
+use Rattle.itm_types.specs.Memory.{bytes_of, IsMemory, Agrees}
+use Rattle.itm_types.specs.Slices.{slice}
+use Rattle.itm_types.specs.declared.call.Call.TheVariants.{Read}
+use Rattle.itm_types.specs.declared.call.Reply.TheVariants.{Bytes}
+use Rattle.itm_types.specs.declared.limits.TheConstants.{MAX_OPEN_BLOCKS}
+use Rattle.itm_types.specs.declared.row.LogRow.{LogRow}
+use Rattle.itm_model.specs.Machine.{after, reply}
+use Rattle.word_pieces.specs.Pieces.{piece_of}
+use Rattle.write_set.specs.declared.row.Row.{Row}
+use Rattle.write_set.specs.Rows.{overlay}
+use Rattle.norec_data.specs.declared.data.Data.{Data}
+use Rattle.norec_core.specs.Aims as aims
+use Rattle.norec_core.specs.Phases.{Idle}
+use Rattle.norec_core.specs.declared.call_parts.Purpose.{Purpose}
+use Rattle.norec_core.specs.declared.call_parts.Purpose.TheVariants as for
+use Rattle.norec_core.specs.declared.call_parts.Reading.{Reading}
+use Rattle.norec_core.specs.Accesses.{count, parts}
+use Rattle.norec_core.specs.Order.{load_among, load_past, load_stage}
+use Rattle.norec_core.specs.Proceeds.{Replies}
+use Rattle.norec_core.specs.Stands.{state_over}
+use Rattle.norec_core.proofs.Engines.Machines.{reads}
+use Rattle.norec_data.specs.Bounds.{IsBounded}
+use Rattle.norec_data.specs.View.{call_for, core, rows_before}
+use Rattle.norec_revocable.specs.InPhases.{IsFor, IsOpen}
+use Rattle.norec_revocable.specs.Between.{between, logged, IsValue}
+
+-- the read finds these bytes in whatever memory agrees with the log
+pub record Finds (s : Data) (r : Reading) (bytes : List ℕ) : Type 0 where
+  pub bounds : IsBounded s.words s.limits s.snapshot s.frames.size s.arena
+  pub is_open : IsOpen s
+  pub within : r.at + r.size ≤ 8 * s.words
+  pub purpose : IsFor s r.purpose r.at r.size
+  pub settled : s.clock ≡ s.snapshot
+  pub has : (m : List ℕ) → IsMemory s.words m → Agrees m s.log.rows → bytes ≡ slice (bytes_of (overlay m s.frames.writes.rows)) r.at r.size
+
+-- so they are its answer
+module _ (s : Data) (r : Reading) (bytes : List ℕ) (finds : Finds s r bytes) (log : List LogRow) where
+  pub replies : (what : Purpose) → r.purpose ≡ what → IsValue what → Replies (logged (between s (aims.Read (record r { purpose = what }))) log) (call_for what r.at) (Bytes (record { items = bytes })) (core s Idle)
+  replies (for.Value hint width) is value =
+      let rows : List Row = s.frames.writes.rows in
+      let f = subst (λ (what : Purpose). IsFor s what r.at r.size) is finds.purpose in
+      let before : rows_before s ≡ rows = take_all s.written rows (omega (arith, f.1)) in
+      let within : r.at + size_of width ≤ 8 * s.words = omega (arith, finds.within, f.0) in
+      let all = λ (m : List ℕ) (mem : IsMemory s.words m) (agrees : Agrees m s.log.rows).
+      reads rows s.frames.blocks s.arena s.frames.actions m s.words hint width r.at finds.is_open.is_open mem bytes within (finds.has m mem agrees ∙ ap (slice (bytes_of (overlay m rows)) r.at) f.0) in
+      record {
+        meets = λ m mem agrees. (all m mem agrees).0 ∙ ap (λ (rs : List Row). after MAX_OPEN_BLOCKS (state_over rs s.frames.blocks s.arena s.frames.actions m) (Read hint width r.at)) (sym before);
+        reply_is = λ m mem agrees. (all m mem agrees).1 ∙ ap (λ (rs : List Row). reply MAX_OPEN_BLOCKS (state_over rs s.frames.blocks s.arena s.frames.actions m) (Read hint width r.at)) (sym before);
+        stays = refl;
+        writes = λ m mem agrees. sym before;
+        arena = λ m mem agrees. refl;
+        free = refl;
+        revocable = refl;
+        unfreed = refl;
+        blocks = refl;
+        actions = refl;
+        still = λ other o. o;
+        settled = λ o. (finds.settled, finds.bounds.even);
+      }
+  replies (for.Chunk k n) is value = absurd value
+
+-- past a value nothing is loaded
+past_value : (writes : List Row) (log : List LogRow) (what : Purpose) → IsValue what → load_past writes log what ≡ Idle
+past_value writes log (for.Value hint width) value = refl
+past_value writes log (for.Chunk k n) value = absurd value
+
+pub loads_no_more : (writes : List Row) (log : List LogRow) (r : Reading) → IsValue r.purpose → count r ≤ r.number → load_stage writes log r ≡ Idle
+loads_no_more writes log r value whole =
+    let past = load_past writes log r.purpose in
+    let none : drop r.number (parts r) ≡ [] = drop_all r.number (parts r) (omega (arith, whole, length-map-range_with_len (piece_of r.at r.size) (r.at / 8) (count r))) in
+    ap (load_among writes log past r) none ∙ past_value writes log r.purpose value

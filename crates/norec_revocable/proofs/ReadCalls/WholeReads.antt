@@ -1,0 +1,74 @@
+-- A read of one whole word that is neither written nor logged has come.
+use Rattle.std.proofs.Common.{◌≡◌, ℕ, ◌+◌, ◌*◌, ◌≤◌, ◌||◌, false, [], Option, None, Some, slice_get, is_some, refl, sym, ap, ◌∙◌, arith}
+use Rattle.arrayvec.specs.ArrayVec.{ArrayVec}
+use Rattle.itm_types.specs.Access.{size_of}
+use Rattle.itm_types.specs.declared.access.ReadHint.{ReadHint}
+use Rattle.itm_types.specs.declared.access.Width.{Width}
+use Rattle.itm_types.specs.LogRows.{value_of}
+use Rattle.value_log.specs.Log.{Log}
+use Rattle.word_pieces.specs.declared.piece.Piece.{Piece}
+use Rattle.word_pieces.specs.Masks.{mask_of}
+use Rattle.write_set.specs.Rows.{lookup}
+use Rattle.norec_core.specs.Accesses.{count, part, parts}
+use Rattle.norec_core.specs.OwnAccesses.{word_of}
+use Rattle.norec_core.specs.Order.{load_past, load_stage, value_reading}
+use Rattle.norec_core.specs.Rows.{has_mask, is_had}
+use Rattle.norec_core.specs.Phases.{Idle, Load}
+use Rattle.norec_core.specs.declared.call_parts.Reading.{Reading}
+use Rattle.norec_core.proofs.Accesses.Readings.{load_here, none_left, part_is}
+use Rattle.norec_data.specs.declared.data.Data.{Data}
+use Rattle.norec_data.specs.declared.pending.Pending.TheVariants as waits
+use Rattle.norec_data.specs.declared.turn.Turn.TheVariants.{Wait}
+use Rattle.norec_revocable.specs.InPhases.{MayRead, IsSound}
+use Rattle.norec_revocable.specs.Between.{IsSoundTurn, IsWord}
+use Rattle.norec_revocable.specs.WholeReads.{IsNewWord}
+use Rattle.norec_revocable.proofs.ReadCalls.Loads.{load_sound}
+use Rattle.norec_revocable.proofs.ReadCalls.ReadyReads.{first_reading, ready, ready_open, ready_reading, settled}
+use Rattle.norec_revocable.proofs.ReadCalls.WholeWords.{one_piece}
+
+module _ (s : Data) (hint : ReadHint) (width : Width) (place word : ℕ) (is : IsNewWord s width place word) where
+  abbrev pub first : Reading
+  first = value_reading hint width place
+
+  pub is_word : IsWord first word
+  is_word = record { value = tt; at_is = is.at_is; size_is = is.size_is }
+
+  one : count first ≡ 1
+  one = one_piece first word is_word
+
+  same : word ≡ word_of first
+  same = omega (arith, is.at_is)
+
+  -- it is not to be had with no step
+  pub unhad : is_had s.frames.writes.rows s.log.rows (part first) ≡ false
+  unhad =
+      let mask = mask_of (part first).first (part first).count in
+      (λ i. has_mask (lookup (sym same i) s.frames.writes.rows) mask || is_some (value_of (sym same i) s.log.rows))
+      ∙ (λ i. has_mask (is.unwritten i) mask || is_some (is.unlogged i))
+
+  -- so its word is loaded
+  pub loads : load_stage s.frames.writes.rows s.log.rows first ≡ Load first
+  loads = by_piece (slice_get (parts first) 0) refl
+    where
+      by_piece : (o : Option Piece) → slice_get (parts first) 0 ≡ o → load_stage s.frames.writes.rows s.log.rows first ≡ Load first
+      by_piece None e = (let none = none_left first e in absurd (omega (arith, none, one)))
+      by_piece (Some p) e =
+          load_here s.frames.writes.rows s.log.rows (load_past s.frames.writes.rows s.log.rows first.purpose) first p e
+          (ap (is_had s.frames.writes.rows s.log.rows) (part_is first p e) ∙ unhad)
+
+  module _ (sound : IsSound s Idle) (g : ArrayVec ℕ) (log : Log) (rows : log.rows ≡ s.log.rows) (empty : g.items ≡ []) (room : 1 ≤ log.room) where
+    within : place + size_of width ≤ 8 * s.words
+    within = omega (arith, is.within, is.size_is)
+
+    small : size_of width ≤ 32
+    small = omega (arith, is.size_is)
+
+    may_read : MayRead (ready s g log) first
+    may_read = record {
+      reading = ready_reading s hint width place sound is.is_open within small g log rows first (first_reading s hint width place sound is.is_open within small g empty);
+      logging = record { room = omega (arith, one, room); grown = omega arith };
+      missing = record { some = omega (arith, one); unhad = ap (λ l. is_had s.frames.writes.rows l (part first)) rows ∙ unhad };
+    }
+
+    pub starts : IsSoundTurn (Wait waits.Load) (record (ready s g log) { reading = first })
+    starts = load_sound (ready s g log) first first refl (omega arith) sound.bounds (ready_open s hint width place sound is.is_open within small g log rows) may_read (settled s hint width place sound is.is_open within small) (omega arith)

@@ -1,0 +1,4 @@
+-- Calls that are answered with no step.
+pub mod Refusals
+pub mod LocalReplies
+pub mod ImmediateReplies

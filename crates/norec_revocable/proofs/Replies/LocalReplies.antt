@@ -1,0 +1,231 @@
+-- Replies to registrations and logs of the arena.
+use Rattle.std.proofs.Common.{◌≡◌, ℕ, ◌+◌, ◌≤◌, nat_le, Bool, true, false, List, [], ◌∷◌, length, Option, None, Some, IsTrue, ◌↔◌, inl, inr, refl, sym, ap, subst, ◌∙◌}
+use Rattle.std.proofs.lemmas.Bool.{cases_Bool, le-leb, leb-true}
+use Rattle.itm_types.specs.declared.call.Action.{Action}
+use Rattle.itm_types.specs.declared.call.ActionKind.{ActionKind}
+use Rattle.itm_types.specs.declared.call.ActionKind.TheVariants as kinds
+use Rattle.itm_types.specs.declared.call.Call.{Call}
+use Rattle.itm_types.specs.declared.call.Call.TheVariants.{Log, LogBytes, CommitAction, UndoAction}
+use Rattle.itm_types.specs.declared.call.Refusal.{Refusal}
+use Rattle.itm_types.specs.declared.call.Refusal.TheVariants.{Outside, OutOfArena}
+use Rattle.itm_types.specs.declared.call.Reply.TheVariants.{Done, Refused}
+use Rattle.itm_types.specs.declared.limits.TheConstants.{MAX_OPEN_BLOCKS}
+use Rattle.itm_types.specs.Access.{size_of}
+use Rattle.itm_types.specs.Calls.{logged_of, registered_by}
+use Rattle.itm_types.specs.KeptBytes.{also_kept}
+use Rattle.itm_types.specs.Memory.{bytes_of}
+use Rattle.undo_log.specs.Rollback.{Old, found, kept_of}
+use Rattle.write_set.specs.Rows.{overlay}
+use Rattle.user_actions.specs.Actions.{registered, room_after}
+use Rattle.nest_frames.specs.Nest.{Frame, log_of, logged}
+use Rattle.itm_model.specs.State.{Block}
+use Rattle.itm_model.specs.Machine.{after_unless, effect, logged as logs, logged_in, needs_open, or_else, refusal, reply_unless, unless}
+use Rattle.norec_core.specs.Phases.{Idle}
+use Rattle.norec_core.specs.Core.{came, is_inside}
+use Rattle.norec_core.specs.Proceeds.{Replies}
+use Rattle.norec_core.specs.Effects.{room_left}
+use Rattle.norec_core.specs.Stands.{block_over, blocks_over, is_some_row, state_over}
+use Rattle.norec_core.proofs.Engines.Machines.{open_is, refuses}
+use Rattle.norec_data.specs.declared.data.Data.{Data}
+use Rattle.norec_data.specs.View.{core, in_block}
+use Rattle.norec_revocable.specs.InPhases.{AreFrames, IsSound}
+use Rattle.norec_revocable.proofs.Blocks.Cancels.{come}
+use Rattle.norec_revocable.proofs.Replies.Refusals.{denied, stands}
+
+-- between two calls, as one comes and is refused
+pub come_sound : (d : Data) (why : Refusal) → IsSound d Idle → IsSound (record (come d) { why = why }) Idle
+come_sound d why s =
+    record {
+      bounds = s.bounds;
+      reached = s.reached;
+      in_phase = (
+        λ o. (let idle = s.in_phase.0 o in (record { is_open = o; log = idle.0.log; writes = idle.0.writes; rows = idle.0.rows; frames = idle.0.frames; tries = idle.0.tries }, idle.1)),
+        λ o. (let outside = s.in_phase.1 o in record { is_open = o; log = outside.log; writes = outside.writes; commits = outside.commits; undos = outside.undos; tries = outside.tries }),
+      );
+    }
+
+-- ## Registrations
+
+-- the fields once an action is registered
+abbrev pub with_action : Data → ActionKind → Action → Data
+with_action d kind action = record (come d) { frames = record d.frames { actions = registered kind action d.frames.actions; room = room_after kind d.frames.room } }
+
+pub registered_sound : (d : Data) (kind : ActionKind) (action : Action) → in_block d ≡ true → IsSound d Idle → IsSound (with_action d kind action) Idle
+registered_sound d kind action o s =
+    let idle = s.in_phase.0 o in
+    record {
+      bounds = s.bounds;
+      reached = s.reached;
+      in_phase = (λ inside. (record { is_open = o; log = idle.0.log; writes = idle.0.writes; rows = idle.0.rows; frames = idle.0.frames; tries = idle.0.tries }, idle.1), λ shut. absurd (cc));
+    }
+
+commit_registered : (d : Data) (action : Action) → in_block d ≡ true → IsSound d Idle
+    → Replies (came (core d Idle) (CommitAction action) false) (CommitAction action) Done (core (with_action d kinds.Commit action) Idle)
+commit_registered d action o s =
+    let none = λ (m : List ℕ). ap (λ (b : Bool). or_else (unless b Outside) None) (open_is d.frames.writes.rows d.frames.blocks d.arena d.frames.actions m ∙ o) in
+    record {
+      meets = λ m mem agrees. sym (ap (λ (why : Option Refusal). after_unless why (stands d m) (effect (stands d m) (CommitAction action))) (none m));
+      reply_is = λ m mem agrees. sym (ap (λ (why : Option Refusal). reply_unless why Done) (none m));
+      stays = refl;
+      writes = λ m mem agrees. refl;
+      arena = λ m mem agrees. refl;
+      free = refl;
+      revocable = refl;
+      unfreed = refl;
+      blocks = refl;
+      actions = refl;
+      still = λ other inside. inside;
+      settled = λ inside. ((s.in_phase.0 o).1, s.bounds.even);
+    }
+
+undo_registered : (d : Data) (action : Action) → in_block d ≡ true → IsSound d Idle
+    → Replies (came (core d Idle) (UndoAction action) false) (UndoAction action) Done (core (with_action d kinds.Undo action) Idle)
+undo_registered d action o s =
+    let none = λ (m : List ℕ). ap (λ (b : Bool). or_else (unless b Outside) None) (open_is d.frames.writes.rows d.frames.blocks d.arena d.frames.actions m ∙ o) in
+    record {
+      meets = λ m mem agrees. sym (ap (λ (why : Option Refusal). after_unless why (stands d m) (effect (stands d m) (UndoAction action))) (none m));
+      reply_is = λ m mem agrees. sym (ap (λ (why : Option Refusal). reply_unless why Done) (none m));
+      stays = refl;
+      writes = λ m mem agrees. refl;
+      arena = λ m mem agrees. refl;
+      free = refl;
+      revocable = refl;
+      unfreed = refl;
+      blocks = refl;
+      actions = refl;
+      still = λ other inside. inside;
+      settled = λ inside. ((s.in_phase.0 o).1, s.bounds.even);
+    }
+
+pub registered_replies : (d : Data) (call : Call) (kind : ActionKind) (action : Action) → registered_by call ≡ Some (kind, action) → in_block d ≡ true → IsSound d Idle
+    → Replies (came (core d Idle) call false) call Done (core (with_action d kind action) Idle)
+registered_replies d (CommitAction a) kind action is o s =
+    let same : (kinds.Commit, a) ≡ (kind, action) = cc in
+    subst (λ (x : ActionKind × Action). Replies (came (core d Idle) (CommitAction a) false) (CommitAction a) Done (core (with_action d x.0 x.1) Idle)) same (commit_registered d a o s)
+registered_replies d (UndoAction a) kind action is o s =
+    let same : (kinds.Undo, a) ≡ (kind, action) = cc in
+    subst (λ (x : ActionKind × Action). Replies (came (core d Idle) (UndoAction a) false) (UndoAction a) Done (core (with_action d x.0 x.1) Idle)) same (undo_registered d a o s)
+registered_replies d call kind action is o s = absurd (cc)
+
+-- outside a transaction there is none
+closed_refusal : (d : Data) (m : List ℕ) (rest : Option Refusal) → in_block d ≡ false → or_else (needs_open (stands d m)) rest ≡ Some Outside
+closed_refusal d m rest o = ap (λ (b : Bool). or_else (unless b Outside) rest) (open_is d.frames.writes.rows d.frames.blocks d.arena d.frames.actions m ∙ o)
+
+pub unregistered_replies : (d : Data) (call : Call) (kind : ActionKind) (action : Action) → registered_by call ≡ Some (kind, action) → in_block d ≡ false → IsSound d Idle
+    → Replies (came (core d Idle) call false) call (Refused Outside) (core (come d) Idle)
+unregistered_replies d (CommitAction a) kind action is o s = denied d (CommitAction a) Outside s refl (λ m mem. refuses (stands d m) (CommitAction a) Outside (closed_refusal d m None o))
+unregistered_replies d (UndoAction a) kind action is o s = denied d (UndoAction a) Outside s refl (λ m mem. refuses (stands d m) (UndoAction a) Outside (closed_refusal d m None o))
+unregistered_replies d call kind action is o s = absurd (cc)
+
+-- ## Logs of the arena
+
+-- a range that leaves the arena, by what was tested
+pub not_within : (a b : ℕ) (is : Bool) → (IsTrue is ↔ (a ≤ b)) → is ≡ false → nat_le a b ≡ false
+not_within a b is h e = elim (cases_Bool (nat_le a b)) [
+  | inl within ↦ (let yes = h.1 (leb-true a b within) in absurd (cc))
+  | inr far ↦ far
+]
+
+-- why a log is refused, if it is
+log_refusal : (d : Data) (m : List ℕ) (call : Call) (place size : ℕ) → logged_of call ≡ Some (place, size) → refusal MAX_OPEN_BLOCKS (stands d m) call ≡ or_else (unless (in_block d) Outside) (unless (nat_le (place + size) (length d.arena)) OutOfArena)
+log_refusal d m (Log width at) place size is =
+    let same : ◌≡◌ {A = ℕ × ℕ} (at, size_of width) (place, size) = cc in
+    (λ i. or_else (unless (open_is d.frames.writes.rows d.frames.blocks d.arena d.frames.actions m i) Outside) (unless (nat_le ((same i).0 + (same i).1) (length d.arena)) OutOfArena))
+log_refusal d m (LogBytes at size') place size is =
+    let same : ◌≡◌ {A = ℕ × ℕ} (at, size') (place, size) = cc in
+    (λ i. or_else (unless (open_is d.frames.writes.rows d.frames.blocks d.arena d.frames.actions m i) Outside) (unless (nat_le ((same i).0 + (same i).1) (length d.arena)) OutOfArena))
+log_refusal d m call place size is = absurd (cc)
+
+log_room : (d : Data) (call : Call) (place size : ℕ) (why : Refusal) → logged_of call ≡ Some (place, size) → d.frames.room ≡ room_left (came (core d Idle) call false) call (Refused why)
+log_room d (Log width at) place size why is = refl
+log_room d (LogBytes at size') place size why is = refl
+log_room d call place size why is = absurd (cc)
+
+pub unlogged_replies : (d : Data) (call : Call) (place size : ℕ) (why : Refusal) → logged_of call ≡ Some (place, size) → IsSound d Idle
+    → or_else (unless (in_block d) Outside) (unless (nat_le (place + size) (length d.arena)) OutOfArena) ≡ Some why
+    → Replies (came (core d Idle) call false) call (Refused why) (core (come d) Idle)
+unlogged_replies d call place size why is s e =
+    denied d call why s (log_room d call place size why is) (λ m mem. refuses (stands d m) call why (log_refusal d m call place size is ∙ e))
+
+-- the fields once these are logged
+abbrev pub with_log : Data → List Old → Data
+with_log d olds = record (come d) { frames = record d.frames { blocks = logged d.frames.blocks olds } }
+
+logged_inside : (blocks : List Frame) (olds : List Old) → is_inside (logged blocks olds) ≡ is_inside blocks
+logged_inside [] olds = refl
+logged_inside (b ∷ bs) olds = refl
+
+logged_frames : (words : ℕ) (blocks : List Frame) (olds : List Old) → AreFrames words blocks → AreFrames words (logged blocks olds)
+logged_frames words [] olds f = f
+logged_frames words (b ∷ []) olds f = f
+logged_frames words (b ∷ p ∷ bs) olds f = f
+
+pub logged_sound : (d : Data) (olds : List Old) → in_block d ≡ true → IsSound d Idle → IsSound (with_log d olds) Idle
+logged_sound d olds o s =
+    let idle = s.in_phase.0 o in
+    let inside = logged_inside d.frames.blocks olds ∙ o in
+    record {
+      bounds = s.bounds;
+      reached = s.reached;
+      in_phase = (
+        λ yes. (record { is_open = inside; log = idle.0.log; writes = idle.0.writes; rows = idle.0.rows; frames = logged_frames d.words d.frames.blocks olds idle.0.frames; tries = idle.0.tries }, idle.1),
+        λ shut. absurd (cc),
+      );
+    }
+
+-- what the innermost block keeps of the arena
+logged_over : (blocks : List Frame) (arena m : List ℕ) (place size : ℕ) → kept_of arena (log_of (logged blocks (found arena place size))) ≡ also_kept (kept_of arena (log_of blocks)) arena place size
+    → blocks_over (logged blocks (found arena place size)) arena m ≡ logged_in (blocks_over blocks arena m) arena place size
+logged_over [] arena m place size kept = refl
+logged_over (b ∷ bs) arena m place size kept =
+    (λ i. record (block_over b arena m) { saved = Some (record { memory = bytes_of (overlay m b.rows); wrote = is_some_row b.rows; commits = b.commits; undos = b.undos; kept = kept i }) } ∷ blocks_over bs arena m)
+
+module _ (d : Data) (place size : ℕ) (o : in_block d ≡ true) (s : IsSound d Idle) (within : place + size ≤ length d.arena) (kept : kept_of d.arena (log_of (logged d.frames.blocks (found d.arena place size))) ≡ also_kept (kept_of d.arena (log_of d.frames.blocks)) d.arena place size) where
+  log_served : (m : List ℕ) (call : Call) → logged_of call ≡ Some (place, size) → refusal MAX_OPEN_BLOCKS (stands d m) call ≡ None
+  log_served m call is =
+      log_refusal d m call place size is
+      ∙ (λ i. or_else (unless (o i) Outside) (unless (le-leb (place + size) (length d.arena) within i) OutOfArena))
+
+  log_left : (m : List ℕ) → state_over d.frames.writes.rows (logged d.frames.blocks (found d.arena place size)) d.arena d.frames.actions m ≡ logs (stands d m) place size
+  log_left m = ap (λ (blocks : List Block). record (stands d m) { blocks = blocks }) (logged_over d.frames.blocks d.arena m place size kept)
+
+  pub logged_replies : (call : Call) → logged_of call ≡ Some (place, size) → Replies (came (core d Idle) call false) call Done (core (with_log d (found d.arena place size)) Idle)
+  logged_replies (Log width at) is =
+      let same : ◌≡◌ {A = ℕ × ℕ} (place, size) (at, size_of width) = cc in
+      record {
+        meets = λ m mem agrees.
+            log_left m
+            ∙ (ap (λ (x : ℕ × ℕ). logs (stands d m) x.0 x.1) same
+            ∙ sym (ap (λ (why : Option Refusal). after_unless why (stands d m) (effect (stands d m) (Log width at))) (log_served m (Log width at) is)));
+        reply_is = λ m mem agrees. sym (ap (λ (why : Option Refusal). reply_unless why Done) (log_served m (Log width at) is));
+        stays = refl;
+        writes = λ m mem agrees. refl;
+        arena = λ m mem agrees. refl;
+        free = refl;
+        revocable = refl;
+        unfreed = refl;
+        blocks = ap (λ (x : ℕ × ℕ). logged d.frames.blocks (found d.arena x.0 x.1)) same;
+        actions = refl;
+        still = λ other inside. logged_inside d.frames.blocks (found d.arena place size) ∙ o;
+        settled = λ inside. ((s.in_phase.0 o).1, s.bounds.even);
+      }
+  logged_replies (LogBytes at size') is =
+      let same : ◌≡◌ {A = ℕ × ℕ} (place, size) (at, size') = cc in
+      record {
+        meets = λ m mem agrees.
+            log_left m
+            ∙ (ap (λ (x : ℕ × ℕ). logs (stands d m) x.0 x.1) same
+            ∙ sym (ap (λ (why : Option Refusal). after_unless why (stands d m) (effect (stands d m) (LogBytes at size'))) (log_served m (LogBytes at size') is)));
+        reply_is = λ m mem agrees. sym (ap (λ (why : Option Refusal). reply_unless why Done) (log_served m (LogBytes at size') is));
+        stays = refl;
+        writes = λ m mem agrees. refl;
+        arena = λ m mem agrees. refl;
+        free = refl;
+        revocable = refl;
+        unfreed = refl;
+        blocks = ap (λ (x : ℕ × ℕ). logged d.frames.blocks (found d.arena x.0 x.1)) same;
+        actions = refl;
+        still = λ other inside. logged_inside d.frames.blocks (found d.arena place size) ∙ o;
+        settled = λ inside. ((s.in_phase.0 o).1, s.bounds.even);
+      }
+  logged_replies call is = absurd (cc)

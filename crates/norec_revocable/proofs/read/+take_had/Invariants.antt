@@ -1,9 +1,0 @@
-use Rattle.std.proofs.Common.{◌+◌, ◌-◌, ◌*◌}
-use Rattle.norec_core.specs.Accesses.{count}
-use Rattle.norec_revocable.proofs.read.+take_had.Given as goal
-
-abbrev pub decreases-take_had : goal.decreases-take_had
-decreases-take_had l = 2 * (count l.reading - l.reading.number)
-
-abbrev pub decreases-take_more : goal.decreases-take_more
-decreases-take_more l = 2 * (count l.reading - l.reading.number) + 1

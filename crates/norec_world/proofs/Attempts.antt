@@ -1,0 +1,15 @@
+-- The attempts: their rows, the tries that they are, and when each began.
+pub mod ActiveRows
+pub mod OthersAttempts
+pub mod ReadPositions
+pub mod TryEnds
+pub mod AnswerEndings
+pub mod ThreadAttempts
+pub mod ToldTries
+pub mod OpenTries
+pub mod TryOutcomes
+pub mod RecordedRows
+pub mod Cancels
+pub mod TryCalls
+pub mod TryChains
+pub mod Dates

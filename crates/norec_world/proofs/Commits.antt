@@ -1,0 +1,5 @@
+-- The commits, in their order, and the memories that they left.
+pub mod CommitCounts
+pub mod Memories
+pub mod SeenMemories
+pub mod LaidWords

@@ -1,0 +1,112 @@
+-- An irrevocable attempt over a call that comes, and over a step.
+use Rattle.std.proofs.Common.{◌≡◌, ℕ, zero, suc, ◌/◌, true, false, List, Option, Some, slice_get, refl, sym, ap, subst, ◌∙◌, arith}
+use Rattle.norec_core.specs.Held.{ComesTo, IsFound, answers, leaves, memory_after}
+use Rattle.norec_core.specs.Order.{asked_from, stage_from}
+use Rattle.norec_world.proofs.Common.{Actor, Answers, Asks, AsksFor, Attempt, Call, Cas, Cells, Core, Got, IsHeld, IsLawful, IsTied, Load, MAX_OPEN_BLOCKS, Next, Proceeds, Replied, Rows, Rules, StandsIn, State, Step, Store, active_of, after, alone, bytes_at, cells_after, found, handed_to, is_inside, reply, rests, slice_get-get_or, stands_for}
+use Rattle.norec_world.proofs.Engines.HeldCalls.{HasHeld}
+use Rattle.norec_world.proofs.Engines.SoundSteps.{IsCalling, IsStepping, active_same, ended_same, mid, mid_step, same, waits, went}
+use Rattle.norec_world.proofs.Engines.SoundSteps as steps
+use Rattle.norec_core.proofs.Engines.HeldStores.{IsLoaded, none_got, shut_revocable}
+use Rattle.norec_core.proofs.Engines.HeldStores as stores
+
+-- ## A call comes
+
+module _ {P : Type 0} {rules : Rules P} {cells : Cells} {r0 r : Rows} {old a : Actor P} {call : Call} {what : Next} (m : IsCalling rules cells r0 r old a call what)
+    (base : List ℕ) (held : old.engine.irrevocable ≡ true → (row : Attempt) → active_of old.thread r0.active ≡ Some row → IsHeld (bytes_at base r0.ended (cells.clock / 2)) cells.words row old.engine) where
+  memory_same : bytes_at base r.ended (cells.clock / 2) ≡ bytes_at base r0.ended (cells.clock / 2)
+  memory_same = ap (λ (l : List Attempt). bytes_at base l (cells.clock / 2)) (ended_same m)
+
+  held_then : old.engine.irrevocable ≡ true → (row : Attempt) → active_of a.thread r.active ≡ Some row → IsHeld (bytes_at base r.ended (cells.clock / 2)) cells.words row old.engine
+  held_then i row f = subst (λ (bytes : List ℕ). IsHeld bytes cells.words row old.engine) (sym memory_same) (held i row (sym (active_same m) ∙ f))
+
+  stands_then : old.engine.irrevocable ≡ true → (row : Attempt) → active_of a.thread r.active ≡ Some row → stands_for old.engine cells.words ≡ alone MAX_OPEN_BLOCKS (bytes_at base r.ended (cells.clock / 2)) row
+  stands_then i row f =
+      subst (λ (w : Option Step). StandsIn w old.engine.doing old.engine cells.words (alone MAX_OPEN_BLOCKS (bytes_at base r.ended (cells.clock / 2)) row)) (steps.rests m.sound m.ready).idle (held_then i row f).stands
+
+  pub call_held : HasHeld base cells cells r a.thread (mid m) a.engine call what
+  call_held = record {
+    still_open = λ i row f. (held_then i row f).still_open;
+    mode = λ i row f. (held_then i row f).mode;
+    ran = λ i row f. (held_then i row f).ran;
+    comes = λ i row f.
+        subst (λ (s : State). ComesTo (after MAX_OPEN_BLOCKS s call) (reply MAX_OPEN_BLOCKS s call) what a.engine cells.words) (stands_then i row f)
+        (m.asks.called.held i cells.words (sym m.sound.tied.words, m.sound.tied.fit));
+    shut = λ o. shut_revocable old.engine m.sound.tied.settled o;
+    got = λ i word value e. none_got (mid m) a.engine what m.asks.called.proceeds refl word value cells.words e;
+  }
+
+-- ## A step
+
+-- the value that a load found is in the words
+is_loaded : (cells : Cells) (e : Core) (step : Step) → IsTied cells e → IsLawful e step → IsLoaded step (found cells step) cells.words
+is_loaded cells e (Load zero) t l = tt
+is_loaded cells e (Load (suc word)) t l = slice_get-get_or cells.words word 0 (let k = l.0 in let w = t.words in omega arith)
+is_loaded cells e (Store cell value) t l = tt
+is_loaded cells e (Cas cell from to) t l = tt
+
+-- and what the word that a store writes was made of
+is_found : (e : Core) (step : Step) (seen : ℕ) (m : List ℕ) → IsLoaded step seen m → ((word value : ℕ) → step ≡ Store (suc word) value → Got e.got (slice_get m word)) → IsFound e (Some step) seen m
+is_found e (Load zero) seen m loaded got = tt
+is_found e (Load (suc word)) seen m loaded got = loaded
+is_found e (Store zero value) seen m loaded got = tt
+is_found e (Store (suc word) value) seen m loaded got = got word value refl
+is_found e (Cas cell from to) seen m loaded got = tt
+
+words_then : (cells : Cells) (step : Step) → memory_after (Some step) cells.words ≡ (cells_after cells step).words
+words_then cells (Load cell) = refl
+words_then cells (Store zero value) = refl
+words_then cells (Store (suc word) value) = refl
+words_then cells (Cas cell from to) = refl
+
+-- the value that the holder was handed
+got_handed : (cells : Cells) (e new : Core) (word value : ℕ) → new.writes ≡ e.writes → IsTied cells e → (step : Step) → IsLawful e step → e.holds ≡ true → (handed_to e (Some step) (found cells step)).freed ≡ false → asked_from e e.stage ≡ Some step
+    → asked_from new (stage_from e e.stage (found cells step)) ≡ Some (Store (suc word) value) → Got (handed_to e (Some step) (found cells step)).got (slice_get (cells_after cells step).words word)
+got_handed cells e new word value writes t step l held unfreed was now =
+    subst (λ (m : List ℕ). Got (handed_to e (Some step) (found cells step)).got (slice_get m word)) (words_then cells step) (stores.got_handed e new word value (found cells step) writes cells.words held now step l unfreed was (is_loaded cells e step t l))
+
+module _ {P : Type 0} {rules : Rules P} {cells : Cells} {r : Rows} {old : Actor P} {call : Call} {what : Next} {cells' : Cells} {new : Core} (m : IsStepping rules cells r old call what cells' new)
+    (base : List ℕ) (held : old.engine.irrevocable ≡ true → (row : Attempt) → active_of old.thread r.active ≡ Some row → IsHeld (bytes_at base r.ended (cells.clock / 2)) cells.words row old.engine) where
+  was : (mid_step m).irrevocable ≡ true → old.engine.irrevocable ≡ true
+  was i = sym (same m).irrevocable ∙ i
+
+  in_call : old.engine.irrevocable ≡ true → (row : Attempt) → active_of old.thread r.active ≡ Some row
+      → (leaves old.engine cells.words ≡ after MAX_OPEN_BLOCKS (alone MAX_OPEN_BLOCKS (bytes_at base r.ended (cells.clock / 2)) row) call) × (answers old.engine cells.words ≡ reply MAX_OPEN_BLOCKS (alone MAX_OPEN_BLOCKS (bytes_at base r.ended (cells.clock / 2)) row) call)
+  in_call i row f =
+      let w = waits m in
+      subst (λ (o : Option Call). StandsIn (Some m.step) o old.engine cells.words (alone MAX_OPEN_BLOCKS (bytes_at base r.ended (cells.clock / 2)) row)) w.doing
+      (subst (λ (o : Option Step). StandsIn o old.engine.doing old.engine cells.words (alone MAX_OPEN_BLOCKS (bytes_at base r.ended (cells.clock / 2)) row)) w.waits (held i row f).stands)
+
+  comes_to : old.engine.irrevocable ≡ true → (row : Attempt) → active_of old.thread r.active ≡ Some row
+      → ComesTo (after MAX_OPEN_BLOCKS (alone MAX_OPEN_BLOCKS (bytes_at base r.ended (cells.clock / 2)) row) call) (reply MAX_OPEN_BLOCKS (alone MAX_OPEN_BLOCKS (bytes_at base r.ended (cells.clock / 2)) row) call) what new cells'.words
+  comes_to i row f =
+      let w = waits m in
+      let h = held i row f in
+      let pair = in_call i row f in
+      let there = subst (λ (o : Option Step). IsFound old.engine o (found cells m.step) cells.words) (sym w.waits)
+      (is_found old.engine m.step (found cells m.step) cells.words (is_loaded cells old.engine m.step m.sound.tied w.lawful) (λ word value e. h.got word value (w.waits ∙ ap (λ (s : Step). Some s) e))) in
+      let words : memory_after old.engine.waits cells.words ≡ cells'.words = ap (λ (o : Option Step). memory_after o cells.words) w.waits ∙ (words_then cells m.step ∙ ap (λ (c : Cells). c.words) (sym m.cells_are)) in
+      subst (λ (x : List ℕ). ComesTo (after MAX_OPEN_BLOCKS (alone MAX_OPEN_BLOCKS (bytes_at base r.ended (cells.clock / 2)) row) call) (reply MAX_OPEN_BLOCKS (alone MAX_OPEN_BLOCKS (bytes_at base r.ended (cells.clock / 2)) row) call) what new x) words
+      (subst (λ (x : Replied). ComesTo (after MAX_OPEN_BLOCKS (alone MAX_OPEN_BLOCKS (bytes_at base r.ended (cells.clock / 2)) row) call) x what new (memory_after old.engine.waits cells.words)) pair.1
+      (subst (λ (x : State). ComesTo x (answers old.engine cells.words) what new (memory_after old.engine.waits cells.words)) pair.0
+      (m.resumed.held i cells.words (sym m.sound.tied.words, m.sound.tied.fit) there)))
+
+  got_next : (x : Next) → what ≡ x → old.engine.irrevocable ≡ true → (word value : ℕ) → new.waits ≡ Some (Store (suc word) value) → Got new.got (slice_get cells'.words word)
+  got_next (Answers answer) is i word value e = absurd (let z = sym (rests (mid_step m) new answer (subst (λ (x : Next). Proceeds (mid_step m) x new) is (went m))).idle ∙ e in cc)
+  got_next (Asks step) is i word value e =
+      let g : AsksFor (mid_step m) step new = subst (λ (x : Next). Proceeds (mid_step m) x new) is (went m) in
+      let w = waits m in
+      let writes : new.writes ≡ old.engine.writes = ap (λ (c : Core). c.writes) g.stays ∙ (same m).writes in
+      let asks : asked_from new (stage_from old.engine old.engine.stage (found cells m.step)) ≡ Some (Store (suc word) value) = ap (asked_from new) (sym m.resumed.order) ∙ (sym m.resumed.asks ∙ e) in
+      subst (λ (o : Option ℕ). Got o (slice_get cells'.words word)) (sym (ap (λ (c : Core). c.got) g.stays))
+      (subst (λ (c : Cells). Got (mid_step m).got (slice_get c.words word)) (sym m.cells_are)
+      (got_handed cells old.engine new word value writes m.sound.tied m.step w.lawful (m.sound.tied.settled.irrevocable i).0 g.unfreed (sym w.asks ∙ w.waits) asks))
+
+  pub step_held : HasHeld base cells cells' r old.thread (mid_step m) new call what
+  step_held = record {
+    still_open = λ i row f. (held (was i) row f).still_open;
+    mode = λ i row f. (held (was i) row f).mode;
+    ran = λ i row f. (held (was i) row f).ran;
+    comes = λ i row f. comes_to (was i) row f;
+    shut = λ o. (same m).irrevocable ∙ shut_revocable old.engine m.sound.tied.settled (sym (ap is_inside (same m).blocks) ∙ o);
+    got = λ i word value e. got_next what refl (was i) word value e;
+  }

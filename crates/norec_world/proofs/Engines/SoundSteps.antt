@@ -1,0 +1,366 @@
+-- A step was done, or a call of the player came: its value or the call went to the engine, and what the engine gave may be recorded.
+use Rattle.user_actions.specs.Actions.{total}
+use Rattle.norec_world.specs.ActionRoom.{AsksAs, MayRunOn, NoCancel, wanted}
+use Rattle.norec_world.proofs.Rooms.ActionRoom.{gave_acting, registers_none}
+use Rattle.norec_world.proofs.Rooms.CallRoom.{promised_same, wanted_came, wanted_same}
+use Rattle.norec_world.proofs.Rooms.HeldRoom.{same_room}
+use Rattle.norec_world.proofs.Rooms.LaterActions.{first_here}
+use Rattle.std.proofs.Common.{◌≡◌, ◌≢◌, [], nat_lt, inl, ℕ, zero, suc, ◌+◌, ◌*◌, ◌/◌, ◌%◌, ◌<◌, ◌≤◌, ◌==◌, Bool, true, false, if◌then◌else◌, Option, None, Some, refl, sym, true≢false, ap, subst, ◌∙◌, arith, eqb-true, inr, ◌-◌, length, unwrap_or}
+use Rattle.norec_world.proofs.Common.{Actor, AllFit, Answers, Asks, AsksFor, Attempt, Begin, BeginsAt, Call, Cas, Cells, ClocksOn, Core, Ended, Falls, GoesOn, HoldsOn, IsDone, IsLawful, IsNested, IsNoMore, IsReady, IsResumed, IsSettledBy, IsSound, IsTied, Load, Next, Proceeds, Ready, RestsAs, Rows, Rules, Status, StatusIs, Step, Store, Waits, active_of, asked_pending, begins_again, came, cells_after, ending_of, found, handed_is, handed_to, in_transaction, is_inside, is_ready, is_waiting, none_inside, asked, same_Some, rank, rests as rested, steps_left, whole, IsTold, Tells}
+use Rattle.norec_core.specs.Keeps.{Keeps}
+use Rattle.norec_core.specs.Core.{irrevocable_room, may_go}
+use Rattle.norec_core.specs.Order.{asked_from, snapshot_from, stage_at, stage_from}
+use Rattle.norec_core.specs.declared.call_parts.Opening.{Opening}
+use Rattle.norec_core.specs.Phases.{Phase}
+use Rattle.norec_core.specs.Phases as at
+use Rattle.norec_core.specs.Proceeds.{most}
+use Rattle.norec_core.proofs.Engines.KeptFields.{most_same}
+use Rattle.norec_world.specs.Sound.{IsWaiting, IsAsked}
+use Rattle.norec_world.proofs.Engines.ClockHolders.{clocks_of, clocks_still, clocks_twice, word_freed}
+use Rattle.norec_world.proofs.Engines.Intakes.{ClockMoves, HasTaken, in_call_of, ready_of}
+use Rattle.norec_world.proofs.Engines.TiedEngines.{IsMid, hands, held_even, holds_handed, clock_same, limit_same, tied, comes}
+use Rattle.norec_world.specs.Records.{Asks as AsksOf}
+use Rattle.norec_world.specs.LocalWork.{SameActor, TakesIn}
+
+-- ## The clock over a step
+
+half_taken : (b : Bool) (clock from to : ℕ) → (b ≡ true → clock ≡ from) → from % 2 ≡ 0 → to ≡ from + 1 → (if b then to else clock) / 2 ≡ clock / 2
+half_taken true clock from to is even up = (let same = is refl in omega arith)
+half_taken false clock from to is even up = refl
+
+moves_of : (cells : Cells) (e : Core) (step : Step) → IsTied cells e → IsLawful e step → ClockMoves cells (cells_after cells step) (handed_to e (Some step) (found cells step))
+moves_of cells e (Load zero) t l = record { frees = λ f. absurd (true≢false (sym f ∙ t.settled.unfreed)); keeps = λ f. refl }
+moves_of cells e (Load (suc word)) t l = record { frees = λ f. absurd (true≢false (sym (sym (word_freed e e.holds word (found cells (Load (suc word)))) ∙ f) ∙ t.settled.unfreed)); keeps = λ f. refl }
+moves_of cells e (Store zero value) t l =
+    let held = t.holder l.1 in
+    let even = held_even e t.settled l.1 in
+    let value_is = l.2.0 in
+    let half : e.clock / 2 ≡ e.snapshot / 2 = ap (λ (n : ℕ). n / 2) (t.settled.holder l.1).1 in
+    record { frees = λ f. ((let x : cells.clock ≡ 2 * (e.snapshot / 2) + 1 = omega arith in x), (let y : value ≡ 2 * (e.snapshot / 2) + 2 = omega arith in y)); keeps = λ f. absurd (cc) }
+moves_of cells e (Store (suc word) value) t l = record { frees = λ f. absurd (true≢false (sym f ∙ t.settled.unfreed)); keeps = λ f. refl }
+moves_of cells e (Cas cell from to) t l = record {
+  frees = λ f. absurd (true≢false (sym f ∙ t.settled.unfreed));
+  keeps = λ f. half_taken (cells.clock == from) cells.clock from to (λ y. eqb-true cells.clock from y) l.4 l.6;
+}
+
+-- outside a transaction a step loads the clock, or takes it
+loads_clock : (cells : Cells) (e : Core) (step : Step) → IsTied cells e → IsLawful e step → in_transaction e ≡ false → (handed_to e (Some step) (found cells step)).holds ≡ false
+    → ((cells_after cells step).clock ≡ cells.clock) × ((handed_to e (Some step) (found cells step)).clock ≡ (cells_after cells step).clock)
+loads_clock cells e (Load zero) t l outside free = (refl, refl)
+loads_clock cells e (Load (suc word)) t l outside free = absurd (true≢false (sym l.1.0 ∙ outside))
+loads_clock cells e (Store cell value) t l outside free = absurd (true≢false (sym (t.settled.holder l.1).0 ∙ outside))
+loads_clock cells e (Cas cell from to) t l outside free =
+    let still : (if cells.clock == from then to else cells.clock) ≡ cells.clock = ap (λ (b : Bool). if b then to else cells.clock) free in
+    (still, sym still)
+
+-- ## A begin that waits for a step
+
+module _ (new : Core) (some : new.waits ≢ None) (asks : new.waits ≡ asked new) where
+  not_idle : {A : Type 0} → new.stage ≡ at.Idle → A
+  not_idle e = absurd (some (asks ∙ ap (asked_from new) e))
+
+  stands_at : (stage : Phase) → new.stage ≡ stage → BeginsAt new stage → BeginsAt new new.stage
+  stands_at stage e b = subst (BeginsAt new) (sym e) b
+
+  module _ (b : Opening) (doing : new.doing ≡ Some (Begin b.props b.room)) where
+    begins_or_not : (more : Bool) → (more ≡ true → may_go new.blocks b.props ≡ true) → new.stage ≡ (if more then at.Begin b else at.Idle) → BeginsAt new new.stage
+    begins_or_not true may e = stands_at (at.Begin b) e (doing, may refl)
+    begins_or_not false may e = not_idle e
+
+    module _ (may : may_go new.blocks b.props ≡ true) where
+      takes_or_not : (goes few : Bool) → new.clock ≡ new.snapshot → new.stage ≡ (if goes then (if few then at.Take b else at.Idle) else at.Idle) → BeginsAt new new.stage
+      takes_or_not true true same e = stands_at (at.Take b) e (doing, may, same)
+      takes_or_not true false same e = not_idle e
+      takes_or_not false few same e = not_idle e
+
+      -- after the clock was loaded
+      loaded_begun : (even goes few more : Bool) → (even ≡ true → new.clock ≡ new.snapshot)
+          → new.stage ≡ (if even then (if goes then (if few then at.Take b else at.Idle) else at.Idle) else (if more then at.Begin b else at.Idle)) → BeginsAt new new.stage
+      loaded_begun true goes few more same e = takes_or_not goes few (same refl) e
+      loaded_begun false goes few more same e = begins_or_not more (λ m. may) e
+
+      -- after it was to be taken
+      tried_begun : (taken more : Bool) → new.stage ≡ (if taken then at.Idle else (if more then at.Begin b else at.Idle)) → BeginsAt new new.stage
+      tried_begun true more e = not_idle e
+      tried_begun false more e = begins_or_not more (λ m. may) e
+
+  -- once a step was done
+  begun_after : (old : Core) (seen : ℕ) (stage : Phase) → BeginsAt old stage → new.doing ≡ old.doing → new.blocks ≡ old.blocks → new.stage ≡ stage_from old stage seen → new.snapshot ≡ snapshot_from old stage seen
+      → ((b : Opening) → stage ≡ at.Begin b → new.clock ≡ seen) → BeginsAt new new.stage
+  begun_after old seen (at.Begin b) begun doing blocks order snapshot clock =
+      loaded_begun b (doing ∙ begun.0) (ap (λ (bs : _). may_go bs b.props) blocks ∙ begun.1) (seen % 2 == 0) b.props.goes_irrevocable (nat_lt (seen / 2) old.max_commits) (nat_lt old.tries old.patience)
+      (λ even. clock b refl ∙ sym (snapshot ∙ ap (λ (x : Bool). if x then seen else old.snapshot) even)) order
+  begun_after old seen (at.Take b) begun doing blocks order snapshot clock =
+      tried_begun b (doing ∙ begun.0) (ap (λ (bs : _). may_go bs b.props) blocks ∙ begun.1) (seen == old.snapshot) (nat_lt old.tries old.patience) order
+  begun_after old seen stage begun doing blocks order snapshot clock = absurd begun
+
+  -- as a call comes
+  begun_shut : (c : Core) (call : Call) (again : Bool) → new.doing ≡ Some call → new.blocks ≡ [] → new.stage ≡ stage_at (record c { blocks = [] }) call again → BeginsAt new new.stage
+  begun_shut c (Begin props room) again doing none e =
+      begins_or_not (record { props = props; room = room; again = again }) doing (may_go [] props) (λ m. ap (λ (bs : _). may_go bs props) none ∙ m) e
+  begun_shut c call again doing none e = not_idle e
+
+  begun_call : (c : Core) (call : Call) (again : Bool) → in_transaction c ≡ false → new.doing ≡ Some call → new.blocks ≡ c.blocks → new.stage ≡ stage_at c call again → BeginsAt new new.stage
+  begun_call c call again shut doing blocks e =
+      let none = none_inside c.blocks shut in
+      begun_shut c call again doing (blocks ∙ none) (e ∙ (λ i. stage_at (record c { blocks = none i }) call again))
+
+-- what waits for a step has not been answered
+asks_step : (mid new : Core) (what : Next) → Proceeds mid what new → new.waits ≢ None → (new.blocks ≡ mid.blocks) × (new.doing ≡ mid.doing)
+asks_step mid new (Asks step) g some = (ap (λ (c : Core). c.blocks) g.stays, ap (λ (c : Core). c.doing) g.stays)
+asks_step mid new (Answers a) g some = absurd (some (rested mid new a g).idle)
+
+-- ## The step
+
+-- the step that the actor waited for was done, and its engine went on with what was found; nothing is recorded of that
+pub record IsStepping {P : Type 0} (rules : Rules P) (cells : Cells) (r : Rows) (old : Actor P) (call : Call) (what : Next) (cells' : Cells) (new : Core) : Type 0 where
+  pub sound : IsSound rules cells r old
+  pub step : Step
+  pub waiting : old.status ≡ Waits call step
+  pub cells_are : cells' ≡ cells_after cells step
+  pub fit : AllFit cells'.words
+  pub resumed : IsResumed old.engine (found cells step) what new
+
+module _ {P : Type 0} {rules : Rules P} {cells : Cells} {r : Rows} {old : Actor P} {call : Call} {what : Next} {cells' : Cells} {new : Core} (m : IsStepping rules cells r old call what cells' new) where
+  -- the engine with the value
+  abbrev pub mid_step : Core
+  mid_step = handed_to old.engine (Some m.step) (found cells m.step)
+
+  pub waits : IsWaiting rules r old call m.step
+  waits = subst (StatusIs rules r old) m.waiting m.sound.status
+
+  pub went : Proceeds (handed_to old.engine (Some m.step) (found cells m.step)) what new
+  went = subst (λ (o : Option Step). Proceeds (handed_to old.engine o (found cells m.step)) what new) waits.waits m.resumed.proceeds
+
+  pub same : Keeps old.engine (handed_to old.engine (Some m.step) (found cells m.step))
+  same = (handed_is old.engine m.step (found cells m.step)).keeps
+
+  is_mid : IsMid cells' (handed_to old.engine (Some m.step) (found cells m.step)) new
+  is_mid =
+      subst (λ (c : Cells). IsMid c mid_step new) (sym m.cells_are)
+      (hands cells old.engine new m.sound.tied m.resumed.settled m.step waits.lawful (subst (λ (c : Cells). AllFit c.words) m.cells_are m.fit))
+
+  pub moves : ClockMoves cells cells' (handed_to old.engine (Some m.step) (found cells m.step))
+  moves = subst (λ (c : Cells). ClockMoves cells c mid_step) (sym m.cells_are) (moves_of cells old.engine m.step m.sound.tied waits.lawful)
+
+  -- a begin that goes on
+  step_begun : new.waits ≢ None → in_transaction new ≡ false → BeginsAt new new.stage
+  unfolding waits
+  step_begun some shut =
+      let went_on = asks_step mid_step new what went some in
+      let blocks : new.blocks ≡ old.engine.blocks = went_on.0 ∙ same.blocks in
+      let seen = found cells m.step in
+      begun_after new some m.resumed.asks old.engine seen old.engine.stage (waits.begun (sym (ap is_inside blocks) ∙ shut)) (went_on.1 ∙ same.doing) blocks m.resumed.order m.resumed.snapshot
+      (λ b is. (let loads : m.step ≡ Load zero = same_Some _ _ (sym waits.waits ∙ (waits.asks ∙ ap (asked_from old.engine) is)) in
+      (clock_same mid_step new what went).1 ∙ subst (λ (s : Step). (handed_to old.engine (Some s) (found cells s)).clock ≡ found cells s) (sym loads) refl))
+
+  -- nor does it want more or less room
+  same_wants : wanted (handed_to old.engine (Some m.step) (found cells m.step)) ≡ wanted old.engine
+  same_wants = wanted_same (handed_to old.engine (Some m.step) (found cells m.step)) old.engine same.blocks same.irrevocable same.doing
+
+  pub step_taken : (status : Status) → status ≡ Ready → HasTaken rules (in_transaction old.engine) cells cells' r (handed_to old.engine (Some m.step) (found cells m.step)) (record old { engine = new; status = status }) call what
+  step_taken status ready =
+      let k = m.sound.kept in
+      record {
+        was_is = ap is_inside same.blocks;
+        proceeds = went;
+        doing = same.doing ∙ waits.doing;
+        words = is_mid.words;
+        tied = tied cells' mid_step new what is_mid went;
+        within = m.resumed.count;
+        kept = record { row = k.row; empty = k.empty; tried = k.tried; tries = k.tries; retries = k.retries };
+        first = first_here r old.thread mid_step new call what (in_transaction old.engine) (ap is_inside same.blocks) k.row (same.doing ∙ waits.doing) went (λ row e. m.sound.acts.all row e ∙ ap (λ (x : _). x.ran) (sym same.actions));
+        nested = waits.nested;
+        depth = waits.depth ∙ ap length (sym same.blocks);
+        in_call = in_call_of new status waits.in_call;
+        ahead = λ o. (subst (AsksAs old) m.waiting m.sound.acts.asks).ahead o ∙ sym same_wants;
+        pending = λ row e. (subst (AsksAs old) m.waiting m.sound.acts.asks).pending row e ∙ sym same_wants;
+        ready = ready;
+        moves = moves;
+        empty = λ e. same.writes ∙ (m.sound.tied.settled.closed e).1;
+        asks = m.resumed.asks;
+        begun = step_begun;
+        outside = λ e free. (let l = loads_clock cells old.engine m.step m.sound.tied waits.lawful e free in (ap (λ (c : Cells). c.clock) m.cells_are ∙ l.0, inl (l.1 ∙ ap (λ (c : Cells). c.clock) (sym m.cells_are))));
+      }
+
+  -- nothing of the actions is lost
+  pub step_acts : (status : Status) → status ≡ Ready → MayRunOn r (record old { engine = new; status = status }) call what
+  step_acts status ready =
+      let acts = m.sound.acts in
+      let plain = subst NoCancel m.waiting acts.status in
+      let asks = subst (AsksAs old) m.waiting acts.asks in
+      let same_actions : (handed_to old.engine (Some m.step) (found cells m.step)).actions ≡ old.engine.actions = same.actions in
+      let inside : in_transaction (handed_to old.engine (Some m.step) (found cells m.step)) ≡ in_transaction old.engine = ap is_inside same.blocks in
+      gave_acting r (record old { engine = new; status = status }) (handed_to old.engine (Some m.step) (found cells m.step)) call (in_transaction old.engine) inside m.sound.kept.row (same.doing ∙ waits.doing)
+      (record { end_room = acts.empty.end_room; cancel_room = acts.empty.cancel_room }) (λ row e. acts.all row e ∙ ap (λ (x : _). x.ran) (sym same_actions))
+      (λ row e. (let p = acts.places row e in let n = registers_none call plain.1 in let t = ap total same_actions in omega arith)) (λ row e abort. absurd (let both : false ≡ true = sym plain.0 ∙ abort in cc)) acts.pending
+      (same_room old.engine (handed_to old.engine (Some m.step) (found cells m.step)) old (sym same.blocks) (sym same.irrevocable) (sym same.doing) (sym same.room) (sym same.actions) acts.room)
+      (λ row e. (let few = acts.backed row e in let n = promised_same (handed_to old.engine (Some m.step) (found cells m.step)) old.engine same.irrevocable same.room in omega arith))
+      (λ o. asks.ahead (sym inside ∙ o) ∙ sym same_wants) (λ row e. asks.pending row e ∙ sym same_wants) (let k = asks.backed in let n = same.room in let l = same_wants in omega arith) m.resumed.settled what went (λ shut. (let none = (m.sound.tied.settled.closed (sym inside ∙ shut)) in (ap (λ (x : _). x.commits) same_actions ∙ none.2, ap (λ (x : _). x.undos) same_actions ∙ none.3))) (λ step e. plain)
+
+  -- what becomes of the clock, as the others see it
+  pub step_clocks : (last : Core) → last ≡ new → ClocksOn cells old.engine cells' last
+  step_clocks last is =
+      let taken = subst (λ (c : Cells). HoldsOn cells old.engine c mid_step) (sym m.cells_are) (holds_handed cells old.engine m.step m.sound.tied waits.lawful) in
+      let kept = limit_same mid_step new what went in
+      clocks_twice cells cells' cells' old.engine mid_step last (clocks_of cells cells' old.engine mid_step taken (λ h. (let held = is_mid.holder h in let even = is_mid.even h in omega arith)))
+      (clocks_still cells' mid_step last (ap (λ (c : Core). c.holds) is ∙ (clock_same mid_step new what went).2) (ap (λ (c : Core). c.clock) is ∙ (clock_same mid_step new what went).1) (ap (λ (c : Core). c.max_commits) is ∙ kept.0, ap (λ (c : Core). c.patience) is ∙ kept.1))
+
+  -- the value came to the engine, and what came of it was taken up
+  pub takes_in : (status : Status) → status ≡ Ready → {rows r' : Rows} {last : Actor P} → last.engine ≡ new → Tells rules (in_transaction old.engine) r rows (record old { engine = new; status = status }) last call what
+      → IsTold last.thread (in_transaction last.engine) rows (last.engine.snapshot / 2) r' → SameActor old last → TakesIn rules cells r old r' last
+  takes_in status ready {rows} {r'} {last} engine tells told same = record {
+    call = call;
+    step = m.step;
+    waits = m.waiting;
+    what = what;
+    resumed = subst (IsResumed old.engine (found cells m.step) what) (sym engine) m.resumed;
+    rows = rows;
+    tells = subst (λ (e : Core). Tells rules (in_transaction old.engine) r rows (record old { engine = e; status = Ready }) last call what) (sym engine)
+        (subst (λ (s : Status). Tells rules (in_transaction old.engine) r rows (record old { engine = new; status = s }) last call what) ready tells);
+    told = subst (λ (n : ℕ). IsTold n (in_transaction last.engine) rows (last.engine.snapshot / 2) r') same.thread told;
+    same = same;
+  }
+
+  pub limit_is : new.max_commits ≡ old.engine.max_commits
+  limit_is = (limit_same mid_step new what went).0 ∙ same.max_commits
+
+-- the call goes on, with fewer steps left
+module _ {P : Type 0} {rules : Rules P} {cells : Cells} {r : Rows} {old : Actor P} {call : Call} {cells' : Cells} {new : Core} {step : Step} (m : IsStepping rules cells r old call (Asks step) cells' new) where
+  pub step_goes_on : GoesOn rules old (record old { engine = new; status = Waits call step })
+  step_goes_on =
+      let asks : AsksFor (mid_step m) step new = went m in
+      let kept = same m in
+      let opens : in_transaction old.engine ≡ in_transaction new = sym (ap in_transaction asks.stays ∙ ap is_inside kept.blocks) in
+      let spent : new.spent ≡ old.engine.spent + 1 = ap (λ (c : Core). c.spent) asks.stays ∙ ap (λ (n : ℕ). n + 1) (handed_is old.engine m.step (found cells m.step)).spent in
+      let most_is : most new new.doing ≡ most old.engine old.engine.doing = ap (λ (c : Core). most c c.doing) asks.stays ∙ (ap (most (mid_step m)) kept.doing ∙ most_same old.engine (mid_step m) kept old.engine.doing) in
+      let enough : new.spent ≤ most new new.doing = m.resumed.count (λ e. absurd (let f : Some step ≡ None = sym (ap (λ (c : Core). c.waits) asks.stays) ∙ e in cc)) in
+      record {
+        steps = (let fewer : steps_left new < steps_left old.engine = omega arith in fewer);
+        less = record {
+          whole_falls = (let e : whole rules (in_transaction old.engine) old.player ≡ whole rules (in_transaction new) old.player = ap (λ (b : Bool). whole rules b old.player) opens in omega arith);
+          rank_falls = λ n b. (let e : rank rules n (in_transaction old.engine) old ≡ rank rules n (in_transaction new) old = ap (λ (b : Bool). rank rules n b old) opens in omega arith);
+        };
+      }
+
+-- the same, with the value that was found by a name of its own
+pub stepping : {P : Type 0} {rules : Rules P} {cells : Cells} {r : Rows} {old : Actor P} {call : Call} {step : Step} {what : Next} {cells' : Cells} {new : Core} {seen : ℕ} → IsSound rules cells r old → old.status ≡ Waits call step → seen ≡ found cells step
+    → cells' ≡ cells_after cells step → AllFit cells'.words → IsResumed old.engine seen what new → IsStepping rules cells r old call what cells' new
+stepping {old} {step} {what} {new} sound waiting seen_is cells_are fit resumed = record {
+  sound = sound;
+  step = step;
+  waiting = waiting;
+  cells_are = cells_are;
+  fit = fit;
+  resumed = subst (λ (n : ℕ). IsResumed old.engine n what new) seen_is resumed;
+}
+
+-- ## What is left to do
+
+module _ {P : Type 0} {rules : Rules P} {cells : Cells} {r : Rows} {old : Actor P} {call : Call} {what : Next} {cells' : Cells} {new : Core} (m : IsStepping rules cells r old call what cells' new) (status : Status) (ready : status ≡ Ready)
+    (r1 : Rows) (last : Actor P) (done : IsDone rules (in_transaction old.engine) r r1 (record old { engine = new; status = status }) last call what) where
+  -- an actor that has settled does not wait
+  rests_not : {A : Type 0} (st : Status) → RestsAs rules st last → is_waiting st ≡ true → A
+  rests_not (Waits c step) rest e = absurd rest
+  rests_not st rest e = absurd (cc)
+
+  pub step_on : is_waiting last.status ≡ true → GoesOn rules old last
+  step_on = by_what what m done
+    where
+      by_what : (x : Next) → IsStepping rules cells r old call x cells' new → IsDone rules (in_transaction old.engine) r r1 (record old { engine = new; status = status }) last call x → is_waiting last.status ≡ true → GoesOn rules old last
+      by_what (Asks step) m done w = subst (GoesOn rules old) (sym done.0) (step_goes_on m)
+      by_what (Answers answer) m done w = rests_not last.status done.rests w
+
+  pub step_falls : is_ready last.status ≡ true → Falls rules (in_transaction old.engine) (in_transaction last.engine) old last
+  step_falls = by_what what done
+    where
+      by_what : (x : Next) → IsDone rules (in_transaction old.engine) r r1 (record old { engine = new; status = status }) last call x → is_ready last.status ≡ true → Falls rules (in_transaction old.engine) (in_transaction last.engine) old last
+      by_what (Asks step) done e = absurd (let z = sym (ap (λ (y : Actor P). is_ready y.status) done.0) ∙ e in cc)
+      by_what (Answers answer) done e = (let f = done.falls (ready_of last.status e) in record { whole_falls = f.whole_falls; rank_falls = f.rank_falls })
+
+-- ## A call
+
+-- an actor that was ready had room made for a call, which then went to its engine; nothing is recorded of that
+pub record IsCalling {P : Type 0} (rules : Rules P) (cells : Cells) (r0 r : Rows) (old a : Actor P) (call : Call) (what : Next) : Type 0 where
+  pub sound : IsSound rules cells r0 old
+  pub ready : old.status ≡ Ready
+  pub asked : IsAsked rules r old a call what
+  pub asks : AsksOf cells.clock r0 r old a call what
+
+-- between two calls
+pub rests : {P : Type 0} {rules : Rules P} {cells : Cells} {r : Rows} {a : Actor P} → IsSound rules cells r a → a.status ≡ Ready → IsReady rules a
+rests {rules} {r} {a} sound ready = subst (StatusIs rules r a) ready sound.status
+
+module _ {P : Type 0} {rules : Rules P} {cells : Cells} {r0 r : Rows} {old a : Actor P} {call : Call} {what : Next} (m : IsCalling rules cells r0 r old a call what) where
+  -- the engine with the call
+  abbrev pub mid : Core
+  mid = came old.engine call (begins_again (in_transaction old.engine) old.again call)
+
+  -- the attempt that its begin is to open has the room that it asks for
+  pending_wants : (inside : Bool) (c : Call) (row : Attempt) → asked_pending inside cells.clock old c ≡ Some row → row.calls.room ≡ unwrap_or (irrevocable_room old.engine c) 0
+  pending_wants false (Begin props room) row e = (let made = same_Some _ _ e in ap (λ (x : Attempt). x.calls.room) (sym made))
+  pending_wants true c row e = absurd (let z = sym (rests m.sound m.ready).nothing ∙ e in cc)
+  pending_wants false c row e = absurd (let z = sym (rests m.sound m.ready).nothing ∙ e in cc)
+
+  pub call_taken : HasTaken rules (in_transaction old.engine) cells cells r (came old.engine call (begins_again (in_transaction old.engine) old.again call)) a call what
+  call_taken =
+      let ready = rests m.sound m.ready in
+      record {
+        was_is = refl;
+        proceeds = m.asks.called.proceeds;
+        doing = refl;
+        words = m.sound.tied.words;
+        tied = tied cells mid a.engine what (comes cells old.engine a.engine m.sound.tied m.asked.called.settled call (begins_again (in_transaction old.engine) old.again call)) m.asks.called.proceeds;
+        within = m.asked.called.count;
+        kept = m.asked.kept;
+        first = first_here r a.thread mid a.engine call what (in_transaction old.engine) refl m.asked.kept.row refl m.asks.called.proceeds
+            (λ row e. m.sound.acts.all row (sym ((λ i. active_of (m.asks.thread i) r.active) ∙ ap (λ (x : Rows). active_of old.thread x.active) m.asks.rows_are) ∙ e));
+        nested = subst (IsNested rules (in_transaction old.engine)) (sym m.asked.same.player) ready.nested;
+        depth = ap rules.depth m.asked.same.player ∙ ready.depth;
+        in_call = m.asked.in_call;
+        ahead = λ o. m.asks.ahead o ∙ sym (wanted_came old.engine call (begins_again (in_transaction old.engine) old.again call));
+        pending = λ row e. pending_wants (in_transaction old.engine) call row (sym m.asks.pending ∙ e) ∙ sym (wanted_came old.engine call (begins_again (in_transaction old.engine) old.again call));
+        ready = m.asked.same.status ∙ m.ready;
+        moves = record { frees = λ f. absurd (cc); keeps = λ f. refl };
+        empty = λ o. (m.sound.tied.settled.closed o).1;
+        asks = m.asks.called.asks;
+        begun = λ some shut. (let went_on = asks_step mid a.engine what m.asks.called.proceeds some in
+            begun_call a.engine some m.asks.called.asks old.engine call (begins_again (in_transaction old.engine) old.again call)
+            (sym (ap is_inside went_on.0) ∙ shut) went_on.1 went_on.0 m.asks.called.order);
+        outside = λ o free. (refl, inr m.asked.called.at_once);
+      }
+
+  -- the rows are those that were
+  pub active_same : active_of a.thread r.active ≡ active_of old.thread r0.active
+  active_same = (λ i. active_of (m.asks.thread i) r.active) ∙ ap (λ (x : Rows). active_of old.thread x.active) m.asks.rows_are
+
+  pub ended_same : r.ended ≡ r0.ended
+  ended_same = ap (λ (x : Rows). x.ended) m.asks.rows_are
+
+  -- nor does what is left
+  pub same_rank : (n : ℕ) → rank rules n (in_transaction old.engine) a ≡ rank rules n (in_transaction old.engine) old
+  same_rank n = λ i. (whole rules (in_transaction old.engine) (m.asked.same.player i) * (m.asked.same.retries i + 1) + (m.asked.same.retries i + 1 - m.asked.same.nth i)) * (n + 1) + rules.calls_left (m.asked.same.player i)
+
+  module _ {r1 : Rows} {last : Actor P} (s : IsSettledBy rules (in_transaction old.engine) r1 a last) where
+    -- what comes of an answer is as if the actor had not changed before
+    pub call_falls : last.status ≡ Ready → Falls rules (in_transaction old.engine) (in_transaction last.engine) old last
+    call_falls e =
+        let f = s.falls e in
+        record {
+          whole_falls = subst (λ (p : P). whole rules (in_transaction last.engine) last.player ≤ whole rules (in_transaction old.engine) p) m.asked.same.player f.whole_falls;
+          rank_falls = λ n b. subst (λ (x : ℕ). rank rules n (in_transaction last.engine) last < x) (same_rank n)
+              (f.rank_falls n (subst (λ (p : P). whole rules (in_transaction old.engine) p ≤ n) (sym m.asked.same.player) b));
+        }
+
+    pub call_less : ending_of last.status ≡ None → IsNoMore rules old last
+    call_less e = of_status last.status refl s.rests e
+      where
+        of_status : (x : Status) → last.status ≡ x → RestsAs rules x last → ending_of x ≡ None → IsNoMore rules old last
+        of_status Ready is rest e = let f = call_falls is in record { whole_falls = f.whole_falls; rank_falls = λ n b. (let x = f.rank_falls n b in omega arith) }
+        of_status (Waits c step) is rest e = absurd rest
+        of_status (Ended end) is rest e = absurd (cc)
+
+-- the same, where what the engine gave has another name
+pub calling : {P : Type 0} {rules : Rules P} {cells : Cells} {r0 r : Rows} {old a : Actor P} {call : Call} {given what : Next} → IsSound rules cells r0 old → old.status ≡ Ready → given ≡ what → IsAsked rules r old a call given → AsksOf cells.clock r0 r old a call given
+    → IsCalling rules cells r0 r old a call what
+calling {rules} {cells} {r0} {r} {old} {a} {call} sound ready is asked asks = record { sound = sound; ready = ready; asked = subst (IsAsked rules r old a call) is asked; asks = subst (AsksOf cells.clock r0 r old a call) is asks }

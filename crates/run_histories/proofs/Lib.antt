@@ -1,4 +1,0 @@
-pub mod Unwritten
-pub mod AloneCalls
-pub mod AloneRuns
-pub mod LimitedRuns

@@ -1,0 +1,94 @@
+-- What a text says is a program that a text can say.
+use Rattle.std.proofs.Common.{◌≡◌, ℕ, ◌<◌, ◌≤◌, ltb, List, [], ◌∷◌, length, Option, Some, None, Ok, refl, sym, arith, subst, inl, inr, length-append}
+use Rattle.std.specs.List.{AllByRecursion}
+use Rattle.std.specs.Option.{IfSome, unwrap_or}
+use Rattle.std.specs.Str.Lines.{lines}
+use Rattle.std.proofs.lemmas.Bool.{ltb-true}
+use Rattle.itm_types.specs.Limits.{AreWithin}
+use Rattle.itm_types.specs.declared.limits.TheConstants.{MAX_ARENA, MAX_PATIENCE, MAX_RETRIES, MAX_COMMITS}
+use Rattle.script_fields.specs.declared.fault.AsmKind.TheVariants as faults
+use Rattle.script_fields.proofs.FirstLines.{chosen}
+use Rattle.script_program.specs.declared.limits.TheConstants.{MAX_TEXT}
+use Rattle.script_asm.specs.declared.state.State.{State}
+use Rattle.script_asm.specs.Assembly.{listing_of, named, complete, closed, end_of, lines_say, initial, program_of}
+use Rattle.script_asm.specs.Groups.{innermost_line}
+use Rattle.script_program.specs.Listing.{Listing, Shared, Bounds, arena_of, limits_of}
+use Rattle.script_asm.specs.Readings.{fault, ◌>>=◌}
+use Rattle.script_program.specs.Schedules.{stray_of}
+use Rattle.script_program.specs.Sections.{Sections, parts_of, thread_total}
+use Rattle.script_asm.specs.Standing.{has_begun}
+use Rattle.script_print.proofs.Printable.{IsPrintable, IsItem}
+use Rattle.script_print.proofs.Assembly.Items.{none_stray}
+use Rattle.script_print.proofs.Assembly.Lines.{lines_sound}
+use Rattle.script_print.proofs.Assembly.Sections.{IsReading, read_parts, threads_read, instructions_read}
+use Rattle.script_print.proofs.Assembly.States.{IsShared, AreBounds, IsSound, initial_sound, then_ok, nothing_open}
+
+-- ## Limits
+
+-- what is said, or else what it is where nothing is said
+or_else : (P : ℕ → Type 0) (o : Option ℕ) (d : ℕ) → IfSome o P → P d → P (unwrap_or o d)
+or_else P None d h k = k
+or_else P (Some n) d h k = h
+
+arena_within : (b : Bounds) → AreBounds b → arena_of b ≤ MAX_ARENA
+arena_within b h = or_else (λ n. n ≤ MAX_ARENA) b.arena 0 h.arena (omega arith)
+
+limits_within : (b : Bounds) → AreBounds b → AreWithin (limits_of b)
+limits_within b h = record {
+  patience = or_else (λ n. (1 ≤ n) × (n ≤ MAX_PATIENCE)) b.patience 8 h.patience (omega arith, omega arith);
+  retries = or_else (λ n. n ≤ MAX_RETRIES) b.retries 100 h.retries (omega arith);
+  commits = or_else (λ n. (1 ≤ n) × (n ≤ MAX_COMMITS)) b.commits MAX_COMMITS h.commits (omega arith, omega arith);
+}
+
+-- ## The program
+
+some_parts : (t : Sections) → 0 < length (parts_of t)
+some_parts t = omega (arith, length-append t.ended (record { count = t.count; code = t.code } ∷ []))
+
+listing_printable : (s : State) (m : Shared) → IsSound s → IsShared m → IsReading s.threads [] → 0 < s.threads.count → stray_of (thread_total s.threads) s.schedule.items s.schedule.lines ≡ None
+    → IsPrintable (listing_of s m)
+listing_printable s m h k r some e = record {
+  size = k.0;
+  inits = k.1;
+  arena = arena_within s.limits h.limits;
+  limits = limits_within s.limits h.limits;
+  items = h.schedule.few;
+  schedule = subst (λ n. AllByRecursion (IsItem n) s.schedule.items) (sym (threads_read s.threads)) (none_stray (thread_total s.threads) s.schedule.items s.schedule.lines h.schedule.in_lines h.schedule.each e);
+  some = some_parts s.threads;
+  parts = read_parts s.threads r some;
+  threads = omega (arith, threads_read s.threads, r.threads);
+  instructions = omega (arith, instructions_read s.threads, r.instructions);
+}
+
+named_printable : (s : State) (m : Shared) (p : Listing) (stray : Option ℕ) → stray_of (thread_total s.threads) s.schedule.items s.schedule.lines ≡ stray
+    → IsSound s → IsShared m → IsReading s.threads [] → 0 < s.threads.count → named s m stray ≡ Ok p → IsPrintable p
+named_printable s m p (Some line) same h k r some e = absurd cc
+named_printable s m p None same h k r some e = let is : listing_of s m ≡ p = cc in subst IsPrintable is (listing_printable s m h k r some same)
+
+complete_printable : (s : State) (m : Option Shared) (p : Listing) → IsSound s → IfSome m IsShared → IsReading s.threads [] → complete s m ≡ Ok p → IsPrintable p
+complete_printable s None p h k r e = absurd cc
+complete_printable s (Some m) p h k r e =
+    let stray = stray_of (thread_total s.threads) s.schedule.items s.schedule.lines in
+    elim (chosen (has_begun s) (named s m stray) (fault 0 faults.Misplaced) (Ok p) e) [
+      | inl begun ↦ named_printable s m p stray refl h k r (ltb-true 0 s.threads.count begun.0) begun.1
+      | inr none ↦ absurd cc
+    ]
+
+closed_printable : (s : State) (p : Listing) (line : Option ℕ) → innermost_line s.levels ≡ line → IsSound s → closed s line ≡ Ok p → IsPrintable p
+closed_printable s p (Some line) same h e = absurd cc
+closed_printable s p None same h e = complete_printable s s.memory p h h.memory (subst (IsReading s.threads) (nothing_open s.levels same) h.sections) e
+
+end_printable : (s : State) (p : Listing) → IsSound s → end_of s ≡ Ok p → IsPrintable p
+unfolding end_of
+end_printable s p h e = closed_printable s p (innermost_line s.levels) refl h e
+
+-- the program of a text is one that a text can say
+pub assembled : (text : List ℕ) (p : Listing) → program_of text ≡ Ok p → IsPrintable p
+unfolding program_of
+assembled text p e =
+    elim (chosen (ltb MAX_TEXT (length text)) (fault 0 faults.TooLong) (lines_say initial 1 (lines text) >>= end_of) (Ok p) e) [
+      | inl long ↦ absurd cc
+      | inr short ↦
+          let read = then_ok (lines_say initial 1 (lines text)) end_of p short.1 in
+          end_printable read.0 p (lines_sound (lines text) initial read.0 1 initial_sound read.1) read.2
+    ]

@@ -1,0 +1,94 @@
+-- The lines of sizes, limits and bytes say them.
+use Rattle.std.proofs.Common.{◌≡◌, ℕ, ◌+◌, ◌≤◌, true, false, List, [], ◌∷◌, ◌++◌, length, map, Option, Some, None, Ok, refl, sym, ap, ◌∙◌, arith, append_assoc}
+use Rattle.std.specs.Prelude.{codes}
+use Rattle.std.specs.List.{AllByRecursion}
+use Rattle.std.proofs.lemmas.Bool.{le-leb}
+use Rattle.std.proofs.lemmas.List.{append-nil}
+use Rattle.itm_types.specs.Limits.{AreWithin}
+use Rattle.itm_types.specs.declared.limits.TheConstants.{MAX_MEMORY, MAX_ARENA, MAX_PATIENCE, MAX_RETRIES, MAX_COMMITS}
+use Rattle.script_fields.proofs.SpelledShapes.{size_of_again, limit_of_again, init_of_again}
+use Rattle.script_asm.specs.declared.state.State.{State}
+use Rattle.script_asm.specs.declared.words.Word.TheVariants as words
+use Rattle.script_program.specs.Listing.{Listing, Shared, Placed}
+use Rattle.script_program.specs.Sizes.{IsSize}
+use Rattle.script_asm.specs.Standing.{has_begun, may_stand}
+use Rattle.script_asm.specs.Directives.{laid_in}
+use Rattle.script_asm.specs.Words.{word_of}
+use Rattle.script_asm.specs.Assembly.{obeyed, said, initial}
+use Rattle.script_print.specs.Printing.{number_fields, limit_lines, init_fields}
+use Rattle.script_print.proofs.Printable.{IsInit}
+use Rattle.script_print.proofs.Texts.Lines.{all_said, said_next}
+
+-- ## Sizes and limits
+
+-- the memory of so many bytes, all of them zero
+abbrev empty : ℕ → Shared
+empty size = record { size = size; inits = [] }
+
+abbrev pub with_memory : State → Shared → State
+with_memory s m = record s { memory = Some m }
+
+memory_said : (s : State) (n m : ℕ) → may_stand s words.Memory ≡ true → IsSize m → said s n (number_fields (codes ".memory") m) ≡ Ok (with_memory s (empty m))
+unfolding word_of obeyed
+memory_said s n m may h = rw (may, size_of_again m h.0 h.1 h.2) refl
+
+arena_said : (s : State) (n k : ℕ) → may_stand s words.Arena ≡ true → k ≤ MAX_ARENA → said s n (number_fields (codes ".arena") k) ≡ Ok (record s { limits = record s.limits { arena = Some k } })
+unfolding word_of obeyed
+arena_said s n k may h = rw (may, limit_of_again 0 MAX_ARENA k (omega arith) h (omega arith)) refl
+
+patience_said : (s : State) (n k : ℕ) → may_stand s words.Patience ≡ true → 1 ≤ k → k ≤ MAX_PATIENCE → said s n (number_fields (codes ".patience") k) ≡ Ok (record s { limits = record s.limits { patience = Some k } })
+unfolding word_of obeyed
+patience_said s n k may low high = rw (may, limit_of_again 1 MAX_PATIENCE k low high (omega arith)) refl
+
+retries_said : (s : State) (n k : ℕ) → may_stand s words.Retries ≡ true → k ≤ MAX_RETRIES → said s n (number_fields (codes ".retries") k) ≡ Ok (record s { limits = record s.limits { retries = Some k } })
+unfolding word_of obeyed
+retries_said s n k may h = rw (may, limit_of_again 0 MAX_RETRIES k (omega arith) h (omega arith)) refl
+
+commits_said : (s : State) (n k : ℕ) → may_stand s words.Commits ≡ true → 1 ≤ k → k ≤ MAX_COMMITS → said s n (number_fields (codes ".commits") k) ≡ Ok (record s { limits = record s.limits { commits = Some k } })
+unfolding word_of obeyed
+commits_said s n k may low high = rw (may, limit_of_again 1 MAX_COMMITS k low high (omega arith)) refl
+
+-- ## All of them
+
+-- after the lines of sizes and limits so far
+abbrev sized : ℕ → State
+sized size = with_memory initial (empty size)
+
+abbrev bounded : ℕ → Option ℕ → Option ℕ → Option ℕ → Option ℕ → State
+bounded size arena patience retries commits = record (sized size) { limits = record { arena = arena; patience = patience; retries = retries; commits = commits } }
+
+-- after all of them
+abbrev pub with_limits : Listing → State
+with_limits p = bounded p.memory.size (Some p.arena) (Some p.limits.patience) (Some p.limits.retries) (Some p.limits.max_commits)
+
+pub limits_said : (p : Listing) (n : ℕ) → IsSize p.memory.size → p.arena ≤ MAX_ARENA → AreWithin p.limits → all_said initial n (limit_lines p) ≡ Ok (with_limits p)
+limits_said p n size arena within =
+    let m = p.memory.size in
+    let l = p.limits in
+    let one = bounded m (Some p.arena) None None None in
+    let two = bounded m (Some p.arena) (Some l.patience) None None in
+    let three = bounded m (Some p.arena) (Some l.patience) (Some l.retries) None in
+    let last = number_fields (codes ".commits") l.max_commits ∷ [] in
+    let fourth = number_fields (codes ".retries") l.retries ∷ last in
+    let third = number_fields (codes ".patience") l.patience ∷ fourth in
+    let second = number_fields (codes ".arena") p.arena ∷ third in
+    said_next (number_fields (codes ".memory") m) second initial (sized m) n (memory_said initial n m refl size)
+    ∙ said_next (number_fields (codes ".arena") p.arena) third (sized m) one (n + 1) (arena_said (sized m) (n + 1) p.arena refl arena)
+    ∙ said_next (number_fields (codes ".patience") l.patience) fourth one two (n + 1 + 1) (patience_said one (n + 1 + 1) l.patience refl within.patience.0 within.patience.1)
+    ∙ said_next (number_fields (codes ".retries") l.retries) last two three (n + 1 + 1 + 1) (retries_said two (n + 1 + 1 + 1) l.retries refl within.retries)
+    ∙ said_next (number_fields (codes ".commits") l.max_commits) [] three (with_limits p) (n + 1 + 1 + 1 + 1) (commits_said three (n + 1 + 1 + 1 + 1) l.max_commits refl within.commits.0 within.commits.1)
+
+-- ## Bytes of the memory
+
+init_said : (s : State) (n : ℕ) (m : Shared) (i : Placed) → has_begun s ≡ false → m.size ≤ MAX_MEMORY → IsInit m.size i → said (with_memory s m) n (init_fields i) ≡ Ok (with_memory s (record m { inits = m.inits ++ i ∷ [] }))
+unfolding word_of obeyed laid_in
+init_said s n m i early few h =
+    rw (early, init_of_again i.at i.bytes (omega (arith, h.1.1)) h.0 h.1.0 (omega (arith, h.1.1)), le-leb (i.at + length i.bytes) m.size h.1.1) refl
+
+pub inits_said : (inits : List Placed) (s : State) (n : ℕ) (m : Shared) → has_begun s ≡ false → m.size ≤ MAX_MEMORY → AllByRecursion (IsInit m.size) inits
+    → all_said (with_memory s m) n (map init_fields inits) ≡ Ok (with_memory s (record m { inits = m.inits ++ inits }))
+inits_said [] s n m early few h = ap (λ (l : List Placed). Ok (with_memory s (record m { inits = l }))) (sym (append-nil m.inits))
+inits_said (i ∷ inits) s n m early few h =
+    said_next (init_fields i) (map init_fields inits) (with_memory s m) (with_memory s (record m { inits = m.inits ++ i ∷ [] })) n (init_said s n m i early few h.0)
+    ∙ inits_said inits s (n + 1) (record m { inits = m.inits ++ i ∷ [] }) early few h.1
+    ∙ ap (λ (l : List Placed). Ok (with_memory s (record m { inits = l }))) (append_assoc m.inits (i ∷ []) inits)

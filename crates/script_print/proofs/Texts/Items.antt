@@ -1,0 +1,36 @@
+-- The lines of a schedule say its items.
+use Rattle.std.proofs.Common.{◌≡◌, ℕ, ◌+◌, ◌<◌, ◌≤◌, false, List, [], ◌∷◌, ◌++◌, length, map, Ok, refl, sym, ap, ◌∙◌, arith, append_assoc, length-append}
+use Rattle.std.specs.List.{AllByRecursion}
+use Rattle.std.proofs.lemmas.Bool.{le-ltb}
+use Rattle.std.proofs.lemmas.List.{append-nil}
+use Rattle.itm_types.specs.declared.limits.TheConstants.{MAX_ACTORS}
+use Rattle.script_program.specs.declared.limits.TheConstants.{MAX_ITEMS}
+use Rattle.script_program.specs.declared.schedule.Item.{Item}
+use Rattle.script_asm.specs.declared.state.State.{State}
+use Rattle.script_asm.specs.Standing.{has_begun}
+use Rattle.script_asm.specs.Words.{word_of}
+use Rattle.script_asm.specs.Assembly.{obeyed, said}
+use Rattle.script_print.specs.Printing.{item_fields}
+use Rattle.script_print.proofs.Printable.{IsItem}
+use Rattle.script_print.proofs.Texts.Lines.{all_said, said_next}
+use Rattle.script_print.proofs.Texts.ItemTexts.{schedule_again}
+
+abbrev pub with_items : State → List Item → List ℕ → State
+with_items s items lines = record s { schedule = record { items = items; lines = lines } }
+
+item_said : (s : State) (n threads : ℕ) (i : Item) → has_begun s ≡ false → threads ≤ MAX_ACTORS → length s.schedule.items < MAX_ITEMS → IsItem threads i
+    → said s n (item_fields i) ≡ Ok (with_items s (s.schedule.items ++ i ∷ []) (s.schedule.lines ++ n ∷ []))
+unfolding word_of obeyed
+item_said s n threads i early few room h =
+    rw (early, schedule_again threads i few h, le-ltb MAX_ITEMS (length s.schedule.items + 1) (omega arith)) refl
+
+pub items_said : (items : List Item) (s : State) (n threads : ℕ) → has_begun s ≡ false → threads ≤ MAX_ACTORS → length s.schedule.items + length items ≤ MAX_ITEMS → AllByRecursion (IsItem threads) items
+    → (lines : List ℕ) × (all_said s n (map item_fields items) ≡ Ok (with_items s (s.schedule.items ++ items) lines))
+items_said [] s n threads early few room h = (s.schedule.lines, ap (λ (l : List Item). Ok (with_items s l s.schedule.lines)) (sym (append-nil s.schedule.items)))
+items_said (i ∷ items) s n threads early few room h =
+    let t = with_items s (s.schedule.items ++ i ∷ []) (s.schedule.lines ++ n ∷ []) in
+    let rest = items_said items t (n + 1) threads early few (omega (arith, length-append s.schedule.items (i ∷ []))) h.1 in (
+      rest.0,
+      said_next (item_fields i) (map item_fields items) s t n (item_said s n threads i early few (omega arith) h.0) ∙ rest.1
+          ∙ ap (λ (l : List Item). Ok (with_items s l rest.0)) (append_assoc s.schedule.items (i ∷ []) items),
+    )

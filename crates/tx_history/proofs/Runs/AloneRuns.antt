@@ -1,0 +1,60 @@
+-- Every attempt of a player's run is one alone on the memory of its position.
+use Rattle.std.proofs.Common.{◌≡◌, ℕ, zero, suc, ◌<◌, ◌≤◌, ◌==◌, Bool, true, false, not, ◌&&◌, ◌||◌, is_none, if◌then◌else◌, All, List, [], ◌∷◌, Option, None, Some, refl, sym, ap, subst, ◌∙◌, eq-eqb}
+use Rattle.std.proofs.lemmas.List.Elements.{All-nil, All-cons, All-head, All-tail}
+use Rattle.itm_types.specs.declared.limits.TheConstants.{MAX_OPEN_BLOCKS}
+use Rattle.itm_types.specs.declared.call.Call.{Call}
+use Rattle.itm_types.specs.declared.call.Call.TheVariants.{Begin}
+use Rattle.itm_types.specs.declared.call.Refusal.{Refusal}
+use Rattle.itm_types.specs.declared.call.Refusal.TheVariants.{NoIrrevocable}
+use Rattle.itm_model.specs.Machine.{after, or_else, outside, refusal, reply, unless}
+use Rattle.tx_attempts.specs.declared.attempt.Attempt.{Attempt}
+use Rattle.tx_history.specs.Legal.{IsAlone, may_begin}
+use Rattle.tx_player.specs.Rules.{Rules}
+use Rattle.tx_attempts.specs.Opacity.{Beginning, Between, IsRunOf, IsTryAt, after_try, begin_of, begin_within}
+use Rattle.tx_history.proofs.Runs.AloneCalls.{is_alone}
+
+-- ## Begins
+
+-- a begin that goes irrevocable where its block forbids that is refused
+by_flags : (goes forbids : Bool) (later : Option Refusal) → is_none (or_else (or_else (unless (not (goes && (forbids || false))) NoIrrevocable) later) None) ≡ true → not (goes && forbids) ≡ true
+by_flags true true later e = absurd (cc)
+by_flags true false later e = refl
+by_flags false forbids later e = refl
+
+module _ {P : Type 0} (rules : Rules P) (deepest : ℕ) where
+  may_begin_there : (n : ℕ) (p : P) (arena : List ℕ) (o : Option Call) (start : Beginning P) → begin_within rules deepest n p arena o ≡ Some start → may_begin start.props ≡ true
+  may_begin_there zero p arena o start e = absurd (cc)
+  may_begin_there (suc n) p arena None start e = absurd (cc)
+  may_begin_there (suc n) p arena (Some (Begin props room)) start e = by_test (λ f. may_begin_there n (rules.answered p (reply deepest (outside [] arena) (Begin props room))) arena (rules.next_call (rules.answered p (reply deepest (outside [] arena) (Begin props room)))) start f) (is_none (refusal deepest (outside [] arena) (Begin props room))) refl e
+    where
+      q : P
+      q = rules.answered p (reply deepest (outside [] arena) (Begin props room))
+
+      by_test : (begin_within rules deepest n q arena (rules.next_call q) ≡ Some start → may_begin start.props ≡ true) → (b : Bool) → is_none (refusal deepest (outside [] arena) (Begin props room)) ≡ b
+          → (if b then Some (record { player = p; arena = arena; props = props }) else begin_within rules deepest n q arena (rules.next_call q)) ≡ Some start → may_begin start.props ≡ true
+      by_test later true t f =
+          let same : record { player = p; arena = arena; props = props } ≡ start = cc in
+          ap (λ (s : Beginning P). may_begin s.props) (sym same) ∙ by_flags props.goes_irrevocable props.no_irrevocable _ t
+      by_test later false t f = later f
+  may_begin_there (suc n) p arena (Some call) start e =
+      (let q = rules.answered p (reply deepest (outside [] arena) call) in may_begin_there n q (after deepest (outside [] arena) call).arena (rules.next_call q) start e)
+
+-- ## Runs
+
+module _ {P : Type 0} (rules : Rules P) (n : ℕ) (memory : ℕ → List ℕ) where
+  -- it is alone on the memory of its position, which is one of these
+  abbrev pub IsPlaced : Attempt → Type 0
+  IsPlaced a = IsAlone (memory a.at) a × (a.at ≤ n)
+
+  of_try : (b : Between P) (o : Option (Beginning P)) (a : Attempt) → begin_of rules MAX_OPEN_BLOCKS b.player b.arena ≡ o → IsTryAt rules MAX_OPEN_BLOCKS n memory b o a → IsPlaced a
+  of_try b None a e t = absurd t
+  of_try b (Some start) a e t = (
+    is_alone rules _ a n (memory a.at) t.3
+        (ap may_begin t.1 ∙ may_begin_there rules MAX_OPEN_BLOCKS (rules.calls_left b.player) b.player b.arena (rules.next_call b.player) start e),
+    t.3.no_newer,
+  )
+
+  pub of_run : (b : Option (Between P)) (xs : List Attempt) → IsRunOf rules MAX_OPEN_BLOCKS n memory b xs → All IsPlaced xs
+  of_run b [] h = All-nil IsPlaced
+  of_run None (a ∷ rest) h = absurd h
+  of_run (Some b) (a ∷ rest) h = All-cons IsPlaced a rest (of_try b _ a refl h.0) (of_run (after_try rules MAX_OPEN_BLOCKS memory b (begin_of rules MAX_OPEN_BLOCKS b.player b.arena) a) rest h.1)

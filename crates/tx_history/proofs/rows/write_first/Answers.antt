@@ -1,0 +1,5 @@
+use Rattle.tx_history.proofs.PagedTexts.{spells_end}
+use Rattle.tx_history.proofs.rows.write_first.Goals as goal
+
+pub returns-clause-spells : goal.returns-clause-spells
+returns-clause-spells g c = spells_end _ _ _ _ _ c.put_first.ensures c.flush.ensures.carries

@@ -1,0 +1,8 @@
+-- The history of a run on threads.
+pub mod PositionTotals
+pub mod CommitPositions
+pub mod ThreadAttempts
+pub mod LegalRuns
+pub mod WholeRuns
+pub mod ScriptWidths
+pub mod LimitedReports

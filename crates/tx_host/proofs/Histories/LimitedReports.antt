@@ -1,0 +1,60 @@
+-- The history of a run on threads is within the limits of a run, where its program is.
+use Rattle.std.proofs.Common.{◌≡◌, ℕ, zero, suc, ◌+◌, ◌-◌, ◌<◌, ◌≤◌, All, List, [], ◌∷◌, ◌++◌, length, get_or, Some, slice_get, refl, sym, subst, arith}
+use Rattle.std.proofs.lemmas.List.{length-replicate}
+use Rattle.std.proofs.lemmas.List.Elements.{All-nil, All-cons, All-head, All-tail, All-append}
+use Rattle.itm_types.specs.declared.limits.TheConstants.{MAX_ACTORS, MAX_ARENA, MAX_RETRIES}
+use Rattle.script_program.specs.declared.instruction.Instruction.{Instruction}
+use Rattle.script_program.specs.Listing.{Listing, opening_of, threads_of}
+use Rattle.script_vm.specs.Threads.{thread_rules}
+use Rattle.tx_attempts.specs.declared.attempt.Attempt.{Attempt}
+use Rattle.tx_attempts.specs.Attempts.{of_thread}
+use Rattle.tx_history.specs.Bounds.{AreLimited, HasArenaWidth, IsLimited, IsMemorySize}
+use Rattle.tx_history.specs.Legal.{memory_at}
+use Rattle.tx_runs.specs.declared.ending.End.{End}
+use Rattle.tx_worker.specs.Positions.{AreOwn}
+use Rattle.tx_history.proofs.Runs.LimitedRuns.{IsOwn, own_run}
+use Rattle.tx_host.specs.declared.report.Report.{Report}
+use Rattle.tx_host.specs.Courses.{IsCourse, first_of}
+use Rattle.tx_host.specs.Limits.{IsLimitedListing}
+use Rattle.tx_host.specs.Reports.{Ran, by_number, commits_of}
+use Rattle.tx_host.proofs.Histories.ScriptWidths.{script_widths}
+
+there_is : {A : Type 0} (xs : List A) (i : ℕ) → i < length xs → (x : A) × (slice_get xs i ≡ Some x)
+there_is [] i l = absurd (omega arith)
+there_is (x ∷ xs) zero l = (x, refl)
+there_is (x ∷ xs) (suc i) l = there_is xs i (omega arith)
+
+-- what is so of each thread's attempts is so of all
+by_threads : (Q : Attempt → Type 0) (k n : ℕ) (all : List Attempt) → ((thread : ℕ) → thread < k + n → All Q (of_thread thread all)) → All Q (by_number k n all)
+by_threads Q k zero all each = All-nil Q
+by_threads Q k (suc n) all each = All-append Q (of_thread k all) (by_number (k + 1) n all) (each k (omega arith)) (by_threads Q (k + 1) n all (λ thread l. each thread (omega arith)))
+
+-- the attempts of a thread with this number and so many tries of a block at most
+limited_each : (thread tries k : ℕ) → thread < MAX_ACTORS → tries ≤ MAX_RETRIES + 1 → k ≤ MAX_ARENA → (xs : List Attempt) → AreOwn thread tries xs → All (IsOwn HasArenaWidth k) xs → All IsLimited xs
+limited_each thread tries k t n l [] own all = All-nil IsLimited
+limited_each thread tries k t n l (x ∷ xs) own all =
+    All-cons IsLimited x xs
+    (let is : IsOwn HasArenaWidth k x = All-head (IsOwn HasArenaWidth k) x xs all in
+    record {
+      thread = (let same = own.0 in omega arith);
+      nth = (is.nth, (let few = own.1 in omega arith));
+      arena = (let same = is.arena in omega arith);
+      widths = is.calls;
+    })
+    (limited_each thread tries k t n l xs own.2 (All-tail (IsOwn HasArenaWidth k) x xs all))
+
+module _ (p : Listing) (r : Report) (ran : Ran p r) (limits : IsLimitedListing p) where
+  limited_thread : (thread : ℕ) → thread < length (threads_of p) → All IsLimited (of_thread thread r.history.attempts)
+  limited_thread thread l =
+      let code = there_is (threads_of p) thread l in
+      let end = there_is r.ends.items thread (subst (λ (n : ℕ). thread < n) (sym ran.count) l) in
+      let course : IsCourse p (commits_of r) (memory_at r.history) thread code.0 end.0 (of_thread thread r.history.attempts) = ran.threads thread code.0 end.0 code.1 end.1 in
+      limited_each thread (p.limits.retries + 1) p.arena (let few = limits.threads in omega arith) (let few = limits.retries in omega arith) limits.arena
+      (of_thread thread r.history.attempts) course.own
+      (own_run thread_rules HasArenaWidth script_widths p.arena (commits_of r) (memory_at r.history) (Some (first_of p.arena code.0)) (of_thread thread r.history.attempts) (length-replicate p.arena 0) course.run)
+
+  pub limited_report : AreLimited r.history
+  limited_report = record {
+    memory = subst (λ (bytes : List ℕ). IsMemorySize (length bytes)) (sym ran.memory) limits.memory;
+    attempts = subst (All IsLimited) (sym ran.by_thread) (by_threads IsLimited 0 (length (threads_of p)) r.history.attempts (λ thread l. limited_thread thread (omega arith)));
+  }

@@ -1,0 +1,109 @@
+-- A whole run, once all passes are joined and the words are closed.
+use Rattle.std.proofs.Common.{inl, inr, ◌≡◌, ℕ, ◌*◌, ◌<◌, ◌≤◌, nat_lt, All, List, [], ◌++◌, get_or, length, Some, slice_get, sym, ap, subst, ◌∙◌, arith, lt-ltb, le-ltb}
+use Rattle.std.proofs.lemmas.Bool.{cases_lt}
+use Rattle.std.proofs.Math.Seq.{take-length}
+use Rattle.std.proofs.lemmas.Option.{get_or_from_slice_get}
+use Rattle.itm_types.specs.Memory.{bytes_of}
+use Rattle.shared_words.specs.declared.view.View.{View}
+use Rattle.shared_words.specs.Commits.{after}
+use Rattle.shared_words.specs.Good.{EndsWith}
+use Rattle.shared_words.specs.Views.{opening, times}
+use Rattle.script_program.specs.declared.instruction.Instruction.{Instruction}
+use Rattle.script_program.specs.Listing.{Listing, opening_of, threads_of}
+use Rattle.script_vm.specs.Threads.{thread_rules}
+use Rattle.tx_attempts.specs.declared.attempt.Attempt.{Attempt}
+use Rattle.tx_attempts.specs.Attempts.{of_thread}
+use Rattle.tx_attempts.specs.Counts.{count_at, count_committed, one_where}
+use Rattle.tx_history.specs.Legal.{IsAlone, IsLegal, count_holding, memory_at}
+use Rattle.tx_history.proofs.Runs.AloneRuns.{IsPlaced}
+use Rattle.tx_runs.specs.declared.ending.End.{End}
+use Rattle.tx_worker.specs.Positions.{AreLeft, bytes_at, positions}
+use Rattle.tx_host.specs.declared.join.Done.{Done}
+use Rattle.tx_host.specs.declared.report.Report.{Report}
+use Rattle.tx_host.specs.Courses.{IsCourse}
+use Rattle.tx_host.specs.Joins.{Gathers, attempts_in, ends_in}
+use Rattle.tx_host.specs.Reports.{Ran, by_number}
+use Rattle.tx_host.specs.Starts.{code_of}
+use Rattle.tx_host.proofs.Histories.CommitPositions.{committed_count, count_times, memory_is}
+use Rattle.tx_host.proofs.Passes.Courses.{course_still}
+use Rattle.tx_host.proofs.Histories.LegalRuns.{all_free, all_placed}
+use Rattle.tx_host.proofs.Histories.PositionTotals.{count_is}
+use Rattle.tx_host.proofs.Histories.ThreadAttempts.{all_left, all_own, all_stand, ends_count}
+
+module _ (p : Listing) (r : Report) (start now : View) (all : List Done) (opens : start ≡ opening start.base) (from : bytes_of start.base ≡ r.history.memory) (begun : r.history.memory ≡ opening_of p) (gathered : Gathers start p now all) (closed : EndsWith now r.history.clock r.history.bytes) (attempts : r.history.attempts ≡ attempts_in all) (ends_are : r.ends.items ≡ ends_in all) where
+  abbrev rows : List Attempt
+  rows = r.history.attempts
+
+  abbrev n : ℕ
+  n = length now.seen
+
+  mine_is : now.mine ≡ positions rows
+  mine_is = gathered.joins.mine ∙ (ap (λ (l : List ℕ). l ++ positions (attempts_in all)) (ap (λ (v : View). v.mine) opens) ∙ ap positions (sym attempts))
+
+  once : (k : ℕ) → k < n → count_at k rows ≡ 1
+  once k l = count_times k rows ∙ (ap (times k) (sym mine_is) ∙ closed.mine k l)
+
+  no_other : (k : ℕ) → n ≤ k → count_at k rows ≡ 0
+  no_other k l = count_times k rows ∙ (ap (times k) (sym mine_is) ∙ closed.no_other k l)
+
+  commits_are : count_committed rows ≡ n
+  commits_are = committed_count rows ∙ count_is n (positions rows) (λ k l. ap (times k) (sym mine_is) ∙ closed.mine k l) (λ k l. ap (times k) (sym mine_is) ∙ closed.no_other k l)
+
+  counted : (k : ℕ) → count_at k rows ≡ one_where (nat_lt k (count_committed rows))
+  counted k = (elim (cases_lt k n) [
+    | inl l ↦ once k l ∙ sym (ap one_where (lt-ltb k n l))
+    | inr l ↦ no_other k l ∙ sym (ap one_where (le-ltb k n l))
+  ]) ∙ ap (λ (m : ℕ). one_where (nat_lt k m)) (sym commits_are)
+
+  left : AreLeft now rows
+  left = subst (AreLeft now) (sym attempts) (all_left p now 0 all gathered.joins.workers)
+
+  memory_same : (k : ℕ) → k ≤ n → memory_at r.history k ≡ bytes_at now k
+  memory_same = memory_is now r.history.memory rows (sym from ∙ sym (ap bytes_of gathered.joins.base)) left once
+
+  bytes_are : r.history.bytes ≡ memory_at r.history (count_committed rows)
+  bytes_are =
+      let last : bytes_at now n ≡ bytes_of (after now.base now.seen) = ap (λ (h : List (List (ℕ × ℕ))). bytes_of (after now.base h)) (take-length now.seen) in
+      closed.bytes_are ∙ (sym last ∙ (sym (memory_same n (omega arith)) ∙ ap (memory_at r.history) (sym commits_are)))
+
+  thread_course : (number : ℕ) (code : List Instruction) (end : End) → slice_get (threads_of p) number ≡ Some code → slice_get r.ends.items number ≡ Some end → IsCourse p (count_committed rows) (memory_at r.history) number code end (of_thread number rows)
+  thread_course number code end code_is end_is =
+      let d = all_own p now number all gathered.joins.workers end (subst (λ (l : List End). slice_get l number ≡ Some end) ends_are end_is) in
+      let its_code : code_of p number ≡ code = get_or_from_slice_get (threads_of p) number code [] code_is in
+      let its_rows : d.0.attempts ≡ of_thread number rows = sym d.3 ∙ ap (of_thread number) (sym attempts) in
+      let course : IsCourse p (count_committed rows) (memory_at r.history) number (code_of p number) d.0.end d.0.attempts =
+      course_still n (count_committed rows) (bytes_at now) (memory_at r.history) (let e = commits_are in omega arith) memory_same p number (code_of p number) d.0.end d.0.attempts d.1.course in
+      subst (λ (q : List Instruction × End × List Attempt). IsCourse p (count_committed rows) (memory_at r.history) number q.0 q.1 q.2) (λ i. (its_code i, d.2 i, its_rows i)) course
+
+  stands_by : rows ≡ by_number 0 (length (threads_of p)) rows
+  stands_by = subst (λ (q : List Attempt × ℕ). q.0 ≡ by_number 0 q.1 q.0) (λ i. (sym attempts i, gathered.count i)) (all_stand p now all gathered.joins.workers)
+
+  placed : All (IsPlaced thread_rules n (bytes_at now)) rows
+  placed = subst (All (IsPlaced thread_rules n (bytes_at now))) (sym attempts) (all_placed p now 0 all gathered.joins.workers)
+
+  clock_is : r.history.clock ≡ 2 * count_committed rows
+  clock_is = closed.clock_is ∙ ap (λ (m : ℕ). 2 * m) (sym commits_are)
+
+  legal : IsLegal r.history
+  legal = record {
+    positions = counted;
+    others = λ k d l. subst (λ (m : ℕ). (get_or rows k d).at ≤ m) (sym commits_are) (placed k d l).1;
+    alone = λ k d l. subst (λ (m : List ℕ). IsAlone m (get_or rows k d)) (sym (memory_same (get_or rows k d).at (placed k d l).1)) (placed k d l).0;
+    final = inl (record {
+      clock = clock_is;
+      bytes = bytes_are;
+      holding = ap (count_holding r.history) attempts ∙ all_free r.history now memory_same p 0 all gathered.joins.workers;
+    });
+  }
+
+  pub ran : Ran p r
+  ran = record {
+    memory = begun;
+    count = ap length ends_are ∙ (ends_count all ∙ gathered.count);
+    threads = thread_course;
+    by_thread = stands_by;
+    counted = counted;
+    clock = clock_is;
+    bytes = bytes_are;
+    legal = legal;
+  }

@@ -1,0 +1,72 @@
+-- One more worker's pass is joined.
+use Rattle.std.proofs.Common.{◌≡◌, ℕ, ◌+◌, false, List, [], ◌∷◌, ◌++◌, length, if◌then◌else◌, Bool, true, Vec, Global, sym, refl, ap, ◌∙◌, subst, append_assoc, append-nil, arith}
+use Rattle.shared_words.specs.declared.view.View.{View}
+use Rattle.shared_words.specs.declared.words.Words.{Words}
+use Rattle.shared_words.specs.Steps.{Joined}
+use Rattle.script_program.specs.Listing.{Listing, threads_of}
+use Rattle.script_vm.specs.Threads.{thread_rules}
+use Rattle.tx_attempts.specs.declared.attempt.Attempt.{Attempt}
+use Rattle.tx_attempts.specs.Attempts.{is_committed}
+use Rattle.tx_worker.specs.declared.worked.Worked.{Worked}
+use Rattle.tx_worker.specs.Positions.{positions}
+use Rattle.tx_worker.specs.Works.{Works, is_held, view_left}
+use Rattle.tx_host.specs.declared.join.Done.{Done}
+use Rattle.tx_host.specs.declared.start.WorksOn.{WorksOn}
+use Rattle.tx_host.specs.declared.start.Ready.{Ready}
+use Rattle.tx_host.specs.Joins.{Did, Gathers, Joins, attempts_in}
+use Rattle.tx_host.specs.Starts.{IsFor, Prepares}
+use Rattle.tx_host.proofs.Numbers.{numbered_map, numbered_push}
+use Rattle.tx_host.proofs.Passes.WorkerViews.{did_its, did_later, its_base, its_mine, its_share, joined_later}
+
+pub positions_both : (xs ys : List Attempt) → positions (xs ++ ys) ≡ positions xs ++ positions ys
+positions_both [] ys = refl
+positions_both (x ∷ xs) ys = by_outcome (is_committed x.outcome) (positions_both xs ys)
+  where
+    by_outcome : (b : Bool) → positions (xs ++ ys) ≡ positions xs ++ positions ys → (if b then x.at ∷ positions (xs ++ ys) else positions (xs ++ ys)) ≡ (if b then x.at ∷ positions xs else positions xs) ++ positions ys
+    by_outcome true more = ap (λ (ps : List ℕ). x.at ∷ ps) more
+    by_outcome false more = more
+
+pub attempts_push : (ds : List Done) (d : Done) → attempts_in (ds ++ d ∷ []) ≡ attempts_in ds ++ d.attempts
+attempts_push [] d = append-nil d.attempts
+attempts_push (x ∷ xs) d = ap (λ (l : List Attempt). x.attempts ++ l) (attempts_push xs d) ∙ sym (append_assoc x.attempts (attempts_in xs) d.attempts)
+
+pub joins_none : (v : View) (p : Listing) → Joins v p 0 v []
+joins_none v p = record { base = refl; share = omega arith; mine = sym (append-nil v.mine); workers = tt }
+
+module _ (words : Words) (base : List ℕ) (p : Listing) (n : ℕ) (promise : WorksOn) (r : Worked) (is : IsFor words base p n promise) (kept : (shuts : Bool) × Works thread_rules promise.words.now promise.start.value promise.player.value promise.number promise.retries shuts r) where
+  -- a worker whose pass came back
+  pub joins_more : (start now w : View) (all : List Done) (d : Done) → d ≡ record { attempts = r.attempts; end = r.end } → start.base ≡ base → length all ≡ n → is_held r.pass ≡ false → Joins start p n now all → Joined now (view_left r.pass) w
+      → Joins start p (n + 1) w (all ++ d ∷ [])
+  joins_more start now w all d d_is at many free old j =
+      let u : View = view_left r.pass in
+      let bases : now.base ≡ u.base = old.base ∙ (at ∙ sym (its_base words base p n promise r is kept)) in
+      let later = joined_later now u w j bases in
+      let did : Did p w n d = subst (Did p w n) (sym d_is) (did_later p u w later.1 n _ (did_its words base p n promise r is kept free)) in
+      let share : w.share ≡ now.share + u.share = j.share in
+      let one : u.share ≡ 1 = its_share words base p n promise r is kept in
+      let before : now.share ≡ start.share + n = old.share in
+      let attempts_are : d.attempts ≡ r.attempts = ap (λ (x : Done). x.attempts) d_is in
+      let theirs : u.mine ≡ positions d.attempts = its_mine words base p n promise r is kept ∙ ap positions (sym attempts_are) in
+      let all_are : positions (attempts_in (all ++ d ∷ [])) ≡ positions (attempts_in all) ++ positions d.attempts = ap positions (attempts_push all d) ∙ positions_both (attempts_in all) d.attempts in
+      record {
+        base = j.base ∙ old.base;
+        share = omega arith;
+        mine = j.mine ∙ ((λ i. old.mine i ++ theirs i) ∙ (append_assoc start.mine (positions (attempts_in all)) (positions d.attempts) ∙ ap (λ (l : List ℕ). start.mine ++ l) (sym all_are)));
+        workers = numbered_push (Did p w) 0 n all d (omega arith) (numbered_map (Did p now) (Did p w) 0 all (λ k x. did_later p now w later.0 k x) old.workers) did;
+      }
+
+-- all parts are back
+pub gathers : (words : Words) (p : Listing) (start given now : View) (ready : Vec Ready Global) (all : List Done) (n : ℕ) → Prepares words start p given ready → n ≡ length (threads_of p) → length all ≡ n → now.holds ≡ false → Joins given p n now all → Gathers start p now all
+gathers words p start given now ready all n prepared many count idle joins =
+    let share : now.share ≡ given.share + n = joins.share in
+    let parts : given.share + length (threads_of p) ≡ start.share = prepared.share in
+    record {
+      count = count ∙ many;
+      idle = idle;
+      joins = record {
+        base = joins.base ∙ ap (λ (v : View). v.base) prepared.pass;
+        share = omega arith;
+        mine = joins.mine ∙ ap (λ (l : List ℕ). l ++ positions (attempts_in all)) (ap (λ (v : View). v.mine) prepared.pass);
+        workers = joins.workers;
+      };
+    }

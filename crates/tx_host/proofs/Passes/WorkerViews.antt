@@ -1,0 +1,127 @@
+-- What a worker did, as a later view has it.
+use Rattle.std.proofs.Common.{◌≡◌, ⊎_elim, inl, inr, ℕ, ◌+◌, ◌/◌, Bool, false, true≢false, List, [], ◌∷◌, ◌++◌, length, Option, None, Some, Result, Ok, Err, IfOk, sym, ap, subst, ◌∙◌}
+use Rattle.itm_types.specs.declared.limits.TheConstants.{MAX_OPEN_BLOCKS}
+use Rattle.norec_core.specs.Core.{Core}
+use Rattle.shared_words.specs.declared.pass.Pass.{Pass}
+use Rattle.shared_words.specs.declared.view.View.{View}
+use Rattle.shared_words.specs.declared.words.Words.{Words}
+use Rattle.shared_words.specs.Passes.{view_of}
+use Rattle.shared_words.specs.Commits.{StartsWith}
+use Rattle.shared_words.specs.Steps.{Joined}
+use Rattle.shared_words.proofs.ListPlaces.{starts_self}
+use Rattle.script_program.specs.Listing.{Listing}
+use Rattle.script_vm.specs.Threads.{Thread, thread_rules}
+use Rattle.itm_runtime.specs.Standing.{Standing}
+use Rattle.tx_attempts.specs.declared.attempt.Attempt.{Attempt}
+use Rattle.tx_attempts.specs.Attempts.{alone}
+use Rattle.tx_attempts.specs.Opacity.{Between, IsRunOf, after_try}
+use Rattle.tx_runs.specs.declared.ending.End.{End}
+use Rattle.tx_runs.specs.declared.ending.End.TheVariants.{Finished, GaveUp, NoMemory}
+use Rattle.tx_runs.specs.Runs.{begins_at}
+use Rattle.tx_worker.specs.declared.worked.Worked.{Worked}
+use Rattle.tx_worker.specs.Positions.{AreOwn, AreSince, bytes_at, positions}
+use Rattle.tx_worker.specs.Progress.{Course}
+use Rattle.tx_worker.specs.Works.{AreHeld, EndsAs, IsBack, IsFinished, Works, course_of, is_held, view_left}
+use Rattle.tx_worker.proofs.Runs.LaterCommits.{IsLater, all_left_in, bytes_in, seen_in}
+use Rattle.tx_host.specs.declared.join.Done.{Done}
+use Rattle.tx_host.specs.declared.start.WorksOn.{WorksOn}
+use Rattle.tx_host.specs.Courses.{EndsBy, IsCourse, first_of}
+use Rattle.tx_host.specs.Joins.{Did}
+use Rattle.tx_host.specs.Starts.{IsFor, code_of}
+use Rattle.tx_host.proofs.Passes.Courses.{at_most, course_still}
+
+-- ## A later view
+
+held_later : (v w : View) → IsLater v w → (b : Option (Between Thread)) (xs : List Attempt) → IsRunOf thread_rules MAX_OPEN_BLOCKS (length v.seen) (bytes_at v) b xs → AreHeld v false xs → AreHeld w false xs
+held_later v w later b [] run h = tt
+held_later v w later None (x ∷ xs) run h = absurd run
+held_later v w later (Some b) (x ∷ xs) run h = (
+  λ e. ap (λ (m : List ℕ). (alone MAX_OPEN_BLOCKS m x).irrevocable) (bytes_in v w later x.at (at_most thread_rules (length v.seen) (bytes_at v) b (begins_at thread_rules b) x run.0)) ∙ h.0 e,
+  held_later v w later (after_try thread_rules MAX_OPEN_BLOCKS (bytes_at v) b (begins_at thread_rules b) x) xs run.1 h.1,
+)
+
+pub did_later : (p : Listing) (v w : View) → IsLater v w → (k : ℕ) (d : Done) → Did p v k d → Did p w k d
+did_later p v w later k d did = record {
+  course = course_still (length v.seen) (length w.seen) (bytes_at v) (bytes_at w) (seen_in v w later) (bytes_in v w later) p k (code_of p k) d.end d.attempts did.course;
+  left = all_left_in v w later d.attempts did.left;
+  held = held_later v w later (Some (first_of p.arena (code_of p k))) d.attempts did.course.run did.held;
+}
+
+-- what the joined view has seen goes on from what either had
+pub joined_later : (v u w : View) → Joined v u w → (v.base ≡ u.base) → IsLater v w × IsLater u w
+joined_later v u w j same =
+    let grows : StartsWith w.seen v.seen × StartsWith w.seen u.seen =
+    ⊎_elim
+    (λ t. subst (λ (h : List (List (ℕ × ℕ))). StartsWith h v.seen × StartsWith h u.seen) (sym t.1) (starts_self v.seen, t.0))
+    (λ t. subst (λ (h : List (List (ℕ × ℕ))). StartsWith h v.seen × StartsWith h u.seen) (sym t.1) (t.0, starts_self u.seen))
+    j.longer in
+    (record { base = j.base; grows = grows.0 }, record { base = j.base ∙ same; grows = grows.1 })
+
+-- a pass that came back was joined
+pub joined_left : (v w : View) (back : Result Pass Standing) → is_held back ≡ false → IfOk back (λ q. Joined v (view_of q) w) → Joined v (view_left back) w
+joined_left v w (Ok q) free j = j
+joined_left v w (Err t) free j = absurd (true≢false free)
+
+-- ## A worker that keeps its promise
+
+module _ (words : Words) (base : List ℕ) (p : Listing) (n : ℕ) (w : WorksOn) (r : Worked) (is : IsFor words base p n w) (kept : (shuts : Bool) × Works thread_rules w.words.now w.start.value w.player.value w.number w.retries shuts r) where
+  abbrev left_view : View
+  left_view = view_left r.pass
+
+  abbrev course : Course Thread
+  course = course_of w.start.value w.player.value w.number w.retries
+
+  done : IsFinished thread_rules w.words.now course w.start.value.engine.max_commits kept.0 r
+  done = kept.1.finished
+
+  first_is : course.first ≡ first_of p.arena (code_of p n)
+  first_is i = record { player = is.fresh.player_is i; arena = (is.fresh.engine_is i).arena; again = false; tries = 0 }
+
+  pub its_base : left_view.base ≡ base
+  its_base = done.runs.went.base ∙ is.fresh.base_is
+
+  pub its_share : left_view.share ≡ 1
+  its_share = done.runs.went.share ∙ is.fresh.share
+
+  pub its_mine : left_view.mine ≡ positions r.attempts
+  its_mine = done.mine ∙ ap (λ (l : List ℕ). l ++ positions r.attempts) is.fresh.mine
+
+  known_is : course.known ≡ 0
+  known_is = ap (λ (e : Core). e.snapshot / 2) is.fresh.engine_is
+
+  ends_by : (end : End) → EndsAs thread_rules course w.start.value.engine.max_commits kept.0 end left_view r.attempts → EndsBy (bytes_at left_view) course.first end r.attempts
+  ends_by Finished e = ⊎_elim
+      (λ o. inl (record { between = o.between; now_is = o.now_is; none = o.none }))
+      (λ o. inr (record {
+        before = o.before;
+        last = o.last;
+        attempts_are = o.attempts_are;
+        unfinished = o.unfinished;
+        between = o.between;
+        now_is = o.now_is;
+        start = o.start;
+        begins = o.begins;
+        none = o.none;
+      }))
+      e
+  ends_by GaveUp e = tt
+  ends_by NoMemory e = tt
+
+  course_is : IsCourse p (length left_view.seen) (bytes_at left_view) n (code_of p n) r.end r.attempts
+  course_is = record {
+    run = subst (λ (b : Between Thread). IsRunOf thread_rules MAX_OPEN_BLOCKS (length left_view.seen) (bytes_at left_view) (Some b) r.attempts) first_is done.runs.run;
+    since = subst (λ (k : ℕ). AreSince k r.attempts) known_is done.runs.since;
+    own = subst (λ (q : ℕ × ℕ). AreOwn q.0 (q.1 + 1) r.attempts) (λ i. (is.number_is i, is.retries_are i)) done.runs.own;
+    ends = subst (λ (b : Between Thread). EndsBy (bytes_at left_view) b r.end r.attempts) first_is (ends_by r.end done.ends);
+  }
+
+  pub its_back : IsBack words r.pass
+  its_back = subst (λ (q : Words). IsBack q r.pass) is.words_are done.back
+
+  -- where its pass came back
+  pub did_its : is_held r.pass ≡ false → Did p left_view n (record { attempts = r.attempts; end = r.end })
+  did_its free = record {
+    course = course_is;
+    left = done.runs.left;
+    held = subst (λ (b : Bool). AreHeld left_view b r.attempts) free done.held;
+  }

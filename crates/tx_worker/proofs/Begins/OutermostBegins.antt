@@ -1,0 +1,217 @@
+-- An outermost begin.
+use Rattle.std.proofs.Common.{◌≡◌, ℕ, ◌/◌, ◌<◌, ◌≤◌, Bool, true, false, true≢false, if◌then◌else◌, List, [], ◌++◌, length, Option, None, Some, refl, sym, ap, subst, ◌∙◌, arith}
+use Rattle.itm_types.specs.Memory.{IsMemory, bytes_of}
+use Rattle.itm_types.specs.declared.limits.TheConstants.{MAX_OPEN_BLOCKS}
+use Rattle.itm_types.specs.declared.call.Call.{Call}
+use Rattle.itm_types.specs.declared.call.Call.TheVariants.{Begin}
+use Rattle.itm_types.specs.declared.call.Props.{Props}
+use Rattle.itm_types.specs.declared.call.Refusal.{Refusal}
+use Rattle.itm_types.specs.declared.call.Reply.{Reply as Replied}
+use Rattle.itm_types.specs.declared.call.Reply.TheVariants.{Code}
+use Rattle.user_actions.specs.Actions.{Actions, no_actions}
+use Rattle.itm_model.specs.Machine.{after, after_unless, irrevocable_from, is_open, opened, outside, pushed, refusal, reply, reply_unless, undone}
+use Rattle.itm_model.specs.State.{State}
+use Rattle.norec_core.proofs.Engines.Blocks.{none_inside}
+use Rattle.norec_core.specs.Core.{Core, in_transaction}
+use Rattle.norec_core.specs.Effects.{recoded}
+use Rattle.norec_core.specs.Stands.{stands_for}
+use Rattle.norec_core.specs.declared.answer.Answer.{Answer}
+use Rattle.norec_core.specs.declared.answer.Answer.TheVariants.{Busy, Committed, Conflict, Full, Reply}
+use Rattle.shared_words.specs.declared.view.View.{View}
+use Rattle.shared_words.specs.Views.{held}
+use Rattle.itm_runtime.specs.Served.{IsUndone, Meets, Served, Start, Went, came_over, left_over, memory_in, mine_after}
+use Rattle.itm_runtime.specs.Ties.{Stands}
+use Rattle.tx_attempts.specs.Opacity.{begin_code}
+use Rattle.tx_player.specs.Depth.{depth_after}
+use Rattle.tx_player.specs.Rules.{Obeys, Rules}
+use Rattle.tx_runs.proofs.Begins.{begin_here, led}
+use Rattle.tx_runs.proofs.Players.{plays}
+use Rattle.tx_runs.specs.Nesting.{IsNested}
+use Rattle.tx_runs.specs.Runs.{LeadsTo}
+use Rattle.tx_worker.proofs.Runs.LaterCommits.{run_later}
+use Rattle.tx_worker.proofs.Begins.OutsideCalls.{answered_outside, left_outside, nested_outside, opened_one, revocable_outside, shut_state, stands_outside}
+use Rattle.tx_worker.proofs.Machines.PlainStates.{stands_actions, stands_arena, stands_blocks, stands_open}
+use Rattle.tx_worker.specs.Positions.{known_after, positions}
+use Rattle.tx_worker.specs.Progress.{Course, HasRun, IsOutside, IsRunning, IsTry, MayReadIn, stood}
+use Rattle.tx_worker.specs.Tallies.{Tally, begun, tried}
+
+-- ## The plain machine
+
+-- a block that has just opened has no actions
+opened_none : (memory arena : List ℕ) (props : Props) → (opened memory arena props).actions ≡ no_actions
+opened_none memory arena props = by_props props.goes_irrevocable
+  where
+    by_props : (b : Bool) → (if b then irrevocable_from (pushed (outside memory arena) props) else pushed (outside memory arena) props).actions ≡ no_actions
+    by_props true = refl
+    by_props false = refl
+
+-- the code of its reply
+told_begun : (props : Props) (room : ℕ) (again : Bool) → recoded (Begin props room) again (Code 5) ≡ begin_code again
+told_begun props room true = refl
+told_begun props room false = refl
+
+-- an outermost begin that opens a block is not refused, and is answered so
+pub record IsEntered (arena : List ℕ) (props : Props) (room : ℕ) (again : Bool) (r : Replied) : Type 0 where
+  pub accepted : refusal MAX_OPEN_BLOCKS (outside [] arena) (Begin props room) ≡ None
+  pub reply_is : r ≡ begin_code again
+
+entered_out : (arena : List ℕ) (actions : Actions) (m : List ℕ) (props : Props) (room : ℕ) (again : Bool) (r : Replied) → r ≡ recoded (Begin props room) again (reply MAX_OPEN_BLOCKS (shut_state arena actions m) (Begin props room))
+    → is_open (after MAX_OPEN_BLOCKS (shut_state arena actions m) (Begin props room)) ≡ true → IsEntered arena props room again r
+entered_out arena actions m props room again r e now = by_refusal (refusal MAX_OPEN_BLOCKS (outside [] arena) (Begin props room)) refl e now
+  where
+    by_refusal : (why : Option Refusal) → refusal MAX_OPEN_BLOCKS (outside [] arena) (Begin props room) ≡ why → r ≡ recoded (Begin props room) again (reply_unless why (Code 5))
+        → is_open (after_unless why (shut_state arena actions m) (opened (shut_state arena actions m).memory arena props)) ≡ true → IsEntered arena props room again r
+    by_refusal None is e now = record { accepted = is; reply_is = e ∙ told_begun props room again }
+    by_refusal (Some why) is e now = absurd (true≢false (sym now))
+
+-- the state that it leaves
+entered_leaves : (arena : List ℕ) (actions : Actions) (m : List ℕ) (props : Props) (room : ℕ) → refusal MAX_OPEN_BLOCKS (outside [] arena) (Begin props room) ≡ None
+    → after MAX_OPEN_BLOCKS (shut_state arena actions m) (Begin props room) ≡ opened (bytes_of m) arena props
+entered_leaves arena actions m props room accepted = ap (λ (o : Option Refusal). after_unless o (shut_state arena actions m) (opened (bytes_of m) arena props)) accepted
+
+-- ## A served begin
+
+-- it commits nothing
+pub no_commit : (s : Start) (v : View) (e : Core) → in_transaction s.engine ≡ false → (at : ℕ) (wrote : Bool) → Served s (Committed at wrote) v e → ⊥
+no_commit s v e outside at wrote served = true≢false (sym served.tells.was_open ∙ outside)
+
+-- one that is full has seen as many commits as may be
+pub full_begin : (s : Start) (v : View) (e : Core) (at : ℕ) → Served s (Full at) v e → s.engine.max_commits ≤ length v.seen
+full_begin s v e at served = omega (arith, served.tells.full, served.tells.closes.seen)
+
+module _ (s : Start) (v : View) (e : Core) (before : Stands s.view s.engine) (outside : in_transaction s.engine ≡ false) where
+  -- an accepted one leaves this block open, over each memory that its reply speaks of
+  module _ (props : Props) (room : ℕ) (is : s.call ≡ Begin props room) (r : Replied) (served : Served s (Reply r) v e) (now : in_transaction e ≡ true) where
+    entered : IsEntered s.engine.arena props room s.again r
+    entered =
+        entered_out s.engine.arena s.engine.actions (came_over s v e) props room s.again r
+        (answered_outside s v e before outside r served ∙ ap (λ (c : Call). recoded c s.again (reply MAX_OPEN_BLOCKS (shut_state s.engine.arena s.engine.actions (came_over s v e)) c)) is)
+        (sym (ap is_open (left_outside s v e before outside r served ∙ ap (after MAX_OPEN_BLOCKS (shut_state s.engine.arena s.engine.actions (came_over s v e))) is)) ∙ stands_open e (left_over v e) now)
+
+    leaves : {m left : List ℕ} → Meets s r e m left → stands_for e left ≡ opened (bytes_of m) s.engine.arena props
+    leaves {m} meets =
+        meets.state
+        ∙ ((λ i. after MAX_OPEN_BLOCKS (stands_outside before outside m i) (is i))
+        ∙ entered_leaves s.engine.arena s.engine.actions m props room entered.accepted)
+
+    -- over each memory that the attempt may have read
+    begins_over : (m : List ℕ) → MayReadIn e.irrevocable v e m → stands_for e (stood e.irrevocable v m) ≡ opened (bytes_of m) s.engine.arena props
+    begins_over m may = by_mode e.irrevocable refl may
+      where
+        by_mode : (b : Bool) → e.irrevocable ≡ b → MayReadIn b v e m → stands_for e (stood b v m) ≡ opened (bytes_of m) s.engine.arena props
+        by_mode false revocable may =
+            leaves (served.tells.all (revocable_outside before outside) revocable m (subst (λ (words : ℕ). IsMemory words m) served.words may.0) may.1)
+        by_mode true irrevocable may =
+            let there : came_over s v e ≡ m = ap (λ (b : Bool). memory_in b s.view v (e.snapshot / 2)) (revocable_outside before outside) ∙ sym may in
+            let here : left_over v e ≡ held v = ap (λ (b : Bool). memory_in b v v (e.snapshot / 2)) irrevocable in
+            sym (ap (stands_for e) here) ∙ (leaves served.tells.here ∙ ap (λ (x : List ℕ). opened (bytes_of x) s.engine.arena props) there)
+
+    -- there are no actions yet
+    pub begins_actions : e.actions ≡ no_actions
+    begins_actions = sym (stands_actions e (left_over v e)) ∙ (ap (λ (x : State). x.actions) (leaves served.tells.here) ∙ opened_none (bytes_of (came_over s v e)) s.engine.arena props)
+
+    -- and one block is open
+    begins_one : length e.blocks ≡ 1
+    begins_one = sym (stands_blocks e (left_over v e)) ∙ (ap (λ (x : State). length x.blocks) (leaves served.tells.here) ∙ opened_one (bytes_of (came_over s v e)) s.engine.arena props)
+
+  -- one that came to nothing leaves the arena as it was
+  nothing_left : IsUndone s e → e.arena ≡ s.engine.arena
+  nothing_left undone_so =
+      let some = before.settled.agreed in
+      sym (stands_arena e some.0) ∙ ap (λ (x : State). x.arena) (undone_so some.0 some.1 ∙ ap undone (stands_outside before outside some.0))
+
+-- ## The run goes on
+
+module _ {P : Type 0} {rules : Rules P} (laws : Obeys rules) (c : Course P) (s : Start) (t : Tally P) (v : View) (e : Core)
+    (running : IsRunning rules c s.view s.engine t) (before : Stands s.view s.engine) (asks : rules.next_call t.player ≡ Some s.call) (outside : in_transaction s.engine ≡ false) where
+  was : IsOutside rules c s.view s.engine t
+  was = running.outside outside
+
+  -- where no try is left, or as many commits are done as may be: the run as it is
+  pub begin_over : {a : Answer} → Served s a v e → mine_after s.view.mine a ≡ s.view.mine → HasRun rules c v t.ended × (v.mine ≡ c.view.mine ++ positions t.ended)
+  begin_over served same = ((run_later rules c s.view v served.went t.ended running.has_run).0, served.mine ∙ (same ∙ running.mine))
+
+  -- ## It came to nothing, and is tried again
+
+  tries_again : Went s.view v → v.mine ≡ s.view.mine → in_transaction e ≡ false → s.view.looks < v.looks → IsUndone s e → t.nth ≤ c.retries → IsRunning rules c v e (tried t t.player t.ended)
+  tries_again went mine shut looks undone_so few =
+      let nested = nested_outside running outside in
+      let later = run_later rules c s.view v went t.ended running.has_run in
+      let k = was.before in
+      record {
+        has_run = later.0;
+        mine = mine ∙ running.mine;
+        tried = omega arith;
+        tries = omega arith;
+        nested = subst (λ (b : Bool). IsNested rules b t.player) (sym shut) nested;
+        depth = nested.deep ∙ sym (ap length (none_inside e.blocks shut));
+        inside = λ now. absurd (true≢false (sym now ∙ shut));
+        outside = λ now. record {
+          between = was.between;
+          none = refl;
+          now_is = later.1 ∙ was.now_is;
+          before = record {
+            calls = k.calls;
+            leads = subst (LeadsTo rules k.calls was.between.player was.between.arena t.player) (sym (nothing_left s v e before outside undone_so)) k.leads;
+            again = k.again;
+            tries = (let fewer = k.tries in omega arith);
+          };
+          looked = (let old = was.looked in omega arith);
+        };
+      }
+
+  pub lost : (clock : ℕ) (word : Option ℕ) → Served s (Conflict clock word) v e → t.nth ≤ c.retries → IsRunning rules c v e (tried t t.player t.ended)
+  lost clock word served few = tries_again served.went served.mine served.tells.closes.closed served.tells.looks served.tells.undone few
+
+  pub busy : (clock : ℕ) → Served s (Busy clock) v e → t.nth ≤ c.retries → IsRunning rules c v e (tried t t.player t.ended)
+  busy clock served few = tries_again served.went served.mine served.tells.closes.closed served.tells.looks served.tells.undone few
+
+  -- ## It is accepted
+
+  module _ (props : Props) (room : ℕ) (is : s.call ≡ Begin props room) (again : s.again ≡ t.again) (r : Replied) (served : Served s (Reply r) v e) (now : in_transaction e ≡ true) where
+    told : r ≡ begin_code was.between.again
+    told = (entered s v e before outside props room is r served now).reply_is ∙ ap begin_code (again ∙ was.before.again)
+
+    tries_block : IsTry rules was.between (begun c.number (known_after c.known t.ended) props s.engine.arena t) (rules.answered t.player r) v e
+    tries_block = record {
+      of_block = record {
+        start = record { player = t.player; arena = s.engine.arena; props = props };
+        begins = led rules laws was.before.calls was.between.player was.between.arena t.player s.engine.arena was.before.leads
+            ∙ begin_here rules laws t.player s.engine.arena props room (asks ∙ ap (λ (x : Call). Some x) is) (entered s v e before outside props room is r served now).accepted;
+        arena = refl;
+        props = refl;
+        tries = was.before.tries;
+        player = ap (rules.answered t.player) told;
+      };
+      began = omega (arith, running.has_run.known, (served.opens outside now).seen);
+      ran = sym (ap (λ (a : Actions). a.ran) (begins_actions s v e before outside props room is r served now));
+      each = λ m may. (tt, begins_over s v e before outside props room is r served now m may);
+    }
+
+    pub opens : IsRunning rules c v e (record t { player = rules.answered t.player r; open_one = Some (begun c.number (known_after c.known t.ended) props s.engine.arena t); again = true })
+    opens =
+        let nested = nested_outside running outside in
+        let later = run_later rules c s.view v served.went t.ended running.has_run in
+        let deep : depth_after (rules.depth t.player) s.call r ≡ 1 = (λ i. depth_after (nested.deep i) (is i) (told i)) in
+        let played = plays rules laws t.player s.call r asks false true nested (omega (arith, deep)) in
+        record {
+          has_run = later.0;
+          mine = served.mine ∙ running.mine;
+          tried = running.tried;
+          tries = running.tries;
+          nested = subst (λ (b : Bool). IsNested rules b (rules.answered t.player r)) (sym now) played.nested;
+          depth = laws.nests t.player s.call r asks ∙ (deep ∙ sym (begins_one s v e before outside props room is r served now));
+          inside = λ o. record {
+            between = was.between;
+            row = begun c.number (known_after c.known t.ended) props s.engine.arena t;
+            open_is = refl;
+            now_is = later.1 ∙ was.now_is;
+            try = tries_block;
+            again = refl;
+            nth = refl;
+            thread = refl;
+            began = refl;
+            looked = omega (arith, was.looked, (served.opens outside now).looks);
+          };
+          outside = λ shut. absurd (true≢false (sym now ∙ shut));
+        }

@@ -1,0 +1,143 @@
+-- Over a call of an open transaction no action that has run is lost, and there are no more actions in all than before, but for one that is registered.
+use Rattle.std.proofs.Common.{◌≡◌, ℕ, Bool, true, false, if◌then◌else◌, List, [], ◌∷◌, ◌++◌, Option, None, Some, refl, sym, ap, subst, ◌∙◌, arith, append-nil, append_assoc, length-append}
+use Rattle.itm_types.specs.declared.limits.TheConstants.{MAX_OPEN_BLOCKS}
+use Rattle.itm_types.specs.declared.call.Action.{Action}
+use Rattle.itm_types.specs.declared.call.Call.{Call}
+use Rattle.itm_types.specs.declared.call.Call.TheVariants.{Abort, Begin, Commit, CommitAction, Copy, Mode, UndoAction}
+use Rattle.itm_types.specs.declared.call.ActionKind.TheVariants as kinds
+use Rattle.itm_types.specs.declared.call.Props.{Props}
+use Rattle.itm_types.specs.declared.call.Ran.{Ran}
+use Rattle.itm_types.specs.declared.call.Refusal.{Refusal}
+use Rattle.itm_types.specs.declared.copy.CopyPair.{CopyPair}
+use Rattle.itm_types.specs.declared.copy.CopyPair.TheVariants.{In, Out, Within}
+use Rattle.user_actions.specs.Actions.{Actions, registered}
+use Rattle.itm_model.specs.Machine.{after, after_unless, back_from, closed_actions, effect, entered, irrevocable_from, is_open, made_irrevocable, opened, pushed, refusal, rolled_back, source_bytes, target_written, undone, undone_from, with_undo}
+use Rattle.itm_model.specs.State.{Block, Saved, State}
+use Rattle.norec_core.proofs.Replies.ActionCounts.{RunsOn, all_run, commits_run, given_up_actions, registers, still}
+use Rattle.norec_core.specs.Core.{Core, in_transaction}
+use Rattle.norec_core.specs.Stands.{stands_for}
+use Rattle.norec_core.specs.Undoing.{after_undoing}
+use Rattle.norec_core.specs.declared.answer.Answer.{Answer}
+use Rattle.norec_core.specs.declared.answer.Answer.TheVariants.{Busy, Committed, Conflict, Full, Reply}
+use Rattle.shared_words.specs.declared.view.View.{View}
+use Rattle.itm_runtime.specs.Served.{IsUndone, Served, Start, came_over, left_over}
+use Rattle.itm_runtime.specs.Ties.{Stands}
+use Rattle.tx_worker.proofs.Machines.PlainStates.{stands_actions, stands_open}
+
+-- where there are no more, there are at most so many more
+runs_within : (n : ℕ) {old new : Actions} → RunsOn 0 old new → RunsOn n old new
+runs_within n f = record { later = f.later; ran = f.ran; most = (let most = f.most in omega arith) }
+
+runs_both : {a b c : Actions} → RunsOn 0 a b → RunsOn 0 b c → RunsOn 0 a c
+runs_both {a} f g = record {
+  later = f.later ++ g.later;
+  ran = g.ran ∙ (ap (λ (ran : List Ran). ran ++ g.later) f.ran ∙ append_assoc a.ran f.later g.later);
+  most = (let x = f.most in let y = g.most in omega arith);
+}
+
+-- ## Rollbacks
+
+-- as those of an engine's block with these counts
+rolled_runs : (s : State) (props : Props) (rest : List Block) (saved : Option Saved) → RunsOn 0 s.actions (rolled_back s rest saved).actions
+rolled_runs s props rest None = still 0 s.actions
+rolled_runs s props rest (Some saved) = all_run (record { props = props; rows = []; log = []; commits = saved.commits; undos = saved.undos } ∷ []) s.actions
+
+back_runs : (s : State) (blocks : List Block) → RunsOn 0 s.actions (back_from s blocks).actions
+back_runs s [] = still 0 s.actions
+back_runs s (b ∷ bs) = rolled_runs s b.props bs b.saved
+
+undone_from_runs : (s : State) (blocks : List Block) → RunsOn 0 s.actions (undone_from s blocks).actions
+undone_from_runs s [] = still 0 s.actions
+undone_from_runs s (b ∷ bs) = runs_both (rolled_runs s b.props bs b.saved) (undone_from_runs (rolled_back s bs b.saved) bs)
+
+pub undone_runs : (s : State) → RunsOn 0 s.actions (undone s).actions
+undone_runs s = undone_from_runs s s.blocks
+
+-- ## Calls
+
+none_undone : (a : Actions) → RunsOn 0 a (record a { undos = [] })
+none_undone a = record { later = []; ran = sym (append-nil a.ran); most = omega arith }
+
+irrevocable_runs : (s : State) → RunsOn 0 s.actions (irrevocable_from s).actions
+irrevocable_runs s = by_mode s.irrevocable
+  where
+    by_mode : (b : Bool) → RunsOn 0 s.actions (if b then s else made_irrevocable s).actions
+    by_mode true = still 0 s.actions
+    by_mode false = none_undone s.actions
+
+entered_runs : (s : State) (props : Props) → RunsOn 0 s.actions (entered s props).actions
+entered_runs s props = by_props props.goes_irrevocable
+  where
+    by_props : (b : Bool) → RunsOn 0 s.actions (if b then irrevocable_from (pushed s props) else pushed s props).actions
+    by_props true = irrevocable_runs (pushed s props)
+    by_props false = still 0 s.actions
+
+closed_runs : (blocks : List Block) (a : Actions) → RunsOn 0 a (closed_actions blocks a)
+closed_runs [] a = still 0 a
+closed_runs (b ∷ []) a = commits_run a
+closed_runs (b ∷ p ∷ bs) a = still 0 a
+
+abort_runs : (s : State) (outer : Bool) → RunsOn 0 s.actions (effect s (Abort outer)).actions
+abort_runs s true = undone_runs s
+abort_runs s false = back_runs s s.blocks
+
+copy_same : (s : State) (pair : CopyPair) (place : ℕ) (bytes : List ℕ) → (target_written s pair place bytes).actions ≡ s.actions
+copy_same s (Out to) place bytes = refl
+copy_same s (In from) place bytes = refl
+copy_same s (Within from to) place bytes = refl
+
+commit_more : (a : Actions) (action : Action) → RunsOn 1 a (registered kinds.Commit action a)
+commit_more a action = record { later = []; ran = sym (append-nil a.ran); most = (let n = length-append a.commits (action ∷ []) in omega arith) }
+
+undo_more : (s : State) (action : Action) → RunsOn 1 s.actions (with_undo s action).actions
+undo_more s action = by_mode s.irrevocable
+  where
+    by_mode : (b : Bool) → RunsOn 1 s.actions (if b then s else record s { actions = registered kinds.Undo action s.actions }).actions
+    by_mode true = still 1 s.actions
+    by_mode false = record { later = []; ran = sym (append-nil s.actions.ran); most = (let n = length-append s.actions.undos (action ∷ []) in omega arith) }
+
+effect_runs : (s : State) (c : Call) → is_open s ≡ true → RunsOn (registers c) s.actions (effect s c).actions
+effect_runs s (Begin props room) o = subst (λ (b : Bool). RunsOn 0 s.actions (if b then entered s props else opened s.memory s.arena props).actions) (sym o) (entered_runs s props)
+effect_runs s Commit o = closed_runs s.blocks s.actions
+effect_runs s (Abort outer) o = abort_runs s outer
+effect_runs s (Mode room) o = irrevocable_runs s
+effect_runs s (Copy k) o = subst (RunsOn 0 s.actions) (sym (copy_same s k.pair k.to (source_bytes s k.pair k.from k.size))) (still 0 s.actions)
+effect_runs s (CommitAction action) o = commit_more s.actions action
+effect_runs s (UndoAction action) o = undo_more s action
+effect_runs s c o = still (registers c) s.actions
+
+pub plain_runs : (s : State) (c : Call) → is_open s ≡ true → RunsOn (registers c) s.actions (after MAX_OPEN_BLOCKS s c).actions
+plain_runs s c o = by_refusal (refusal MAX_OPEN_BLOCKS s c)
+  where
+    by_refusal : (why : Option Refusal) → RunsOn (registers c) s.actions (after_unless why s (effect s c)).actions
+    by_refusal None = effect_runs s c o
+    by_refusal (Some why) = still (registers c) s.actions
+
+-- ## A served call of an open transaction
+
+module _ (s : Start) (v : View) (e : Core) (before : Stands s.view s.engine) (inside : in_transaction s.engine ≡ true) where
+  -- over some memory it leaves the plain machine's actions
+  plainly : (c : Call) (m : List ℕ) → e.actions ≡ (after MAX_OPEN_BLOCKS (stands_for s.engine m) c).actions → RunsOn (registers c) s.engine.actions e.actions
+  plainly c m is =
+      subst (RunsOn (registers c) s.engine.actions) (sym is)
+      (subst (λ (a : Actions). RunsOn (registers c) a (after MAX_OPEN_BLOCKS (stands_for s.engine m) c).actions) (stands_actions s.engine m) (plain_runs (stands_for s.engine m) c (stands_open s.engine m inside)))
+
+  rolled : IsUndone s e → RunsOn (registers s.call) s.engine.actions e.actions
+  rolled undone_so =
+      let some = before.settled.agreed in
+      let is : e.actions ≡ (undone (stands_for s.engine some.0)).actions = sym (stands_actions e some.0) ∙ ap (λ (x : State). x.actions) (undone_so some.0 some.1) in
+      runs_within (registers s.call) (subst (RunsOn 0 s.engine.actions) (sym is) (subst (λ (a : Actions). RunsOn 0 a (undone (stands_for s.engine some.0)).actions) (stands_actions s.engine some.0) (undone_runs (stands_for s.engine some.0))))
+
+  pub served_runs : {a : Answer} → Served s a v e → RunsOn (registers s.call) s.engine.actions e.actions
+  served_runs {a = Reply r} served =
+      plainly s.call (came_over s v e) (sym (stands_actions e (left_over v e)) ∙ ap (λ (x : State). x.actions) served.tells.here.state)
+  served_runs {a = Committed at wrote} served =
+      subst (λ (c : Call). RunsOn (registers c) s.engine.actions e.actions) (sym served.tells.call) (plainly Commit (came_over s v e) served.tells.actions_is)
+  served_runs {a = Conflict clock word} served = rolled served.tells.undone
+  served_runs {a = Busy clock} served = rolled served.tells.undone
+  served_runs {a = Full at} served = rolled served.tells.undone
+
+-- what is given up is not irrevocable, so it held no clock
+pub given_up_runs : (s : Start) (e : Core) → Stands s.view s.engine → s.engine.irrevocable ≡ false → e ≡ after_undoing s.engine → RunsOn 0 s.engine.actions e.actions
+given_up_runs s e before revocable is =
+    subst (RunsOn 0 s.engine.actions) (sym (ap (λ (c : Core). c.actions) is ∙ given_up_actions s.engine (before.mode ∙ revocable))) (all_run s.engine.blocks s.engine.actions)

@@ -1,0 +1,227 @@
+-- A call of the open transaction is answered: it goes on, or is over.
+use Rattle.std.proofs.Common.{inl, inr, ◌≡◌, ℕ, suc, ◌/◌, Bool, true, false, if◌then◌else◌, List, [], ◌∷◌, ◌++◌, length, Some, refl, sym, true≢false, ap, subst, ◌∙◌, arith, append-nil}
+use Rattle.itm_types.specs.declared.limits.TheConstants.{MAX_OPEN_BLOCKS}
+use Rattle.itm_types.specs.declared.call.Call.{Call}
+use Rattle.itm_types.specs.declared.call.Call.TheVariants.{Abort, Commit}
+use Rattle.itm_types.specs.declared.call.Reply.{Reply as Replied}
+use Rattle.itm_types.specs.declared.call.Reply.TheVariants.{Code, Done}
+use Rattle.itm_types.specs.Calls.{is_abort}
+use Rattle.itm_types.specs.Memory.{Agrees, bytes_of}
+use Rattle.itm_model.specs.Machine.{after, is_open, reply}
+use Rattle.itm_model.specs.State.{Block, State}
+use Rattle.norec_core.specs.declared.answer.Answer.TheVariants.{Committed, Reply}
+use Rattle.norec_core.specs.Core.{Core, in_transaction}
+use Rattle.norec_core.specs.Order.{stage_at}
+use Rattle.norec_core.specs.Stands.{stands_for, state_in}
+use Rattle.norec_core.proofs.Engines.Blocks.{none_inside}
+use Rattle.norec_core.proofs.Engines.HeldStores.{shut_revocable}
+use Rattle.shared_words.specs.declared.view.View.{View}
+use Rattle.itm_runtime.specs.Served.{Meets, Served, Start, came_over, mine_if}
+use Rattle.itm_runtime.specs.Ties.{Stands, memory_of}
+use Rattle.tx_attempts.proofs.AloneCalls.{player_snoc}
+use Rattle.tx_attempts.specs.Opacity.{begin_code}
+use Rattle.tx_attempts.specs.declared.attempt.Outcome.TheVariants as outcomes
+use Rattle.tx_player.specs.Depth.{depth_after}
+use Rattle.tx_player.specs.Rules.{Obeys, Rules}
+use Rattle.tx_runs.proofs.PlainCalls.{aborts_close, commit_reply}
+use Rattle.tx_runs.proofs.Tries.{closing_alone, closing_state}
+use Rattle.tx_worker.proofs.Runs.LaterCommits.{run_later}
+use Rattle.tx_worker.proofs.Runs.OpenCloses.{Closes, closes_running}
+use Rattle.tx_worker.proofs.Runs.OpenRuns.{depth_now, led, made_open, nested_now, stood_led}
+use Rattle.tx_worker.proofs.Runs.EarlierReads.{came_stood, depth_told, met_here, position_read, told_before, told_plain}
+use Rattle.tx_worker.proofs.Machines.PlainStates.{stands_actions, stands_arena, stands_blocks, stands_open, stands_shut}
+use Rattle.tx_worker.specs.Positions.{bytes_at}
+use Rattle.tx_worker.specs.Progress.{Course, IsRunning, IsTry, MayRead, stood}
+use Rattle.tx_worker.specs.Tallies.{Tally, closed, ending_as, went_on, with_call}
+
+-- the commit of the outermost block ends its transaction
+pub commit_closes : (s : State) → length s.blocks ≡ 1 → is_open (after MAX_OPEN_BLOCKS s Commit) ≡ false
+commit_closes s one = by_blocks s.blocks one
+  where
+    by_blocks : (bs : List Block) → length bs ≡ 1 → is_open (after MAX_OPEN_BLOCKS (record s { blocks = bs }) Commit) ≡ false
+    by_blocks [] one = absurd (omega arith)
+    by_blocks (b ∷ []) one = refl
+    by_blocks (b ∷ p ∷ bs) one = absurd (omega (arith, one))
+
+module _ {P : Type 0} {rules : Rules P} (laws : Obeys rules) (c : Course P) (s : Start) (t : Tally P) (v : View) (e : Core) (running : IsRunning rules c s.view s.engine t) (before : Stands s.view s.engine) (stands : Stands v e)
+    (asks : rules.next_call t.player ≡ Some s.call) (first_time : s.again ≡ false) (inside : in_transaction s.engine ≡ true) where
+  -- ## It goes on
+
+  module _ (r : Replied) (served : Served s (Reply r) v e) where
+    try_goes_on : in_transaction e ≡ true → IsTry rules (running.inside inside).between (with_call s.call r e.actions.ran (running.inside inside).row) (rules.answered t.player r) v e
+    try_goes_on o =
+        let h = running.inside inside in
+        let try = h.try in
+        let grows = served.grows inside o in
+        record {
+          of_block = record {
+            start = try.of_block.start;
+            begins = try.of_block.begins;
+            arena = try.of_block.arena;
+            props = try.of_block.props;
+            tries = try.of_block.tries;
+            player = ap (λ (q : P). rules.answered q r) try.of_block.player ∙ sym (player_snoc rules.answered (rules.answered try.of_block.start.player (begin_code h.between.again)) h.row.calls.list (record { call = s.call; reply = r }));
+          };
+          began = (let up = grows.snapshot in let began = try.began in omega arith);
+          ran = refl;
+          each = λ m read.
+              (let told = told_before s v e before stands inside r served o m read in
+              let made = made_open laws c t s.view v s.engine running inside served.went m told.0 in
+              let is = stood_led laws c t s.view v s.engine running inside served.went m told.0 in
+              let replied : r ≡ reply MAX_OPEN_BLOCKS (led laws c t s.view v s.engine running inside served.went (bytes_of m)) s.call =
+              told_plain s v e before stands inside r first_time (stood s.engine.irrevocable s.view m) (stood e.irrevocable v m) told.1 ∙ ap (λ (x : State). reply MAX_OPEN_BLOCKS x s.call) is in (
+                closing_alone laws try.of_block (bytes_of m) s.call r made asks replied,
+                told.1.state ∙ (ap (λ (x : State). after MAX_OPEN_BLOCKS x s.call) is ∙ sym (closing_state laws try.of_block (bytes_of m) s.call r made asks replied)),
+              ));
+        }
+
+    depth_is : length e.blocks ≡ depth_after (length s.engine.blocks) s.call r
+    depth_is = depth_told s v e before stands inside r first_time _ _ (met_here s v e before stands inside r served)
+
+    pub stays : in_transaction e ≡ true → IsRunning rules c v e (went_on t (rules.answered t.player r) (with_call s.call r e.actions.ran (running.inside inside).row))
+    stays o =
+        let h = running.inside inside in
+        let later = run_later rules c s.view v served.went t.ended running.has_run in
+        record {
+          has_run = later.0;
+          mine = served.mine ∙ running.mine;
+          tried = running.tried;
+          tries = running.tries;
+          nested = nested_now rules laws t.player s.call r asks s.engine e running.depth depth_is running.nested;
+          depth = depth_now rules laws t.player s.call r asks s.engine e running.depth depth_is;
+          inside = λ o. record {
+            between = h.between;
+            row = with_call s.call r e.actions.ran h.row;
+            open_is = refl;
+            now_is = later.1 ∙ h.now_is;
+            try = try_goes_on o;
+            again = h.again;
+            nth = h.nth;
+            thread = h.thread;
+            began = h.began;
+            looked = (let looked = h.looked in let looks = served.went.looks in omega arith);
+          };
+          outside = λ shut. absurd (true≢false (sym o ∙ shut));
+        }
+
+    -- ## It is cancelled
+
+    module _ (shut : in_transaction e ≡ false) where
+      abbrev from : List ℕ
+      from = stood s.engine.irrevocable s.view (memory_of v (e.snapshot / 2))
+
+      abbrev left : List ℕ
+      left = stood e.irrevocable v (memory_of v (e.snapshot / 2))
+
+      met : Meets s r e from left
+      met = met_here s v e before stands inside r served
+
+      replied_plain : r ≡ reply MAX_OPEN_BLOCKS (stands_for s.engine from) s.call
+      replied_plain = told_plain s v e before stands inside r first_time from left met
+
+      no_commit : s.call ≡ Commit → ⊥
+      no_commit is = true≢false (sym (served.tells.still (ap is_abort is) inside) ∙ shut)
+
+      aborts : (outer : Bool) × (s.call ≡ Abort outer) × (r ≡ Code 24)
+      aborts = elim (aborts_close (stands_for s.engine from) s.call (stands_open s.engine from inside) (ap is_open (sym met.state) ∙ stands_shut e left shut)) [
+        | inl commit ↦ absurd (no_commit commit)
+        | inr abort ↦ (abort.0, abort.1, replied_plain ∙ abort.2)
+      ]
+
+      at_once : (v ≡ s.view) × (e.snapshot ≡ s.engine.snapshot)
+      at_once = served.at_once (ap (λ (call : Call). stage_at s.engine call s.again) aborts.1)
+
+      read : MayRead s.view s.engine (memory_of v (e.snapshot / 2))
+      read =
+          position_read s v e before stands inside (Reply r) served
+          (subst (λ (m : List ℕ). Agrees m s.engine.log) (λ i. memory_of (sym at_once.0 i) (sym at_once.1 i / 2)) (before.reads inside).agrees)
+
+      not_wrote : (stands_for e left).wrote ≡ false
+      not_wrote = λ i. (state_in (shut_revocable e stands.settled shut i) ((stands.settled.closed shut).1 i) e.blocks e.arena e.actions left).wrote
+
+      pub cancels : IsRunning rules c v e (closed t (rules.answered t.player r) (ending_as outcomes.Cancelled (e.snapshot / 2) e.actions.ran (with_call s.call r e.actions.ran (running.inside inside).row)))
+      cancels =
+          let calls = (running.inside inside).row.calls.list in
+          let same = at_once.1 in
+          let count = (before.reads inside).count in
+          let seen = ap (λ (x : View). length x.seen) at_once.0 in
+          closes_running laws c s t v e running served.went asks inside r read replied_plain outcomes.Cancelled (record {
+            done = refl;
+            shut = shut;
+            ends = (ap is_open (sym met.state) ∙ stands_shut e left shut, ap (λ (x : State). x.wrote) (sym met.state) ∙ not_wrote);
+            by = (calls, aborts.0, (λ i. calls ++ record { call = aborts.1 i; reply = aborts.2 i } ∷ []));
+            actions = sym (stands_actions e left) ∙ ap (λ (x : State). x.actions) met.state;
+            arena = sym (stands_arena e left) ∙ ap (λ (x : State). x.arena) met.state;
+            older = omega arith;
+            newer = omega arith;
+            leaves = λ is. absurd (true≢false (sym is));
+            mine = served.mine ∙ sym (append-nil s.view.mine);
+            depth = depth_is;
+          })
+
+  -- ## It commits
+
+  module _ (at : ℕ) (wrote : Bool) (served : Served s (Committed at wrote) v e) where
+    abbrev over : List ℕ
+    over = stood s.engine.irrevocable s.view (memory_of v (e.snapshot / 2))
+
+    commit_read : MayRead s.view s.engine (memory_of v (e.snapshot / 2))
+    commit_read =
+        position_read s v e before stands inside (Committed at wrote) served
+        (subst (λ (n : ℕ). Agrees (memory_of v n) s.engine.log) served.tells.closes.at_is (served.tells.closes.agrees inside))
+
+    done_plain : Done ≡ reply MAX_OPEN_BLOCKS (stands_for s.engine over) s.call
+    done_plain = commit_reply (stands_for s.engine over) (stands_open s.engine over inside) ∙ ap (reply MAX_OPEN_BLOCKS (stands_for s.engine over)) (sym served.tells.call)
+
+    last_is : after MAX_OPEN_BLOCKS (stands_for s.engine (came_over s v e)) Commit ≡ after MAX_OPEN_BLOCKS (stands_for s.engine over) s.call
+    last_is = λ i. after MAX_OPEN_BLOCKS (stands_for s.engine (came_stood s v e i)) (sym served.tells.call i)
+
+    is_shut : is_open (after MAX_OPEN_BLOCKS (stands_for s.engine over) s.call) ≡ false
+    is_shut =
+        ap (λ (call : Call). is_open (after MAX_OPEN_BLOCKS (stands_for s.engine over) call)) served.tells.call
+        ∙ commit_closes (stands_for s.engine over) (stands_blocks s.engine over ∙ served.tells.outermost)
+
+    depth_over : length e.blocks ≡ depth_after (length s.engine.blocks) s.call Done
+    depth_over =
+        ap length (none_inside e.blocks served.tells.closes.closed)
+        ∙ (sym (ap (λ (n : ℕ). depth_after n Commit Done) served.tells.outermost) ∙ ap (λ (call : Call). depth_after (length s.engine.blocks) call Done) (sym served.tells.call))
+
+    by_wrote : (w : Bool) → wrote ≡ w → Closes laws c s t v e running served.went asks inside Done commit_read done_plain (if w then outcomes.Committed else outcomes.ReadOnly)
+    by_wrote true is =
+        let calls = (running.inside inside).row.calls.list in
+        let at_is = served.tells.closes.at_is in
+        let next = served.tells.next is in
+        let seen = next.0 in
+        record {
+          done = refl;
+          shut = served.tells.closes.closed;
+          ends = (is_shut, sym (ap (λ (x : State). x.wrote) last_is) ∙ (sym served.tells.wrote_is ∙ is));
+          by = (calls, (λ i. calls ++ record { call = served.tells.call i; reply = Done } ∷ []));
+          actions = served.tells.actions_is ∙ ap (λ (x : State). x.actions) last_is;
+          arena = served.tells.arena_is ∙ ap (λ (x : State). x.arena) last_is;
+          older = served.tells.closes.late inside;
+          newer = omega arith;
+          leaves = λ yes. (omega arith, ap (λ (n : ℕ). bytes_at v (suc n)) (sym at_is) ∙ (next.1 ∙ ap (λ (x : State). x.memory) last_is));
+          mine = served.mine ∙ (λ i. mine_if (is i) s.view.mine (at_is i));
+          depth = depth_over;
+        }
+    by_wrote false is =
+        let calls = (running.inside inside).row.calls.list in
+        let at_is = served.tells.closes.at_is in
+        let seen = served.tells.closes.seen in
+        record {
+          done = refl;
+          shut = served.tells.closes.closed;
+          ends = (is_shut, sym (ap (λ (x : State). x.wrote) last_is) ∙ (sym served.tells.wrote_is ∙ is));
+          by = (calls, (λ i. calls ++ record { call = served.tells.call i; reply = Done } ∷ []));
+          actions = served.tells.actions_is ∙ ap (λ (x : State). x.actions) last_is;
+          arena = served.tells.arena_is ∙ ap (λ (x : State). x.arena) last_is;
+          older = served.tells.closes.late inside;
+          newer = omega arith;
+          leaves = λ yes. absurd (true≢false (sym yes));
+          mine = served.mine ∙ (ap (λ (w : Bool). mine_if w s.view.mine at) is ∙ sym (append-nil s.view.mine));
+          depth = depth_over;
+        }
+
+    pub commits : IsRunning rules c v e (closed t (rules.answered t.player Done) (ending_as (if wrote then outcomes.Committed else outcomes.ReadOnly) (e.snapshot / 2) e.actions.ran (with_call s.call Done e.actions.ran (running.inside inside).row)))
+    commits = closes_running laws c s t v e running served.went asks inside Done commit_read done_plain (if wrote then outcomes.Committed else outcomes.ReadOnly) (by_wrote wrote refl)

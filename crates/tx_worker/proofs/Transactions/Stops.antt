@@ -1,0 +1,195 @@
+-- The open attempt ends without its block, or is told as it stands.
+use Rattle.std.proofs.Common.{◌≡◌, ℕ, ◌/◌, ◌≤◌, Bool, true, false, List, [], ◌∷◌, ◌++◌, length, map, Option, Some, refl, sym, true≢false, ap, subst, ◌∙◌, arith, append-nil, if◌then◌else◌}
+use Rattle.itm_types.specs.declared.limits.TheConstants.{MAX_OPEN_BLOCKS}
+use Rattle.itm_types.specs.Memory.{Agrees, IsMemory}
+use Rattle.itm_model.specs.Machine.{after, reply, undone}
+use Rattle.itm_model.specs.State.{State}
+use Rattle.user_actions.specs.Actions.{Actions}
+use Rattle.norec_core.proofs.Replies.ActionCounts.{given_up_actions, undone_actions}
+use Rattle.norec_core.proofs.Engines.Blocks.{none_inside}
+use Rattle.norec_core.specs.declared.answer.Answer.{Answer}
+use Rattle.norec_core.specs.declared.answer.Answer.TheVariants.{Conflict, Full}
+use Rattle.norec_core.specs.Phases.{Idle}
+use Rattle.norec_core.specs.Core.{Core, in_transaction, rolled_back}
+use Rattle.norec_core.specs.Stands.{stands_for, state_in, state_over}
+use Rattle.norec_core.specs.Undoing.{after_undoing}
+use Rattle.shared_words.specs.declared.view.View.{View}
+use Rattle.itm_runtime.proofs.Steps.CallsInHand.{is_memory}
+use Rattle.itm_runtime.specs.Served.{IsUndone, Served, Start, Went}
+use Rattle.itm_runtime.specs.Ties.{Stands, memory_of}
+use Rattle.tx_attempts.specs.Attempts.{alone}
+use Rattle.tx_attempts.specs.Opacity.{LacksClock, after_try, answered_all, begin_code, takes_clock}
+use Rattle.tx_attempts.specs.declared.attempt.CallRecord.{CallRecord}
+use Rattle.tx_attempts.specs.declared.attempt.Outcome.TheVariants as outcomes
+use Rattle.tx_player.specs.Rules.{Obeys, Rules}
+use Rattle.tx_runs.proofs.Tries.{lacks_clock}
+use Rattle.tx_runs.specs.Nesting.{IsDeep}
+use Rattle.tx_worker.proofs.Machines.ClockCalls.{wants_revocable, wants_taking}
+use Rattle.tx_worker.proofs.Runs.OpenRuns.{alone_stood, led, made_open, stood_led, stop_ended, stop_mine}
+use Rattle.tx_worker.proofs.Runs.EarlierReads.{position_read}
+use Rattle.tx_worker.proofs.Machines.PlainStates.{may_here, stands_actions, stands_arena, stands_mode, stands_open}
+use Rattle.tx_worker.specs.Positions.{bytes_at, positions}
+use Rattle.tx_worker.specs.Progress.{Course, HasRun, IsRunning, MayRead, now_at, stood}
+use Rattle.tx_worker.specs.Tallies.{Tally, ending_as, tried}
+
+-- ## The actions that have run
+
+-- a transaction that is given up leaves those of the plain machine
+given_up_as : (old new : Core) (m : List ℕ) → old.holds ≡ false → old.irrevocable ≡ false → new ≡ after_undoing old → new.actions.ran ≡ (undone (stands_for old m)).actions.ran
+given_up_as old new m free revocable is =
+    ap (λ (c : Core). c.actions.ran) is ∙ (ap (λ (a : Actions). a.ran) (given_up_actions old free)
+    ∙ (sym (ap (λ (a : Actions). a.ran) (undone_actions old.blocks old.arena m (state_over old.writes old.blocks old.arena old.actions m)))
+    ∙ ap (λ (b : Bool). (undone (state_in b old.writes old.blocks old.arena old.actions m)).actions.ran) (sym revocable)))
+
+still_went : (v : View) → Went v v
+still_went v = record { base = refl; share = refl; grows = ([], sym (append-nil v.seen)); looks = omega arith }
+
+-- ## By an answer
+
+module _ {P : Type 0} {rules : Rules P} (laws : Obeys rules) (c : Course P) (s : Start) (t : Tally P) (v : View) (e : Core) (running : IsRunning rules c s.view s.engine t) (before : Stands s.view s.engine) (stands : Stands v e)
+    (asks : rules.next_call t.player ≡ Some s.call) (inside : in_transaction s.engine ≡ true) where
+  abbrev position : List ℕ
+  position = memory_of v (e.snapshot / 2)
+
+  -- a transaction that is not irrevocable is undone
+  module _ (a : Answer) (served : Served s a v e) (revocable : s.engine.irrevocable ≡ false) (undone_is : IsUndone s e) where
+    stood_same : stood s.engine.irrevocable s.view (memory_of v (e.snapshot / 2)) ≡ memory_of v (e.snapshot / 2)
+    stood_same = ap (λ (b : Bool). stood b s.view (memory_of v (e.snapshot / 2))) revocable
+
+    state_undone : stands_for e (memory_of v (e.snapshot / 2)) ≡ undone (stands_for s.engine (stood s.engine.irrevocable s.view (memory_of v (e.snapshot / 2))))
+    state_undone =
+        undone_is position (subst (λ (n : ℕ). IsMemory n (memory_of v (e.snapshot / 2))) served.words (is_memory e.words v stands.over (e.snapshot / 2)))
+        ∙ ap (λ (m : List ℕ). undone (stands_for s.engine m)) (sym stood_same)
+
+    ran_undone : e.actions.ran ≡ (undone (stands_for s.engine (stood s.engine.irrevocable s.view (memory_of v (e.snapshot / 2))))).actions.ran
+    ran_undone = ap (λ (x : Actions). x.ran) (sym (stands_actions e position)) ∙ ap (λ (x : State). x.actions.ran) state_undone
+
+  -- in conflict
+  module _ (clock : ℕ) (word : Option ℕ) (served : Served s (Conflict clock word) v e) where
+    conflict_read : MayRead s.view s.engine (memory_of v (e.snapshot / 2))
+    conflict_read = position_read s v e before stands inside (Conflict clock word) served (served.tells.closes.agrees inside)
+
+    conflict_ended : HasRun rules c v (t.ended ++ ending_as outcomes.Conflict (e.snapshot / 2) e.actions.ran (running.inside inside).row ∷ [])
+        × (now_at rules c v (t.ended ++ ending_as outcomes.Conflict (e.snapshot / 2) e.actions.ran (running.inside inside).row ∷ [])
+        ≡ after_try rules MAX_OPEN_BLOCKS (bytes_at v) (running.inside inside).between (Some (running.inside inside).try.of_block.start) (ending_as outcomes.Conflict (e.snapshot / 2) e.actions.ran (running.inside inside).row))
+    conflict_ended =
+        let m : List ℕ = stood s.engine.irrevocable s.view position in
+        let late = served.tells.closes.late inside in
+        let began = (running.inside inside).try.began in
+        stop_ended laws c t s.view v s.engine running inside served.went (e.snapshot / 2) outcomes.Conflict e.actions.ran refl conflict_read
+        (stands_open s.engine m inside, stands_mode s.engine m ∙ served.tells.revocable) (ran_undone (Conflict clock word) served served.tells.revocable served.tells.undone) (omega arith) served.tells.closes.seen (λ f. absurd (cc))
+
+    conflict_mine : v.mine ≡ c.view.mine ++ positions (t.ended ++ ending_as outcomes.Conflict (e.snapshot / 2) e.actions.ran (running.inside inside).row ∷ [])
+    conflict_mine = stop_mine laws c t s.view v s.engine running inside served.went (e.snapshot / 2) outcomes.Conflict e.actions.ran refl conflict_read served.mine
+
+    pub conflict_run : HasRun rules c v (t.ended ++ ending_as outcomes.Conflict (e.snapshot / 2) e.actions.ran (running.inside inside).row ∷ [])
+        × (v.mine ≡ c.view.mine ++ positions (t.ended ++ ending_as outcomes.Conflict (e.snapshot / 2) e.actions.ran (running.inside inside).row ∷ []))
+    conflict_run = (conflict_ended.0, conflict_mine)
+
+    -- its player goes back to its begin, and the next try is to come
+    pub conflicts : t.nth ≤ c.retries → IsRunning rules c v e (tried t (rules.restarted t.player) (t.ended ++ ending_as outcomes.Conflict (e.snapshot / 2) e.actions.ran (running.inside inside).row ∷ []))
+    conflicts may =
+        let h = running.inside inside in
+        let shut = served.tells.closes.closed in
+        let begun : rules.depth (rules.restarted t.player) ≡ 0 = running.nested.begun inside in
+        let player : rules.restarted (answered_all rules.answered (rules.answered h.try.of_block.start.player (begin_code h.between.again)) (map (λ (x : CallRecord). x.reply) h.row.calls.list)) ≡ rules.restarted t.player = ap rules.restarted (sym h.try.of_block.player) in
+        let left : State = alone MAX_OPEN_BLOCKS (bytes_at v (e.snapshot / 2)) (ending_as outcomes.Conflict (e.snapshot / 2) e.actions.ran h.row) in
+        let arena : (undone left).arena ≡ e.arena =
+        ap (λ (x : State). (undone x).arena) (alone_stood laws c t s.view v s.engine running inside served.went position conflict_read)
+        ∙ (ap (λ (x : State). x.arena) (sym (state_undone (Conflict clock word) served served.tells.revocable served.tells.undone)) ∙ stands_arena e position) in
+        record {
+          has_run = conflict_ended.0;
+          mine = conflict_mine;
+          tried = omega arith;
+          tries = omega arith;
+          nested = record {
+            deep = subst (λ (b : Bool). IsDeep b (rules.depth (rules.restarted t.player))) (sym shut) begun;
+            begun = λ o. absurd (true≢false (sym o ∙ shut));
+            less = λ o. absurd (true≢false (sym o ∙ shut));
+          };
+          depth = begun ∙ sym (ap length (none_inside e.blocks shut));
+          inside = λ o. absurd (true≢false (sym o ∙ shut));
+          outside = λ o. record {
+            between = record { player = rules.restarted t.player; arena = e.arena; again = true; tries = h.row.nth };
+            none = refl;
+            now_is = conflict_ended.1 ∙ (λ i. Some (record { player = player i; arena = arena i; again = true; tries = h.row.nth }));
+            before = record { calls = 0; leads = (refl, refl); again = h.again; tries = (let same = h.nth in omega arith) };
+            looked = (let looked = h.looked in let looks = served.tells.looks in omega arith);
+          };
+        }
+
+  -- as full: the clock is wanted, and is not to be had
+  module _ (at : ℕ) (served : Served s (Full at) v e) where
+    full_revocable : s.engine.irrevocable ≡ false
+    full_revocable = wants_revocable s.engine before.settled s.call served.tells.wants
+
+    full_read : MayRead s.view s.engine (memory_of v (e.snapshot / 2))
+    full_read =
+        position_read s v e before stands inside (Full at) served
+        (subst (λ (n : ℕ). Agrees (memory_of v n) s.engine.log) served.tells.closes.at_is (served.tells.closes.agrees inside))
+
+    lacks : LacksClock rules MAX_OPEN_BLOCKS (rules.answered (running.inside inside).try.of_block.start.player (begin_code (running.inside inside).between.again)) (running.inside inside).row (bytes_at v (e.snapshot / 2))
+    lacks =
+        let m : List ℕ = stood s.engine.irrevocable s.view position in
+        let stands_led = stood_led laws c t s.view v s.engine running inside served.went position full_read in
+        let made = made_open laws c t s.view v s.engine running inside served.went position full_read in
+        lacks_clock laws (running.inside inside).try.of_block (bytes_at v (e.snapshot / 2)) s.call
+        (reply MAX_OPEN_BLOCKS (led laws c t s.view v s.engine running inside served.went (bytes_at v (e.snapshot / 2))) s.call) made asks refl
+        (ap (λ (x : State). x.irrevocable) (sym stands_led) ∙ (stands_mode s.engine m ∙ full_revocable))
+        (ap (λ (x : State). takes_clock (after MAX_OPEN_BLOCKS x s.call)) (sym stands_led) ∙ wants_taking s.engine m full_revocable inside s.call served.tells.wants)
+
+    pub full_run : HasRun rules c v (t.ended ++ ending_as outcomes.Full (e.snapshot / 2) e.actions.ran (running.inside inside).row ∷ [])
+        × (v.mine ≡ c.view.mine ++ positions (t.ended ++ ending_as outcomes.Full (e.snapshot / 2) e.actions.ran (running.inside inside).row ∷ []))
+        × (s.engine.max_commits ≤ length v.seen)
+    full_run =
+        let m : List ℕ = stood s.engine.irrevocable s.view position in
+        let at_is = served.tells.closes.at_is in
+        let seen = served.tells.closes.seen in
+        let full = served.tells.full in
+        let late = served.tells.closes.late inside in
+        let began = (running.inside inside).try.began in (
+          (stop_ended laws c t s.view v s.engine running inside served.went (e.snapshot / 2) outcomes.Full e.actions.ran refl full_read (stands_open s.engine m inside, stands_mode s.engine m ∙ full_revocable)
+              (ran_undone (Full at) served full_revocable served.tells.undone) (omega arith) (omega arith) (λ f. lacks)).0,
+          stop_mine laws c t s.view v s.engine running inside served.went (e.snapshot / 2) outcomes.Full e.actions.ran refl full_read served.mine,
+          omega arith,
+        )
+
+-- ## With no call
+
+module _ {P : Type 0} {rules : Rules P} (laws : Obeys rules) (c : Course P) (s : Start) (t : Tally P) (running : IsRunning rules c s.view s.engine t) (before : Stands s.view s.engine) (inside : in_transaction s.engine ≡ true) where
+  -- it is given up for want of memory
+  pub starved_run : (v : View) (e : Core) → s.engine.irrevocable ≡ false → e ≡ after_undoing s.engine → v ≡ s.view
+      → HasRun rules c v (t.ended ++ ending_as outcomes.NoMemory (e.snapshot / 2) e.actions.ran (running.inside inside).row ∷ [])
+      × (v.mine ≡ c.view.mine ++ positions (t.ended ++ ending_as outcomes.NoMemory (e.snapshot / 2) e.actions.ran (running.inside inside).row ∷ []))
+  starved_run v e revocable is same =
+      let free : s.engine.holds ≡ false = before.mode ∙ revocable in
+      let snapshot : e.snapshot ≡ s.engine.snapshot = ap (λ (x : Core). x.snapshot) is ∙ ap (λ (h : Bool). (if h then s.engine else record (rolled_back s.engine) { stage = Idle; tries = 0 }).snapshot) free in
+      let m : List ℕ = stood s.engine.irrevocable s.view (memory_of v (e.snapshot / 2)) in
+      let went : Went s.view v = subst (Went s.view) (sym same) (still_went s.view) in
+      let read : MayRead s.view s.engine (memory_of v (e.snapshot / 2)) = subst (MayRead s.view s.engine) (λ i. memory_of (sym same i) (sym snapshot i / 2)) (may_here s.view s.engine before inside) in
+      let began = (running.inside inside).try.began in
+      let count = (before.reads inside).count in
+      let seen = ap (λ (x : View). length x.seen) same in (
+        (stop_ended laws c t s.view v s.engine running inside went (e.snapshot / 2) outcomes.NoMemory e.actions.ran refl read (stands_open s.engine m inside, stands_mode s.engine m ∙ revocable)
+            (given_up_as s.engine e m free revocable is) (omega arith) (omega arith) (λ f. absurd (cc))).0,
+        stop_mine laws c t s.view v s.engine running inside went (e.snapshot / 2) outcomes.NoMemory e.actions.ran refl read (ap (λ (x : View). x.mine) same),
+      )
+
+  -- the thread stops, and it is told as it stands
+  pub unfinished_run : HasRun rules c s.view (t.ended ++ record (running.inside inside).row { at = s.engine.snapshot / 2; outcome = outcomes.Unfinished } ∷ [])
+      × (s.view.mine ≡ c.view.mine ++ positions (t.ended ++ record (running.inside inside).row { at = s.engine.snapshot / 2; outcome = outcomes.Unfinished } ∷ []))
+  unfinished_run =
+      let h = running.inside inside in
+      let m : List ℕ = stood s.engine.irrevocable s.view (memory_of s.view (s.engine.snapshot / 2)) in
+      let read = may_here s.view s.engine before inside in
+      let count = (before.reads inside).count in (
+        (stop_ended laws c t s.view s.view s.engine running inside (still_went s.view) (s.engine.snapshot / 2) outcomes.Unfinished h.row.ran refl read (stands_open s.engine m inside)
+            (h.try.ran ∙ ap (λ (x : Actions). x.ran) (sym (stands_actions s.engine m))) h.try.began (omega arith) (λ f. absurd (cc))).0,
+        stop_mine laws c t s.view s.view s.engine running inside (still_went s.view) (s.engine.snapshot / 2) outcomes.Unfinished h.row.ran refl read refl,
+      )
+
+  -- and whether it is irrevocable, by its calls alone
+  pub unfinished_mode : (alone MAX_OPEN_BLOCKS (bytes_at s.view (s.engine.snapshot / 2)) (running.inside inside).row).irrevocable ≡ s.engine.irrevocable
+  unfinished_mode =
+      ap (λ (x : State). x.irrevocable) (alone_stood laws c t s.view s.view s.engine running inside (still_went s.view) (memory_of s.view (s.engine.snapshot / 2)) (may_here s.view s.engine before inside))
+      ∙ stands_mode s.engine (stood s.engine.irrevocable s.view (memory_of s.view (s.engine.snapshot / 2)))

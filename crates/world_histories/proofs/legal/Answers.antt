@@ -1,5 +1,0 @@
-use Rattle.world_histories.proofs.legal.Goals as goal
-use Rattle.world_histories.proofs.LegalWorlds.{legal_world}
-
-pub returns : goal.returns
-returns g c w commits opaque tied = legal_world g.P.Player w commits opaque tied

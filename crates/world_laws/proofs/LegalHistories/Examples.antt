@@ -1,0 +1,36 @@
+-- Worlds whose one actor found no memory: its attempt has ended, or stays open.
+use Rattle.std.proofs.Common.{◌≡◌, [], ◌∷◌, refl}
+use Rattle.std.proofs.lemmas.List.Elements.{All-cons, All-head, All-nil}
+use Rattle.norec_world.specs.declared.actor.Actor.{Actor}
+use Rattle.norec_world.specs.declared.actor.Status.TheVariants.{Ended}
+use Rattle.norec_world.specs.Rows.{Rows}
+use Rattle.norec_world.specs.World.{World, ending_at}
+use Rattle.std.specs.Prelude.{Some, true}
+use Rattle.tx_attempts.specs.declared.attempt.Attempt.{Attempt}
+use Rattle.tx_attempts.specs.declared.attempt.Outcome.TheVariants.{NoMemory, Unfinished}
+use Rattle.tx_runs.specs.declared.ending.End.TheVariants as ends
+use Rattle.world_laws.specs.Starved.{IsFed, LeavesNoneOpen}
+
+module _ {P : Type 0} (w : World P) (a : Actor P) (row : Attempt) where
+  abbrev with_rows : Rows → World P
+  with_rows rows = record w { actors = record a { status = Ended ends.NoMemory } ∷ []; attempts = rows }
+
+  abbrev over : World P
+  over = with_rows (record { ended = record row { thread = 0; outcome = NoMemory } ∷ []; active = []; room = 0 })
+
+  abbrev on_its_way : World P
+  on_its_way = with_rows (record { ended = []; active = record row { thread = 0; outcome = Unfinished } ∷ []; room = 0 })
+
+  over_leaves_none : LeavesNoneOpen over
+  over_leaves_none =
+      let Q : Attempt → Type 0 = λ x. ending_at over x.thread ≡ Some ends.NoMemory → x.outcome ≡ Unfinished → ⊥ in
+      All-cons Q (record row { thread = 0; outcome = NoMemory }) [] (λ starved unfinished. absurd (cc)) (All-nil Q)
+
+  on_its_way_leaves_one : LeavesNoneOpen on_its_way → ⊥
+  on_its_way_leaves_one leaves =
+      let Q : Attempt → Type 0 = λ x. ending_at on_its_way x.thread ≡ Some ends.NoMemory → x.outcome ≡ Unfinished → ⊥ in
+      All-head Q (record row { thread = 0; outcome = Unfinished }) [] leaves refl refl
+
+  -- nor is it fed where it is irrevocable
+  irrevocable_unfed : a.engine.irrevocable ≡ true → IsFed on_its_way → ⊥
+  irrevocable_unfed irrevocable fed = absurd (let revocable = fed 0 (record a { status = Ended ends.NoMemory }) refl refl in cc)

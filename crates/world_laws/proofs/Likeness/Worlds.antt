@@ -1,0 +1,176 @@
+-- Of two worlds that are the same, one event of the same actor makes two that are the same.
+use Rattle.std.proofs.Common.{◌≡◌, ◌⊎◌, ℕ, Bool, true, false, IsTrue, List, Option, None, Some, Result, Ok, Err, IsSome, slice_get, slice_set, inl, inr, refl, sym, ap, subst, ◌∙◌, arith}
+use Rattle.norec_world.proofs.Common.{Cells, Goes, IsEvent, Rows, Rules, SameOpening, Step, World, active_of, cells_after, counted, ending_at, ending_of, option_and_then, slice_get-set_same, event_result, waiting_step, waits_at}
+use Rattle.norec_world.specs.declared.actor.Actor.{Actor}
+use Rattle.norec_world.specs.declared.actor.Status.{Status}
+use Rattle.world_laws.specs.Alike.{AreAlike, HasAttempt}
+use Rattle.norec_world.specs.declared.fault.WorldFault.{WorldFault}
+use Rattle.norec_world.specs.declared.fault.WorldFault.TheVariants as faults
+use Rattle.norec_world.specs.World.{is_event}
+use Rattle.world_laws.specs.SameWorlds.{SameWorld}
+use Rattle.norec_world.proofs.Events.SoundOthers.{set_place, there_is}
+use Rattle.std.proofs.lemmas.Option.{slice_get_within as within_of}
+use Rattle.norec_world.proofs.Events.Worlds.{within_some}
+use Rattle.world_laws.proofs.Likeness.Work.{IsFed, GoAlike, event_alike}
+
+is_none : {A : Type 0} (xs : List A) (i : ℕ) → (slice_get xs i ≡ None) ⊎ ((x : A) × (slice_get xs i ≡ Some x))
+is_none {A} xs i = of_got (slice_get xs i) refl
+  where
+    of_got : (o : Option A) → slice_get xs i ≡ o → (slice_get xs i ≡ None) ⊎ ((x : A) × (slice_get xs i ≡ Some x))
+    of_got None e = inl e
+    of_got (Some x) e = inr (x, e)
+
+fault_of : (r : Result (Unit {0}) WorldFault) → is_event r ≡ false → (r ≡ Err faults.NoSuchActor) ⊎ (r ≡ Err faults.Ended)
+fault_of (Ok done) e = absurd (cc)
+fault_of (Err faults.NoSuchActor) e = inl refl
+fault_of (Err faults.Ended) e = inr refl
+fault_of (Err faults.NoMemory) e = absurd (cc)
+
+module _ {P : Type 0} (v w : World P) (s : SameWorld v w) (actor : ℕ) where
+  -- what is told of the one actor is told of the other
+  of_status : {B : Type 0} (f : Status → Option B) → option_and_then (λ (a : Actor P). f a.status) (slice_get v.actors actor) ≡ option_and_then (λ (a : Actor P). f a.status) (slice_get w.actors actor)
+  of_status f = elim (is_none v.actors actor) [
+    | inl e ↦ elim (is_none w.actors actor) [
+      | inl d ↦ ap (option_and_then (λ (a : Actor P). f a.status)) (e ∙ sym d)
+      | inr d ↦ absurd (let l = within_of w.actors actor d.0 d.1 in let n = s.count in let x = there_is v.actors actor (omega arith) in let z = sym e ∙ x.1 in cc)
+    ]
+    | inr e ↦
+        (let l = within_of v.actors actor e.0 e.1 in
+        let n = s.count in
+        let d = there_is w.actors actor (omega arith) in
+        ap (option_and_then (λ (a : Actor P). f a.status)) e.1 ∙ (ap f (s.actors actor e.0 d.0 e.1 d.1).status ∙ sym (ap (option_and_then (λ (a : Actor P). f a.status)) d.1)))
+  ]
+
+  pub waits_same : waits_at v actor ≡ waits_at w actor
+  waits_same = of_status waiting_step
+
+  pub ending_same : ending_at v actor ≡ ending_at w actor
+  ending_same = of_status ending_of
+
+some_of : {A : Type 0} (o : Option A) → IsSome o → (x : A) × (o ≡ Some x)
+some_of None e = absurd (cc)
+some_of (Some x) e = (x, refl)
+
+-- who waits stands at the place
+waits_there : {P : Type 0} (w : World P) (actor : ℕ) → IsSome (waits_at w actor) → (a : Actor P) × (slice_get w.actors actor ≡ Some a)
+waits_there {P} w actor e = there_is w.actors actor (within_some (λ (a : Actor P). waiting_step a.status) w.actors actor e)
+
+-- another actor's attempt stays
+held_still : {P : Type 0} (r r' : Rows) (a : Actor P) → active_of a.thread r'.active ≡ active_of a.thread r.active → HasAttempt r a → HasAttempt r' a
+held_still r r' a same h = record { inside = λ o. (let x = h.inside o in (x.0, same ∙ x.1)); begins = h.begins }
+
+-- both keep their beginning
+opening_same : {P : Type 0} (v w v' w' : World P) → SameOpening v w → SameOpening v v' → SameOpening w w' → SameOpening v' w'
+opening_same v w v' w' s f g = record {
+  opening = g.opening ∙ (s.opening ∙ sym f.opening);
+  base = g.base ∙ (s.base ∙ sym f.base);
+  arena = g.arena ∙ (s.arena ∙ sym f.arena);
+  patience = g.patience ∙ (s.patience ∙ sym f.patience);
+  max_commits = g.max_commits ∙ (s.max_commits ∙ sym f.max_commits);
+  retries = g.retries ∙ (s.retries ∙ sym f.retries);
+}
+
+module _ {P : Type 0} (rules : Rules P) (actor : ℕ) (v w : World P) (s : SameWorld v w)
+    (result result' : Result (Unit {0}) WorldFault) (v' w' : World P)
+    (f : Goes rules actor v result v') (g : Goes rules actor w result' w') where
+  -- ## No event
+
+  passed_same : is_event result ≡ false → result ≡ result'
+  passed_same e = elim (fault_of result e) [
+    | inl x ↦ (let l = f.no_such.0 x in let n = s.count in x ∙ sym (g.no_such.1 (omega arith)))
+    | inr x ↦ x ∙ sym (g.ended.1 (subst IsSome (ending_same v w s actor) (f.ended.0 x)))
+  ]
+
+  passes_alike : is_event result ≡ false → (result ≡ result') × SameWorld v' w'
+  passes_alike e =
+      let same = passed_same e in
+      (same, subst (λ (x : World P). SameWorld x w') (sym (f.unchanged e)) (subst (SameWorld v) (sym (g.unchanged (sym (ap is_event same) ∙ e))) s))
+
+  -- ## An event
+
+  module _ (taken : IsTrue (is_event result)) (fed : result ≡ Err faults.NoMemory → ⊥) (fed' : result' ≡ Err faults.NoMemory → ⊥) where
+    waits : IsSome (waits_at v actor)
+    waits = f.event.0 taken
+
+    waits' : IsSome (waits_at w actor)
+    waits' = subst IsSome (waits_same v w s actor) waits
+
+    taken' : IsTrue (is_event result')
+    taken' = g.event.1 waits'
+
+    here : (a : Actor P) × (slice_get v.actors actor ≡ Some a)
+    here = waits_there v actor waits
+
+    here' : (a : Actor P) × (slice_get w.actors actor ≡ Some a)
+    here' = waits_there w actor waits'
+
+    step : (x : Step) × (waits_at v actor ≡ Some x)
+    step = some_of (waits_at v actor) waits
+
+    cells_same : v'.cells ≡ w'.cells
+    cells_same = f.operation step.0 step.1 ∙ ((λ i. cells_after (s.cells i) step.0) ∙ sym (g.operation step.0 (sym (waits_same v w s actor) ∙ step.1)))
+
+    -- the actor that has changed stands at its place
+    set_here : (x x' : World P) (a a' : Actor P) → slice_get x.actors actor ≡ Some a → x'.actors ≡ slice_set x.actors actor a' → slice_get x'.actors actor ≡ Some a'
+    set_here x x' a a' e is = ap (λ (xs : List (Actor P)). slice_get xs actor) is ∙ slice_get-set_same x.actors actor a' (within_of x.actors actor a e)
+
+    ending_is : (x : World P) (a : Actor P) → slice_get x.actors actor ≡ Some a → ending_at x actor ≡ ending_of a.status
+    ending_is x a e = ap (option_and_then (λ (y : Actor P). ending_of y.status)) e
+
+    not_starved : (x : World P) (r : Result (Unit {0}) WorldFault) (a : Actor P) → slice_get x.actors actor ≡ Some a → r ≡ event_result (ending_at x actor) → (r ≡ Err faults.NoMemory → ⊥) → IsFed a
+    not_starved x r a e is fed e' = fed (is ∙ ap event_result (ending_is x a e ∙ e'))
+
+    events_alike : (result ≡ result') × SameWorld v' w'
+    events_alike =
+        let x = f.event_of here.0 here.1 taken in
+        let y = g.event_of here'.0 here'.1 taken' in
+        let a' : Actor P = x.0 in
+        let b' : Actor P = y.0 in
+        let there : slice_get v'.actors actor ≡ Some a' = set_here v v' here.0 a' here.1 x.1 in
+        let there' : slice_get w'.actors actor ≡ Some b' = set_here w w' here'.0 b' here'.1 y.1 in
+        let other = on_same_cells here'.0 b' y.2 in
+        let go : GoAlike v'.attempts w'.attempts a' b' = event_alike rules v.cells v'.cells v.attempts w.attempts v'.attempts w'.attempts here.0 here'.0 a' b' s.rows (s.actors actor here.0 here'.0 here.1 here'.1) (s.held actor here.0 here.1)
+        x.2 other x.3 y.3 (not_starved v' result a' there (f.answer taken) fed) (not_starved w' result' b' there' (g.answer taken') fed') in
+        let tells : result ≡ result' = f.answer taken ∙ (ap event_result (ending_is v' a' there ∙ (ap ending_of go.alike.status ∙ sym (ending_is w' b' there'))) ∙ sym (g.answer taken')) in
+        let mine : here.0.thread ≡ actor = s.places actor here.0 here.1 in
+        let thread : a'.thread ≡ actor = x.2.others.thread ∙ mine in (
+          tells,
+          record {
+            opening = opening_same v w v' w' s.opening f.opening g.opening;
+            cells = cells_same;
+            events = f.counts taken ∙ (ap (λ (n : ℕ). counted n 1) s.events ∙ sym (g.counts taken'));
+            rows = go.rows;
+            count = f.actors ∙ (s.count ∙ sym g.actors);
+            actors = λ place a b e d. elim (set_place v.actors actor here.0 a' here.1 place a (sym (ap (λ (xs : List (Actor P)). slice_get xs place) x.1) ∙ e)) [
+              | inl k ↦
+                  (let one : Some b' ≡ Some b = sym there' ∙ (ap (slice_get w'.actors) k.0 ∙ d) in
+                  let same : b ≡ b' = (cc) in
+                  subst (λ (z : Actor P). AreAlike z b) (sym k.1) (subst (AreAlike a') (sym same) go.alike))
+              | inr k ↦ elim (set_place w.actors actor here'.0 b' here'.1 place b (sym (ap (λ (xs : List (Actor P)). slice_get xs place) y.1) ∙ d)) [
+                | inl l ↦ absurd (k.0 l.0)
+                | inr l ↦ s.actors place a b k.1 l.1
+              ]
+            ];
+            places = λ place a e. elim (set_place v.actors actor here.0 a' here.1 place a (sym (ap (λ (xs : List (Actor P)). slice_get xs place) x.1) ∙ e)) [
+              | inl k ↦ ap (λ (z : Actor P). z.thread) k.1 ∙ (thread ∙ k.0)
+              | inr k ↦ s.places place a k.1
+            ];
+            held = λ place a e. elim (set_place v.actors actor here.0 a' here.1 place a (sym (ap (λ (xs : List (Actor P)). slice_get xs place) x.1) ∙ e)) [
+              | inl k ↦ subst (HasAttempt v'.attempts) (sym k.1) go.held
+              | inr k ↦
+                  (let apart : a.thread ≡ here.0.thread → ⊥ = λ z. k.0 (sym mine ∙ (sym z ∙ s.places place a k.1)) in
+                  held_still v.attempts v'.attempts a (x.2.others.own.others a.thread apart) (s.held place a k.1))
+            ];
+          },
+        )
+      where
+        -- the other world's event, over the cells of this one
+        on_same_cells : (b b' : Actor P) → IsEvent rules w.cells w.attempts b w'.cells w'.attempts b' → IsEvent rules v.cells w.attempts b v'.cells w'.attempts b'
+        on_same_cells b b' e = subst (λ (c : Cells). IsEvent rules c w.attempts b v'.cells w'.attempts b') (sym s.cells) (subst (λ (c : Cells). IsEvent rules w.cells w.attempts b c w'.attempts b') (sym cells_same) e)
+
+  pub goes_alike : (result ≡ Err faults.NoMemory → ⊥) → (result' ≡ Err faults.NoMemory → ⊥) → (result ≡ result') × SameWorld v' w'
+  goes_alike fed fed' = by_event (is_event result) refl
+    where
+      by_event : (b : Bool) → is_event result ≡ b → (result ≡ result') × SameWorld v' w'
+      by_event true e = events_alike e fed fed'
+      by_event false e = passes_alike e

@@ -1,0 +1,59 @@
+-- An engine between two calls.
+use Rattle.std.proofs.Common.{◌≡◌, ℕ, zero, suc, Bool, true, false, Some, refl, sym, ap, subst, ◌∙◌, if◌then◌else◌}
+use Rattle.norec_world.proofs.Common.{Acts, Answer, Answers, Asks, Call, Cells, Core, Ends, HasStarted, IsEvent, Next, Proceeds, Rows, Rules, Tells, after_undoing, ending_of, in_transaction, is_waiting, rests}
+use Rattle.norec_world.specs.declared.actor.Actor.{Actor}
+use Rattle.norec_world.specs.declared.actor.Status.{Status}
+use Rattle.norec_world.specs.declared.actor.Status.TheVariants.{Ready, Waits}
+use Rattle.tx_runs.specs.declared.ending.End.{End}
+use Rattle.norec_core.specs.Phases.{Idle}
+use Rattle.norec_core.specs.Core.{rolled_back}
+use Rattle.norec_world.specs.LocalWork.{ActsOn, TakesIn, calls, finishes, starves}
+use Rattle.world_laws.specs.Sole.{IsIdle}
+
+-- ## An answer
+
+idle_answered : (mid new : Core) (a : Answer) → Ends mid a new → IsIdle new
+idle_answered mid new a g = (let r = rests mid new a g in (r.idle, r.holds))
+
+idle_undone : (e : Core) → IsIdle e → IsIdle (after_undoing e)
+idle_undone e i = by_mode e.holds
+  where
+    by_mode : (b : Bool) → IsIdle (if b then e else record (rolled_back e) { stage = Idle; tries = 0 })
+    by_mode true = i
+    by_mode false = (refl, refl)
+
+-- ## An event
+
+-- whose status is not that it waits
+waits_so : {P : Type 0} (a : Actor P) (s : Status) → a.status ≡ s → is_waiting s ≡ true → is_waiting a.status ≡ false → ⊥
+waits_so a s is w n = (let both = sym n ∙ (ap is_waiting is ∙ w) in absurd (cc))
+
+module _ {P : Type 0} (rules : Rules P) where
+  -- the call waits for a step, or is answered
+  idle_told : (was : Bool) (r r' : Rows) (old new : Actor P) (call : Call) (what : Next) (mid engine : Core) → Tells rules was r r' old new call what → Proceeds mid what engine → is_waiting new.status ≡ false → IsIdle engine
+  idle_told was r r' old new call (Asks step) mid engine t g n = absurd (waits_so new (Waits call step) (ap (λ (a : Actor P). a.status) t.0) refl n)
+  idle_told was r r' old new call (Answers answer) mid engine t g n = idle_answered mid engine answer g
+
+  idle_acts : (clock : ℕ) (r : Rows) (a : Actor P) (r' : Rows) (a' : Actor P) → IsIdle a.engine → Acts rules clock r a r' a' → is_waiting a'.status ≡ false → IsIdle a'.engine
+  idle_acts clock r a r' a' i (calls c) n = subst IsIdle (sym c.engine) (idle_told (in_transaction a.engine) c.rows r' c.asked a' c.call c.what _ c.asked.engine c.tells c.asks.called.proceeds n)
+  idle_acts clock r a r' a' i (finishes f) n = subst IsIdle (sym (ap (λ (x : Actor P). x.engine) f.actor)) i
+  idle_acts clock r a r' a' i (starves s) n = subst IsIdle (sym s.engine) (idle_undone a.engine i)
+
+  idle_works : (clock n : ℕ) (r : Rows) (a : Actor P) (r' : Rows) (a' : Actor P) → (is_waiting a.status ≡ false → IsIdle a.engine) → ActsOn rules clock n r a r' a' → is_waiting a'.status ≡ false → IsIdle a'.engine
+  idle_works clock zero r a r' a' i w n = subst (λ (x : Actor P). IsIdle x.engine) (sym w.1) (i (ap (λ (x : Actor P). is_waiting x.status) (sym w.1) ∙ n))
+  idle_works clock (suc k) r a r' a' i w n = idle_acts clock w.0 w.1 r' a' (idle_works clock k r a w.0 w.1 i w.2 (ap is_waiting w.3)) w.4 n
+
+  idle_took : (cells : Cells) (r : Rows) (a : Actor P) (r' : Rows) (a' : Actor P) → TakesIn rules cells r a r' a' → is_waiting a'.status ≡ false → IsIdle a'.engine
+  idle_took cells r a r' a' t n = idle_told (in_transaction a.engine) r t.rows (record a { engine = a'.engine; status = Ready }) a' t.call t.what _ a'.engine t.tells t.resumed.proceeds n
+
+  -- after an event, unless the actor waits
+  pub idle_event : {cells : Cells} {r : Rows} {a : Actor P} {cells' : Cells} {r' : Rows} {a' : Actor P} → IsEvent rules cells r a cells' r' a' → is_waiting a'.status ≡ false → IsIdle a'.engine
+  idle_event {cells} {r} {a} {cells'} {r'} {a'} e n = idle_works cells'.clock e.works.0 e.rows e.stepped r' a' (idle_took cells r a e.rows e.stepped e.takes) e.works.1 n
+
+  -- and before the first one
+  pub idle_started : {clock : ℕ} {engine : Core} {retries place : ℕ} {p : P} {a : Actor P} → HasStarted rules clock engine retries place p a → IsIdle engine → is_waiting a.status ≡ false → IsIdle a.engine
+  idle_started {clock} {engine} {retries} {place} {p} {a} h i n = idle_works clock h.works.0 h.rows h.fresh h.rows' a (λ f. subst IsIdle (sym h.engine_is) i) h.works.1 n
+
+pub ended_still : (s : Status) (e : End) → ending_of s ≡ Some e → is_waiting s ≡ false
+ended_still (Waits call step) e is = absurd (cc)
+ended_still s e is = refl
