@@ -8,3 +8,4 @@ pub mod Tries
 pub mod LastLoads
 pub mod StepChains
 pub mod WordReads
+pub mod DrivenCalls

@@ -6,7 +6,8 @@ use Rattle.norec_core.specs.Core.{Core}
 use Rattle.norec_core.specs.Proceeds.{MayStarve}
 use Rattle.shared_words.specs.declared.pass.Pass.{Pass}
 use Rattle.shared_words.specs.declared.words.Words.{Words}
-use Rattle.shared_words.specs.Passes.{Owns, view_of}
+use Rattle.shared_words.specs.Passes.{cells_of, Owns, view_of}
+use Rattle.itm_runtime.specs.Drives.{IsDriven}
 use Rattle.itm_runtime.specs.Served.{Start, Served}
 use Rattle.itm_runtime.specs.Standing.{Standing, start_of}
 use Rattle.itm_runtime.specs.Ties.{Stands}
@@ -14,7 +15,8 @@ use Rattle.itm_runtime.specs.Ties.{Stands}
 -- the call was answered so, and the thread is left with this pass and this engine
 pub record IsAnswered (words : Words) (s : Start) (a : Answer) (pass : Pass) (engine : Core) : Type 0 where
   pub own : Owns words pass
-  pub served : Served s a (view_of pass) engine
+  pub driven : IsDriven (cells_of words) s a (view_of pass) engine
+  pub served : Served s a (view_of pass) engine  -- this follows from it
   pub stands : Stands (view_of pass) engine
 
 -- memory was refused to the call, which is one that may want some, and nothing is changed

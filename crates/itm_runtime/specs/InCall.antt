@@ -1,5 +1,5 @@
 -- A call in progress.
-use Rattle.std.specs.Prelude.{◌≡◌, ◌⊎◌, ℕ, suc, ◌+◌, ◌-◌, ◌<◌, ◌≤◌, true, false, List, [], ◌∷◌, ◌++◌, Some, slice_get}
+use Rattle.std.specs.Prelude.{◌≡◌, ◌⊎◌, ℕ, suc, ◌+◌, ◌-◌, ◌<◌, ◌≤◌, true, false, List, [], ◌∷◌, ◌++◌, length, Some, slice_get}
 use Rattle.itm_types.specs.declared.limits.TheConstants.{MAX_OPEN_BLOCKS}
 use Rattle.itm_types.specs.declared.row.LogRow.{LogRow}
 use Rattle.itm_types.specs.declared.step.Step.{Step}
@@ -76,7 +76,7 @@ pub record InCall (s : Start) (v : View) (e : Core) (step : Step) : Type 0 where
   pub waits : e.waits ≡ Some step
   pub asks : e.waits ≡ asked e
   pub lawful : IsLawful e step
-  pub steps : v.steps + 1 ≡ s.view.steps + e.spent
+  pub steps : length v.steps + 1 ≡ length s.view.steps + e.spent
   pub within : e.spent ≤ most (came s.engine s.call s.again) (Some s.call)
   pub grew : in_transaction e ≡ true → Grew s v e
   pub held_on : s.engine.irrevocable ≡ true → HeldOn s v e
@@ -97,9 +97,3 @@ IsDue s v e (Answers a) = Served s a v e × Stands v e
 abbrev pub left : Core → Next → ℕ
 left e (Asks step) = suc (most e e.doing - e.spent)
 left e (Answers a) = 0
-
--- a step of the call in progress was done: what comes next is due, and fewer steps are left
-pub record StepsOn (words : Words) (v : View) (e : Core) (step : Step) (pass : Pass) (new : Core) (next : Next) : Type 0 where
-  pub own : Owns words pass
-  pub due : (s : Start) → InCall s v e step → IsDue s (view_of pass) new next
-  pub less : left new next < left e (Asks step)

@@ -110,11 +110,11 @@ abbrev pub GoesBegin : Call → Type 0
 GoesBegin (Begin props room) = props.goes_irrevocable ≡ true
 GoesBegin call = ⊥
 
--- the call has looked at the clock as often as it may: once for each round that it started, or for each try of a begin
+-- the call has looked at the clock as often as it may: at least once for each round that it started, or for each try of a begin; an exchange that lost counts too
 abbrev pub IsPatient : Start → View → Type 0
 IsPatient s v = s.view.looks + s.engine.patience ≤ v.looks
 
--- the clock was seen in this call, and is later than the snapshot. An outermost begin that goes irrevocable may lose the clock too. Where no word is named, the call has tried as often as it may
+-- the clock was seen in this call, and is later than the snapshot. An outermost begin that goes irrevocable may lose the clock too. Where no word is named, the call has looked as often as it may
 pub record Conflicts (s : Start) (clock : ℕ) (word : Option ℕ) (v : View) (e : Core) : Type 0 where
   pub closes : Closes s (e.snapshot / 2) v e
   pub later : e.snapshot < clock
@@ -126,7 +126,7 @@ pub record Conflicts (s : Start) (clock : ℕ) (word : Option ℕ) (v : View) (e
   pub patient : word ≡ None → IsPatient s v
   pub undone : IsUndone s e
 
--- the clock was seen in this call, and was held, as often as it may
+-- the clock was seen in this call, as often as it may, and held at the last look
 pub record IsBusy (s : Start) (clock : ℕ) (v : View) (e : Core) : Type 0 where
   pub closes : Closes s (e.snapshot / 2) v e
   pub was_closed : in_transaction s.engine ≡ false
@@ -169,7 +169,7 @@ pub record Served (s : Start) (a : Answer) (v : View) (e : Core) : Type 0 where
   pub went : Went s.view v
   pub grows : in_transaction s.engine ≡ true → in_transaction e ≡ true → Grows s v e
   pub opens : in_transaction s.engine ≡ false → in_transaction e ≡ true → Opens s v e
-  pub steps : v.steps ≡ s.view.steps + e.spent  -- it took just the steps that it tells
+  pub steps : length v.steps ≡ length s.view.steps + e.spent  -- it took as many steps as it tells
   pub at_once : stage_at s.engine s.call s.again ≡ Idle → (v ≡ s.view) × (e.snapshot ≡ s.engine.snapshot)  -- a call that has no step to ask for looks at nothing
   pub fixed : s.engine.irrevocable ≡ true → e.snapshot ≡ s.engine.snapshot  -- no other commits before one that is irrevocable
   pub within : e.spent ≤ most (came s.engine s.call s.again) (Some s.call)

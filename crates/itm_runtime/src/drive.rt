@@ -5,8 +5,9 @@ ghost use Rattle.shared_words.specs.declared.view.View.{View};
 ghost use Rattle.shared_words.specs.Passes.{IsOver, Owns, cells_of, view_of};
 ghost use Rattle.shared_words.specs.Steps.{StepTells};
 ghost use Rattle.itm_runtime.specs.Served.{Start};
-ghost use Rattle.itm_runtime.specs.InCall.{InCall, IsDue, IsDone, StepsOn};
-ghost use Rattle.itm_runtime.specs.CallResults.{IsAnswered};
+ghost use Rattle.itm_runtime.specs.InCall.{InCall, IsDue, IsDone};
+ghost use Rattle.itm_runtime.specs.Drives.{Finishes, HasStepped, StepsOn};
+ghost use Rattle.norec_core.specs.declared.answer.Next.TheVariants.{Step as Asks};
 ghost use Rattle.norec_engine.specs.NextSteps.{next_in};
 ghost use Rattle.norec_engine.specs.WholeReads.{LoadsWord};
 
@@ -26,10 +27,11 @@ pub(crate) fn finish(
 )
     requires own { Owns words.now pass.old }
     requires due { (s : Start) × IsDue s (view_of pass.old) engine.old (next_in first answer.old) }
-    ensures { (s : Start) → IsDue s (view_of pass.old) engine.old (next_in first answer.old) → IsAnswered words.now s answer.new pass.new engine.new }
+    ensures { Finishes words.now (view_of pass.old) engine.old (next_in first answer.old) answer.new pass.new engine.new }
 {
-    if let Some(step) = first {
-        drive(words, pass, engine, step, answer);
+    match first {
+        Some(step) => drive(words, pass, engine, step, answer),
+        None => {}
     }
 }
 
@@ -45,11 +47,14 @@ pub(crate) fn finish_fast(
 )
     requires own { Owns words.now pass.old }
     requires due { (s : Start) × IsDue s (view_of pass.old) engine.old (next_in first answer.old) }
-    ensures { (s : Start) → IsDue s (view_of pass.old) engine.old (next_in first answer.old) → IsAnswered words.now s answer.new pass.new engine.new }
+    ensures { Finishes words.now (view_of pass.old) engine.old (next_in first answer.old) answer.new pass.new engine.new }
 {
-    if let Some(step) = first {
-        let next = advance(words, pass, engine, step, fast, answer);
-        finish(words, pass, engine, next, answer);
+    match first {
+        Some(step) => {
+            let next = advance(words, pass, engine, step, fast, answer);
+            finish(words, pass, engine, next, answer);
+        }
+        None => {}
     }
 }
 
@@ -59,7 +64,7 @@ pub(crate) fn finish_read(words: &Words, pass: &mut Pass, engine: &mut Engine, w
     requires own { Owns words.now pass.old }
     requires loads { LoadsWord engine.old word }
     requires due { (s : Start) × InCall s (view_of pass.old) engine.old (Step.Load (word + 1)) }
-    ensures { (s : Start) → InCall s (view_of pass.old) engine.old (Step.Load (word + 1)) → IsAnswered words.now s result pass.new engine.new }
+    ensures { Finishes words.now (view_of pass.old) engine.old (Asks (Step.Load (word + 1))) result pass.new engine.new }
 {
     let value = words.step(pass, Step::Load(word + 1));
     let clock = words.step(pass, Step::Load(0));
@@ -78,8 +83,7 @@ pub(crate) fn finish_read(words: &Words, pass: &mut Pass, engine: &mut Engine, w
 fn finish_moved(words: &Words, pass: &mut Pass, engine: &mut Engine, clock: u64) -> Answer
     requires own { Owns words.now pass.old }
     requires due { (s : Start) × (v : View) × IsOver (cells_of words.now) v × InCall s v engine.old (Step.Load 0) × StepTells v (Step.Load 0) clock (view_of pass.old) }
-    ensures { (s : Start) (v : View) → IsOver (cells_of words.now) v → InCall s v engine.old (Step.Load 0) → StepTells v (Step.Load 0) clock (view_of pass.old)
-        → IsAnswered words.now s result pass.new engine.new }
+    ensures { (v : View) → HasStepped v (Step.Load 0) clock (view_of pass.old) → Finishes words.now v engine.old (Asks (Step.Load 0)) result pass.new engine.new }
 {
     let mut answer = Answer::Reply(Reply::Done);
     let next = engine.resume_into(clock, &mut answer);
@@ -98,12 +102,30 @@ pub(crate) fn finish_commit(
 )
     requires own { Owns words.now pass.old }
     requires due { (s : Start) × IsDue s (view_of pass.old) engine.old (next_in first answer.old) }
-    ensures { (s : Start) → IsDue s (view_of pass.old) engine.old (next_in first answer.old) → IsAnswered words.now s answer.new pass.new engine.new }
+    ensures { Finishes words.now (view_of pass.old) engine.old (next_in first answer.old) answer.new pass.new engine.new }
 {
-    if let Some(step) = first {
-        if let Some(step) = advance(words, pass, engine, step, FastStep::Exchange, answer) {
-            store(words, pass, engine, step, answer);
-        }
+    match first {
+        Some(step) => take_and_store(words, pass, engine, step, answer),
+        None => {}
+    }
+}
+
+/// Takes the clock, and stores the rows.
+#[inline(always)]
+fn take_and_store(
+    words: &Words,
+    pass: &mut Pass,
+    engine: &mut Engine,
+    first: Step,
+    answer: &mut Answer,
+)
+    requires own { Owns words.now pass.old }
+    requires due { (s : Start) × InCall s (view_of pass.old) engine.old first }
+    ensures { Finishes words.now (view_of pass.old) engine.old (Asks first) answer.new pass.new engine.new }
+{
+    match advance(words, pass, engine, first, FastStep::Exchange, answer) {
+        Some(step) => store(words, pass, engine, step, answer),
+        None => {}
     }
 }
 
@@ -112,7 +134,7 @@ pub(crate) fn finish_commit(
 fn drive(words: &Words, pass: &mut Pass, engine: &mut Engine, first: Step, answer: &mut Answer)
     requires own { Owns words.now pass.old }
     requires due { (s : Start) × InCall s (view_of pass.old) engine.old first }
-    ensures { (s : Start) → InCall s (view_of pass.old) engine.old first → IsAnswered words.now s answer.new pass.new engine.new }
+    ensures { Finishes words.now (view_of pass.old) engine.old (Asks first) answer.new pass.new engine.new }
 {
     let mut next = Some(first);
     while let Some(step) = next {
@@ -125,7 +147,7 @@ fn drive(words: &Words, pass: &mut Pass, engine: &mut Engine, first: Step, answe
 fn store(words: &Words, pass: &mut Pass, engine: &mut Engine, first: Step, answer: &mut Answer)
     requires own { Owns words.now pass.old }
     requires due { (s : Start) × InCall s (view_of pass.old) engine.old first }
-    ensures { (s : Start) → InCall s (view_of pass.old) engine.old first → IsAnswered words.now s answer.new pass.new engine.new }
+    ensures { Finishes words.now (view_of pass.old) engine.old (Asks first) answer.new pass.new engine.new }
 {
     let mut next = Some(first);
     while let Some(step) = next {
@@ -201,7 +223,7 @@ fn advance_store(
 fn resume_last(words: &Words, pass: &mut Pass, engine: &mut Engine, seen: u64, answer: &mut Answer)
     requires own { Owns words.now pass.old }
     requires done { (s : Start) × IsDone (cells_of words.now) s (view_of pass.old) engine.old seen }
-    ensures { (s : Start) → IsDone (cells_of words.now) s (view_of pass.old) engine.old seen → IsAnswered words.now s answer.new pass.new engine.new }
+    ensures { (v : View) (step : Step) → HasStepped v step seen (view_of pass.old) → Finishes words.now v engine.old (Asks step) answer.new pass.new engine.new }
 {
     match engine.resume_fast(FastStep::LastStore, seen, answer) {
         Some(next) => finish_fast(words, pass, engine, next, FastStep::Free, answer),
@@ -214,7 +236,7 @@ fn resume_last(words: &Words, pass: &mut Pass, engine: &mut Engine, seen: u64, a
 fn resume(words: &Words, pass: &mut Pass, engine: &mut Engine, seen: u64, answer: &mut Answer)
     requires own { Owns words.now pass.old }
     requires done { (s : Start) × IsDone (cells_of words.now) s (view_of pass.old) engine.old seen }
-    ensures { (s : Start) → IsDone (cells_of words.now) s (view_of pass.old) engine.old seen → IsAnswered words.now s answer.new pass.new engine.new }
+    ensures { (v : View) (step : Step) → HasStepped v step seen (view_of pass.old) → Finishes words.now v engine.old (Asks step) answer.new pass.new engine.new }
 {
     let next = engine.resume_into(seen, answer);
     finish(words, pass, engine, next, answer);

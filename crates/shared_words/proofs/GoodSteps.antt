@@ -6,9 +6,10 @@ use native.Mathlib.Decide.{ℕ_discrete}
 use lib.ListN.{get_elem?}
 use Rattle.std.proofs.lemmas.List.Sums.{sum_by_push}
 use Rattle.shared_words.specs.declared.view.View.{View}
+use Rattle.itm_types.specs.declared.step.Step.{Step}
 use Rattle.shared_words.specs.Commits.{stored, after, StartsWith, Stand, AllMet}
 use Rattle.shared_words.proofs.MetWords.{all_grows, all_snoc, grows_store, grows_commit, met_now}
-use Rattle.shared_words.specs.Views.{looked, took, read, counted, wrote, freed, held, holders, times, placed, shares}
+use Rattle.shared_words.specs.Views.{looked, took, read, noted, wrote, freed, held, holders, times, placed, shares}
 use Rattle.shared_words.specs.Steps.{Sees, Looked, Took, CanTake}
 use Rattle.shared_words.specs.Good.{Fits, clock_of, Good}
 use Rattle.shared_words.proofs.ListPlaces.{at_set, weigh_set, weigh_le, weigh_two, starts_self, starts_longer, starts_le, starts_trans}
@@ -99,8 +100,8 @@ module _ (cells : List ℕ) (views : List View) (g : Good cells views) where
     places p l = let a : p < length v.seen = mine_fits.positions p l in let b : length v.seen ≤ length g.log = starts_le g.log v.seen mine_fits.begins in omega arith
 
     -- the clock is loaded
-    pub looks : 0 < v.share → v.holds ≡ false → (w : View) × Good cells (set views id w) × Looked v (get_or cells 0 0) w
-    looks alive free = let one = g.one in let f = found in let w : View = looked v g.log (get_or cells 0 0) in (
+    pub looks : (st : Step) → 0 < v.share → v.holds ≡ false → (w : View) × Good cells (set views id w) × Looked v st (get_or cells 0 0) w
+    looks st alive free = let one = g.one in let f = found in let w : View = looked v st g.log (get_or cells 0 0) in (
       w,
       quiet id v w at refl refl refl record {
         base_is = mine_fits.base_is;
@@ -118,11 +119,11 @@ module _ (cells : List ℕ) (views : List View) (g : Good cells views) where
     )
 
     -- a word is loaded by a seat that does not hold
-    pub loads : (k : ℕ) → v.holds ≡ false → Good cells (set views id (read v k (get_or cells (suc k) 0)))
-    loads k free =
+    pub loads : (st : Step) (k : ℕ) → v.holds ≡ false → Good cells (set views id (read v st k (get_or cells (suc k) 0)))
+    loads st k free =
         let n : ℕ = get_or cells (suc k) 0 in
         let is : n ≡ get_or (stored (after g.base g.log) g.pending) k 0 = ap (λ (l : List ℕ). get_or l (suc k) 0) g.cells_are in
-        quiet id v (read v k n) at refl refl refl record {
+        quiet id v (read v st k n) at refl refl refl record {
           base_is = mine_fits.base_is;
           begins = mine_fits.begins;
           shorter = mine_fits.shorter;
@@ -138,8 +139,8 @@ module _ (cells : List ℕ) (views : List View) (g : Good cells views) where
         }
 
     -- a word is loaded by the holder, which learns nothing new
-    pub counts : Good cells (set views id (counted v))
-    counts = quiet id v (counted v) at refl refl refl record {
+    pub counts : (st : Step) (n : ℕ) → Good cells (set views id (noted v st n))
+    counts st n = quiet id v (noted v st n) at refl refl refl record {
       base_is = mine_fits.base_is;
       begins = mine_fits.begins;
       shorter = mine_fits.shorter;
@@ -167,13 +168,13 @@ module _ (cells : List ℕ) (views : List View) (g : Good cells views) where
         no_more u.holds (omega arith)
 
     -- the clock is taken at s
-    pub takes : (s : ℕ) → 0 < v.share → CanTake v s → get_or cells 0 0 ≡ s → (w : View) × Good (set cells 0 (s + 1)) (set views id w) × Took v s w
-    takes s alive can is =
+    pub takes : (st : Step) (s : ℕ) → 0 < v.share → CanTake v s → get_or cells 0 0 ≡ s → (w : View) × Good (set cells 0 (s + 1)) (set views id w) × Took v st s w
+    takes st s alive can is =
         let one = g.one in
         let even = can.1 in
         let now : s ≡ clock = sym is ∙ found in
         let none : holders views ≡ 0 = omega arith in
-        let w : View = took v g.log s in
+        let w : View = took v st g.log s in
         let free : hold v ≡ 0 = ap (λ (b : Bool). cond b 1 0) can.0 in
         let h : holders (set views id w) + hold v ≡ holders views + 1 = weigh_set hold views id v w at in
         let taken : holders (set views id w) ≡ 1 = omega arith in
@@ -226,9 +227,9 @@ module _ (cells : List ℕ) (views : List View) (g : Good cells views) where
         )
 
     -- the holder stores a word
-    pub writes : (k x : ℕ) → v.holds ≡ true → x < 2 ^ 64 → Good (set cells (suc k) x) (set views id (wrote v k x))
-    writes k x h small =
-        let w : View = wrote v k x in
+    pub writes : (st : Step) (k x : ℕ) → v.holds ≡ true → x < 2 ^ 64 → Good (set cells (suc k) x) (set views id (wrote v st k x))
+    writes st k x h small =
+        let w : View = wrote v st k x in
         let f = mine_fits.holding h in
         let hh : holders (set views id w) + hold v ≡ holders views + hold v = weigh_set hold views id v w at in
         let same : holders (set views id w) ≡ holders views = omega arith in
@@ -282,9 +283,9 @@ module _ (cells : List ℕ) (views : List View) (g : Good cells views) where
         }
 
     -- the holder frees the clock, and its stores become the next commit
-    pub frees : v.holds ≡ true → Good (set cells 0 (v.clock + 2)) (set views id (freed v (v.clock + 2)))
-    frees h =
-        let w : View = freed v (v.clock + 2) in
+    pub frees : (st : Step) → v.holds ≡ true → Good (set cells 0 (v.clock + 2)) (set views id (freed v st (v.clock + 2)))
+    frees st h =
+        let w : View = freed v st (v.clock + 2) in
         let f = mine_fits.holding h in
         let at_clock : v.clock ≡ 2 * length g.log = f.2 in
         let one = g.one in

@@ -10,7 +10,7 @@ use Rattle.shared_words.specs.declared.view.View.{View}
 use Rattle.itm_types.specs.Memory.{AllFit}
 use Rattle.shared_words.specs.Commits.{stored, after, StartsWith, AllMet}
 use Rattle.shared_words.proofs.MetWords.{all_both}
-use Rattle.shared_words.specs.Views.{opening, spent, cut_left, cut_right, both, longer, holders, times, placed, shares}
+use Rattle.shared_words.specs.Views.{opening, spent, cut_left, cut_right, both, held, longer, holders, times, placed, shares}
 use Rattle.shared_words.specs.Steps.{Joined}
 use Rattle.shared_words.specs.Good.{Fits, clock_of, Good, Ends}
 use Rattle.shared_words.proofs.ListPlaces.{at_snoc, set_else, weigh_set, weigh_le, weigh_alone, starts_le, starts_whole, comparable, same_from}
@@ -254,22 +254,38 @@ pub read_off : (cells : List ℕ) (clock : ℕ) (words : List ℕ) → get_elem?
 read_off cells clock words first long rest =
     same_from (clock ∷ words) cells (omega arith) (read_there cells clock words first rest)
 
--- what the only view knows of cells that were read one by one
+-- what the only view knows of the clock and the words
 pub ends_of : (cells : List ℕ) (views : List View) → Good cells views → (id : ℕ) (v : View) → get_elem? views id ≡ some v → v.share ≡ 128 → v.holds ≡ false
-    → (clock : ℕ) (words : List ℕ) → get_elem? cells 0 ≡ some clock → length words + 1 ≡ length cells → ((k : ℕ) → k < length words → get_elem? cells (k + 1) ≡ some (get_or words k 0)) → Ends v clock words
-ends_of cells views g id v at all idle clock words first long rest =
+    → (clock : ℕ) (words : List ℕ) → clock ∷ words ≡ cells → Ends v clock words
+ends_of cells views g id v at all idle clock words is =
     let t = closes cells views g id v at all idle in
-    let is : cells ≡ 2 * length v.seen ∷ after v.base v.seen = t.0 in
-    let first' : 2 * length v.seen ≡ clock = some-injective (2 * length v.seen) clock (sym (ap (λ (l : List ℕ). get_elem? l 0) is) ∙ first) in
-    let len : length cells ≡ length (2 * length v.seen ∷ after v.base v.seen) = ap length is in
+    let both : clock ∷ words ≡ 2 * length v.seen ∷ after v.base v.seen = is ∙ t.0 in
     record {
-      clock_is = sym first';
-      words_are = same_from words (after v.base v.seen) (omega arith)
-          (λ k l. sym (ap (λ (m : List ℕ). get_elem? m (suc k)) is) ∙ (ap (get_elem? cells) (add-one' k) ∙ rest k l));
+      clock_is = cc;
+      words_are = cc;
       met = closes_met cells views g id v at all idle;
       mine = t.1;
       no_other = t.2;
     }
+
+-- what the view knows of them that holds the clock
+pub held_of : (cells : List ℕ) (views : List View) → Good cells views → (id : ℕ) (v : View) → get_elem? views id ≡ some v → v.holds ≡ true
+    → (clock : ℕ) (words : List ℕ) → clock ∷ words ≡ cells → (clock ≡ 2 * length v.seen + 1) × (words ≡ held v)
+held_of cells views g id v at holds clock words is =
+    let f : Fits g.base g.log g.pending (clock_of g.log views) v = g.each id v at in
+    let h = f.holding holds in
+    let alive : 0 < v.share = dite (ℕ_discrete v.share 0) (λ (z : v.share ≡ 0). let no = (f.spent z).0 in absurd (cc)) (λ (n : v.share ≢ 0). let r : 0 < v.share = omega arith in r) in
+    let base : v.base ≡ g.base = f.base_is alive in
+    let le : hold v ≤ holders views = weigh_le hold views id v at in
+    let one : hold v ≡ 1 = ap (λ (b : Bool). cond {A = ℕ} b 1 0) holds in
+    let most = g.one in
+    let long : length v.seen ≡ length g.log = ap length h.0 in
+    let seen : v.seen ≡ g.log = h.0 in
+    let done : v.done ≡ g.pending = h.1 in
+    let all : clock ∷ words ≡ clock_of g.log views ∷ stored (after g.base g.log) g.pending = is ∙ g.cells_are in
+    let first : clock ≡ clock_of g.log views = cc in
+    let rest : words ≡ stored (after g.base g.log) g.pending = cc in
+    (omega arith, (cc))
 
 one_of : (v u : View) (b : Bool) → StartsWith (longer b v.seen u.seen) (longer b u.seen v.seen)
     → (StartsWith v.seen u.seen × (longer b v.seen u.seen ≡ v.seen)) ⊎ (StartsWith u.seen v.seen × (longer b v.seen u.seen ≡ u.seen))

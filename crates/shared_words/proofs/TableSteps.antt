@@ -51,20 +51,20 @@ module _ (slots id : ℕ) (me : Held) where
       let le : me.0.share ≤ 128 = (let a : me.0.share ≤ shares s.views = weigh_le share_of s.views id me.0 at in let b = g.whole in omega arith) in
       (me.0, keeps, tt, same_words s.words 0 (set s.views id me.0) (same_views s.words s.views id me.0 at g), (refl, t.0, t.1, le))
 
-load_one : (v w : View) (k n : ℕ) → Loaded v k n w → (b : Bool) → v.holds ≡ b → w.holds ≡ v.holds
-load_one v w k n l false e = ap (λ (u : View). u.holds) (l.0 e)
-load_one v w k n l true e = ap (λ (u : View). u.holds) (l.1 e).0
+load_one : (v w : View) (st : Step) (k n : ℕ) → Loaded v st k n w → (b : Bool) → v.holds ≡ b → w.holds ≡ v.holds
+load_one v w st k n l false e = ap (λ (u : View). u.holds) (l.0 e)
+load_one v w st k n l true e = ap (λ (u : View). u.holds) (l.1 e).0
 
 pub load_holds : (v w : View) (c n : ℕ) → StepTells v (Load c) n w → w.holds ≡ v.holds
 load_holds v w zero n t = ap (λ (u : View). u.holds) (t.0 refl).0
-load_holds v w (suc k) n t = (let l : Loaded v k n w = t.1 k (omega arith) in load_one v w k n l v.holds refl)
+load_holds v w (suc k) n t = (let l : Loaded v (Load (suc k)) k n w = t.1 k (omega arith) in load_one v w (Load (suc k)) k n l v.holds refl)
 
 pub free_holds : (v w : View) (x n : ℕ) → StepTells v (Store 0 x) n w → w.holds ≡ false
 free_holds v w x n t = ap (λ (u : View). u.holds) (t.0 refl)
 
 pub store_holds : (v w : View) (c x n : ℕ) → c ≢ 0 → StepTells v (Store c x) n w → w.holds ≡ v.holds
 store_holds v w zero x n away t = absurd (away refl)
-store_holds v w (suc k) x n away t = (let e : w ≡ wrote v k x = t.1 k (omega arith) in ap (λ (u : View). u.holds) e)
+store_holds v w (suc k) x n away t = (let e : w ≡ wrote v (Store (suc k) x) k x = t.1 k (omega arith) in ap (λ (u : View). u.holds) e)
 
 pub took_holds : (v w : View) (c s t n : ℕ) → n ≡ s → StepTells v (Cas c s t) n w → w.holds ≡ true
 took_holds v w c s t n is h = ap (λ (u : View). u.holds) (h.0 is).0

@@ -12,24 +12,24 @@ use Rattle.shared_words.specs.Passes.{IsOver}
 use Rattle.shared_words.proofs.StoredWords.{stores_snoc, commits_snoc}
 
 module _ (cells : ℕ) (v w : View) (o : IsOver cells v) where
-  by_look : (n : ℕ) → Looked v n w → IsOver cells w
-  by_look n l = subst (IsOver cells) (sym l.0) (record { size = o.size; base_fits = o.base_fits; seen_fits = l.1.fit; done_fits = o.done_fits })
+  by_look : (st : Step) (n : ℕ) → Looked v st n w → IsOver cells w
+  by_look st n l = subst (IsOver cells) (sym l.0) (record { size = o.size; base_fits = o.base_fits; seen_fits = l.1.fit; done_fits = o.done_fits })
 
-  by_take : (n : ℕ) → Took v n w → IsOver cells w
-  by_take n l = subst (IsOver cells) (sym l.0) (record { size = o.size; base_fits = o.base_fits; seen_fits = l.1.fit; done_fits = tt })
+  by_take : (st : Step) (n : ℕ) → Took v st n w → IsOver cells w
+  by_take st n l = subst (IsOver cells) (sym l.0) (record { size = o.size; base_fits = o.base_fits; seen_fits = l.1.fit; done_fits = tt })
 
-  by_load : (k n : ℕ) → Loaded v k n w → (b : Bool) → v.holds ≡ b → IsOver cells w
-  by_load k n l false e = subst (IsOver cells) (sym (l.0 e)) (record { size = o.size; base_fits = o.base_fits; seen_fits = o.seen_fits; done_fits = o.done_fits })
-  by_load k n l true e = subst (IsOver cells) (sym (l.1 e).0) (record { size = o.size; base_fits = o.base_fits; seen_fits = o.seen_fits; done_fits = o.done_fits })
+  by_load : (st : Step) (k n : ℕ) → Loaded v st k n w → (b : Bool) → v.holds ≡ b → IsOver cells w
+  by_load st k n l false e = subst (IsOver cells) (sym (l.0 e)) (record { size = o.size; base_fits = o.base_fits; seen_fits = o.seen_fits; done_fits = o.done_fits })
+  by_load st k n l true e = subst (IsOver cells) (sym (l.1 e).0) (record { size = o.size; base_fits = o.base_fits; seen_fits = o.seen_fits; done_fits = o.done_fits })
 
   pub over_step : (st : Step) (n : ℕ) → ValueFits st → StepTells v st n w → IsOver cells w
-  over_step (Load zero) n f t = by_look n (t.0 refl)
-  over_step (Load (suc k)) n f t = by_load k n (t.1 k (let e : suc k ≡ k + 1 = omega arith in e)) v.holds refl
+  over_step (Load zero) n f t = by_look (Load 0) n (t.0 refl)
+  over_step (Load (suc k)) n f t = by_load (Load (suc k)) k n (t.1 k (let e : suc k ≡ k + 1 = omega arith in e)) v.holds refl
   over_step (Store zero x) n f t = subst (IsOver cells) (sym (t.0 refl)) (record { size = o.size; base_fits = o.base_fits; seen_fits = commits_snoc v.seen v.done o.seen_fits o.done_fits; done_fits = tt })
   over_step (Store (suc k) x) n f t =
       subst (IsOver cells) (sym (t.1 k (let e : suc k ≡ k + 1 = omega arith in e)))
       (record { size = o.size; base_fits = o.base_fits; seen_fits = o.seen_fits; done_fits = stores_snoc v.done k x o.done_fits f })
-  over_step (Cas c s x) n f t = dite (ℕ_discrete n s) (λ (hit : n ≡ s). by_take s (t.0 hit)) (λ (miss : n ≢ s). by_look n (t.1 miss))
+  over_step (Cas c s x) n f t = dite (ℕ_discrete n s) (λ (hit : n ≡ s). by_take (Cas c s x) s (t.0 hit)) (λ (miss : n ≢ s). by_look (Cas c s x) n (t.1 miss))
 
 -- the joined view
 pub over_join : (cells : ℕ) (v u w : View) → IsOver cells v → IsOver cells u → Joined v u w → IsOver cells w

@@ -5,7 +5,7 @@ use lib.ListN.{get_elem?}
 use Rattle.shared_words.specs.declared.view.View.{View}
 use Rattle.itm_types.specs.Memory.{bytes_of, AllFit}
 use Rattle.shared_words.specs.Commits.{stored, after, StartsWith, Stand, AllMet, StoresFit, CommitsFit}
-use Rattle.shared_words.specs.Views.{holders, times, placed, shares}
+use Rattle.shared_words.specs.Views.{held, holders, times, placed, shares}
 
 -- what is true of one view, where `log` are the commits so far, `pending` the stores of the holder since, and `clock` is cell 0
 pub record Fits (base : List ℕ) (log : List (List (ℕ × ℕ))) (pending : List (ℕ × ℕ)) (clock : ℕ) (v : View) : Type 0 where
@@ -40,15 +40,6 @@ pub record Good (cells : List ℕ) (views : List View) : Type 0 where
   pub log_fits : CommitsFit log
   pub pending_fits : StoresFit pending
 
--- there are good cells and views, the view v among them, and these are the clock and the bytes of the words
-pub record Closes (v : View) (clock : ℕ) (bytes : List ℕ) : Type 0 where
-  pub words : List ℕ
-  pub views : List View
-  pub place : ℕ
-  pub good : Good (clock ∷ words) views
-  pub here : get_elem? views place ≡ some v
-  pub bytes_are : bytes ≡ bytes_of words
-
 -- the only view that is left has seen all commits, the cells are what they left, each word that was loaded had its value at some moment of them, and all positions are its own
 pub record Ends (v : View) (clock : ℕ) (words : List ℕ) : Type 0 where
   pub clock_is : clock ≡ 2 * length v.seen
@@ -64,3 +55,8 @@ pub record EndsWith (v : View) (clock : ℕ) (bytes : List ℕ) : Type 0 where
   pub met : AllMet v.base (v.seen ++ [] ∷ []) v.met
   pub mine : (p : ℕ) → p < length v.seen → times p v.mine ≡ 1
   pub no_other : (p : ℕ) → length v.seen ≤ p → times p v.mine ≡ 0
+
+-- the view holds the clock, and the bytes are what its stores so far have left
+pub record EndsHeld (v : View) (clock : ℕ) (bytes : List ℕ) : Type 0 where
+  pub clock_is : clock ≡ 2 * length v.seen + 1
+  pub bytes_are : bytes ≡ bytes_of (held v)

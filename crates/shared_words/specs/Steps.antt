@@ -5,7 +5,7 @@ use Rattle.itm_types.specs.declared.limits.TheConstants.{MAX_COMMITS}
 use Rattle.itm_types.specs.declared.step.Step.{Step}
 use Rattle.itm_types.specs.declared.step.Step.TheVariants.{Load, Store, Cas}
 use Rattle.shared_words.specs.Commits.{after, StartsWith, Stand, CommitsFit}
-use Rattle.shared_words.specs.Views.{looked, took, read, counted, wrote, freed, held, times}
+use Rattle.shared_words.specs.Views.{looked, took, read, noted, wrote, freed, held, times}
 
 -- the history h was seen while the clock was n: it goes on from what was seen, it has n / 2 commits, and where the clock had not moved since the last look the words loaded since stand in it
 pub record Sees (v : View) (n : ℕ) (h : List (List (ℕ × ℕ))) : Type 0 where
@@ -16,16 +16,16 @@ pub record Sees (v : View) (n : ℕ) (h : List (List (ℕ × ℕ))) : Type 0 whe
   pub stands : n % 2 ≡ 0 → v.clock ≡ n → Stand (after v.base h) v.fresh
 
 -- the clock was loaded
-abbrev pub Looked : View → ℕ → View → Type 0
-Looked v n w = (w ≡ looked v w.seen n) × Sees v n w.seen
+abbrev pub Looked : View → Step → ℕ → View → Type 0
+Looked v st n w = (w ≡ looked v st w.seen n) × Sees v n w.seen
 
 -- the clock was taken
-abbrev pub Took : View → ℕ → View → Type 0
-Took v s w = (w ≡ took v w.seen s) × Sees v s w.seen
+abbrev pub Took : View → Step → ℕ → View → Type 0
+Took v st s w = (w ≡ took v st w.seen s) × Sees v s w.seen
 
 -- a word was loaded; the holder of the clock finds what its own stores have left
-abbrev pub Loaded : View → ℕ → ℕ → View → Type 0
-Loaded v k n w = (v.holds ≡ false → w ≡ read v k n) × (v.holds ≡ true → (w ≡ counted v) × (n ≡ slice_index (held v) k))
+abbrev pub Loaded : View → Step → ℕ → ℕ → View → Type 0
+Loaded v st k n w = (v.holds ≡ false → w ≡ read v st k n) × (v.holds ≡ true → (w ≡ noted v st n) × (n ≡ slice_index (held v) k))
 
 -- the clock may be taken at s
 abbrev pub CanTake : View → ℕ → Type 0
@@ -39,9 +39,9 @@ Lawful v (Cas c s t) = (c ≡ 0) × (t ≡ s + 1) × CanTake v s
 
 -- what the step tells: n is the value loaded, the one that an exchange met, or 0 after a store
 abbrev pub StepTells : View → Step → ℕ → View → Type 0
-StepTells v (Load c) n w = (c ≡ 0 → Looked v n w) × ((k : ℕ) → c ≡ k + 1 → Loaded v k n w)
-StepTells v (Store c x) n w = (c ≡ 0 → w ≡ freed v x) × ((k : ℕ) → c ≡ k + 1 → w ≡ wrote v k x)
-StepTells v (Cas c s t) n w = (n ≡ s → Took v s w) × (n ≢ s → Looked v n w)
+StepTells v (Load c) n w = (c ≡ 0 → Looked v (Load c) n w) × ((k : ℕ) → c ≡ k + 1 → Loaded v (Load c) k n w)
+StepTells v (Store c x) n w = (c ≡ 0 → w ≡ freed v (Store c x) x) × ((k : ℕ) → c ≡ k + 1 → w ≡ wrote v (Store c x) k x)
+StepTells v (Cas c s t) n w = (n ≡ s → Took v (Cas c s t) s w) × (n ≢ s → Looked v (Cas c s t) n w)
 
 abbrev pub ValueFits : Step → Type 0
 ValueFits (Load c) = Unit {0}

@@ -1,5 +1,6 @@
 //! What one thread knows of the cells.
 
+use itm_types::Step;
 use std::collections::LinkedList;
 
 /// What one thread knows of the cells. It exists in proofs alone: no value of it is made.
@@ -23,8 +24,8 @@ pub struct View {
     pub holds: bool,
     /// The words that it has stored since it took the clock.
     pub done: LinkedList<(u64, u64)>,
-    /// How many atomic steps it has taken.
-    pub steps: u64,
+    /// The atomic steps that it has taken, each with the value that it found, or 0 for a store.
+    pub steps: LinkedList<(Step, u64)>,
     /// How many of them loaded the clock or tried to take it.
     pub looks: u64,
     /// Its share of the right to close: all shares together are 128.

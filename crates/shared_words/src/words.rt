@@ -1,6 +1,6 @@
 //! The cells.
 
-ghost use Rattle.std.specs.Prelude.{◌≡◌, ◌+◌, ◌*◌, ◌<◌, ◌≤◌, false, [], length, IfOk, IfErr};
+ghost use Rattle.std.specs.Prelude.{◌≡◌, ◌+◌, ◌*◌, ◌<◌, ◌≤◌, true, false, [], length, IfOk, IfErr};
 ghost use Rattle.itm_types.specs.declared.limits.TheConstants.{MAX_MEMORY};
 
 use crate::bytes::words_of;
@@ -27,7 +27,7 @@ pub struct Words {
 /// What the words were when they were closed.
 #[derive(Clone, Copy, Debug, PartialEq, Eq)]
 pub struct Closed {
-    /// Twice the number of commits.
+    /// Twice the number of commits, and one more where the clock is held.
     pub clock: u64,
 }
 
@@ -36,7 +36,7 @@ impl Words {
     ghost use Rattle.shared_words.specs.Passes.{IsWrongSize, Owns, view_of, cells_of};
     ghost use Rattle.shared_words.specs.declared.fault.WordsFault.TheVariants.{Length};
     ghost use Rattle.shared_words.specs.Views.{opening, cut_left, cut_right};
-    ghost use Rattle.shared_words.specs.Good.{Closes, EndsWith};
+    ghost use Rattle.shared_words.specs.Good.{EndsHeld, EndsWith};
     ghost use Rattle.shared_words.specs.Moves.{Moves};
     ghost use Rattle.shared_words.specs.Steps.{Lawful, StepTells, Joined, cell_of};
 
@@ -165,12 +165,13 @@ impl Words {
         pass.left += left + 1;
     }
 
-    /// Gives the bytes of the memory, as many as `size` tells, and the clock, as the rule has them with this pass. With
-    /// the pass that has the whole share these are the bytes that all commits have left.
+    /// Gives the bytes of the memory, as many as `size` tells, and the clock. With the pass that has the whole share these
+    /// are the bytes that all commits have left, and with one that holds the clock those that its stores so far have. With
+    /// any other pass nothing is promised of either.
     pub fn close(self, pass: Pass, bytes: &mut [u8]) -> Closed
         requires own { Owns self pass }
         requires size { length bytes.old + 8 ≡ 8 * cells_of self }
-        ensures cells { Closes (view_of pass) result.clock bytes.new }
+        ensures held { (view_of pass).holds ≡ true → EndsHeld (view_of pass) result.clock bytes.new }
         ensures whole { (view_of pass).share ≡ 128 → (view_of pass).holds ≡ false → EndsWith (view_of pass) result.clock bytes.new }
     {
         let Words { table, size: _ } = self;

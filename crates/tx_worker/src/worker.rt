@@ -108,8 +108,11 @@ impl<P: Player> Worker<P> {
         requires begins { is_begin call.now ≡ false }
         ensures { (shuts : Bool) → GoesOnOrStops P.Player words.now shuts self.old result self.new }
     {
-        match self.thread.call(words, call) {
-            Ok(Answer::Reply(reply)) => self.player.answer(&reply),
+        let Ok(answer) = self.thread.call(words, call) else {
+            unreachable!()
+        };
+        match answer {
+            Answer::Reply(reply) => self.player.answer(&reply),
             _ => unreachable!(),
         }
         None

@@ -1,18 +1,21 @@
 -- A call of a thread, once its engine was called.
-use Rattle.std.proofs.Common.{◌≡◌, Bool, subst}
+use Rattle.std.proofs.Common.{◌≡◌, Bool, subst, sym}
 use Rattle.itm_types.specs.declared.call.Call.{Call}
 use Rattle.norec_core.specs.declared.answer.Answer.{Answer}
 use Rattle.norec_core.specs.declared.answer.Next.{Next}
+use Rattle.norec_core.specs.declared.answer.Next.TheVariants.{Answer as Answers}
 use Rattle.norec_core.specs.Core.{Core}
 use Rattle.norec_core.specs.Moves.{IsCalled}
 use Rattle.shared_words.specs.declared.pass.Pass.{Pass}
 use Rattle.shared_words.specs.declared.words.Words.{Words}
-use Rattle.shared_words.specs.Passes.{view_of}
+use Rattle.shared_words.specs.Passes.{cells_of, Owns, view_of}
 use Rattle.itm_runtime.specs.CallResults.{IsAnswered}
+use Rattle.itm_runtime.specs.Drives.{Finishes, IsDriven}
 use Rattle.itm_runtime.specs.InCall.{IsDue}
 use Rattle.itm_runtime.specs.Served.{Start}
 use Rattle.itm_runtime.specs.Standing.{Standing, start_of}
 use Rattle.itm_runtime.specs.Ties.{Stands}
+use Rattle.itm_runtime.proofs.Steps.DrivenCalls.{noted, served}
 use Rattle.itm_runtime.proofs.Steps.StepChains.{starts}
 
 -- what comes next is due
@@ -20,16 +23,21 @@ pub due : (p : Pass) {e new : Core} {call : Call} {again : Bool} {next : Next} �
 due p {e} {new} {call} {again} {next} stands r = (record { view = view_of p; engine = e; call = call; again = again }, starts (view_of p) e new call again stands next r)
 
 module _ (p : Pass) {e new : Core} {call : Call} {again : Bool} {next : Next} (stands : Stands (view_of p) e) (r : IsCalled e call again next new)
-    {words : Words} {a : Answer} {pass : Pass} {engine : Core} (finish : (s : Start) → IsDue s (view_of p) new next → IsAnswered words s a pass engine) where
+    {words : Words} {a : Answer} {pass : Pass} {engine : Core} (finish : Finishes words (view_of p) new next a pass engine)
+    (old : Standing) (is : (let came_to : Standing = record { pass = p; engine = e } in came_to) ≡ old) (own : Owns words old.pass) where
   abbrev came_to : Standing
   came_to = record { pass = p; engine = e }
 
   -- and once that is done, the call is answered
   finished : IsAnswered words (start_of came_to call again) a pass engine
-  finished = finish (start_of came_to call again) (starts (view_of p) e new call again stands next r)
+  finished =
+      let over = (subst (λ (t : Standing). Owns words t.pass) (sym is) own).over in
+      let driven : IsDriven (cells_of words) (start_of came_to call again) a (view_of pass) engine = record { came = new; first = next; steps = finish.steps; noted = noted (cells_of words) finish.steps (view_of p) (view_of pass) new engine next (Answers a) finish.leads; called = r; leads = finish.leads } in
+      let both = served (cells_of words) (start_of came_to call again) a (view_of pass) engine over stands driven in
+      record { own = finish.own; driven = driven; served = both.0; stands = both.1 }
 
   pub left_standing : Stands (view_of pass) engine
   left_standing = finished.stands
 
-  pub answered : (old : Standing) → came_to ≡ old → IsAnswered words (start_of old call again) a pass engine
-  answered old is = subst (λ (t : Standing). IsAnswered words (start_of t call again) a pass engine) is finished
+  pub answered : IsAnswered words (start_of old call again) a pass engine
+  answered = subst (λ (t : Standing). IsAnswered words (start_of t call again) a pass engine) is finished

@@ -69,7 +69,7 @@ pub record IsMid (s : Start) (w : View) (mid new : Core) : Type 0 where
   pub fixed : s.engine.irrevocable ≡ true → new.snapshot ≡ s.engine.snapshot
   pub grows : in_transaction s.engine ≡ true → in_transaction new ≡ true → Grows s w new
   pub opens : in_transaction s.engine ≡ false → in_transaction new ≡ true → s.view.looks < w.looks
-  pub steps : w.steps ≡ s.view.steps + mid.spent
+  pub steps : length w.steps ≡ length s.view.steps + mid.spent
   pub spent : mid.spent ≤ most (came s.engine s.call s.again) (Some s.call)
 
 -- its tries, its stage outside a transaction, and what was loaded last

@@ -13,7 +13,7 @@ use Rattle.norec_core.proofs.Engines.KeptFields.{IsHanded, keeps_twice, handed_i
 use Rattle.norec_core.proofs.Accesses.Logs.{agrees_more, snapshot_same}
 use Rattle.shared_words.specs.declared.view.View.{View}
 use Rattle.shared_words.specs.Commits.{after}
-use Rattle.shared_words.specs.Views.{looked, took, read, counted, wrote, freed, held}
+use Rattle.shared_words.specs.Views.{looked, took, read, noted, wrote, freed, held}
 use Rattle.shared_words.specs.Steps.{Sees, Loaded, StepTells}
 use Rattle.shared_words.specs.Passes.{IsOver}
 use Rattle.shared_words.proofs.ListPlaces.{starts_self}
@@ -46,7 +46,7 @@ module _ (s : Start) (v : View) (e : Core) (step : Step) (i : InCall s v e step)
     pub looked : mid.freed ≡ false → (w.clock ≡ s.view.clock) ⊎ (s.view.looks < w.looks)
     pub taken : mid.holds ≡ true → mid.irrevocable ≡ false → s.view.looks < w.looks
     pub opened : in_transaction e ≡ false → in_transaction new ≡ true → Follows w mid
-    pub stepped : w.steps ≡ v.steps + 1
+    pub stepped : length w.steps ≡ length v.steps + 1
 
   made : (w : View) (mid : Core) → w.base ≡ v.base → w.share ≡ v.share → Seen w.seen w.looks → IsOver (suc e.words) w → IsHanded e mid → Differs w mid → IsMid s w mid new
   made w mid base_is share_is k o h d = record {
@@ -99,9 +99,9 @@ module _ (s : Start) (v : View) (e : Core) (step : Step) (i : InCall s v e step)
     on = (let r : v.looks ≤ v.looks + 1 = omega arith in r);
   }
 
-  by_look : (h : Log) → IsOver (suc e.words) (looked v h n) → Sees v n h → e.holds ≡ false → IsMid s (looked v h n) (handed_to e (Some (Load 0)) n) new
+  by_look : (h : Log) → IsOver (suc e.words) (looked v (Load 0) h n) → Sees v n h → e.holds ≡ false → IsMid s (looked v (Load 0) h n) (handed_to e (Some (Load 0)) n) new
   by_look h o c free =
-      let w : View = looked v h n in
+      let w : View = looked v (Load 0) h n in
       let counts = c.counts in
       let went = i.went.looks in
       made w (handed_to e (Some (Load 0)) n) refl refl (looks_at h c) o (handed_is e (Load 0) n) (record {
@@ -116,7 +116,7 @@ module _ (s : Start) (v : View) (e : Core) (step : Step) (i : InCall s v e step)
         looked = λ x. inr (let r : s.view.looks < v.looks + 1 = omega arith in r);
         taken = λ x y. absurd (both e.holds x free);
         opened = λ x y. record { clock = refl; count = c.counts };
-        stepped = refl;
+        stepped = length-append v.steps _;
       })
 
   -- ## The clock is taken, or not
@@ -137,9 +137,9 @@ module _ (s : Start) (v : View) (e : Core) (step : Step) (i : InCall s v e step)
     abbrev Left : Bool → Core
     Left b = record e { waits = None; stage = at.Idle; tries = 0; clock = n; fresh = []; holds = b; done = 0; got = None }
 
-    missed : (h : Log) → IsOver (suc e.words) (looked v h n) → Sees v n h → IsHanded e (Left false) → IsMid s (looked v h n) (Left false) new
+    missed : (h : Log) → IsOver (suc e.words) (looked v (Cas cell from to) h n) → Sees v n h → IsHanded e (Left false) → IsMid s (looked v (Cas cell from to) h n) (Left false) new
     missed h o c handed =
-        let w : View = looked v h n in
+        let w : View = looked v (Cas cell from to) h n in
         let counts = c.counts in
         let went = i.went.looks in
         made w _ refl refl (tried h c) o handed (record {
@@ -154,12 +154,12 @@ module _ (s : Start) (v : View) (e : Core) (step : Step) (i : InCall s v e step)
           looked = λ x. inr (let r : s.view.looks < v.looks + 1 = omega arith in r);
           taken = λ x y. absurd (cc);
           opened = λ x y. record { clock = refl; count = c.counts };
-          stepped = refl;
+          stepped = length-append v.steps _;
         })
 
-    taken : n ≡ from → (h : Log) → IsOver (suc e.words) (took v h from) → Sees v from h → IsHanded e (Left true) → IsMid s (took v h from) (Left true) new
+    taken : n ≡ from → (h : Log) → IsOver (suc e.words) (took v (Cas cell from to) h from) → Sees v from h → IsHanded e (Left true) → IsMid s (took v (Cas cell from to) h from) (Left true) new
     taken hit h o c handed =
-        let w : View = took v h from in
+        let w : View = took v (Cas cell from to) h from in
         let went = i.went.looks in
         let seen : Sees v n h = subst (λ (x : ℕ). Sees v x h) (sym hit) c in
         let count : length h ≡ n / 2 = seen.counts in
@@ -175,7 +175,7 @@ module _ (s : Start) (v : View) (e : Core) (step : Step) (i : InCall s v e step)
           looked = λ x. inr (let r : s.view.looks < v.looks + 1 = omega arith in r);
           taken = λ x y. (let r : s.view.looks < v.looks + 1 = omega arith in r);
           opened = λ x y. record { clock = sym hit; count = count };
-          stepped = refl;
+          stepped = length-append v.steps _;
         })
 
     by_exchange : (w : View) → IsOver (suc e.words) w → StepTells v (Cas cell from to) n w → (b : Bool) → (n == from) ≡ b → IsHanded e (Left b) → IsMid s w (Left b) new
@@ -199,12 +199,12 @@ module _ (s : Start) (v : View) (e : Core) (step : Step) (i : InCall s v e step)
     is_open : in_transaction e ≡ true
     is_open = lawful.1.0
 
-    by_reader : IsOver (suc e.words) (read v word n) → e.holds ≡ false → IsHanded e (word_loaded e false word n) → IsMid s (read v word n) (word_loaded e false word n) new
+    by_reader : IsOver (suc e.words) (read v (Load (suc word)) word n) → e.holds ≡ false → IsHanded e (word_loaded e false word n) → IsMid s (read v (Load (suc word)) word n) (word_loaded e false word n) new
     by_reader o free handed =
         let inside = lawful.0 in
-        made (read v word n) _ refl refl same_seen o handed (record {
-          stepped = refl;
-          opened = open_before is_open (read v word n) (word_loaded e false word n);
+        made (read v (Load (suc word)) word n) _ refl refl same_seen o handed (record {
+          stepped = length-append v.steps _;
+          opened = open_before is_open (read v (Load (suc word)) word n) (word_loaded e false word n);
           behind = t.behind;
           known = t.known;
           holds = t.holds;
@@ -217,11 +217,11 @@ module _ (s : Start) (v : View) (e : Core) (step : Step) (i : InCall s v e step)
           taken = λ y z. absurd (both e.holds y free);
         })
 
-    by_holder : IsOver (suc e.words) (counted v) → e.holds ≡ true → slice_get (held v) word ≡ Some n → IsHanded e (word_loaded e true word n) → IsMid s (counted v) (word_loaded e true word n) new
+    by_holder : IsOver (suc e.words) (noted v (Load (suc word)) n) → e.holds ≡ true → slice_get (held v) word ≡ Some n → IsHanded e (word_loaded e true word n) → IsMid s (noted v (Load (suc word)) n) (word_loaded e true word n) new
     by_holder o holds there handed =
-        made (counted v) _ refl refl same_seen o handed (record {
-          stepped = refl;
-          opened = open_before is_open (counted v) (word_loaded e true word n);
+        made (noted v (Load (suc word)) n) _ refl refl same_seen o handed (record {
+          stepped = length-append v.steps _;
+          opened = open_before is_open (noted v (Load (suc word)) n) (word_loaded e true word n);
           behind = t.behind;
           known = t.known;
           holds = t.holds;
@@ -237,9 +237,9 @@ module _ (s : Start) (v : View) (e : Core) (step : Step) (i : InCall s v e step)
           taken = λ y z. i.taken holds z;
         })
 
-    by_word : (w : View) → IsOver (suc e.words) w → Loaded v word n w → (b : Bool) → e.holds ≡ b → IsHanded e (word_loaded e b word n) → IsMid s w (word_loaded e b word n) new
+    by_word : (w : View) → IsOver (suc e.words) w → Loaded v (Load (suc word)) word n w → (b : Bool) → e.holds ≡ b → IsHanded e (word_loaded e b word n) → IsMid s w (word_loaded e b word n) new
     by_word w o u false free handed =
-        let is_read : w ≡ read v word n = u.0 (t.holds ∙ free) in
+        let is_read : w ≡ read v (Load (suc word)) word n = u.0 (t.holds ∙ free) in
         subst (λ (y : View). IsMid s y (word_loaded e false word n) new) (sym is_read) (by_reader (subst (IsOver (suc e.words)) is_read o) free handed)
     by_word w o u true holds handed =
         let told = u.1 (t.holds ∙ holds) in
@@ -259,7 +259,7 @@ module _ (s : Start) (v : View) (e : Core) (step : Step) (i : InCall s v e step)
     abbrev mid : Core
     mid = handed_to e (Some (Store (suc word) value)) n
 
-    laid_more : (b : Bool) → e.irrevocable ≡ b → e.irrevocable ≡ false → held (wrote v word value) ≡ backed mid (after v.base v.seen)
+    laid_more : (b : Bool) → e.irrevocable ≡ b → e.irrevocable ≡ false → held (wrote v (Store (suc word) value) word value) ≡ backed mid (after v.base v.seen)
     laid_more true i revocable = absurd (both e.irrevocable i revocable)
     laid_more false i revocable =
         let h = t.holding lawful.1 revocable in
@@ -271,12 +271,12 @@ module _ (s : Start) (v : View) (e : Core) (step : Step) (i : InCall s v e step)
         let done : (if e.irrevocable then e.done else e.done + 1) ≡ e.done + 1 = ap (λ (x : Bool). if x then e.done else e.done + 1) i in
         stored_snoc m v.done (word, value) ∙ (ap (λ (l : List ℕ). set l word value) h.laid ∙ (sym (stores.value_is m fits got') ∙ ap (λ (d : ℕ). overlay m (take d e.writes)) (sym done)))
 
-    by_store : (w : View) → IsOver (suc e.words) w → w ≡ wrote v word value → IsMid s w mid new
+    by_store : (w : View) → IsOver (suc e.words) w → w ≡ wrote v (Store (suc word) value) word value → IsMid s w mid new
     by_store w o is_wrote =
-        let x : View = wrote v word value in
+        let x : View = wrote v (Store (suc word) value) word value in
         let is_open : in_transaction e ≡ true = (t.settled.holder lawful.1).0 in
         let there : IsMid s x mid new = made x mid refl refl still_seen (subst (IsOver (suc e.words)) is_wrote o) (handed_is e (Store (suc word) value) n) (record {
-          stepped = refl;
+          stepped = length-append v.steps _;
           opened = open_before is_open x mid;
           behind = t.behind;
           known = t.known;
@@ -301,9 +301,9 @@ module _ (s : Start) (v : View) (e : Core) (step : Step) (i : InCall s v e step)
     freed_seen = looks_not s v e step i n new joins settled is_load
         (λ f g x. (let y : Store 0 value ≡ Cas 0 f g = sym is ∙ x in absurd (cc))) (v.seen ++ v.done ∷ []) (v.done ∷ [], refl)
 
-    by_free : (w : View) → IsOver (suc e.words) w → w ≡ freed v value → IsMid s w (handed_to e (Some (Store 0 value)) n) new
+    by_free : (w : View) → IsOver (suc e.words) w → w ≡ freed v (Store 0 value) value → IsMid s w (handed_to e (Some (Store 0 value)) n) new
     by_free w o is_freed =
-        let x : View = freed v value in
+        let x : View = freed v (Store 0 value) value in
         let mid : Core = handed_to e (Some (Store 0 value)) n in
         let is_open : in_transaction e ≡ true = (t.settled.holder lawful.1).0 in
         let snap : new.snapshot ≡ e.snapshot = snapshot_same e new n joins t.settled (λ y. is_load (let z : Some step ≡ Some (Load 0) = sym i.waits ∙ y in cc)) is_open in
@@ -315,7 +315,7 @@ module _ (s : Start) (v : View) (e : Core) (step : Step) (i : InCall s v e step)
         let half : v.clock / 2 ≡ new.snapshot / 2 = omega arith in
         let long : length (v.seen ++ v.done ∷ []) ≡ value / 2 = omega (arith, length-append v.seen (v.done ∷ [])) in
         let there : IsMid s x mid new = made x mid refl refl freed_seen (subst (IsOver (suc e.words)) is_freed o) (handed_is e (Store 0 value) n) (record {
-          stepped = refl;
+          stepped = length-append v.steps _;
           opened = open_before is_open x mid;
           behind = (let r : value ≤ value = omega arith in r);
           known = (let r : value / 2 ≤ length (v.seen ++ v.done ∷ []) = omega arith in r);

@@ -21,7 +21,7 @@ last_same (r ∷ rs) (q ∷ qs) x y e = (let tail : rs ++ x ∷ [] ≡ qs ++ y �
 same_loads : (v w : View) (e : Core) → w.fresh ≡ v.fresh → Loads v e → Loads w e
 same_loads v w e same l before row x = let old = l before row x in (old.0, same ∙ old.1)
 
-by_holds : (v w : View) (e : Core) (n word : ℕ) (b : Bool) → v.holds ≡ b → Loaded v word n w → Loads v e → Loads w (word_loaded e b word n)
+by_holds : (v w : View) (e : Core) (n word : ℕ) (b : Bool) → v.holds ≡ b → Loaded v (Load (suc word)) word n w → Loads v e → Loads w (word_loaded e b word n)
 by_holds v w e n word true h u l = λ before row x. same_loads v w e (ap (λ (y : View). y.fresh) (u.1 h).0) l before row x
 by_holds v w e n word false h u l = λ before row x.
     (let same = last_same e.fresh before (record { word = word; value = n }) row x in

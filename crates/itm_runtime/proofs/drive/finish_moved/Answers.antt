@@ -1,3 +1,4 @@
+use Rattle.std.proofs.Common.{◌∷◌, refl}
 use Rattle.itm_types.specs.declared.step.Step.TheVariants.{Load}
 use Rattle.shared_words.specs.Passes.{view_of, cells_of}
 use Rattle.itm_runtime.proofs.Steps.StepChains.{goes}
@@ -10,6 +11,10 @@ finish-requires-clause-due c =
     (d.0, goes (cells_of c.args.words.now) d.1 (view_of c.args.pass.now) d.2 c.requires.own.over c.args.engine.now c.resume_into-next.new.self (Load 0) c.args.clock d.4 _ r d.0 d.3)
 
 pub returns : goal.returns
-returns c s v over i turn =
-    let r = c.resume_into-next.ensures in
-    c.finish.ensures s (goes (cells_of c.args.words.now) v (view_of c.args.pass.now) over c.requires.own.over c.args.engine.now c.resume_into-next.new.self (Load 0) c.args.clock turn _ r s i)
+returns c v stepped =
+    let f = c.finish.ensures in
+    record {
+      own = f.own;
+      steps = (Load 0, c.args.clock) ∷ f.steps;
+      leads = (refl, view_of c.args.pass.now, c.resume_into-next.new.self, _, record { stepped = stepped; over = c.requires.own.over; resumed = c.resume_into-next.ensures }, f.leads);
+    }

@@ -1,3 +1,4 @@
+use Rattle.std.proofs.Common.{[], ◌∷◌, refl}
 use Rattle.std.proofs.Common.{◌+◌}
 use Rattle.itm_types.specs.declared.step.Step.TheVariants.{Load}
 use Rattle.shared_words.specs.Passes.{view_of, cells_of}
@@ -15,12 +16,31 @@ finish_moved-requires-clause-due c =
     (c.requires.due.0, view_of c.step-value.new.pass, c.step-value.ensures.own.over, looked, c.step-clock.ensures.turn)
 
 pub returns-then-clock-snapshot : goal.returns-then-clock-snapshot
-returns-then-clock-snapshot c s i =
-    let looked = goes (cells_of c.args.words.now) (view_of c.args.pass.now) (view_of c.step-value.new.pass) c.requires.own.over c.step-value.ensures.own.over c.args.engine.now c.load_fast.new.self (Load (c.args.word + 1)) c.step-value.result c.step-value.ensures.turn _ c.load_fast.ensures.resumed s i in
-    c.finish_moved.ensures s (view_of c.step-value.new.pass) c.step-value.ensures.own.over looked c.step-clock.ensures.turn
+returns-then-clock-snapshot c =
+    let f = c.finish_moved.ensures (view_of c.step-value.new.pass) (record { turn = c.step-clock.ensures.turn; moves = c.step-clock.ensures.moves }) in
+    record {
+      own = f.own;
+      steps = (Load (c.args.word + 1), c.step-value.result) ∷ f.steps;
+      leads = (refl, view_of c.step-value.new.pass, c.load_fast.new.self, _, record { stepped = record { turn = c.step-value.ensures.turn; moves = c.step-value.ensures.moves }; over = c.step-value.ensures.own.over; resumed = c.load_fast.ensures.resumed }, f.leads);
+    }
 
 pub returns : goal.returns
-returns c s i =
-    let looked = goes (cells_of c.args.words.now) (view_of c.args.pass.now) (view_of c.step-value.new.pass) c.requires.own.over c.step-value.ensures.own.over c.args.engine.now c.load_fast.new.self (Load (c.args.word + 1)) c.step-value.result c.step-value.ensures.turn _ c.load_fast.ensures.resumed s i in
-    let due = goes (cells_of c.args.words.now) (view_of c.step-value.new.pass) (view_of c.step-clock.new.pass) c.step-value.ensures.own.over c.step-clock.ensures.own.over c.load_fast.new.self c.confirm_fast.new.self (Load 0) c.step-clock.result c.step-clock.ensures.turn _ c.confirm_fast.ensures s looked in
-    record { own = c.step-clock.ensures.own; served = due.0; stands = due.1 }
+returns c = record {
+  own = c.step-clock.ensures.own;
+  steps = (Load (c.args.word + 1), c.step-value.result) ∷ (Load 0, c.step-clock.result) ∷ [];
+  leads = (
+    refl,
+    view_of c.step-value.new.pass,
+    c.load_fast.new.self,
+    _,
+    record { stepped = record { turn = c.step-value.ensures.turn; moves = c.step-value.ensures.moves }; over = c.step-value.ensures.own.over; resumed = c.load_fast.ensures.resumed },
+    (
+      refl,
+      view_of c.step-clock.new.pass,
+      c.confirm_fast.new.self,
+      _,
+      record { stepped = record { turn = c.step-clock.ensures.turn; moves = c.step-clock.ensures.moves }; over = c.step-clock.ensures.own.over; resumed = c.confirm_fast.ensures },
+      (refl, refl, refl),
+    ),
+  );
+}

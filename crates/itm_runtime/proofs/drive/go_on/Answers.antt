@@ -1,5 +1,6 @@
+use Rattle.std.proofs.Common.{[], ◌∷◌, refl}
 use Rattle.shared_words.specs.Passes.{view_of, cells_of}
-use Rattle.itm_runtime.proofs.Steps.StepChains.{lawful_of, cell_within, fits_of, waits_of, goes, smaller}
+use Rattle.itm_runtime.proofs.Steps.StepChains.{lawful_of, cell_within, fits_of, waits_of, smaller}
 use Rattle.itm_runtime.proofs.drive.go_on.Goals as goal
 
 pub step-found-requires : goal.step-found-requires
@@ -21,12 +22,12 @@ resume_into-requires c =
 
 pub returns : goal.returns
 returns c =
-    let r = c.resume_into.ensures in
     let words = cells_of c.args.words.now in
     let over = c.requires.own.over in
     let turn = c.step-found.ensures.turn in
     record {
       own = c.step-found.ensures.own;
-      due = goes words (view_of c.args.pass.now) (view_of c.step-found.new.pass) over c.step-found.ensures.own.over c.args.engine.now c.resume_into.new.self c.args.step c.step-found.result turn _ r;
-      less = smaller words (view_of c.args.pass.now) (view_of c.step-found.new.pass) over c.step-found.ensures.own.over c.args.engine.now c.resume_into.new.self c.args.step c.step-found.result turn _ r c.requires.due.0 c.requires.due.1;
+      steps = (c.args.step, c.step-found.result) ∷ [];
+      leads = (refl, view_of c.step-found.new.pass, c.resume_into.new.self, _, record { stepped = record { turn = turn; moves = c.step-found.ensures.moves }; over = c.step-found.ensures.own.over; resumed = c.resume_into.ensures }, (refl, refl, refl));
+      less = smaller words (view_of c.args.pass.now) (view_of c.step-found.new.pass) over c.step-found.ensures.own.over c.args.engine.now c.resume_into.new.self c.args.step c.step-found.result turn _ c.resume_into.ensures c.requires.due.0 c.requires.due.1;
     }

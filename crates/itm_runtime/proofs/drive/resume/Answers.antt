@@ -1,3 +1,4 @@
+use Rattle.std.proofs.Common.{◌∷◌, refl}
 use Rattle.shared_words.specs.Passes.{view_of, cells_of}
 use Rattle.itm_runtime.proofs.Steps.StepChains.{fits_of, waits_of, goes}
 use Rattle.itm_runtime.proofs.drive.resume.Goals as goal
@@ -17,6 +18,10 @@ finish-requires-clause-due c =
     (c.requires.done.0, goes (cells_of c.args.words.now) d.before (view_of c.args.pass.now) d.over c.requires.own.over c.args.engine.now c.resume_into-next.new.self d.step c.args.seen d.turn _ r c.requires.done.0 d.in_call)
 
 pub returns : goal.returns
-returns c = λ s d.
-    (let r = c.resume_into-next.ensures in
-    c.finish.ensures s (goes (cells_of c.args.words.now) d.before (view_of c.args.pass.now) d.over c.requires.own.over c.args.engine.now c.resume_into-next.new.self d.step c.args.seen d.turn _ r s d.in_call))
+returns c v step stepped =
+    let f = c.finish.ensures in
+    record {
+      own = f.own;
+      steps = (step, c.args.seen) ∷ f.steps;
+      leads = (refl, view_of c.args.pass.now, c.resume_into-next.new.self, _, record { stepped = stepped; over = c.requires.own.over; resumed = c.resume_into-next.ensures }, f.leads);
+    }

@@ -1,34 +1,33 @@
-use Rattle.std.proofs.Common.{◌≡◌, ◌<◌, Option, Some, None, refl, ap, sym, subst}
-use Rattle.itm_types.specs.declared.step.Step.{Step}
-use Rattle.norec_core.specs.declared.answer.Answer.{Answer}
+use Rattle.std.proofs.Common.{[], ◌++◌, ◌<◌, refl, subst, sym}
 use Rattle.norec_core.specs.declared.answer.Next.{Next}
-use Rattle.norec_core.specs.declared.answer.Next.TheVariants.{Step as Asks, Answer as Answers}
+use Rattle.norec_core.specs.declared.answer.Next.TheVariants.{Step as Asks}
 use Rattle.norec_engine.specs.NextSteps.{next_in}
+use Rattle.shared_words.specs.Passes.{cells_of, view_of}
+use Rattle.itm_runtime.specs.Drives.{LeadsOn}
 use Rattle.itm_runtime.specs.InCall.{left}
-use Rattle.itm_runtime.proofs.Steps.StepChains.{at_step, at_answer}
+use Rattle.itm_runtime.proofs.Steps.DrivenCalls.{answer_due, due_on, leads_further, step_due}
+use Rattle.itm_runtime.proofs.Steps.StepChains.{at_step}
 use Rattle.itm_runtime.proofs.drive.store.Goals as goal
-
--- the step that is done next, as what is due
-step_due : (o : Option Step) (a : Answer) (step : Step) → o ≡ Some step → next_in o a ≡ Asks step
-step_due o a step is = ap (λ (x : Option Step). next_in x a) is
-
-answer_due : (o : Option Step) (a : Answer) → ((step : Step) → o ≡ Some step → ⊥) → next_in o a ≡ Answers a
-answer_due None a n = refl
-answer_due (Some step) a n = absurd (n step refl)
 
 pub advance_store-next-requires : goal.advance_store-next-requires
 advance_store-next-requires c =
     let inv = c.loop-next.invariant in
     record { own = inv.own; due = (inv.due.0, at_step inv.due.0 _ _ _ _ (step_due _ c.loop-next.answer _ c.in-Some.is) inv.due.1) }
 
+pub loop-next-init : goal.loop-next-init
+loop-next-init c = record { own = c.requires.own; due = c.requires.due; steps = []; leads = (refl, refl, refl) }
+
 pub loop-next-preserved : goal.loop-next-preserved
 loop-next-preserved c =
     let inv = c.loop-next.invariant in
+    let words = cells_of c.args.words.now in
     let is = step_due c.loop-next.next c.loop-next.answer c.in-Some.step c.in-Some.is in
+    let on = c.advance_store-next.ensures in
     record {
-      own = c.advance_store-next.ensures.own;
-      due = (inv.due.0, c.advance_store-next.ensures.due inv.due.0 (at_step inv.due.0 _ _ _ _ is inv.due.1));
-      still = λ s d. c.advance_store-next.ensures.due s (at_step s _ _ _ _ is (inv.still s d));
+      own = on.own;
+      due = (inv.due.0, due_on words inv.due.0 on.steps _ _ _ _ (Asks c.in-Some.step) _ inv.own.over (at_step inv.due.0 _ _ _ _ is inv.due.1) on.leads);
+      steps = inv.steps ++ on.steps;
+      leads = leads_further words inv.steps on.steps _ _ _ _ _ _ _ (Asks c.in-Some.step) _ (subst (λ (x : Next). LeadsOn words (view_of c.args.pass.now) c.args.engine.now (Asks c.args.first) inv.steps (view_of c.loop-next.pass) c.loop-next.engine x) is inv.leads) on.leads;
     }
 
 pub loop-next-smaller : goal.loop-next-smaller
@@ -37,7 +36,11 @@ loop-next-smaller c =
     subst (λ (x : Next). left c.advance_store-next.new.engine (next_in c.advance_store-next.result c.advance_store-next.new.answer) < left c.loop-next.engine x) (sym is) c.advance_store-next.ensures.less
 
 pub returns : goal.returns
-returns c s d =
+returns c =
     let inv = c.loop-next.invariant in
-    let a = at_answer s _ _ _ _ (answer_due c.loop-next.next c.loop-next.answer c.in_default.not-Some) (inv.still s d) in
-    record { own = inv.own; served = a.0; stands = a.1 }
+    let is = answer_due c.loop-next.next c.loop-next.answer c.in_default.not-Some in
+    record {
+      own = inv.own;
+      steps = inv.steps;
+      leads = subst (λ (x : Next). LeadsOn (cells_of c.args.words.now) (view_of c.args.pass.now) c.args.engine.now (Asks c.args.first) inv.steps (view_of c.loop-next.pass) c.loop-next.engine x) is inv.leads;
+    }

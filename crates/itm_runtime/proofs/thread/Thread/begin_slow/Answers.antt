@@ -5,7 +5,7 @@ pub finish-requires-clause-due : goal.finish-requires-clause-due
 finish-requires-clause-due c = due c.self.inside.pass c.self.invariant c.in_ok-first.ensures
 
 pub returns : goal.returns
-returns c = answered c.self.inside.pass c.self.invariant c.in_ok-first.ensures c.finish.ensures c.args.self.now c.self.view_is
+returns c = answered c.self.inside.pass c.self.invariant c.in_ok-first.ensures c.finish.ensures c.args.self.now c.self.view_is c.requires.own
 
 pub invariant_of-self-2 : goal.invariant_of-self-2
-invariant_of-self-2 c = left_standing c.self.inside.pass c.self.invariant c.in_ok-first.ensures c.finish.ensures
+invariant_of-self-2 c = left_standing c.self.inside.pass c.self.invariant c.in_ok-first.ensures c.finish.ensures c.args.self.now c.self.view_is c.requires.own

@@ -5,7 +5,7 @@ pub finish_commit-requires-clause-due : goal.finish_commit-requires-clause-due
 finish_commit-requires-clause-due c = due c.self.inside.pass c.self.invariant c.in-Some.ensures
 
 pub invariant_of-self : goal.invariant_of-self
-invariant_of-self c = left_standing c.self.inside.pass c.self.invariant c.in-Some.ensures c.finish_commit.ensures
+invariant_of-self c = left_standing c.self.inside.pass c.self.invariant c.in-Some.ensures c.finish_commit.ensures c.args.self.now c.self.view_is c.requires.own
 
 pub returns-in-Some : goal.returns-in-Some
-returns-in-Some c = answered c.self.inside.pass c.self.invariant c.in-Some.ensures c.finish_commit.ensures c.args.self.now c.self.view_is
+returns-in-Some c = answered c.self.inside.pass c.self.invariant c.in-Some.ensures c.finish_commit.ensures c.args.self.now c.self.view_is c.requires.own

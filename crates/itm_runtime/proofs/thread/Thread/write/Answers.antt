@@ -15,10 +15,10 @@ pub finish-requires-clause-due : goal.finish-requires-clause-due
 finish-requires-clause-due c = due c.self.inside.pass c.self.invariant c.in-Some.ensures
 
 pub invariant_of-self : goal.invariant_of-self
-invariant_of-self c = left_standing c.self.inside.pass c.self.invariant c.in-Some.ensures c.finish.ensures
+invariant_of-self c = left_standing c.self.inside.pass c.self.invariant c.in-Some.ensures c.finish.ensures c.args.self.now c.self.view_is c.requires.own
 
 pub returns-in-Some : goal.returns-in-Some
-returns-in-Some c = answered c.self.inside.pass c.self.invariant c.in-Some.ensures c.finish.ensures c.args.self.now c.self.view_is
+returns-in-Some c = answered c.self.inside.pass c.self.invariant c.in-Some.ensures c.finish.ensures c.args.self.now c.self.view_is c.requires.own
 
 pub returns-in-None : goal.returns-in-None
 returns-in-None c =
