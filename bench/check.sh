@@ -6,6 +6,9 @@
 # - `counter`: such attempts on one word of a memory of 8 bytes.
 # - `readers`: every second attempt is one that commits, and the others, which come last, read the memory that some of
 #   the commits left.
+# - `restarts`: attempts with a block each that ran again, from an arena of 8 bytes.
+# - `blocks`: one attempt with as many such blocks as the row has attempts.
+# - `arenas`: one attempt with a tenth as many, from an arena of 4,096 bytes, for up to 10,000 blocks.
 #
 # A run includes the start of the process and the reading of the file. The best of some runs is told. Needs a `date`
 # that prints nanoseconds. `sh bench/check.sh N` leaves out histories of more than N attempts.
@@ -52,6 +55,24 @@ history() {
     }'
 }
 
+# again ATTEMPTS BLOCKS BYTES: the history of so many attempts, each with so many blocks that ran again from so many bytes
+again() {
+    awk -v attempts="$1" -v blocks="$2" -v bytes="$3" '
+    BEGIN {
+        while (bytes-- > 0) arena = arena "00"
+        print "itm-history 2\nmemory 0000000000000000"
+        for (i = 0; i < attempts; i++) {
+            print "attempt " i % 32 " 1 0 readonly -\narena " arena
+            for (j = 0; j < blocks; j++) {
+                print "call _ITM_beginTransaction - = code 5\nrestart " arena
+                print "call _ITM_RU8 0 = 0000000000000000\ncall _ITM_commitTransaction = ok"
+            }
+            print "call _ITM_commitTransaction = ok\nend"
+        }
+        print "final 0 0000000000000000"
+    }' >"$work/history"
+}
+
 # judged NAME ATTEMPTS: the best of five runs on $work/history
 judged() {
     best=0
@@ -84,4 +105,12 @@ for attempts in 1000 10000 100000 1000000; do
     judged counter "$attempts"
     history "$attempts" 8192 50 >"$work/history"
     judged readers "$attempts"
+    again "$attempts" 1 8
+    judged restarts "$attempts"
+    again 1 "$attempts" 8
+    judged blocks "$attempts"
+    if [ "$attempts" -le 100000 ]; then
+        again 1 $((attempts / 10)) 4096
+        judged arenas $((attempts / 10))
+    fi
 done

@@ -325,7 +325,10 @@ run check "$root/examples/lost.history"
 check 'a history in which an update is lost' 3
 
 . "$root/tests/rows.sh"
+. "$root/tests/judging.sh"
 . "$root/tests/histories.sh"
+. "$root/tests/versions.sh"
+. "$root/tests/restarts.sh"
 . "$root/tests/scripts.sh"
 . "$root/tests/threads.sh"
 . "$root/tests/streams.sh"

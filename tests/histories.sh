@@ -1,30 +1,5 @@
 # The part of tests/command.sh on `itmrun check`: histories, and verdicts and faults that were worked out by hand.
-# It is read by that script, and uses its functions and variables.
-
-# judge NAME ANSWER: the history in $work/input. The answer is `legal`, `bad LINE KIND`, or a fault as `line N: TEXT`.
-judge() {
-    case $2 in
-    line*)
-        want_line "itmrun: $2"
-        wanted=2
-        ;;
-    *)
-        printf '%s\n' "$2" >"$work/want_output"
-        : >"$work/want_errors"
-        if [ "$2" = legal ]; then wanted=0; else wanted=3; fi
-        ;;
-    esac
-    run check -
-    check "$1" "$wanted"
-}
-
-# judge_each BASE: of each line `NUMBER|TEXT|ANSWER` of the input, the history of this file with this text as that line
-judge_each() {
-    while IFS='|' read -r number text answer; do
-        awk -v number="$number" -v text="$text" 'NR == number { $0 = text } { print }' "$1" >"$work/input"
-        judge "$(basename "$1") with line $number: $text" "$answer"
-    done
-}
+# It is read by that script, and uses its functions and variables, and those of tests/judging.sh.
 
 # two that commit, one after the other
 cat >"$work/two_writers" <<'END'
@@ -90,7 +65,6 @@ END
 
 # faults of texts
 judge_each "$work/two_writers" <<'END'
-1|itm-history 2|line 1: bad header
 1|itm-history 1 |line 1: bad header
 1||line 1: bad header
 2|memory 00000000000000|line 2: bad size
@@ -192,14 +166,7 @@ judge 'two faults' 'line 4: bad line'
 sed 's/$/\r/' "$work/two_writers" >"$work/input"
 judge 'carriage returns' 'line 1: bad header'
 
-# each proper beginning of a history is cut where it ends
-size=$(($(wc -c <"$work/two_writers")))
-length=0
-while [ "$length" -lt "$size" ]; do
-    head -c "$length" "$work/two_writers" >"$work/input"
-    judge "the first $length bytes" "line $(($(wc -l <"$work/input") + 1)): cut"
-    length=$((length + 1))
-done
+judge_cuts "$work/two_writers"
 
 # undo actions
 cat >"$work/undone" <<'END'

@@ -4,7 +4,8 @@
 #
 # - `asm`: scripts of 8 and 16 million bytes, nearly the largest ones, through `itmrun asm`.
 # - `sched` and `threads`: scripts of 32,000 and 64,000 instructions, nearly the longest ones, through these commands.
-# - `check`: histories of 8 and 16 million bytes through `itmrun check`.
+# - `check`: histories of 8 and 16 million bytes through `itmrun check`; where each block ran again from the longest arena, five
+#   times as many.
 # - `works`: histories whose lines touch many bytes each, of 256,000 and 512,000 bytes, through `itmrun check`.
 #
 # All parts, or those that are named. Each text has to be answered with its status within 20 seconds of processor time and

@@ -20,7 +20,9 @@
 # To `itmrun check` each history has to be legal. So it has to be to tests/soak/verdict.py, which knows no steps: that
 # the tries are whole transactions, one after the other, is seen by the plain machine alone. Four to six texts that are
 # a change or two away from the history, some of them legal, have to be judged as verdict.py judges them, with the same
-# line. From 500 scripts on, each verdict and each fault of a text has to have come.
+# line. So have four to six of versions 2 and 3: there the same calls are told anew, with blocks that ran again from these
+# bytes of the arena or from others, with another number of blocks that may be open, and then with up to two changes. From
+# 500 scripts on, each verdict and each fault of a text has to have come, in each version.
 #
 # On threads a run is never the same twice. So each answer of `threads` is followed through its script: the history has to
 # be legal to `check` and to verdict.py; each thread's tries have to be, one after the other, what its code does where it is

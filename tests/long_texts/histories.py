@@ -4,11 +4,17 @@ from texts import BYTES, Shape, filled
 
 ZERO, ARENA = 8 * b"00", 4096 * b"00"
 START, WIDE = (b"itm-history 1\nmemory %s\n" % (words * ZERO) for words in (1, 8192))
+SECOND, DEEP, VAST = b"itm-history 2\nmemory %s\n" % ZERO, *(
+    b"itm-history 3\ndepth 64\nmemory %s\n" % (words * ZERO) for words in (1, 131072)
+)
 COMMITS, BEGINS = b"call _ITM_commitTransaction = ok\n", b"call _ITM_beginTransaction - = code 5\n"
 ABORTS = b"call _ITM_abortTransaction userAbort = code 24\n"
 WRITES, READS = b"call _ITM_WU8 0 %s = ok\n" % ZERO, b"call _ITM_RU8 0 = %s\n" % ZERO
 FILL, MOVE = b"call _ITM_memsetW 0 0 65536 = ok\n", b"call _ITM_memmoveRtWt 1 0 65535 = ok\n"
-LOGS = b"call _ITM_LB 0 4096 = ok\n"
+LOGS, LOG = b"call _ITM_LB 0 4096 = ok\n", b"call _ITM_LU8 0 = ok\n"
+AGAIN, AGAIN_SHORT, AGAIN_LONG = (BEGINS + b"restart %s\n" % arena for arena in (b"-", ZERO, ARENA))
+LAST_WRITE = b"call _ITM_WU8 1048568 %s = ok\n" % ZERO
+UNDONE, HELD = b"undone 1 2\n", b"call _ITM_changeTransactionMode modeSerialIrrevocable = ok\n"
 UNDO, DONE = b"call _ITM_addUserUndoAction 1 2 = ok\n", b"call _ITM_addUserCommitAction 1 _ITM_noTransactionId 2 = ok\n"
 
 
@@ -25,14 +31,14 @@ def tries(unit, outcome, arena=b"-", start=START, words=1):
     return lambda size: filled(size, head(0, outcome, arena=arena) + unit + b"end\n", start, final(0, words))
 
 
-def within(unit, arena=b"-", start=START, words=1, last=b""):
+def within(unit, arena=b"-", start=START, words=1, first=b"", last=b""):
     """One try with these calls again and again."""
-    return lambda size: filled(size, unit, start + head(0, b"unfinished", arena=arena), last + b"end\n" + final(0, words))
+    return lambda size: filled(size, unit, start + head(0, b"unfinished", arena=arena) + first, last + b"end\n" + final(0, words))
 
 
-def two(first, second):
+def two(first, second, start=START):
     """The same of two units, one after the other, with half of the bytes each."""
-    start, end = START + head(0, b"unfinished", arena=ARENA), b"end\n" + final(0)
+    start, end = start + head(0, b"unfinished", arena=ARENA), b"end\n" + final(0)
     halves = (first, start, b""), (second, b"", end)
     return lambda size: (part for half in halves for part in filled(size // 2, *half))
 
@@ -69,6 +75,32 @@ def acted(action, kind, ends, outcome):
     return pieces
 
 
+def times(number, pieces):
+    """So many times as many bytes."""
+    return lambda size: pieces(int(number * size))
+
+
+# blocks that ran again, and what else versions 2 and 3 have
+VERSIONS = [
+    Shape("tries with a block each that ran again", tries(AGAIN + COMMITS + COMMITS, b"readonly", start=SECOND)),
+    Shape("blocks of one try that ran again", within(AGAIN + COMMITS, start=SECOND)),
+    Shape("blocks that ran again and logged", within(AGAIN_SHORT + LOG + COMMITS, ZERO, SECOND)),
+    Shape("cancelled blocks that ran again and logged", within(AGAIN_SHORT + LOG + ABORTS, ZERO, SECOND)),
+    # 5,000 and 10,000 blocks
+    Shape("blocks that ran again from long arenas", times(5.2, within(AGAIN_LONG + COMMITS, ARENA, SECOND))),
+    Shape("tries and blocks that ran again from long arenas", times(5.2, tries(AGAIN_LONG, b"unfinished", ARENA, SECOND))),
+    Shape("blocks that ran again after many logs", two(LOG, AGAIN_LONG + COMMITS, SECOND)),
+    Shape("cancelled blocks that ran again and logged much", within(AGAIN_LONG + LOGS + ABORTS, ARENA, SECOND)),
+    Shape("blocks within blocks that ran again", within(63 * AGAIN + 63 * COMMITS, start=DEEP)),
+    Shape("cancelled blocks within blocks that ran again", within(63 * (AGAIN_SHORT + LOG) + 63 * ABORTS, ZERO, DEEP)),
+    Shape("long arenas of blocks within blocks that ran again", within(63 * (AGAIN_LONG + LOG) + 63 * COMMITS, ARENA, DEEP)),
+    Shape("actions of a block that ran again", within(UNDONE, start=SECOND, first=AGAIN)),
+    Shape("readers of the largest memory", tries(READS + COMMITS, b"readonly", start=VAST, words=131072)),
+    Shape("conflicts in the largest memory", tries(LAST_WRITE, b"conflict", start=VAST, words=131072)),
+    Shape("a bad line behind blocks that ran again", within(AGAIN + COMMITS, start=SECOND, last=UNDONE), 2),
+    Shape("a last block that cannot have run again", within(AGAIN + COMMITS, start=SECOND, last=HELD + AGAIN), 3),
+]
+
 # how they are answered by `check`
 TEXTS = [
     Shape("commits", commits(WRITES, iter)),
@@ -102,6 +134,7 @@ TEXTS = [
     Shape("one long text of digits", lambda size: filled(size, b"00", b"itm-history 1\nmemory ", b"\n"), 2),
     Shape("many fields", lambda size: filled(size, b" 0", START + b"attempt", b"\n"), 2),
     Shape("empty lines", lambda size: filled(size, b"\n", START), 2),
+    *VERSIONS,
 ]
 
 # Those whose calls touch many bytes each. The plain machine's logs have an entry for each 32 bytes that are logged, while a

@@ -15,19 +15,26 @@ import verdict
 from driver import compare, each, expect, judged, made, tell
 from entries import BEGIN, COPIES, FILLS
 from history import OUTCOMES
-from mutation import Mutator
 from norec import CLOCK
 from run import GAVE_UP, Run
 from script import Script
+from version_changes import VersionMutator
+from versions import version_of
 
+# of changed histories, by their versions; once enough scripts have run, each of these has to have come
+CHANGED = [
+    ["changed histories", verdict.HEADER],
+    *([f"of version {it}", *(f"{kind} ({it})" for kind in verdict.EVERY)] for it in verdict.VERSIONS.values()),
+    ["legal ones with blocks that ran again", "legal ones of other depths"],
+]
+ENOUGH = 500  # scripts
 COUNTED = [
     ["scripts", "events", "attempts", "calls", *OUTCOMES, "odd clocks", "threads that gave up"],
     # a call outside a block, which is refused by 1, has no line
     ["nested blocks", "irrevocable", "copies", "fills", "actions run", *(f"refused {n}" for n in range(2, 9))],
     ["words answered from the log", "rounds", "rounds that gave a snapshot"],
-    ["changed histories", *verdict.EVERY],
+    *CHANGED,
 ]
-ENOUGH = 500  # scripts, after which every verdict has to have come
 
 
 def counted(run):
@@ -55,6 +62,17 @@ def printed(program, script, answer):
     expect(made(program, "sched", text) == answer, "its print is run in another way")
 
 
+def counted_changes(text, kind):
+    """The same of a changed history and its verdict."""
+    version = version_of(text)
+    counts = collections.Counter(["changed histories"])
+    counts.update([f"of version {version}", f"{kind} ({version})"] if version else [kind])
+    if kind == verdict.LEGAL.kind:
+        counts["legal ones with blocks that ran again"] = b"\nrestart" in text
+        counts["legal ones of other depths"] = version == 3 and b"\ndepth 16\n" not in text
+    return counts
+
+
 def tried(program, written, mutator):
     """The counts of a script."""
     script = written["script.itm"]
@@ -67,16 +85,16 @@ def tried(program, written, mutator):
     counts = counted(run)
     for changed in mutator.texts(answer[0]):
         written["changed"] = changed
-        counts.update(["changed histories", judged(program, changed).kind])
+        counts.update(counted_changes(changed, judged(program, changed).kind))
     return counts
 
 
 def main(program, folder, what, seed=None):
-    counts = each(lambda written, number: tried(program, written, Mutator(seed, number)), folder, what, seed)
+    counts = each(lambda written, number: tried(program, written, VersionMutator(seed, number)), folder, what, seed)
     if counts is None:
         return 1
     tell(counts, COUNTED)
-    absent = [kind for kind in verdict.EVERY if not counts[kind]]
+    absent = [name for names in CHANGED for name in names if not counts[name]]
     if not absent or counts["scripts"] < ENOUGH:
         return 0
     print("failed: no history was judged so:", ", ".join(absent))

@@ -28,7 +28,7 @@ BYTES = [MEMORY, ARENA, FINAL, READ, WRITTEN]
 
 # numbers, and values of theirs within a limit and beyond it
 LIMITS = [
-    (THREAD, [31, 32]),
+    (THREAD, [31, 32, 63, 64]),
     (TRY, [0, 1, 10001, 10002]),
     (POSITION, [LAST, LAST + 1]),
     (CODE, [255, 256]),
@@ -43,6 +43,7 @@ LIMITS = [
 ]
 
 REPLIES = ["ok", *(f"code {n}" for n in (0, 1, 2, 5, 9, 24)), *(f"refused {n}" for n in range(1, 9)), "00", 8 * "00"]
+VERSIONS = [f"itm-history {n}" for n in (1, 2, 3)]
 ALIKE = [list(names) for names in (READS, WRITES, LOGS, COPIES, FILLS, LOADS, STORES)]
 
 
@@ -58,9 +59,13 @@ class Mutator:
             yield self.changed(self.changed(text) if self.one_in(2) else text)
 
     def changed(self, text):
+        return self.made(text, CHANGES)
+
+    def made(self, text, changes):
+        """The text after one of these changes that leaves another one."""
         found = text
         while found == text:
-            found = self.random.choice(CHANGES)(self, text.decode("latin-1")).encode("latin-1")
+            found = self.random.choice(changes)(self, text.decode("latin-1")).encode("latin-1")
         return found
 
     def one_in(self, number):
@@ -199,7 +204,7 @@ class Mutator:
     def other_number(self, text):
         """Another thread or try, about which a history says nothing."""
         pattern = self.random.choice([THREAD, TRY])
-        return self.put_one(text, pattern, range(1, 32))
+        return self.put_one(text, pattern, range(1, self.random.choice([32, 32, 64])))
 
     def leading_zero(self, text):
         return self.put(text, r"(?<= )\d+(?= |$)", lambda it: "0" + it)
@@ -229,7 +234,8 @@ class Mutator:
         if self.one_in(2):
             arena = 2 * (4096 + self.random.randint(0, 1))
             return self.put(text, ARENA, lambda it: it.strip("-").ljust(arena, "0"))
-        memory = 2 * (65536 + self.random.choice([-8, 0, 1, 8]))
+        largest = 65536 if not self.one_in(4) else 1048576
+        memory = 2 * (largest + self.random.choice([-8, 0, 1, 8]))
         for pattern in (MEMORY, FINAL):
             text = self.put(text, pattern, lambda it: it.ljust(memory, "0"))
         return text
@@ -237,8 +243,8 @@ class Mutator:
     # characters
 
     def header(self, text):
-        versions = ["itm-history 2", "itm-history 3", "itm-history 01", "itm-history 1 ", "itm-history", ""]
-        return self.put_one(text, r"\A.*$", versions)
+        lines = [*VERSIONS, "itm-history 4", "itm-history 02", "itm-history 1 ", "itm-history", ""]
+        return self.put_one(text, r"\A.*$", lines)
 
     def space(self, text):
         return self.put_one(text, " ", ["", "  ", "\t", " \n"])

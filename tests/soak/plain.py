@@ -57,8 +57,9 @@ def ranges(name, values):
 
 
 class Machine:
-    def __init__(self, memory, arena):
+    def __init__(self, memory, arena, depth=DEEPEST):
         self.memory, self.arena = bytearray(memory), bytearray(arena)
+        self.depth, self.deepest = depth, 0  # how many blocks may be open, and how many were
         self.blocks = []  # the outermost one first
         self.written = {}  # the bytes written of each word, in the order of first writing
         self.irrevocable = self.cancelled = False
@@ -85,7 +86,7 @@ class Machine:
         if goes(name, values):
             own = values[0] if name == BEGIN else ""
             yield 7, any(NO_IRREVOCABLE in props for props in (own, *(block.props for block in self.blocks)))
-        yield 8, name == BEGIN and len(self.blocks) == DEEPEST
+        yield 8, name == BEGIN and len(self.blocks) == self.depth
         for is_arena, place, size in ranges(name, values):
             yield 3 if is_arena else 2, place + size > len(self.arena if is_arena else self.memory)
         yield 4, name in COPIES and not COPIES[name].moves and self.overlap(name, *values)
@@ -103,6 +104,7 @@ class Machine:
     def begin(self, name, props):
         self.blocks.append(Block(props, bytes(self.memory), dict(self.written), len(self.commits), len(self.undos), {}))
         self.irrevocable = self.irrevocable or goes(name, [props])
+        self.deepest = max(self.deepest, len(self.blocks))
         return "code 5"
 
     def commit(self, _):

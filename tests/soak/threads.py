@@ -103,6 +103,7 @@ def legal(program, text):
     expect(answer == verdict.answer(verdict.LEGAL), "check answers", answer)
     try:
         history = verdict.read(text)
+        expect(history.version == 1, "line 1 tells version", history.version)
         return history, verdict.check(history)
     except verdict.Found as found:
         raise Wrong("the history is no legal one:", *found.args[0]) from found

@@ -8,7 +8,7 @@ from entries import (
     READS, SERIAL, WRITTEN,
 )  # fmt: skip
 from history import OUTCOMES, SOME_PROPS, any_of
-from plain import WORD, Machine
+from plain import DEEPEST, WORD, Machine
 
 # what is wrong with a text that is no history, and with a history that is not legal
 FAULTS = HEADER, LINE, SIZE, CUT = "bad header", "bad line", "bad size", "cut"
@@ -16,11 +16,13 @@ KINDS = POSITION, AT, REPLY, SHAPE, RAN, FINAL = "position", "at", "reply", "sha
 
 Verdict = collections.namedtuple("Verdict", "row kind")
 LEGAL = Verdict(0, "legal")
-EVERY = (LEGAL.kind, *KINDS, *FAULTS)
+EVERY = (LEGAL.kind, *KINDS, LINE, SIZE, CUT)  # those of a text that has a version
 
-Call = collections.namedtuple("Call", "row values reply")
+# `again` are the bytes from which the block of a begin ran again; none where it did not
+Call = collections.namedtuple("Call", "row values reply again")
 Attempt = collections.namedtuple("Attempt", "row thread nth at outcome props arena calls ran")
-History = collections.namedtuple("History", "memory attempts row clock final")
+History = collections.namedtuple("History", "version depth memory attempts row clock final")
+VERSIONS = {"itm-history 1": 1, "itm-history 2": 2, "itm-history 3": 3}
 
 
 class Found(Exception):
@@ -51,7 +53,8 @@ def data(least, most, step=1):
     return Form("(?:[0-9a-f]{2})+", bytes.fromhex, lambda value: len(value) in range(least, most + 1, step))
 
 
-N, FUNCTION, WHOLE, PROPS = number(), number(most=(1 << 32) - 1), data(WORD, 65536, WORD), word(SOME_PROPS)
+N, FUNCTION, PROPS = number(), number(most=(1 << 32) - 1), word(SOME_PROPS)
+ARENA = [[word("-")], [data(1, 4096)]]
 OK, CODE, REFUSED = [word("ok")], [word("code"), number(most=255)], [word("refused"), number(1, 8)]
 
 # of each call its operands and its reply
@@ -71,21 +74,29 @@ CALLS = {
     **{name: ([N, number(most=255), N], OK) for name in FILLS},
 }
 
-# by their first word, the forms that the fields after it may have
-LINES = {
-    "memory": [[WHOLE]],
-    "attempt": [[number(most=31), number(1, 10001), N, word(any_of([*OUTCOMES, "nomemory"])), PROPS]],
-    "arena": [[word("-")], [data(1, 4096)]],
-    "ran": [[word("commit|undo"), FUNCTION, N]],
-    "end": [[]],
-    "final": [[N, WHOLE]],
-}
+
+def lines(thread, memory):
+    """By their first word the forms that the fields of lines may have, where these are the last thread and the largest memory."""
+    return {
+        "depth": [[number(1, 64)]],
+        "memory": [[data(WORD, memory, WORD)]],
+        "attempt": [[number(most=thread), number(1, 10001), N, word(any_of([*OUTCOMES, "nomemory"])), PROPS]],
+        "arena": ARENA,
+        "restart": ARENA,
+        "undone": [[FUNCTION, N]],
+        "ran": [[word("commit|undo"), FUNCTION, N]],
+        "end": [[]],
+        "final": [[N, data(WORD, memory, WORD)]],
+    }
 
 
-def forms_of(start, fields):
+LINES = {1: lines(31, 1 << 16), 2: lines(31, 1 << 16), 3: lines(63, 1 << 20)}  # of each version
+
+
+def forms_of(version, start, fields):
     """The forms that the fields of a line with this first word may have."""
     if start != "call":
-        return LINES.get(start, [])
+        return LINES[version].get(start, [])
     if not fields or fields[0] not in CALLS:
         return []
     operands, reply = CALLS[fields[0]]
@@ -109,14 +120,20 @@ class Reader:
         need(self.row <= len(self.lines), self.row, CUT)
         return self.lines[self.row - 1]
 
+    def first(self):
+        """The version that the first line tells."""
+        self.version = VERSIONS.get(self.line())
+        need(self.version, self.row, HEADER)
+        return self.version
+
     def next(self, *starts):
         """The first word of the next line, which has to be one of these, and the values of its other fields."""
         start, *fields = self.line().split(" ")
-        forms = next((it for it in forms_of(start, fields) if has(fields, it)), None)
+        forms = next((it for it in forms_of(self.version, start, fields) if has(fields, it)), None)
         need(start in starts and forms is not None, self.row, LINE)
         values = [form.value(field) for form, field in zip(forms, fields)]
         need(all(form.fits(value) for form, value in zip(forms, values)), self.row, SIZE)
-        return start, values
+        return start, [b"" if start in ("arena", "restart") and it == "-" else it for it in values]
 
     def attempt(self, *head):
         """The attempt whose head was read."""
@@ -125,12 +142,20 @@ class Reader:
         start, values = self.next("call", "ran", "end")
         while start == "call":
             body, reply = self.lines[self.row - 1].split(" = ")
-            calls.append(Call(self.row, values[: body.count(" ")], reply))
-            start, values = self.next("call", "ran", "end")
+            call, may = Call(self.row, values[: body.count(" ")], reply, None), ["call", "ran", "end"]
+            begun = self.version > 1 and call.values[0] == BEGIN and reply == "code 5"
+            start, values = self.next(*may, *["restart"] * begun)
+            if start == "restart":
+                need(len(values[0]) == len(arena), self.row, SIZE)
+                call = call._replace(again=values[0])
+                start, values = self.next(*may, "undone")
+            while start == "undone":
+                start, values = self.next(*may, "undone")
+            calls.append(call)
         while start == "ran":
             ran.append(tuple(values))
             start, values = self.next("ran", "end")
-        return Attempt(row, *head, b"" if arena == "-" else arena, calls, ran)
+        return Attempt(row, *head, arena, calls, ran)
 
     def end(self):
         need(self.row == len(self.lines), self.row + 1, LINE)
@@ -139,7 +164,7 @@ class Reader:
 
 def read(text):
     reader, attempts = Reader(text), []
-    need(reader.line() == "itm-history 1", 1, HEADER)
+    depth = reader.next("depth")[1][0] if reader.first() == 3 else DEEPEST
     memory = reader.next("memory")[1][0]
     start, values = reader.next("attempt", "final")
     while start == "attempt":
@@ -147,7 +172,7 @@ def read(text):
         start, values = reader.next("attempt", "final")
     clock, final = values
     need(len(final) == len(memory), reader.row, SIZE)
-    history = History(memory, attempts, reader.row, clock, final)
+    history = History(reader.version, depth, memory, attempts, reader.row, clock, final)
     reader.end()
     return history
 
@@ -165,14 +190,17 @@ def positions(committed, others):
         need(attempt.at <= len(committed), attempt.row, AT)
 
 
-def replay(attempt, memory):
+def replay(attempt, memory, depth):
     """The plain machine that an attempt leaves which runs alone on these bytes, as the history tells it."""
-    machine = Machine(memory, attempt.arena)
+    machine = Machine(memory, attempt.arena, depth)
     need(not machine.refusal((BEGIN, attempt.props)), attempt.row, SHAPE)
     machine.one((BEGIN, attempt.props))
     for call in attempt.calls:
         need(machine.blocks, attempt.row, SHAPE)
         need(machine.one(call.values) == call.reply, call.row, REPLY)
+        if call.again is not None:
+            need(not machine.irrevocable, attempt.row, SHAPE)
+            machine.arena[:] = call.again
     need(has_shape(attempt.outcome, machine, memory), attempt.row, SHAPE)
     if attempt.outcome in ("conflict", "full", "nomemory"):
         machine.back_to_start()
@@ -198,16 +226,21 @@ def ends_well(history, memories, unfinished, irrevocable):
     return history.clock == 2 * done + 1 and done in unfinished and irrevocable in ([], [done])
 
 
+def in_order(attempts):
+    """The attempts as they are judged: those that committed by position, and then the others as they stand."""
+    return sorted(attempts, key=lambda it: (False, it.at) if it.outcome == "committed" else (True, 0))
+
+
 def check(history):
     """The plain machines that its attempts leave, by their rows; if the history is legal."""
     committed = [it for it in history.attempts if it.outcome == "committed"]
     others = [it for it in history.attempts if it.outcome != "committed"]
     positions(committed, others)
     memories, machines = [history.memory], {}
-    for attempt in sorted(committed, key=lambda it: it.at):
-        machines[attempt.row] = replay(attempt, memories[attempt.at])
-        memories.append(bytes(machines[attempt.row].memory))
-    machines.update((it.row, replay(it, memories[it.at])) for it in others)
+    for attempt in in_order(history.attempts):
+        machines[attempt.row] = replay(attempt, memories[attempt.at], history.depth)
+        if attempt.outcome == "committed":
+            memories.append(bytes(machines[attempt.row].memory))
     unfinished = [(it.at, machines[it.row].irrevocable) for it in others if it.outcome == "unfinished"]
     irrevocable = [at for at, became in unfinished if became]
     need(ends_well(history, memories, [at for at, _ in unfinished], irrevocable), history.row, FINAL)

@@ -8,12 +8,14 @@ history has to be legal, each thread's tries have to be what its code does, and 
 """
 
 import collections
+import random
 import re
 
 import verdict
 from driver import made
 from run import GAVE_UP, STARVED, starved
 from threads import Followed, legal
+from versions import Teller
 from worked import NO_MEMORY, each, expect
 
 BEFORE, THREAD, WHOLE = "no memory", "a thread found no memory", "whole"
@@ -89,7 +91,10 @@ def asm(setup, worked):
 
 
 def check(setup, worked):
-    """Of its history, and of that with a clock that is too late."""
+    """Of its history, of that with a clock that is too late, and of that in versions 2 and 3 where blocks run again in them."""
     history = worked.ample[0]
     late = re.sub(rb"^final (\d+)", lambda it: b"final %d" % (int(it[1]) + 2), history, flags=re.M)
-    return sum((plainly(setup, "check", it, verdict.answer(verdict.judge(it))) for it in (history, late)), collections.Counter())
+    teller = history and Teller(random.Random(worked.name), history)
+    again = [it for it in map(teller.text, (2, 3)) if b"\nrestart" in it] if teller else []
+    texts = [history, late, *again]
+    return sum((plainly(setup, "check", it, verdict.answer(verdict.judge(it))) for it in texts), collections.Counter())

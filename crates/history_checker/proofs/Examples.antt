@@ -1,3 +1,4 @@
 -- Worked verdicts, computed.
 pub mod Histories
+pub mod Restarts
 pub mod Verdicts

@@ -5,3 +5,4 @@ pub mod Positions
 pub mod Replays
 pub mod Ends
 pub mod Verdicts
+pub mod Restarts

@@ -5,3 +5,4 @@ pub mod Faults
 pub mod Tables
 pub mod Verdicts
 pub mod Walks
+pub mod Restarts

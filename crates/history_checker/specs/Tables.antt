@@ -1,9 +1,9 @@
 -- What the checker keeps of the attempts: where each position and each snapshot is found, and what a replay told.
 use Rattle.std.specs.Prelude.{◌≡◌, ◌⊎◌, ℕ, suc, ◌+◌, ◌<◌, ◌≤◌, Bool, true, false, not, ◌&&◌, ◌||◌, ◌==◌, if◌then◌else◌, List, [], ◌∷◌, length, take, Option, None, Some}
 use Rattle.std.proofs.Common.{get_or}
-use Rattle.itm_types.specs.declared.limits.TheConstants.{MAX_OPEN_BLOCKS}
 use Rattle.itm_model.specs.State.{State}
 use Rattle.itm_model.specs.Machine.{undone}
+use Rattle.itm_model.specs.Undoable.{Undoable}
 use Rattle.tx_attempts.specs.declared.attempt.Attempt.{Attempt}
 use Rattle.tx_attempts.specs.declared.attempt.Outcome.{Outcome}
 use Rattle.tx_attempts.specs.declared.attempt.Outcome.TheVariants.{Committed, ReadOnly, Cancelled, Conflict, Full, NoMemory, Unfinished}
@@ -11,6 +11,7 @@ use Rattle.tx_attempts.specs.Attempts.{alone, is_at, is_committed}
 use Rattle.tx_attempts.specs.Counts.{one_where}
 use Rattle.tx_history.specs.declared.history.History.{History}
 use Rattle.tx_history.specs.Legal.{is_unfinished, memory_at}
+use Rattle.tx_history.specs.Versions.{depth_of}
 use Rattle.history_checker.specs.declared.verdict.Fault.{Fault}
 use Rattle.history_checker.specs.declared.verdict.Spot.{Spot}
 use Rattle.history_checker.specs.declared.replays.Told.{Told}
@@ -63,10 +64,10 @@ unless_fault None holds = holds
 unless_fault (Some fault) holds = false
 
 -- what a replay on this memory tells
-unfoldable pub told_on : List ℕ → Attempt → Told
-told_on memory a = record {
-  fault = fault_in memory a;
-  holds = unless_fault (fault_in memory a) (is_unfinished a.outcome && (alone MAX_OPEN_BLOCKS memory a).irrevocable);
+unfoldable pub told_on : ℕ → List ℕ → Attempt → Told
+told_on deepest memory a = record {
+  fault = fault_in deepest memory a;
+  holds = unless_fault (fault_in deepest memory a) (is_unfinished a.outcome && (alone deepest memory a).irrevocable);
 }
 
 abbrev pub nothing_told : Told
@@ -74,7 +75,7 @@ nothing_told = record { fault = None; holds = false }
 
 -- of committed ones nothing is told
 abbrev pub told_of : History → Attempt → Told
-told_of h a = if is_committed a.outcome then nothing_told else told_on (memory_at h a.at) a
+told_of h a = if is_committed a.outcome then nothing_told else told_on (depth_of h.version) (memory_at h a.at) a
 
 -- it needs no replay, or saw fewer commits, or as many and stands behind a place
 abbrev pub IsTold : ℕ → ℕ → ℕ → Attempt → Type 0
@@ -85,10 +86,11 @@ pub record AreTold (h : History) (k c : ℕ) (told : List Told) : Type 0 where
   pub size : length told ≡ length h.attempts
   pub each : (j : ℕ) (d : Attempt) → j < length h.attempts → IsTold k c j (get_or h.attempts j d) → get_or told j nothing_told ≡ told_of h (get_or h.attempts j d)
 
--- the machine's memory and its copy are both these bytes
-pub record IsRest (memory there copy : List ℕ) : Type 0 where
-  pub machine : there ≡ memory
-  pub base : copy ≡ memory
+-- the machine's memory and its copy are both what so many first commits leave, and it takes as many open blocks as the history
+pub record IsRest (h : History) (k : ℕ) (machine : Undoable) (copy : List ℕ) : Type 0 where
+  pub memory : machine.state.memory ≡ memory_at h k
+  pub base : copy ≡ memory_at h k
+  pub depth : machine.deepest ≡ depth_of h.version
 
 -- the first fault that is told, counted from a number on
 abbrev pub told_fault : ℕ → List Told → Option Spot

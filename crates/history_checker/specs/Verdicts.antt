@@ -1,10 +1,15 @@
 -- What is told of a history, by the plain machine alone.
-use Rattle.std.specs.Prelude.{ℕ, zero, suc, ◌+◌, ◌*◌, ◌-◌, ◌^◌, Bool, false, not, ◌&&◌, ◌||◌, ◌==◌, nat_lt, nat_le, min, sum_by, bytes_eq, if◌then◌else◌, List, [], ◌∷◌, ◌++◌, length, take, Option, None, Some}
+use Rattle.std.specs.Prelude.{ℕ, zero, suc, ◌+◌, ◌*◌, ◌-◌, ◌^◌, Bool, false, not, ◌&&◌, ◌||◌, ◌==◌, nat_lt, nat_le, min, sum_by, bytes_eq, if◌then◌else◌, List, [], ◌∷◌, ◌++◌, length, slice_get, take, Option, None, Some}
+use Rattle.tx_attempts.specs.declared.attempt.Again.{Again}
 use Rattle.tx_attempts.specs.declared.attempt.Attempt.{Attempt}
 use Rattle.tx_attempts.specs.Attempts.{is_committed, is_at}
 use Rattle.tx_attempts.specs.Counts.{count_at, count_committed}
+use Rattle.tx_attempts.specs.Restarts.{before}
 use Rattle.tx_history.specs.declared.history.History.{History}
+use Rattle.tx_history.specs.declared.history.Version.{Version}
+use Rattle.tx_history.specs.declared.history.Version.TheVariants.{One, Two, Three}
 use Rattle.tx_history.specs.Legal.{memory_at, is_unfinished, is_holding, count_holding}
+use Rattle.tx_history.specs.Versions.{depth_of}
 use Rattle.history_checker.specs.declared.verdict.BadKind.TheVariants as kind
 use Rattle.history_checker.specs.declared.verdict.Fault.{Fault}
 use Rattle.history_checker.specs.declared.verdict.Spot.{Spot}
@@ -14,18 +19,33 @@ use Rattle.history_checker.specs.Replays.{first_of, at_head, fault_in}
 
 -- ## Lines
 
--- the lines of an attempt: its head, its arena, one for each call and each action that ran, and its end
+-- the lines of a block that ran again: its arena, and each action that had run in it
+abbrev pub again_count : Again → ℕ
+again_count a = 1 + length a.undone
+
+-- the lines of an attempt: its head, its arena, one for each call, those of blocks that ran again, one for each action that ran, and its end
 abbrev pub line_count : Attempt → ℕ
-line_count a = 3 + length a.calls.list + length a.ran
+line_count a = 3 + length a.calls.list + sum_by again_count a.restarts + length a.ran
+
+-- the line of the first head: the third version has a line for its depth before it
+abbrev pub first_row : Version → ℕ
+first_row One = 3
+first_row Two = 3
+first_row (Three depth) = 4
 
 -- the head line of an attempt; that of one past the last is the final line
-abbrev pub head_row : List Attempt → ℕ → ℕ
-head_row attempts i = 3 + sum_by line_count (take i attempts)
+abbrev pub head_row : Version → List Attempt → ℕ → ℕ
+head_row version attempts i = first_row version + sum_by line_count (take i attempts)
 
--- the line of a fault
-abbrev pub row_in : ℕ → Option ℕ → ℕ
-row_in head None = head
-row_in head (Some call) = head + 2 + call
+-- the blocks that ran again in an attempt, if there is one
+abbrev pub restarts_of : Option Attempt → List Again
+restarts_of None = []
+restarts_of (Some a) = a.restarts
+
+-- the line of a fault, behind those of the blocks that ran again before its call
+abbrev pub row_in : ℕ → List Again → Option ℕ → ℕ
+row_in head restarts None = head
+row_in head restarts (Some call) = head + 2 + call + sum_by again_count (before (suc call) restarts)
 
 -- lines are told up to the largest number
 abbrev pub told_row : ℕ → ℕ
@@ -60,20 +80,20 @@ at_fault n i (a ∷ rest) = if is_beyond n a then at_place i (Some (at_head kind
 -- ## Replays
 
 -- the fault of the attempt committed at this position, on the memory there
-abbrev pub fault_at : List ℕ → ℕ → ℕ → List Attempt → Option Spot
-fault_at memory position i [] = None
-fault_at memory position i (a ∷ rest) = if is_at position a then at_place i (fault_in memory a) else fault_at memory position (suc i) rest
+abbrev pub fault_at : ℕ → List ℕ → ℕ → ℕ → List Attempt → Option Spot
+fault_at deepest memory position i [] = None
+fault_at deepest memory position i (a ∷ rest) = if is_at position a then at_place i (fault_in deepest memory a) else fault_at deepest memory position (suc i) rest
 
 -- the first fault of those committed at so many first positions
 abbrev pub committed_fault : History → ℕ → Option Spot
 committed_fault h zero = None
-committed_fault h (suc k) = first_of (committed_fault h k) (fault_at (memory_at h k) k 0 h.attempts)
+committed_fault h (suc k) = first_of (committed_fault h k) (fault_at (depth_of h.version) (memory_at h k) k 0 h.attempts)
 
 -- the first fault of the others, in the order of the text
 abbrev pub others_fault : History → ℕ → List Attempt → Option Spot
 others_fault h i [] = None
 others_fault h i (a ∷ rest) =
-    first_of (if is_committed a.outcome then None else at_place i (fault_in (memory_at h a.at) a)) (others_fault h (suc i) rest)
+    first_of (if is_committed a.outcome then None else at_place i (fault_in (depth_of h.version) (memory_at h a.at) a)) (others_fault h (suc i) rest)
 
 -- ## The end
 
@@ -104,15 +124,15 @@ abbrev pub first_fault : History → ℕ → Option Spot
 first_fault h n =
     first_of (position_fault n [] h.attempts) (first_of (at_fault n 0 h.attempts) (first_of (committed_fault h n) (others_fault h 0 h.attempts)))
 
-abbrev pub bad : List Attempt → Spot → Verdict
-bad attempts spot = Bad (told_row (row_in (head_row attempts spot.attempt) spot.fault.call)) spot.fault.kind
+abbrev pub bad : Version → List Attempt → Spot → Verdict
+bad version attempts spot = Bad (told_row (row_in (head_row version attempts spot.attempt) (restarts_of (slice_get attempts spot.attempt)) spot.fault.call)) spot.fault.kind
 
 abbrev pub final_verdict : History → ℕ → Verdict
-final_verdict h n = if ends_free h n || ends_held h n then Legal else Bad (told_row (head_row h.attempts (length h.attempts))) kind.Final
+final_verdict h n = if ends_free h n || ends_held h n then Legal else Bad (told_row (head_row h.version h.attempts (length h.attempts))) kind.Final
 
 abbrev pub verdict_on : History → ℕ → Option Spot → Verdict
 verdict_on h n None = final_verdict h n
-verdict_on h n (Some spot) = bad h.attempts spot
+verdict_on h n (Some spot) = bad h.version h.attempts spot
 
 unfoldable pub verdict_of : History → Verdict
 verdict_of h = verdict_on h (count_committed h.attempts) (first_fault h (count_committed h.attempts))

@@ -131,7 +131,7 @@ pub(crate) fn final_verdict(history: &History, count: usize, told: &[Told], base
     }
     let attempts = history.attempts.as_slice();
     Verdict::Bad {
-        row: head_row(attempts, attempts.len()),
+        row: head_row(history.version, attempts, attempts.len()),
         kind: BadKind::Final,
     }
 }

@@ -1,9 +1,12 @@
 //! Whether a history is legal: its committed attempts are run alone one after the other by position, and each other
-//! attempt alone on what so many first ones leave.
+//! attempt alone on what so many first ones leave. An inner block that ran again goes on from the arena that is told.
 #![tactic(auto)]
 
+mod depths;
 mod endings;
+mod matches;
 mod replays;
+mod restarts;
 mod rows;
 mod tables;
 mod verdict;

@@ -1,20 +1,21 @@
 //! Attempts, replayed alone on the memory that is there.
 
-ghost use Rattle.std.specs.Prelude.{◌≡◌, ◌≤◌, ◌-◌, ◌||◌, ◌&&◌, nat_le, is_some, slice_get, IfOk, OnOk, None, true, length, map, take};
-ghost use Rattle.std.specs.Cmp.Lexicographic.{pointwise};
+ghost use Rattle.std.specs.Prelude.{◌≡◌, ◌≤◌, ◌-◌, ◌||◌, ◌&&◌, nat_le, is_some, slice_get, IfOk, OnOk, None, Some, true, length, map, take};
 ghost use Rattle.itm_model.specs.Machine.{undone};
-ghost use Rattle.itm_model.specs.Runs.{state_after};
+ghost use Rattle.itm_model.specs.Runs.{state_through};
 ghost use Rattle.tx_attempts.specs.Attempts.{alone, is_committed};
+ghost use Rattle.tx_attempts.specs.Restarts.{again_at, breaks_of};
 ghost use Rattle.tx_history.specs.Legal.{is_unfinished};
-ghost use Rattle.history_checker.specs.Matches.{same_reply, same_ran};
-ghost use Rattle.history_checker.specs.Replays.{calls_fault, came_irrevocable, end_fault, ends_by_abort, ends_by_commit, fault_in, fits, is_abort_done, is_cancelled, is_commit_done};
+ghost use Rattle.history_checker.specs.Replays.{are_again, calls_fault, came_irrevocable, end_fault, ends_by_abort, ends_by_commit, fault_in, fits, is_abort_done, is_cancelled, is_commit_done, may_stand};
 ghost use Rattle.history_checker.specs.Tables.{ended, told_on, unless_fault};
 
+use crate::matches::{same_ran, same_reply};
+use crate::restarts::{are_again, is_due};
 use crate::verdict::{BadKind, Fault};
 use itm_model::Plain;
-use itm_types::{CANCELLED, Call, MAX_ARENA, MAX_OPEN_BLOCKS, Props, Ran, Reply};
+use itm_types::{CANCELLED, Call, MAX_ARENA, Props, Ran, Reply};
 use std::alloc::{AllocError, Global};
-use tx_attempts::{Attempt, CallRecord, Outcome};
+use tx_attempts::{Again, Attempt, CallRecord, Outcome};
 
 /// What a replay tells of an attempt that is not committed.
 #[derive(Clone, Copy, Debug)]
@@ -32,42 +33,26 @@ struct Called {
     late: bool,
 }
 
-/// Whether the replies are the same.
-fn same_reply(a: &Reply, b: &Reply) -> bool
-    ensures { result ≡ same_reply a.now b.now }
-{
-    match (a, b) {
-        (Reply::Done, Reply::Done) => true,
-        (Reply::Bytes(a), Reply::Bytes(b)) => a.as_slice() == b.as_slice(),
-        (Reply::Code(a), Reply::Code(b)) => a == b,
-        (Reply::Refused(a), Reply::Refused(b)) => a.number() == b.number(),
-        _ => false,
-    }
-}
-
-/// Whether the actions are the same, in order.
-fn same_ran(told: &[Ran], ran: &[Ran]) -> bool
-    ensures { result ≡ pointwise same_ran told.now ran.now }
-{
-    told == ran
-}
-
-/// Makes the calls, up to the first one that is wrong.
-fn replay_calls(plain: &mut Plain, calls: &[CallRecord]) -> Result<Called, AllocError>
-    ensures fault { IfOk result (λ r. r.fault ≡ calls_fault plain.old.state 0 calls.now) }
+/// Makes the calls, up to the first one that is wrong, and sets the arena where a block ran again.
+fn replay_calls(
+    plain: &mut Plain,
+    calls: &[CallRecord],
+    restarts: &[Again],
+) -> Result<Called, AllocError>
+    requires { are_again (length plain.old.state.arena) 0 calls.now restarts.now ≡ true }
+    ensures fault { IfOk result (λ r. r.fault ≡ calls_fault plain.old.deepest (again_at restarts.now) plain.old.state 0 calls.now) }
     ensures state { IfOk result (λ r. r.fault ≡ None
-        → plain.new.state ≡ state_after MAX_OPEN_BLOCKS plain.old.state (map (λ e. e.call) calls.now)) }
+        → plain.new.state ≡ state_through plain.old.deepest (breaks_of restarts.now) plain.old.state (map (λ e. e.call) calls.now)) }
     ensures late { IfOk result (λ r. r.fault ≡ None
-        → r.late ≡ (state_after MAX_OPEN_BLOCKS plain.old.state (map (λ e. e.call) (take (length calls.now - 1) calls.now))).irrevocable) }
+        → r.late ≡ (state_through plain.old.deepest (breaks_of restarts.now) plain.old.state (map (λ e. e.call) (take (length calls.now - 1) calls.now))).irrevocable) }
     ensures before { OnOk result (plain.new.before ≡ plain.old.before) }
+    ensures deepest { plain.new.deepest ≡ plain.old.deepest }
 {
     let mut late = plain.is_irrevocable();
+    let mut next = 0;
     for (place, entry) in calls.iter().enumerate() {
         if plain.depth() == 0 {
-            return Ok(Called {
-                fault: Some(head(BadKind::Shape)),
-                late,
-            });
+            return Ok(told_head(BadKind::Shape, late));
         }
         late = plain.is_irrevocable();
         let reply = plain.one(&entry.call)?;
@@ -80,8 +65,26 @@ fn replay_calls(plain: &mut Plain, calls: &[CallRecord]) -> Result<Called, Alloc
                 late,
             });
         }
+        if is_due(restarts, next, place + 1) {
+            if plain.is_irrevocable() {
+                return Ok(told_head(BadKind::Shape, late));
+            }
+            plain.set_arena(restarts[next].arena.as_slice());
+            next += 1;
+        }
     }
     Ok(Called { fault: None, late })
+}
+
+/// The calls came to a fault that is told at the head.
+fn told_head(kind: BadKind, late: bool) -> Called
+    ensures fault { result.fault ≡ Some (record { call = None; kind = kind }) }
+    ensures late { result.late ≡ late }
+{
+    Called {
+        fault: Some(head(kind)),
+        late,
+    }
 }
 
 /// At the head of an attempt.
@@ -144,8 +147,8 @@ fn is_cancelled(reply: &Reply) -> bool
 /// as the last one came.
 fn fits(plain: &Plain, base: &[u8], attempt: &Attempt, late: bool) -> bool
     requires base { base.now ≡ plain.now.before }
-    requires late { late ≡ came_irrevocable plain.now.before attempt.now }
-    ensures { result ≡ fits attempt.now.outcome plain.now.before attempt.now plain.now.state }
+    requires late { late ≡ came_irrevocable plain.now.deepest plain.now.before attempt.now }
+    ensures { result ≡ fits plain.now.deepest attempt.now.outcome plain.now.before attempt.now plain.now.state }
 {
     let calls = attempt.calls.as_slice();
     let is_open = plain.depth() > 0;
@@ -165,10 +168,11 @@ fn fits(plain: &Plain, base: &[u8], attempt: &Attempt, late: bool) -> bool
 /// What is wrong at the end of an attempt. What was given up is rolled back.
 fn replay_end(plain: &mut Plain, base: &[u8], attempt: &Attempt, late: bool) -> Option<Fault>
     requires base { base.now ≡ plain.old.before }
-    requires late { late ≡ came_irrevocable plain.old.before attempt.now }
-    ensures fault { result ≡ end_fault plain.old.before attempt.now plain.old.state }
+    requires late { late ≡ came_irrevocable plain.old.deepest plain.old.before attempt.now }
+    ensures fault { result ≡ end_fault plain.old.deepest plain.old.before attempt.now plain.old.state }
     ensures state { result ≡ None → plain.new.state ≡ ended attempt.now.outcome plain.old.state }
     ensures before { plain.new.before ≡ plain.old.before }
+    ensures deepest { plain.new.deepest ≡ plain.old.deepest }
 {
     if !fits(plain, base, attempt, late) {
         return Some(head(BadKind::Shape));
@@ -185,6 +189,7 @@ fn replay_end(plain: &mut Plain, base: &[u8], attempt: &Attempt, late: bool) -> 
 fn give_up(plain: &mut Plain, outcome: Outcome)
     ensures state { plain.new.state ≡ ended outcome plain.old.state }
     ensures before { plain.new.before ≡ plain.old.before }
+    ensures deepest { plain.new.deepest ≡ plain.old.deepest }
 {
     match outcome {
         Outcome::Conflict | Outcome::Full | Outcome::NoMemory => plain.back_all(),
@@ -209,6 +214,15 @@ fn is_holding(plain: &Plain, fault: Option<Fault>, outcome: Outcome) -> bool
     }
 }
 
+/// The attempt may begin, and its blocks that ran again are such blocks.
+fn may_stand(attempt: &Attempt) -> bool
+    ensures { result ≡ may_stand attempt.now }
+{
+    let size = attempt.arena.as_slice().len();
+    let calls = attempt.calls.as_slice();
+    !is_refused(attempt.props) && are_again(size, calls, attempt.restarts.as_slice())
+}
+
 /// What is wrong with an attempt on the memory that is there, of which `base` is a copy.
 fn replay(
     alloc: Global,
@@ -218,17 +232,19 @@ fn replay(
 ) -> Result<Option<Fault>, AllocError>
     requires arena { length attempt.now.arena ≤ MAX_ARENA }
     requires base { base.now ≡ plain.old.state.memory }
-    ensures fault { IfOk result (λ fault. fault ≡ fault_in plain.old.state.memory attempt.now) }
+    ensures fault { IfOk result (λ fault. fault ≡ fault_in plain.old.deepest plain.old.state.memory attempt.now) }
     ensures state { IfOk result (λ fault. fault ≡ None
-        → plain.new.state ≡ ended attempt.now.outcome (alone MAX_OPEN_BLOCKS plain.old.state.memory attempt.now)) }
+        → plain.new.state ≡ ended attempt.now.outcome (alone plain.old.deepest plain.old.state.memory attempt.now)) }
     ensures before { OnOk result (plain.new.before ≡ plain.old.state.memory) }
+    ensures deepest { plain.new.deepest ≡ plain.old.deepest }
 {
-    if is_refused(attempt.props) {
+    if !may_stand(attempt) {
         plain.again_with(alloc, &[], Props::default())?;
         return Ok(Some(head(BadKind::Shape)));
     }
     plain.again_with(alloc, attempt.arena.as_slice(), attempt.props)?;
-    let called = replay_calls(plain, attempt.calls.as_slice())?;
+    let restarts = attempt.restarts.as_slice();
+    let called = replay_calls(plain, attempt.calls.as_slice(), restarts)?;
     if called.fault.is_some() {
         return Ok(called.fault);
     }
@@ -244,8 +260,9 @@ pub(crate) fn replay_other(
 ) -> Result<Told, AllocError>
     requires arena { length attempt.now.arena ≤ MAX_ARENA }
     requires base { base.now ≡ plain.old.state.memory }
-    ensures told { IfOk result (λ told. told ≡ told_on plain.old.state.memory attempt.now) }
+    ensures told { IfOk result (λ told. told ≡ told_on plain.old.deepest plain.old.state.memory attempt.now) }
     ensures memory { OnOk result (plain.new.state.memory ≡ plain.old.state.memory) }
+    ensures deepest { plain.new.deepest ≡ plain.old.deepest }
 {
     let fault = replay(alloc, plain, base, attempt)?;
     let holds = is_holding(plain, fault, attempt.outcome);
@@ -263,10 +280,11 @@ pub(crate) fn replay_committed(
     requires arena { length attempt.now.arena ≤ MAX_ARENA }
     requires base { base.old.items ≡ plain.old.state.memory }
     requires committed { is_committed attempt.now.outcome ≡ true }
-    ensures fault { IfOk result (λ fault. fault ≡ fault_in plain.old.state.memory attempt.now) }
+    ensures fault { IfOk result (λ fault. fault ≡ fault_in plain.old.deepest plain.old.state.memory attempt.now) }
     ensures memory { IfOk result (λ fault. fault ≡ None
-        → plain.new.state.memory ≡ (alone MAX_OPEN_BLOCKS plain.old.state.memory attempt.now).memory) }
+        → plain.new.state.memory ≡ (alone plain.old.deepest plain.old.state.memory attempt.now).memory) }
     ensures base { IfOk result (λ fault. fault ≡ None → base.new.items ≡ plain.new.state.memory) }
+    ensures deepest { plain.new.deepest ≡ plain.old.deepest }
 {
     let fault = replay(alloc, plain, base, attempt)?;
     if fault.is_none() {

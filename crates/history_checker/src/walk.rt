@@ -3,14 +3,16 @@
 ghost use Rattle.std.specs.Prelude.{◌≡◌, ◌≤◌, ◌<◌, ◌%◌, suc, All, IfOk, OnOk, None, length, slice_set};
 ghost use Rattle.tx_attempts.specs.Counts.{count_committed};
 ghost use Rattle.tx_history.specs.Legal.{memory_at};
+ghost use Rattle.tx_history.specs.Versions.{depth_of};
 ghost use Rattle.history_checker.specs.Verdicts.{committed_fault, fault_at};
 ghost use Rattle.history_checker.specs.Tables.{AreLinks, AreSlots, AreTold, IsRest, first_at};
 
+use crate::depths::depth_of;
 use crate::replays::{Told, replay_committed, replay_other};
 use crate::tables::{Links, attempt_at, lookup};
 use crate::verdict::{Spot, at_place};
 use itm_model::{Plain, WORD};
-use itm_types::{MAX_ARENA, MAX_MEMORY, Props};
+use itm_types::{MAX_ARENA, MAX_TOLD_MEMORY, Props};
 use std::alloc::{AllocError, Global};
 use tx_history::History;
 
@@ -46,9 +48,9 @@ fn walk_others(
     requires arenas { All (λ a. length a.arena ≤ MAX_ARENA) history.now.attempts }
     requires links { AreLinks (count_committed history.now.attempts) history.now.attempts (length history.now.attempts) links.now.newest.items links.now.older.items }
     requires position { position ≤ count_committed history.now.attempts }
-    requires rest { IsRest (memory_at history.now position) walk.old.plain.state.memory walk.old.base.items }
+    requires rest { IsRest history.now position walk.old.plain walk.old.base.items }
     requires told { AreTold history.now position (length history.now.attempts) walk.old.told.items }
-    ensures rest { OnOk result (IsRest (memory_at history.now position) walk.new.plain.state.memory walk.new.base.items) }
+    ensures rest { OnOk result (IsRest history.now position walk.new.plain walk.new.base.items) }
     ensures told { OnOk result (AreTold history.now (suc position) (length history.now.attempts) walk.new.told.items) }
 {
     let attempts = history.attempts.as_slice();
@@ -72,10 +74,10 @@ fn walk_committed(
 ) -> Result<Option<Spot>, AllocError>
     requires arenas { All (λ a. length a.arena ≤ MAX_ARENA) history.now.attempts }
     requires slot { slot ≡ first_at 0 history.now.attempts position }
-    requires rest { IsRest (memory_at history.now position) walk.old.plain.state.memory walk.old.base.items }
-    ensures fault { IfOk result (λ f. f ≡ fault_at (memory_at history.now position) position 0 history.now.attempts) }
+    requires rest { IsRest history.now position walk.old.plain walk.old.base.items }
+    ensures fault { IfOk result (λ f. f ≡ fault_at (depth_of history.now.version) (memory_at history.now position) position 0 history.now.attempts) }
     ensures rest { IfOk result (λ f. f ≡ None
-        → IsRest (memory_at history.now (suc position)) walk.new.plain.state.memory walk.new.base.items) }
+        → IsRest history.now (suc position) walk.new.plain walk.new.base.items) }
     ensures told { OnOk result (walk.new.told ≡ walk.old.told) }
 {
     let Some(i) = slot else {
@@ -94,7 +96,7 @@ pub(crate) fn walk_all(
     links: &Links,
 ) -> Result<Walked, AllocError>
     requires some { WORD ≤ length history.now.memory }
-    requires room { length history.now.memory ≤ MAX_MEMORY }
+    requires room { length history.now.memory ≤ MAX_TOLD_MEMORY }
     requires words { length history.now.memory % WORD ≡ 0 }
     requires arenas { All (λ a. length a.arena ≤ MAX_ARENA) history.now.attempts }
     requires slots { AreSlots (count_committed history.now.attempts) history.now.attempts slots.now }
@@ -128,13 +130,14 @@ fn put(told: &mut Vec<Told>, i: usize, new: Told)
 /// The machine before the first commit, with nothing told.
 fn start(alloc: Global, history: &History) -> Result<Walk, AllocError>
     requires some { WORD ≤ length history.now.memory }
-    requires room { length history.now.memory ≤ MAX_MEMORY }
+    requires room { length history.now.memory ≤ MAX_TOLD_MEMORY }
     requires words { length history.now.memory % WORD ≡ 0 }
-    ensures rest { IfOk result (λ w. IsRest (memory_at history.now 0) w.plain.state.memory w.base.items) }
+    ensures rest { IfOk result (λ w. IsRest history.now 0 w.plain w.base.items) }
     ensures told { IfOk result (λ w. AreTold history.now 0 (length history.now.attempts) w.told.items) }
 {
     let memory = history.memory.as_slice();
-    let plain = Plain::new(alloc, memory, &[], Props::default())?;
+    let deepest = depth_of(history.version);
+    let plain = Plain::new(alloc, memory, &[], deepest, Props::default())?;
     let base = memory.to_vec(alloc)?;
     let mut told = Vec::new(alloc);
     let nothing = Told {

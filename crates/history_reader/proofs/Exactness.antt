@@ -6,5 +6,6 @@ pub mod Entries
 pub mod Heads
 pub mod Lines
 pub mod States
+pub mod BodySteps
 pub mod Steps
 pub mod Texts

@@ -1,12 +1,12 @@
 -- Fields as bytes: two hexadecimal digits for each, in lower case.
-use Rattle.std.specs.Prelude.{◌≡◌, ℕ, ◌*◌, ◌-◌, ◌/◌, ◌%◌, ◌==◌, ◌&&◌, ◌||◌, not, Bool, nat_le, List, [], ◌++◌, length, true, Option, Some, None, Result, Ok, Err, if◌then◌else◌, codes, bytes_eq}
+use Rattle.std.specs.Prelude.{◌≡◌, ℕ, ◌*◌, ◌/◌, ◌%◌, ◌==◌, ◌&&◌, ◌||◌, not, Bool, nat_le, List, [], ◌++◌, length, true, Option, Some, None, Result, Ok, Err, if◌then◌else◌, codes, bytes_eq}
 use Rattle.std.specs.List.{list_all}
 use Rattle.std.specs.Borrow.{Bor}
 use Rattle.std.proofs.Common.{take, replicate, arith, length-append}
 use Rattle.std.proofs.lemmas.List.{length-take, length-replicate}
 use Rattle.itm_types.specs.declared.access.Width.{Width}
 use Rattle.itm_types.specs.declared.datum.Datum.{Datum}
-use Rattle.itm_types.specs.declared.limits.TheConstants.{MAX_MEMORY, MAX_ARENA}
+use Rattle.itm_types.specs.declared.limits.TheConstants.{MAX_ARENA}
 use Rattle.itm_types.specs.Access.{size_of}
 use Rattle.script_fields.specs.declared.fault.AsmKind.{AsmKind}
 use Rattle.script_fields.specs.declared.fault.AsmKind.TheVariants as kinds
@@ -27,16 +27,20 @@ bytes_if fits f = if is_lower_hex f then (if fits then Ok (decoded f) else Err k
 unfoldable pub sized : ℕ → List ℕ → Result (List ℕ) AsmKind
 sized n f = bytes_if (length f / 2 == n) f
 
--- the digits of a memory: 8 to 65,536 bytes in whole words
-abbrev pub are_words : ℕ → Bool
-are_words digits = nat_le 16 digits && (nat_le digits (2 * MAX_MEMORY) && digits % 16 == 0)
+-- the digits of a memory: 8 bytes or more in whole words, and no more than the limit
+abbrev pub are_words : ℕ → ℕ → Bool
+are_words limit digits = nat_le 16 digits && (nat_le digits (2 * limit) && digits % 16 == 0)
 
-unfoldable pub memory_bytes : List ℕ → Result (List ℕ) AsmKind
-memory_bytes f = bytes_if (are_words (length f)) f
+unfoldable pub memory_bytes : ℕ → List ℕ → Result (List ℕ) AsmKind
+memory_bytes limit f = bytes_if (are_words limit (length f)) f
 
 -- an arena: no bytes, or at most 4,096
 unfoldable pub arena_bytes : List ℕ → Result (List ℕ) AsmKind
 arena_bytes f = if bytes_eq f (codes "-") then Ok [] else bytes_if (nat_le (length f) (2 * MAX_ARENA)) f
+
+-- the arena from which a block runs again: it has so many bytes
+unfoldable pub restart_bytes : ℕ → List ℕ → Result (List ℕ) AsmKind
+restart_bytes n f = if bytes_eq f (codes "-") then (if n == 0 then Ok [] else Err kinds.Range) else sized n f
 
 -- ## Values of a width
 

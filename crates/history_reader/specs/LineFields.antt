@@ -1,6 +1,5 @@
 -- The lines of a history as fields.
-use Rattle.std.specs.Prelude.{ℕ, ◌==◌, ◌%◌, List, [], ◌∷◌, ◌++◌, length, decimal, codes, map, if◌then◌else◌}
-use Rattle.std.specs.List.{flat_map}
+use Rattle.std.specs.Prelude.{ℕ, ◌==◌, ◌%◌, List, [], ◌∷◌, ◌++◌, length, decimal, codes, if◌then◌else◌}
 use Rattle.hex.specs.Hex.{encode_lower}
 use Rattle.itm_types.specs.Access.{size_of}
 use Rattle.itm_types.specs.Names.{name_of}
@@ -85,6 +84,16 @@ head_fields a = codes "attempt" ∷ decimal a.thread ∷ decimal a.nth ∷ decim
 
 abbrev pub arena_fields : List ℕ → List (List ℕ)
 arena_fields bytes = codes "arena" ∷ arena_text bytes ∷ []
+
+-- that a block ran again, from this arena
+abbrev pub restart_fields : List ℕ → List (List ℕ)
+restart_fields bytes = codes "restart" ∷ arena_text bytes ∷ []
+
+abbrev pub undone_fields : Ran → List (List ℕ)
+undone_fields r = codes "undone" ∷ decimal r.action.fun ∷ decimal r.action.arg ∷ []
+
+abbrev pub depth_fields : ℕ → List (List ℕ)
+depth_fields blocks = codes "depth" ∷ decimal blocks ∷ []
 
 abbrev pub memory_fields : List ℕ → List (List ℕ)
 memory_fields bytes = codes "memory" ∷ encode_lower bytes ∷ []

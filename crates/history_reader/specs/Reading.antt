@@ -24,12 +24,13 @@ abbrev pub ◌>>=◌ : {A B E : Type 0} → Result A E → (A → Result B E) �
 -- the history, once its last line was read; else one more line was due
 abbrev pub whole : Place → State → Result History ReadKind
 whole places.AtHeader s = Err kinds.Cut
+whole places.AtDepth s = Err kinds.Cut
 whole places.AtMemory s = Err kinds.Cut
 whole places.Between s = Err kinds.Cut
 whole (places.AtArena h) s = Err kinds.Cut
-whole (places.InCalls h) s = Err kinds.Cut
+whole (places.InCalls h b) s = Err kinds.Cut
 whole (places.InRan h) s = Err kinds.Cut
-whole (places.AtEnd clock) s = Ok (record { memory = s.memory; attempts = s.attempts; clock = clock; bytes = s.bytes })
+whole (places.AtEnd clock) s = Ok (record { version = s.version; memory = s.memory; attempts = s.attempts; clock = clock; bytes = s.bytes })
 
 -- what stands behind the last line feed: nothing, or a line that is cut
 unfoldable pub end_of : State → List ℕ → Result History ReadKind
@@ -52,17 +53,18 @@ abbrev pub lines_leave : State → List (List ℕ) → Result State ReadKind
 lines_leave s [] = Ok s
 lines_leave s (line ∷ lines) = meaning s line >>= λ t. lines_leave t lines
 
--- what the lines of an attempt leave: calls, actions that ran, and the attempt
+-- what the lines of an attempt leave: calls, blocks that ran again, actions that ran, and the attempt
 abbrev pub recorded : State → ℕ
-recorded t = length t.calls + (length t.ran + length t.attempts)
+recorded t = length t.calls + (length t.restarts + (length t.ran + length t.attempts))
 
 -- how much a line that stood at this place leaves to be kept
 abbrev pub taken : Place → State → ℕ
 taken places.AtHeader t = 0
+taken places.AtDepth t = 0
 taken places.AtMemory t = length t.memory
 taken places.Between t = length t.bytes
 taken (places.AtArena h) t = length t.arena
-taken (places.InCalls h) t = recorded t
+taken (places.InCalls h b) t = recorded t
 taken (places.InRan h) t = recorded t
 taken (places.AtEnd clock) t = 0
 

@@ -1,12 +1,11 @@
 -- Replies: of which kind a call's reply is, and the fields that tell it.
-use Rattle.std.specs.Prelude.{ℕ, ◌==◌, List, [], ◌∷◌, Result, Ok, Err, if◌then◌else◌, codes, bytes_eq}
+use Rattle.std.specs.Prelude.{ℕ, ◌==◌, Bool, false, List, Result, Ok, if◌then◌else◌, codes, bytes_eq}
 use Rattle.itm_types.specs.Access.{size_of}
 use Rattle.itm_types.specs.declared.call.Refusal.{Refusal}
 use Rattle.itm_types.specs.declared.call.Refusal.TheVariants as refusals
 use Rattle.itm_types.specs.declared.call.Reply.{Reply}
 use Rattle.itm_types.specs.declared.call.Reply.TheVariants as replies
 use Rattle.script_fields.specs.declared.fault.AsmKind.{AsmKind}
-use Rattle.script_fields.specs.declared.fault.AsmKind.TheVariants as kinds
 use Rattle.script_fields.specs.Operands.{◌>>=◌, both, exactly}
 use Rattle.history_reader.specs.declared.reply.ReplyKind.{ReplyKind}
 use Rattle.history_reader.specs.declared.reply.ReplyKind.TheVariants as answers
@@ -43,3 +42,10 @@ reply_of answer fs = next fs >>= λ x. if bytes_eq x.0 (codes "refused") then re
 -- operands, and the reply that stands behind them
 abbrev pub with_reply : {A : Type 0} → Result A AsmKind → ReplyKind → List (List ℕ) → Result (A × Reply) AsmKind
 with_reply operands answer fs = equals fs >>= λ rest. both operands (reply_of answer rest)
+
+-- the answer of the begin of a block that is entered
+abbrev pub is_five : Reply → Bool
+is_five replies.Done = false
+is_five (replies.Bytes value) = false
+is_five (replies.Code n) = n == 5
+is_five (replies.Refused refusal) = false

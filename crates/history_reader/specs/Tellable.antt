@@ -1,16 +1,21 @@
 -- The histories that a text can tell.
-use Rattle.std.specs.Prelude.{◌≡◌, ℕ, ◌+◌, ◌-◌, ◌%◌, ◌≤◌, List, length, All}
+use Rattle.std.specs.Prelude.{◌≡◌, ℕ, ◌+◌, ◌%◌, ◌≤◌, List, length, All}
 use Rattle.hex.specs.Hex.{IsBytes}
 use Rattle.itm_types.specs.Access.{size_of}
+use Rattle.itm_types.specs.declared.call.ActionKind.TheVariants.{Undo}
 use Rattle.itm_types.specs.declared.call.Call.{Call}
 use Rattle.itm_types.specs.declared.call.Call.TheVariants as calls
 use Rattle.itm_types.specs.declared.call.Ran.{Ran}
 use Rattle.itm_types.specs.declared.call.Reply.{Reply}
 use Rattle.itm_types.specs.declared.call.Reply.TheVariants as replies
-use Rattle.itm_types.specs.declared.limits.TheConstants.{MAX_MEMORY, MAX_ARENA, MAX_ACTORS, MAX_RETRIES}
+use Rattle.itm_types.specs.declared.limits.TheConstants.{MAX_ARENA, MAX_RETRIES}
+use Rattle.tx_attempts.specs.Restarts.{AreAgain}
+use Rattle.tx_attempts.specs.declared.attempt.Again.{Again}
 use Rattle.tx_attempts.specs.declared.attempt.Attempt.{Attempt}
 use Rattle.tx_attempts.specs.declared.attempt.CallRecord.{CallRecord}
 use Rattle.tx_history.specs.declared.history.History.{History}
+use Rattle.tx_history.specs.declared.history.Version.{Version}
+use Rattle.tx_history.specs.Versions.{MayTell, memory_limit, thread_limit}
 use Rattle.tx_history.specs.Bounds.{IsWord, IsAction, IsCopying, IsDatum, IsArenaWidth}
 use Rattle.history_reader.specs.declared.reply.ReplyKind.{ReplyKind}
 use Rattle.history_reader.specs.declared.reply.ReplyKind.TheVariants as answers
@@ -71,24 +76,34 @@ IsEntry e = IsCall e.call × IsReply (answer_to e.call) e.reply
 abbrev pub IsRan : Ran → Type 0
 IsRan r = IsAction r.action
 
--- an attempt that a text can tell: when its begin was called is not told, nor for how many more calls it has room
-pub record IsAttempt (a : Attempt) : Type 0 where
-  pub thread : a.thread ≤ MAX_ACTORS - 1
+-- an action that had run in a block before it ran again: no text tells its kind
+abbrev pub IsUndone : Ran → Type 0
+IsUndone r = (r.kind ≡ Undo) × IsAction r.action
+
+abbrev pub IsTold : Again → Type 0
+IsTold a = IsBytes a.arena × All IsUndone a.undone
+
+-- an attempt that a text of this version can tell: when its begin was called is not told, nor for how many more calls it has room
+pub record IsAttempt (version : Version) (a : Attempt) : Type 0 where
+  pub thread : a.thread ≤ thread_limit version
   pub nth : (1 ≤ a.nth) × (a.nth ≤ MAX_RETRIES + 1)
   pub began : a.began ≡ 0
   pub at : IsWord a.at
   pub arena : IsBytes a.arena × (length a.arena ≤ MAX_ARENA)
   pub calls : All IsEntry a.calls.list
   pub room : a.calls.room ≡ 0
+  pub again : AreAgain (length a.arena) 0 a.calls.list a.restarts  -- each block that ran again is one within the outermost, with a whole arena
+  pub restarts : All IsTold a.restarts
+  pub may : MayTell version a.restarts
   pub ran : All IsRan a.ran
 
--- a memory of 1 to 8,192 words of 8 bytes
-abbrev pub IsMemory : List ℕ → Type 0
-IsMemory bytes = IsBytes bytes × (8 ≤ length bytes) × (length bytes ≤ MAX_MEMORY) × (length bytes % 8 ≡ 0)
+-- a memory of words of 8 bytes: one at least, and so many bytes at most
+abbrev pub IsMemory : ℕ → List ℕ → Type 0
+IsMemory limit bytes = IsBytes bytes × (8 ≤ length bytes) × (length bytes ≤ limit) × (length bytes % 8 ≡ 0)
 
 -- a history that a text can tell
 pub record IsHistory (h : History) : Type 0 where
-  pub memory : IsMemory h.memory
-  pub attempts : All IsAttempt h.attempts
+  pub memory : IsMemory (memory_limit h.version) h.memory
+  pub attempts : All (IsAttempt h.version) h.attempts
   pub clock : IsWord h.clock
   pub bytes : IsBytes h.bytes × (length h.bytes ≡ length h.memory)

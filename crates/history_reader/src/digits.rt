@@ -1,13 +1,13 @@
 //! Fields as bytes: two hexadecimal digits for each, in lower case.
 
-ghost use Rattle.std.specs.Prelude.{◌≡◌, ◌/◌, IfOk, true, length};
+ghost use Rattle.std.specs.Prelude.{◌≡◌, ◌*◌, ◌/◌, ◌^◌, ◌<◌, IfOk, true, length};
 ghost use Rattle.std.specs.List.{list_all};
 ghost use Rattle.itm_types.specs.Access.{size_of};
 ghost use Rattle.script_fields.specs.Operands.{Sees, decoded};
-ghost use Rattle.history_reader.specs.Digits.{is_lower_digit, is_lower_hex, bytes_if, sized, memory_bytes, are_words, arena_bytes, arena_of, AreLowerHex, datum};
+ghost use Rattle.history_reader.specs.Digits.{is_lower_digit, is_lower_hex, bytes_if, sized, memory_bytes, are_words, arena_bytes, arena_of, restart_bytes, AreLowerHex, datum};
 
 use hex::{decode, decode_to_slice};
-use itm_types::{Datum, MAX_ARENA, MAX_MEMORY, Value, Width};
+use itm_types::{Datum, MAX_ARENA, Value, Width};
 use script_fields::AsmKind;
 use std::alloc::{AllocError, Global};
 
@@ -49,17 +49,15 @@ pub fn sized(size: usize, field: &[u8]) -> Result<&[u8], AsmKind>
     digits_if(field.len() / 2 == size, field)
 }
 
-/// The digits of a memory: of 8 to 65,536 bytes, in whole words.
+/// The digits of a memory: of 8 bytes or more, no more than the limit, and in whole words.
 #[tactic(auto, unfolding(crate::specs::Digits::memory_bytes))]
-pub fn memory_digits(field: &[u8]) -> Result<&[u8], AsmKind>
-    ensures value { Sees (λ x. decoded x.now) result (memory_bytes field.now) }
+pub fn memory_digits(limit: usize, field: &[u8]) -> Result<&[u8], AsmKind>
+    requires { 2 * limit < 2 ^ 64 }
+    ensures value { Sees (λ x. decoded x.now) result (memory_bytes limit field.now) }
     ensures hex { IfOk result (λ x. is_lower_hex x.now ≡ true) }
 {
     let count = field.len();
-    digits_if(
-        16 <= count && count <= 2 * MAX_MEMORY && count % 16 == 0,
-        field,
-    )
+    digits_if(16 <= count && count <= 2 * limit && count % 16 == 0, field)
 }
 
 /// The digits of an arena, where it has bytes.
@@ -72,6 +70,22 @@ pub fn arena_digits(field: &[u8]) -> Result<Option<&[u8]>, AsmKind>
         return Ok(None);
     }
     Ok(Some(digits_if(field.len() <= 2 * MAX_ARENA, field)?))
+}
+
+/// The digits of the arena from which a block runs again, which has so many bytes, where it has any.
+#[tactic(auto, unfolding(crate::specs::Digits::restart_bytes))]
+pub fn restart_digits(size: usize, field: &[u8]) -> Result<Option<&[u8]>, AsmKind>
+    ensures value { Sees arena_of result (restart_bytes size field.now) }
+    ensures hex { IfOk result AreLowerHex }
+{
+    if field != b"-".as_slice() {
+        return Ok(Some(sized(size, field)?));
+    }
+    if size == 0 {
+        Ok(None)
+    } else {
+        Err(AsmKind::Range)
+    }
 }
 
 /// The bytes that digits say.

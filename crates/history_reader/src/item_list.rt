@@ -1,10 +1,12 @@
 //! Lists that grow.
 
-ghost use Rattle.std.specs.Prelude.{◌≡◌, ◌++◌, ◌∷◌, [], OnOk, OnErr};
+ghost use Rattle.std.specs.Prelude.{◌≡◌, ◌<◌, ◌++◌, ◌∷◌, [], length, OnOk, OnErr};
 
+use itm_types::Ran;
 use std::alloc::{AllocError, Global};
 use std::marker::Model;
 use std::mem;
+use tx_attempts::Again;
 
 /// A list that grows, seen as what stands in it.
 #[derive(Drop)]
@@ -30,6 +32,13 @@ impl<T: Drop> ItemList<T> {
         }
     }
 
+    /// How many there are.
+    pub fn len(&self) -> usize
+        ensures { result ≡ length self.now }
+    {
+        self.items.len()
+    }
+
     /// One more.
     pub fn push(&mut self, item: T) -> Result<(), AllocError>
         ensures { OnOk result (self.new ≡ self.old ++ item ∷ []) }
@@ -44,5 +53,21 @@ impl<T: Drop> ItemList<T> {
         ensures none { self.new ≡ [] }
     {
         mem::replace(&mut self.items, Vec::new(alloc))
+    }
+}
+
+impl ItemList<Again> {
+    ghost use Rattle.history_reader.specs.Lines.{with_undone};
+
+    /// One more action that had run in the last block before it ran again. Takes memory only where there is such a block.
+    pub fn undo(&mut self, ran: Ran) -> Result<(), AllocError>
+        ensures added { OnOk result (self.new ≡ with_undone self.old ran) }
+        ensures short { OnErr result (0 < length (with_undone self.old ran)) }
+    {
+        if let Some(mut last) = self.items.pop() {
+            last.undone.push(ran)?;
+            self.items.push(last)?;
+        }
+        Ok(())
     }
 }

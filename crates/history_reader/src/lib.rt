@@ -7,6 +7,7 @@ mod digits;
 mod fault;
 mod fields;
 mod item_list;
+mod line_parts;
 mod lines;
 mod numbers;
 mod operands;
@@ -17,4 +18,4 @@ mod whole;
 mod words;
 
 pub use fault::{ReadFault, ReadKind};
-pub use whole::{legal_texts, read};
+pub use whole::{first_version, legal_texts, read};

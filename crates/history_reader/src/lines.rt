@@ -1,100 +1,36 @@
 //! Lines by where they stand.
 
-ghost use Rattle.std.specs.Prelude.{◌≡◌, IfOk, length, true};
-ghost use Rattle.script_fields.specs.Operands.{Sees, decoded};
+ghost use Rattle.std.specs.Prelude.{◌≡◌, length};
 ghost use Rattle.history_reader.specs.Faults.{told};
 ghost use Rattle.history_reader.specs.Fields.{rest_fields};
-ghost use Rattle.history_reader.specs.Digits.{is_lower_hex, AreLowerHex, arena_of as shown};
-ghost use Rattle.history_reader.specs.Lines.{memory_of, arena_of, try_of, outcome_of, head_of, ran_of, final_of, memory_line, head_line, final_line, between_line, arena_line, call_line, ran_line, end_line, later_line, call_or_later, header_line, meaning};
+ghost use Rattle.history_reader.specs.Lines.{depth_line, memory_line, head_line, final_line, between_line, arena_line, is_entered, behind_call, call_line, restart_line, undone_line, ran_line, end_line, later_line, again_or_later, call_or_later, header_line, meaning};
 ghost use Rattle.history_reader.specs.Reading.{Steps, recorded, taken};
 
 use crate::body::call_of;
-use crate::digits::{arena_digits, bytes_of, memory_digits, sized};
+use crate::digits::bytes_of;
 use crate::fault::ReadKind;
-use crate::fields::{first_field, next_field, no_field, one_field, three_fields};
-use crate::numbers::{nth, thread};
-use crate::state::{Head, Place, State};
-use crate::words::{block_props, kind, outcome};
-use itm_types::{Action, Props, Ran};
-use script_fields::{AsmKind, both, exactly, function, number};
+use crate::fields::{first_field, no_field};
+use crate::line_parts::{
+    arena_of, depth_of, final_of, head_of, memory_of, ran_of, restart_of, undone_of,
+};
+use crate::state::{Behind, Head, Place, State};
+use itm_types::{Call, Reply};
+use script_fields::exactly;
 use std::alloc::Global;
 use std::mem;
-use tx_attempts::{Attempt, Bytes, Calls, Outcome, RanActions};
+use tx_attempts::{Again, Attempt, Bytes, CallRecord, Calls, RanActions, Restarts};
+use tx_history::Version;
 
-/// The digits of the memory before the run.
-#[tactic(auto, unfolding(crate::specs::Lines::memory_of))]
-fn memory_of(rest: Option<&[u8]>) -> Result<&[u8], AsmKind>
-    ensures value { Sees (λ x. decoded x.now) result (memory_of (rest_fields rest.entry)) }
-    ensures hex { IfOk result (λ x. is_lower_hex x.now ≡ true) }
+/// How many blocks may be open at once.
+#[tactic(auto, unfolding(crate::specs::Lines::depth_line), using(crate::proofs::Faults::stops))]
+fn depth_line(state: &mut State, word: &[u8], rest: Option<&[u8]>) -> Result<(), ReadKind>
+    ensures { Steps (λ t. 0) result state.new (told (depth_line state.old word.now (rest_fields rest.entry))) }
 {
-    memory_digits(one_field(rest)?)
-}
-
-/// The digits of an attempt's arena.
-#[tactic(auto, unfolding(crate::specs::Lines::arena_of))]
-fn arena_of(rest: Option<&[u8]>) -> Result<Option<&[u8]>, AsmKind>
-    ensures value { Sees shown result (arena_of (rest_fields rest.entry)) }
-    ensures hex { IfOk result AreLowerHex }
-{
-    arena_digits(one_field(rest)?)
-}
-
-/// A thread, the try of its block, and where it stands.
-fn try_of(first: &[u8], second: &[u8], third: &[u8]) -> Result<(u8, (u32, u64)), AsmKind>
-    ensures { result ≡ try_of first.now second.now third.now }
-{
-    both(thread(first), both(nth(second), number(third)))
-}
-
-/// How a try ended, and the properties of its block.
-fn outcome_of(first: &[u8], second: &[u8]) -> Result<(Outcome, Props), AsmKind>
-    ensures { result ≡ outcome_of first.now second.now }
-{
-    both(outcome(first), block_props(second))
-}
-
-/// What the first line of an attempt says.
-#[tactic(auto, unfolding(crate::specs::Lines::head_of))]
-fn head_of(rest: Option<&[u8]>) -> Result<Head, AsmKind>
-    ensures { result ≡ head_of (rest_fields rest.entry) }
-{
-    let (first, second, third, rest) = three_fields(rest)?;
-    let (fourth, rest) = next_field(rest)?;
-    let last = one_field(rest)?;
-    let tried = try_of(first, second, third);
-    let ((thread, (nth, at)), (outcome, props)) = both(tried, outcome_of(fourth, last))?;
-    Ok(Head {
-        thread,
-        nth,
-        at,
-        outcome,
-        props,
-    })
-}
-
-/// An action that ran.
-#[tactic(auto, unfolding(crate::specs::Lines::ran_of))]
-fn ran_of(rest: Option<&[u8]>) -> Result<Ran, AsmKind>
-    ensures { result ≡ ran_of (rest_fields rest.entry) }
-{
-    let (first, second, third, rest) = three_fields(rest)?;
-    no_field(rest)?;
-    let (kind, (fun, arg)) = both(kind(first), both(function(second), number(third)))?;
-    Ok(Ran {
-        kind,
-        action: Action { fun, arg },
-    })
-}
-
-/// The clock after the run, and the digits of the memory after it, which has so many bytes.
-#[tactic(auto, unfolding(crate::specs::Lines::final_of))]
-fn final_of(size: usize, rest: Option<&[u8]>) -> Result<(u64, &[u8]), AsmKind>
-    ensures value { Sees (λ x. (x.0, decoded x.1.now)) result (final_of size (rest_fields rest.entry)) }
-    ensures hex { IfOk result (λ x. is_lower_hex x.1.now ≡ true) }
-{
-    let (first, rest) = next_field(rest)?;
-    let last = one_field(rest)?;
-    both(number(first), sized(size, last))
+    exactly(b"depth", word)?;
+    let depth = depth_of(rest)?;
+    state.version = Version::Three(depth);
+    state.place = Place::AtMemory;
+    Ok(())
 }
 
 /// The memory before the run.
@@ -108,7 +44,7 @@ fn memory_line(
     ensures { Steps (λ t. length t.memory) result state.new (told (memory_line state.old word.now (rest_fields rest.entry))) }
 {
     exactly(b"memory", word)?;
-    let digits = memory_of(rest)?;
+    let digits = memory_of(state.version.memory_limit(), rest)?;
     state.memory = Bytes::new(bytes_of(alloc, digits)?);
     state.place = Place::Between;
     Ok(())
@@ -119,7 +55,7 @@ fn memory_line(
 fn head_line(state: &mut State, rest: Option<&[u8]>) -> Result<(), ReadKind>
     ensures { Steps (λ t. length t.bytes) result state.new (told (head_line state.old (rest_fields rest.entry))) }
 {
-    let head = head_of(rest)?;
+    let head = head_of(state.version.thread_limit(), rest)?;
     state.place = Place::AtArena(head);
     Ok(())
 }
@@ -170,17 +106,81 @@ fn arena_line(
         Some(digits) => bytes_of(alloc, digits)?,
         None => Vec::new(alloc),
     });
-    state.place = Place::InCalls(head);
+    state.place = Place::InCalls(head, Behind::Call);
     Ok(())
+}
+
+/// Whether a call is the begin of a block that was entered.
+fn is_entered(entry: &CallRecord) -> bool
+    ensures { result ≡ is_entered entry.now }
+{
+    match &entry.call {
+        Call::Begin { .. } => match &entry.reply {
+            Reply::Code(n) => *n == 5,
+            _ => false,
+        },
+        _ => false,
+    }
+}
+
+/// What a call decides of the line behind it: that a block ran again may stand right behind its begin.
+fn behind_call(version: Version, entry: &CallRecord) -> Behind
+    ensures { result ≡ behind_call version entry.now }
+{
+    match version {
+        Version::One => Behind::Call,
+        Version::Two | Version::Three(_) => {
+            if is_entered(entry) {
+                Behind::Begin
+            } else {
+                Behind::Call
+            }
+        }
+    }
 }
 
 /// One more call.
 #[tactic(auto, unfolding(crate::specs::Lines::call_line), using(crate::proofs::Faults::stops, crate::proofs::Faults::adds))]
-fn call_line(state: &mut State, rest: Option<&[u8]>) -> Result<(), ReadKind>
-    ensures { Steps recorded result state.new (told (call_line state.old (rest_fields rest.entry))) }
+fn call_line(state: &mut State, head: Head, rest: Option<&[u8]>) -> Result<(), ReadKind>
+    ensures { Steps recorded result state.new (told (call_line state.old head (rest_fields rest.entry))) }
 {
     let entry = call_of(rest)?;
+    let behind = behind_call(state.version, &entry);
     state.calls.push(entry)?;
+    state.place = Place::InCalls(head, behind);
+    Ok(())
+}
+
+/// The block ran again whose begin is the last call.
+#[tactic(auto, unfolding(crate::specs::Lines::restart_line), using(crate::proofs::Faults::stops, crate::proofs::Faults::adds))]
+fn restart_line(
+    alloc: Global,
+    state: &mut State,
+    head: Head,
+    rest: Option<&[u8]>,
+) -> Result<(), ReadKind>
+    ensures { Steps recorded result state.new (told (restart_line state.old head (rest_fields rest.entry))) }
+{
+    let arena = Bytes::new(match restart_of(state.arena.as_slice().len(), rest)? {
+        Some(digits) => bytes_of(alloc, digits)?,
+        None => Vec::new(alloc),
+    });
+    state.restarts.push(Again {
+        kept: state.calls.len(),
+        arena,
+        undone: RanActions::new(alloc),
+    })?;
+    state.place = Place::InCalls(head, Behind::Restart);
+    Ok(())
+}
+
+/// An action that had run in that block before.
+#[tactic(auto, unfolding(crate::specs::Lines::undone_line), using(crate::proofs::Faults::stops, crate::proofs::Faults::adds))]
+fn undone_line(state: &mut State, rest: Option<&[u8]>) -> Result<(), ReadKind>
+    ensures { Steps recorded result state.new (told (undone_line state.old (rest_fields rest.entry))) }
+{
+    let ran = undone_of(rest)?;
+    state.restarts.undo(ran)?;
     Ok(())
 }
 
@@ -208,6 +208,7 @@ fn end_line(
     no_field(rest)?;
     let arena = mem::replace(&mut state.arena, Bytes::new(Vec::new(alloc)));
     let calls = state.calls.take(alloc);
+    let restarts = Restarts::from_vec(alloc, state.restarts.take(alloc))?;
     let ran = state.ran.take(alloc);
     state.attempts.push(Attempt {
         thread: head.thread,
@@ -217,6 +218,7 @@ fn end_line(
         props: head.props,
         arena,
         calls: Calls::from_vec(calls),
+        restarts,
         ran: RanActions::from_vec(ran),
         outcome: head.outcome,
     })?;
@@ -244,30 +246,69 @@ fn later_line(
     }
 }
 
-/// A call, an action that ran, or an attempt's end.
-#[tactic(auto, unfolding(crate::specs::Lines::call_or_later), using(crate::proofs::Faults::stops))]
-fn call_or_later(
+/// That a block ran again, or an action that had run in it, where one may stand; else an action that ran, or an attempt's end.
+#[tactic(auto, unfolding(crate::specs::Lines::again_or_later))]
+fn again_or_later(
     alloc: Global,
+    behind: Behind,
     state: &mut State,
     head: Head,
     word: &[u8],
     rest: Option<&[u8]>,
 ) -> Result<(), ReadKind>
-    ensures { Steps recorded result state.new (told (call_or_later state.old head word.now (rest_fields rest.entry))) }
+    ensures { Steps recorded result state.new (told (again_or_later behind state.old head word.now (rest_fields rest.entry))) }
 {
-    if word == b"call".as_slice() {
-        call_line(state, rest)
-    } else {
-        later_line(alloc, state, head, word, rest)
+    match behind {
+        Behind::Call => later_line(alloc, state, head, word, rest),
+        Behind::Begin => {
+            if word == b"restart".as_slice() {
+                restart_line(alloc, state, head, rest)
+            } else {
+                later_line(alloc, state, head, word, rest)
+            }
+        }
+        Behind::Restart => {
+            if word == b"undone".as_slice() {
+                undone_line(state, rest)
+            } else {
+                later_line(alloc, state, head, word, rest)
+            }
+        }
     }
 }
 
-/// The name of the format.
+/// A call, or another line within an attempt.
+#[tactic(auto, unfolding(crate::specs::Lines::call_or_later))]
+fn call_or_later(
+    alloc: Global,
+    behind: Behind,
+    state: &mut State,
+    head: Head,
+    word: &[u8],
+    rest: Option<&[u8]>,
+) -> Result<(), ReadKind>
+    ensures { Steps recorded result state.new (told (call_or_later behind state.old head word.now (rest_fields rest.entry))) }
+{
+    if word == b"call".as_slice() {
+        call_line(state, head, rest)
+    } else {
+        again_or_later(alloc, behind, state, head, word, rest)
+    }
+}
+
+/// The name of the format, with its version.
 fn header_line(state: &mut State, line: &[u8]) -> Result<(), ReadKind>
     ensures { Steps (λ t. 0) result state.new (header_line state.old line.now) }
 {
     if line == b"itm-history 1".as_slice() {
         state.place = Place::AtMemory;
+        Ok(())
+    } else if line == b"itm-history 2".as_slice() {
+        state.version = Version::Two;
+        state.place = Place::AtMemory;
+        Ok(())
+    } else if line == b"itm-history 3".as_slice() {
+        state.place = Place::AtDepth;
         Ok(())
     } else {
         Err(ReadKind::Header)
@@ -282,10 +323,11 @@ pub fn read_line(alloc: Global, state: &mut State, line: &[u8]) -> Result<(), Re
     let (word, rest) = first_field(line);
     match state.place {
         Place::AtHeader => header_line(state, line),
+        Place::AtDepth => depth_line(state, word, rest),
         Place::AtMemory => memory_line(alloc, state, word, rest),
         Place::Between => between_line(alloc, state, word, rest),
         Place::AtArena(head) => arena_line(alloc, state, head, word, rest),
-        Place::InCalls(head) => call_or_later(alloc, state, head, word, rest),
+        Place::InCalls(head, behind) => call_or_later(alloc, behind, state, head, word, rest),
         Place::InRan(head) => later_line(alloc, state, head, word, rest),
         Place::AtEnd(_) => Err(ReadKind::Line),
     }

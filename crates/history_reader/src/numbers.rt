@@ -1,9 +1,9 @@
 //! Fields as numbers with limits.
 
 ghost use Rattle.std.specs.Prelude.{◌≡◌, ◌≤◌, IfOk};
-ghost use Rattle.history_reader.specs.Numbers.{ranged, thread, nth, byte};
+ghost use Rattle.history_reader.specs.Numbers.{ranged, thread, nth, byte, depth};
 
-use itm_types::{MAX_ACTORS, MAX_RETRIES};
+use itm_types::{Depth, MAX_DEPTH, MAX_RETRIES};
 use script_fields::{AsmKind, number, within};
 
 /// One of the numbers between two.
@@ -16,11 +16,23 @@ pub fn ranged(low: u64, high: u64, field: &[u8]) -> Result<u64, AsmKind>
     within(low, high, number(field)?)
 }
 
-/// A thread.
-pub fn thread(field: &[u8]) -> Result<u8, AsmKind>
-    ensures { result ≡ thread field.now }
+/// A thread: none behind the last one.
+pub fn thread(last: u8, field: &[u8]) -> Result<u8, AsmKind>
+    ensures { result ≡ thread last field.now }
 {
-    Ok(ranged(0, (MAX_ACTORS - 1) as u64, field)? as u8)
+    Ok(ranged(0, u64::from(last), field)? as u8)
+}
+
+/// How many blocks may be open at once.
+#[tactic(auto, unfolding(crate::specs::Numbers::depth))]
+pub fn depth(field: &[u8]) -> Result<Depth, AsmKind>
+    ensures { result ≡ depth field.now }
+{
+    let blocks = ranged(1, u64::from(MAX_DEPTH), field)? as u8;
+    match Depth::new(blocks) {
+        Some(depth) => Ok(depth),
+        None => unreachable!(),
+    }
 }
 
 /// Which try of its block.

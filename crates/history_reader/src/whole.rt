@@ -1,9 +1,10 @@
 //! Whole texts.
 
-ghost use Rattle.std.specs.Prelude.{◌≡◌, IfOk, IfErr, Ok};
+ghost use Rattle.std.specs.Prelude.{◌≡◌, ◌++◌, codes, IfOk, IfErr, List, ℕ, Ok};
 ghost use Rattle.tx_history.specs.Bounds.{AreLimited, HistoryFits};
 ghost use Rattle.tx_history.specs.Histories.{history_text};
 ghost use Rattle.tx_history.specs.Legal.{IsLegal};
+ghost use Rattle.history_reader.specs.FirstVersion.{first_of};
 ghost use Rattle.history_reader.specs.LegalTexts.{IsLegalText};
 ghost use Rattle.history_reader.specs.Reading.{whole, end_of, Fails, Gives, RunsOut, IsAnswer, read_of};
 ghost use Rattle.history_reader.specs.Tellable.{IsHistory};
@@ -23,6 +24,7 @@ fn whole(alloc: Global, state: State) -> Result<History, ReadKind>
 {
     let State {
         place,
+        version,
         memory,
         mut attempts,
         bytes,
@@ -30,6 +32,7 @@ fn whole(alloc: Global, state: State) -> Result<History, ReadKind>
     } = state;
     match place {
         Place::AtEnd(clock) => Ok(History {
+            version,
             memory,
             attempts: Attempts::new(attempts.take(alloc)),
             clock,
@@ -71,8 +74,9 @@ fn read_lines(alloc: Global, text: &[u8], number: &mut usize) -> Result<History,
 
 /// The history that the text is, or its first fault.
 ///
-/// Lines are read in order, and the first that is at fault decides: `Header` in line 1, `Line` where its form is none
-/// that may stand there, else `Size` where a number or a length is none that may be. Where the text ends within a line
+/// The first line says which version it is, and that decides which lines may stand and how large everything may be. Lines
+/// are read in order, and the first that is at fault decides: `Header` in line 1, `Line` where its form is none that may
+/// stand there, else `Size` where a number or a length is none that may be. Where the text ends within a line
 /// or before one that was due, that line is `Cut`. Where memory is refused, the fault is `Memory` in the line that was
 /// read.
 ///
@@ -96,4 +100,10 @@ pub fn read(alloc: Global, text: &[u8]) -> Result<History, ReadFault>
 /// every history that is written, and its sizes and counts are within the limits of a run. Does nothing.
 pub fn legal_texts()
     ensures { (h : History) → IsLegal h → HistoryFits h → AreLimited h → IsLegalText (history_text h) }
+{}
+
+/// What a text of the first version says is what it said before there were others: the same history, or the same fault in the
+/// same line. Does nothing.
+pub fn first_version()
+    ensures { (rest : List ℕ) → read_of (codes "itm-history 1\n" ++ rest) ≡ first_of (codes "itm-history 1\n" ++ rest) }
 {}

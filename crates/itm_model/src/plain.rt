@@ -10,8 +10,8 @@ use crate::journal::{Mark, Old, keep, unwind};
 use crate::limits::WORD;
 use crate::pieces::{forget, hand_on, innermost_at, keep_pieces};
 use itm_types::{
-    ActionKind, CANCELLED, Call, Datum, ENTERED, MAX_ARENA, MAX_MEMORY, MAX_OPEN_BLOCKS, Props,
-    Refusal, Reply, Width,
+    ActionKind, CANCELLED, Call, Datum, Depth, ENTERED, MAX_ARENA, MAX_TOLD_MEMORY, Props, Refusal,
+    Reply, Width,
 };
 use std::alloc::{AllocError, Global};
 use std::marker::Model;
@@ -35,6 +35,8 @@ pub struct Plain {
     wrote: bool,
     /// No open block goes back any more.
     irrevocable: bool,
+    /// How many blocks may be open at once.
+    deepest: Depth,
 }
 
 impl Model for Plain {
@@ -56,21 +58,30 @@ impl Model for Plain {
       };
       before = put_back p.journal.items p.memory.items;
       kept = length p.journal.items;
+      deepest = p.deepest.blocks;
     } };
 
     ghost invariant = { λ p. IsSound p.memory.items p.journal.items p.newest.items p.arena.items p.logs.items p.marks.items };
 }
 
 impl Plain {
-    /// A transaction whose outermost block has just begun on these bytes (Intel TM ABI 1.1, section 5.7).
-    pub fn new(alloc: Global, bytes: &[u8], arena: &[u8], props: Props) -> Result<Plain, AllocError>
+    /// A transaction whose outermost block has just begun on these bytes (Intel TM ABI 1.1, section 5.7). At most
+    /// `deepest` of its blocks are open at once.
+    pub fn new(
+        alloc: Global,
+        bytes: &[u8],
+        arena: &[u8],
+        deepest: Depth,
+        props: Props,
+    ) -> Result<Plain, AllocError>
         requires some { WORD ≤ length bytes.now }
-        requires room { length bytes.now ≤ MAX_MEMORY }
+        requires room { length bytes.now ≤ MAX_TOLD_MEMORY }
         requires words { length bytes.now % WORD ≡ 0 }
         requires arena { length arena.now ≤ MAX_ARENA }
         requires props { (props.goes_irrevocable && props.no_irrevocable) ≡ false }
         ensures state { IfOk result (λ p. p.state ≡ opened bytes.now arena.now props) }
         ensures before { IfOk result (λ p. p.before ≡ bytes.now) }
+        ensures deepest { IfOk result (λ p. p.deepest ≡ deepest.blocks) }
     {
         let mut newest = Vec::new(alloc);
         newest.resize(bytes.len().div_ceil(WIDEST), 0)?;
@@ -84,6 +95,7 @@ impl Plain {
             actions: UserActions::new(alloc),
             wrote: false,
             irrevocable: false,
+            deepest,
         };
         plain.enter(props)?;
         Ok(plain)
@@ -92,13 +104,14 @@ impl Plain {
     /// Makes one call. A refused call changes nothing, and an outermost begin starts anew on the bytes
     /// that are there. It costs what it touches, a begin a mark, and a commit what its block keeps.
     pub fn one(&mut self, call: &Call) -> Result<Reply, AllocError>
-        ensures reply { IfOk result (λ r. r ≡ reply MAX_OPEN_BLOCKS self.old.state call.now) }
-        ensures after { OnOk result (self.new.state ≡ after MAX_OPEN_BLOCKS self.old.state call.now) }
-        ensures before { OnOk result (self.new.before ≡ before_after MAX_OPEN_BLOCKS self.old call.now) }
+        ensures reply { IfOk result (λ r. r ≡ reply self.old.deepest self.old.state call.now) }
+        ensures after { OnOk result (self.new.state ≡ after self.old.deepest self.old.state call.now) }
+        ensures before { OnOk result (self.new.before ≡ before_after self.old.deepest self.old call.now) }
+        ensures deepest { self.new.deepest ≡ self.old.deepest }
 
         // Memory is refused only to a call that would be accepted: a begin, a write, a registration, or a log, a fill or a copy to shared memory of some bytes; to no log and no undo action of an irrevocable transaction.
         ensures only_some { OnErr result (IsTrue (takes_memory self.old.state call.now)) }
-        ensures only_accepted { OnErr result (refusal MAX_OPEN_BLOCKS self.old.state call.now ≡ None) }
+        ensures only_accepted { OnErr result (refusal self.old.deepest self.old.state call.now ≡ None) }
         ensures err { OnErr result (self.new ≡ self.old) }
     {
         match self.refusal(call) {
@@ -114,6 +127,7 @@ impl Plain {
         ensures before { self.new.before ≡ self.old.before }
         ensures fewer { self.old.state.irrevocable ≡ false
             → length self.new.state.blocks ≡ length self.old.state.blocks - 1 }
+        ensures deepest { self.new.deepest ≡ self.old.deepest }
     {
         if self.irrevocable {
             return;
@@ -131,6 +145,7 @@ impl Plain {
     pub fn back_all(&mut self)
         ensures undone { self.new.state ≡ undone self.old.state }
         ensures before { self.new.before ≡ self.old.before }
+        ensures deepest { self.new.deepest ≡ self.old.deepest }
     {
         if self.irrevocable {
             return;
@@ -145,6 +160,7 @@ impl Plain {
     pub fn take_back(&mut self)
         ensures state { self.new.state ≡ outside self.old.before self.old.state.arena }
         ensures before { self.new.before ≡ self.old.before }
+        ensures deepest { self.new.deepest ≡ self.old.deepest }
     {
         forget(&self.journal, &mut self.newest, 0);
         unwind(&mut self.memory, &mut self.journal, 0);
@@ -160,6 +176,7 @@ impl Plain {
         requires { (props.goes_irrevocable && props.no_irrevocable) ≡ false }
         ensures state { OnOk result (self.new.state ≡ opened self.old.state.memory self.old.state.arena props) }
         ensures before { OnOk result (self.new.before ≡ self.old.state.memory) }
+        ensures deepest { self.new.deepest ≡ self.old.deepest }
         ensures err { OnErr result (self.new ≡ self.old) }
     {
         self.marks.reserve(1)?;
@@ -181,6 +198,15 @@ impl Plain {
             self.go_irrevocable();
         }
         Ok(())
+    }
+
+    /// The arena becomes these bytes, and nothing else changes: what is kept of it for the open blocks stays. Takes no
+    /// memory.
+    pub fn set_arena(&mut self, arena: &[u8])
+        requires { length arena.now ≡ length self.old.state.arena }
+        ensures { self.new ≡ record self.old { state = record self.old.state { arena = arena.now } } }
+    {
+        self.arena.copy_from_slice(arena);
     }
 
     /// The shared memory.
@@ -213,10 +239,11 @@ impl Plain {
 
     /// The effect and the answer of a call that is not refused.
     fn accept(&mut self, call: &Call) -> Result<Reply, AllocError>
-        requires { refusal MAX_OPEN_BLOCKS self.old.state call.now ≡ None }
+        requires { refusal self.old.deepest self.old.state call.now ≡ None }
         ensures answer { IfOk result (λ r. r ≡ answer self.old.state call.now) }
         ensures effect { OnOk result (self.new.state ≡ effect self.old.state call.now) }
         ensures before { OnOk result (self.new.before ≡ before_next self.old call.now) }
+        ensures deepest { self.new.deepest ≡ self.old.deepest }
         ensures only_some { OnErr result (IsTrue (takes_memory self.old.state call.now)) }
         ensures err { OnErr result (self.new ≡ self.old) }
     {
@@ -283,6 +310,7 @@ impl Plain {
             → OnOk result (self.new.state ≡ opened self.old.state.memory self.old.state.arena props) }
         ensures before { OnOk result
             (self.new.before ≡ (if is_open self.old.state then self.old.before else self.old.state.memory)) }
+        ensures deepest { self.new.deepest ≡ self.old.deepest }
         ensures err { OnErr result (self.new ≡ self.old) }
     {
         if self.marks.is_empty() {
@@ -306,6 +334,7 @@ impl Plain {
     fn close(&mut self)
         ensures closed { self.new.state ≡ closed self.old.state }
         ensures before { self.new.before ≡ self.old.before }
+        ensures deepest { self.new.deepest ≡ self.old.deepest }
     {
         let Some(closed) = self.marks.pop() else {
             return;
@@ -322,6 +351,7 @@ impl Plain {
     fn cancel(&mut self, outer: bool)
         ensures effect { self.new.state ≡ (if outer then undone self.old.state else back self.old.state) }
         ensures before { self.new.before ≡ self.old.before }
+        ensures deepest { self.new.deepest ≡ self.old.deepest }
     {
         if outer {
             self.back_all();
@@ -335,6 +365,7 @@ impl Plain {
         requires { IsTrue (in_range self.old.state.memory place (length value.now.bytes.items)) }
         ensures ok { OnOk result (self.new.state ≡ written self.old.state place value.now.bytes.items) }
         ensures before { OnOk result (self.new.before ≡ self.old.before) }
+        ensures deepest { self.new.deepest ≡ self.old.deepest }
         ensures err { OnErr result (self.new ≡ self.old) }
     {
         let size = value.bytes.len() as u64;
@@ -357,6 +388,7 @@ impl Plain {
         requires { IsTrue (in_range self.old.state.arena place size) }
         ensures ok { OnOk result (self.new.state ≡ logged self.old.state place size) }
         ensures before { OnOk result (self.new.before ≡ self.old.before) }
+        ensures deepest { self.new.deepest ≡ self.old.deepest }
         ensures none { size ≡ 0 → IsOk result }
         ensures held { self.old.state.irrevocable ≡ true → IsOk result }
         ensures err { OnErr result (self.new ≡ self.old) }
@@ -373,6 +405,7 @@ impl Plain {
         requires { IsTrue (in_range self.old.state.arena place (length value.now.bytes.items)) }
         ensures ok { self.new.state ≡ saved_in_arena self.old.state place value.now.bytes.items }
         ensures before { self.new.before ≡ self.old.before }
+        ensures deepest { self.new.deepest ≡ self.old.deepest }
     {
         replace(&mut self.arena, place, &value.bytes);
     }

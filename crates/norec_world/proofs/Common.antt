@@ -33,6 +33,7 @@ pub use Rattle.norec_core.specs.declared.answer.Next.{Next}
 pub use Rattle.norec_world.specs.Actors.{AreActors}
 pub use Rattle.tx_attempts.specs.Alone.{IsAlone, player_then, state_then}
 pub use Rattle.tx_attempts.specs.Attempts.{ClosedBy, alone, committed_at, is_at, is_committed, memory_left, of_thread, pair_of}
+pub use Rattle.tx_attempts.specs.Restarts.{breaks_of}
 pub use Rattle.norec_world.specs.Cells.{Cells, cells_after, found}
 pub use Rattle.norec_world.specs.ClockHolder.{ClocksOn, HoldsOn}
 pub use Rattle.norec_world.specs.Commits.{CommitsInOrder}

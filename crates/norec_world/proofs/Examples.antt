@@ -83,13 +83,13 @@ fresh = record { player = record { step = 0; got = 0 }; arena = []; again = fals
 -- ## One counter
 
 abbrev pub counter : Attempt
-counter = record { thread = 0; nth = 1; began = 0; at = 0; props = plain; arena = []; calls = record { list = read 0 ∷ write 1 ∷ commit ∷ []; room = 0 }; ran = []; outcome = Committed }
+counter = record { thread = 0; nth = 1; began = 0; at = 0; props = plain; arena = []; calls = record { list = read 0 ∷ write 1 ∷ commit ∷ []; room = 0 }; restarts = []; ran = []; outcome = Committed }
 
 counter_memory : memory_after 1 (replicate 8 0) (counter ∷ []) 1 ≡ 1 ∷ replicate 7 0
 counter_memory = refl
 
 counter_is_opaque : IsOpaque counter_rules 1 (record { step = 1; got = 0 }) counter 1 (replicate 8 0)
-counter_is_opaque = record { no_older = omega arith; no_newer = omega arith; beginning = ([], refl); whole = λ e. refl; ends = (refl, refl); closed = (read 0 ∷ write 1 ∷ [], refl); ran = refl; full = λ f. absurd (cc) }
+counter_is_opaque = record { no_older = omega arith; no_newer = omega arith; beginning = ([], refl); whole = λ e. refl; ends = (refl, refl); closed = (read 0 ∷ write 1 ∷ [], refl); ran = refl; again = record { stand = tt; revocable = tt }; full = λ f. absurd (cc) }
 
 counter_run : IsRunOf counter_rules 1 1 (memory_after 1 (replicate 8 0) (counter ∷ [])) (Some fresh) (counter ∷ [])
 counter_run = ((refl, refl, omega arith, counter_is_opaque), tt)
@@ -97,13 +97,13 @@ counter_run = ((refl, refl, omega arith, counter_is_opaque), tt)
 -- ## The lost update: of two counters the first to begin is the last to commit. Its first try conflicts, and is opaque all the same.
 
 abbrev other : Attempt
-other = record { thread = 1; nth = 1; began = 0; at = 0; props = plain; arena = []; calls = record { list = read 0 ∷ write 1 ∷ commit ∷ []; room = 0 }; ran = []; outcome = Committed }
+other = record { thread = 1; nth = 1; began = 0; at = 0; props = plain; arena = []; calls = record { list = read 0 ∷ write 1 ∷ commit ∷ []; room = 0 }; restarts = []; ran = []; outcome = Committed }
 
 abbrev lost : Attempt
-lost = record { thread = 0; nth = 1; began = 0; at = 0; props = plain; arena = []; calls = record { list = read 0 ∷ write 1 ∷ []; room = 0 }; ran = []; outcome = Conflict }
+lost = record { thread = 0; nth = 1; began = 0; at = 0; props = plain; arena = []; calls = record { list = read 0 ∷ write 1 ∷ []; room = 0 }; restarts = []; ran = []; outcome = Conflict }
 
 abbrev retried : Attempt
-retried = record { thread = 0; nth = 2; began = 1; at = 1; props = plain; arena = []; calls = record { list = read 1 ∷ write 2 ∷ commit ∷ []; room = 0 }; ran = []; outcome = Committed }
+retried = record { thread = 0; nth = 2; began = 1; at = 1; props = plain; arena = []; calls = record { list = read 1 ∷ write 2 ∷ commit ∷ []; room = 0 }; restarts = []; ran = []; outcome = Committed }
 
 abbrev memory : ℕ → List ℕ
 memory = memory_after 1 (replicate 8 0) (other ∷ lost ∷ retried ∷ [])
@@ -115,10 +115,10 @@ abbrev commit_pair : List (Call × Reply)
 commit_pair = (Commit, Done) ∷ []
 
 lost_is_opaque : IsOpaque counter_rules 1 (record { step = 1; got = 0 }) lost 2 (memory 0)
-lost_is_opaque = record { no_older = omega arith; no_newer = omega arith; beginning = (commit_pair, refl); whole = λ e. absurd (cc); ends = (refl, refl); closed = tt; ran = refl; full = λ f. absurd (cc) }
+lost_is_opaque = record { no_older = omega arith; no_newer = omega arith; beginning = (commit_pair, refl); whole = λ e. absurd (cc); ends = (refl, refl); closed = tt; ran = refl; again = record { stand = tt; revocable = tt }; full = λ f. absurd (cc) }
 
 retried_is_opaque : IsOpaque counter_rules 1 (record { step = 1; got = 0 }) retried 2 (memory 1)
-retried_is_opaque = record { no_older = omega arith; no_newer = omega arith; beginning = ([], refl); whole = λ e. refl; ends = (refl, refl); closed = (read 1 ∷ write 2 ∷ [], refl); ran = refl; full = λ f. absurd (cc) }
+retried_is_opaque = record { no_older = omega arith; no_newer = omega arith; beginning = ([], refl); whole = λ e. refl; ends = (refl, refl); closed = (read 1 ∷ write 2 ∷ [], refl); ran = refl; again = record { stand = tt; revocable = tt }; full = λ f. absurd (cc) }
 
 lost_update_run : IsRunOf counter_rules 1 2 memory (Some fresh) (lost ∷ retried ∷ [])
 lost_update_run = ((refl, refl, omega arith, lost_is_opaque), ((refl, refl, omega arith, retried_is_opaque), tt))
@@ -159,14 +159,14 @@ next_block = record { later = omega arith; few = omega arith; after = omega arit
 -- ## Full: the counter's commit is refused, and full is told of nothing before it
 
 abbrev pub refused : Attempt
-refused = record { thread = 0; nth = 1; began = 0; at = 0; props = plain; arena = []; calls = record { list = read 0 ∷ write 1 ∷ []; room = 0 }; ran = []; outcome = Full }
+refused = record { thread = 0; nth = 1; began = 0; at = 0; props = plain; arena = []; calls = record { list = read 0 ∷ write 1 ∷ []; room = 0 }; restarts = []; ran = []; outcome = Full }
 
 refused_is_opaque : IsOpaque counter_rules 1 (record { step = 1; got = 0 }) refused 0 (replicate 8 0)
-refused_is_opaque = record { no_older = omega arith; no_newer = omega arith; beginning = (commit_pair, refl); whole = λ e. absurd (cc); ends = (refl, refl); closed = tt; ran = refl; full = λ f. record { call = Commit; rest = []; answers_are = refl; revocable = refl; takes = refl } }
+refused_is_opaque = record { no_older = omega arith; no_newer = omega arith; beginning = (commit_pair, refl); whole = λ e. absurd (cc); ends = (refl, refl); closed = tt; ran = refl; again = record { stand = tt; revocable = tt }; full = λ f. record { call = Commit; rest = []; answers_are = refl; revocable = refl; takes = refl } }
 
 -- one that would still write is not full
 abbrev early : Attempt
-early = record { thread = 0; nth = 1; began = 0; at = 0; props = plain; arena = []; calls = record { list = read 0 ∷ []; room = 0 }; ran = []; outcome = Full }
+early = record { thread = 0; nth = 1; began = 0; at = 0; props = plain; arena = []; calls = record { list = read 0 ∷ []; room = 0 }; restarts = []; ran = []; outcome = Full }
 
 abbrev second : List (Call × Reply) → Call
 second [] = Commit
@@ -203,19 +203,19 @@ abbrev pub in_block : List CallRecord
 in_block = record { call = Log U1 0; reply = Done } ∷ record { call = begin; reply = Code 5 } ∷ record { call = save; reply = Done } ∷ write 7 ∷ []
 
 abbrev pub cancelled : Attempt
-cancelled = record { thread = 0; nth = 1; began = 0; at = 0; props = plain; arena = two 0 0; calls = record { list = in_block ++ record { call = Abort true; reply = Code 24 } ∷ []; room = 0 }; ran = []; outcome = Cancelled }
+cancelled = record { thread = 0; nth = 1; began = 0; at = 0; props = plain; arena = two 0 0; calls = record { list = in_block ++ record { call = Abort true; reply = Code 24 } ∷ []; room = 0 }; restarts = []; ran = []; outcome = Cancelled }
 
 abbrev pub load : CallRecord
 load = record { call = Load U2 0; reply = Bytes (record { items = two 0 2 }) }
 
 abbrev pub next : Attempt
-next = record { thread = 0; nth = 1; began = 0; at = 0; props = plain; arena = two 0 2; calls = record { list = load ∷ commit ∷ []; room = 0 }; ran = []; outcome = ReadOnly }
+next = record { thread = 0; nth = 1; began = 0; at = 0; props = plain; arena = two 0 2; calls = record { list = load ∷ commit ∷ []; room = 0 }; restarts = []; ran = []; outcome = ReadOnly }
 
 cancelled_is_opaque : IsOpaque plan_rules 2 (planned_to 1) cancelled 0 (replicate 8 0)
-cancelled_is_opaque = record { no_older = omega arith; no_newer = omega arith; beginning = ([], refl); whole = λ e. refl; ends = (refl, refl); closed = (in_block, true, refl); ran = refl; full = λ f. absurd (cc) }
+cancelled_is_opaque = record { no_older = omega arith; no_newer = omega arith; beginning = ([], refl); whole = λ e. refl; ends = (refl, refl); closed = (in_block, true, refl); ran = refl; again = record { stand = tt; revocable = tt }; full = λ f. absurd (cc) }
 
 next_is_opaque : IsOpaque plan_rules 2 (planned_to 7) next 0 (replicate 8 0)
-next_is_opaque = record { no_older = omega arith; no_newer = omega arith; beginning = ([], refl); whole = λ e. refl; ends = (refl, refl); closed = (load ∷ [], refl); ran = refl; full = λ f. absurd (cc) }
+next_is_opaque = record { no_older = omega arith; no_newer = omega arith; beginning = ([], refl); whole = λ e. refl; ends = (refl, refl); closed = (load ∷ [], refl); ran = refl; again = record { stand = tt; revocable = tt }; full = λ f. absurd (cc) }
 
 abbrev before_it : Between Plan
 before_it = record { player = planned; arena = two 0 0; again = false; tries = 0 }

@@ -7,6 +7,7 @@ use Rattle.tx_attempts.specs.Counts.{one_where, count_at, count_committed}
 use Rattle.tx_player.specs.Rules.{Rules}
 use Rattle.norec_world.specs.Dates.{AreDated}
 use Rattle.tx_attempts.specs.Opacity.{Between, IsRunOf}
+use Rattle.tx_runs.specs.Unbroken.{AreUnbroken}
 
 -- the bytes that the first commits left, each run alone on those that the one before it left
 abbrev pub bytes_at : List ℕ → List Attempt → ℕ → List ℕ
@@ -44,5 +45,6 @@ module _ {P : Type 0} (rules : Rules P) where
     pub threads : AreOfActors (length o.players) o.attempts  -- there are no others
     pub counted : AreCounted o.clock o.attempts  -- the clock counts the commits
     pub dated : AreDated o.retries [] o.attempts  -- the attempts tell which try each is, and when it began
+    pub unbroken : AreUnbroken o.attempts  -- no inner block runs again alone
     pub size : length o.bytes ≡ length o.base
     pub free : o.clock % 2 ≡ 0 → o.bytes ≡ bytes_at o.base o.attempts (o.clock / 2)  -- the bytes are those that all commits left, but while one of them is stored

@@ -105,6 +105,7 @@ asked_pending false clock a (Begin props room) = Some (record {
   props = props;
   arena = a.engine.arena;
   calls = record { list = []; room = unwrap_or (irrevocable_room a.engine (Begin props room)) 0 };
+  restarts = [];
   ran = [];
   outcome = outcomes.Unfinished;
 })

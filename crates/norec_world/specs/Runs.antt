@@ -12,6 +12,7 @@ use Rattle.norec_world.specs.declared.actor.Actor.{Actor}
 use Rattle.tx_attempts.specs.Attempts.{of_thread}
 use Rattle.tx_attempts.specs.Alone.{state_then, player_then, IsAlone}
 use Rattle.tx_attempts.specs.Opacity.{Beginning, Between, begin_code, IsRunOf}
+use Rattle.tx_attempts.specs.Restarts.{breaks_of}
 use Rattle.tx_runs.specs.Runs.{LeadsTo, begins_at, run_after}
 use Rattle.norec_world.specs.Cells.{Cells}
 use Rattle.norec_world.specs.Records.{ReadsAt}
@@ -39,11 +40,12 @@ module _ {P : Type 0} (rules : Rules P) where
     pub tries : b.tries < row.nth
     pub began : row.began ≤ e.snapshot / 2
     pub anew : e.again ≡ false
+    pub restarts : row.restarts ≡ []  -- no block of it has run again
     pub ran : row.ran ≡ e.actions.ran
     pub player : p ≡ player_then rules.answered (rules.answered start.player (begin_code b.again)) row.calls.list
     pub alone : (m : List ℕ) → IsMemory e.words m → ReadsFrom e.irrevocable position e.log m
-        → IsAlone rules MAX_OPEN_BLOCKS (rules.answered start.player (begin_code b.again)) (opened (bytes_of m) start.arena start.props) row.calls.list
-    pub stands : e.irrevocable ≡ false → (m : List ℕ) → IsMemory e.words m → Agrees m e.log → stands_for e m ≡ state_then MAX_OPEN_BLOCKS (opened (bytes_of m) start.arena start.props) row.calls.list
+        → IsAlone rules MAX_OPEN_BLOCKS (breaks_of row.restarts) (rules.answered start.player (begin_code b.again)) (opened (bytes_of m) start.arena start.props) row.calls.list
+    pub stands : e.irrevocable ≡ false → (m : List ℕ) → IsMemory e.words m → Agrees m e.log → stands_for e m ≡ state_then MAX_OPEN_BLOCKS (breaks_of row.restarts) (opened (bytes_of m) start.arena start.props) row.calls.list
 
   -- before the next one, with so many commits done: the player has come as far as its calls outside a transaction led, and perhaps called its begin
   pub record IsBeforeTry (n : ℕ) (b : Between P) (a : Actor P) : Type 0 where
@@ -54,6 +56,7 @@ module _ {P : Type 0} (rules : Rules P) where
     pub pending : (row : Attempt) → a.pending ≡ Some row
         → (row.began ≤ n) × (row.arena ≡ a.engine.arena) × (row.calls.list ≡ []) × (row.ran ≡ [])
         × (may_go [] row.props ≡ true → begins_at rules b ≡ Some (record { player = a.player; arena = a.engine.arena; props = row.props })) × (a.engine.again ≡ b.again)
+        × (row.restarts ≡ [])
 
   -- the actor's attempts are its player's run from here, over the memories of so many commits, and each saw what its player gets alone
   pub record IsRun (first : Between P) (base : List ℕ) (n : ℕ) (r : Rows) (a : Actor P) : Type 0 where

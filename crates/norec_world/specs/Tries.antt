@@ -14,7 +14,7 @@ use Rattle.tx_attempts.specs.Attempts.{ClosedBy}
 use Rattle.norec_world.specs.Rows.{Rows, active_of}
 use Rattle.norec_world.specs.Status.{ending_of}
 
--- it is the same attempt later: it has the calls that it had, and perhaps more, and so the actions that have run
+-- it is the same attempt later: it has the calls that it had, and perhaps more, and so the actions that have run; nothing in it was taken back
 pub record Continues (row row' : Attempt) : Type 0 where
   pub thread : row'.thread ≡ row.thread
   pub nth : row'.nth ≡ row.nth
@@ -23,6 +23,7 @@ pub record Continues (row row' : Attempt) : Type 0 where
   pub arena : row'.arena ≡ row.arena
   pub more : List CallRecord
   pub calls : row'.calls.list ≡ row.calls.list ++ more
+  pub restarts : row'.restarts ≡ row.restarts
   pub more_ran : List Ran
   pub ran : row'.ran ≡ row.ran ++ more_ran
 
@@ -68,7 +69,7 @@ module _ {P : Type 0} where
     pub none : active_of a.thread r.active ≡ None
     pub tries : a.nth ≡ nth
     pub opens : (row : Attempt) → a.pending ≡ Some row
-        → row ≡ record { thread = a.thread; nth = nth; began = clock / 2; at = 0; props = row.props; arena = a.engine.arena; calls = record { list = []; room = row.calls.room }; ran = []; outcome = Unfinished }
+        → row ≡ record { thread = a.thread; nth = nth; began = clock / 2; at = 0; props = row.props; arena = a.engine.arena; calls = record { list = []; room = row.calls.room }; restarts = []; ran = []; outcome = Unfinished }
     pub goes_on : ending_of a.status ≡ Some ends.GaveUp → ⊥
 
   -- it has ended so, with no try open

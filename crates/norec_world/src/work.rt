@@ -14,7 +14,7 @@ use crate::recorded::Recorded;
 use itm_types::{Call, MAX_ACTORS, MAX_RETRIES, Props, Ran, Reply, Step};
 use norec_core::{Answer, Undone};
 use std::alloc::{AllocError, Global};
-use tx_attempts::{Attempt, Bytes, CallRecord, Calls, Outcome, RanActions};
+use tx_attempts::{Attempt, Bytes, CallRecord, Calls, Outcome, RanActions, Restarts};
 use tx_player::Player;
 use tx_runs::{End, ahead_of, outcome_of};
 
@@ -130,6 +130,7 @@ impl<P: Player> Actor<P> {
           props = props;
           arena = self.now.engine.arena;
           calls = record { list = []; room = ahead };
+          restarts = [];
           ran = [];
           outcome = Outcome.Unfinished;
         }) }
@@ -143,6 +144,7 @@ impl<P: Player> Actor<P> {
             props,
             arena: Bytes::new(arena),
             calls: Calls::with_room(alloc, ahead)?,
+            restarts: Restarts::none(),
             ran: RanActions::new(alloc),
             outcome: Outcome::Unfinished,
         })

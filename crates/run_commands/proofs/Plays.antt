@@ -18,6 +18,7 @@ use Rattle.norec_world.proofs.Events.WorldEvents.{told_event}
 use Rattle.norec_world.proofs.Events.Worlds.{waits_there}
 use Rattle.tx_attempts.specs.declared.attempt.Attempt.{Attempt}
 use Rattle.tx_history.specs.Bounds.{AttemptFits, HistoryFits, IsWord}
+use Rattle.tx_history.specs.declared.history.Version.TheVariants.{One}
 use Rattle.tx_history.specs.Histories.{attempt_lines, last_line, history_text}
 use Rattle.tx_history.specs.Streams.{Adds, Leaves, Standing, fault_of, lines_so_far, standing}
 use Rattle.tx_history.specs.declared.page.Page.{Page}
@@ -226,28 +227,28 @@ module _ {P : Type 0} (rules : Rules P) where
 
 -- ## A whole history
 
-so_far_more : (memory : List ℕ) (xs ys : List Attempt) → lines_so_far memory (xs ++ ys) ≡ lines_so_far memory xs ++ flat_map attempt_lines ys
+so_far_more : (memory : List ℕ) (xs ys : List Attempt) → lines_so_far One memory (xs ++ ys) ≡ lines_so_far One memory xs ++ flat_map attempt_lines ys
 so_far_more memory xs ys = grind (arith, common_steps)
 
 module _ {P : Type 0} where
   -- the lines so far, after some events
-  pub adds_lines : (a b : World P) (s t u : Standing) → Adds s t (lines_so_far a.base a.attempts.ended) → AddsEnded a b t u → Adds s u (lines_so_far b.base b.attempts.ended)
+  pub adds_lines : (a b : World P) (s t u : Standing) → Adds s t (lines_so_far One a.base a.attempts.ended) → AddsEnded a b t u → Adds s u (lines_so_far One b.base b.attempts.ended)
   adds_lines a b s t u p f =
       adds_as s u _ _ (adds_then s t u _ _ p f.adds)
-      (sym (so_far_more a.base a.attempts.ended f.more) ∙ (λ i. lines_so_far (sym f.base i) (sym f.ended i)))
+      (sym (so_far_more a.base a.attempts.ended f.more) ∙ (λ i. lines_so_far One (sym f.base i) (sym f.ended i)))
 
-  text_of : (w : World P) → history_text (told_of w) ≡ lines_so_far w.base w.attempts.ended ++ (flat_map attempt_lines w.attempts.active ++ last_line w.cells.clock (told_of w).bytes)
+  text_of : (w : World P) → history_text (told_of w) ≡ lines_so_far One w.base w.attempts.ended ++ (flat_map attempt_lines w.attempts.active ++ last_line w.cells.clock (told_of w).bytes)
   unfolding history_text
   text_of w =
       ap (λ (l : List ℕ). l ++ last_line w.cells.clock (told_of w).bytes) (so_far_more w.base w.attempts.ended w.attempts.active)
-      ∙ append_assoc (lines_so_far w.base w.attempts.ended) (flat_map attempt_lines w.attempts.active) (last_line w.cells.clock (told_of w).bytes)
+      ∙ append_assoc (lines_so_far One w.base w.attempts.ended) (flat_map attempt_lines w.attempts.active) (last_line w.cells.clock (told_of w).bytes)
 
-  pub adds_history : (w : World P) (s t u : Standing) → Adds s t (lines_so_far w.base w.attempts.ended)
+  pub adds_history : (w : World P) (s t u : Standing) → Adds s t (lines_so_far One w.base w.attempts.ended)
       → Adds t u (flat_map attempt_lines w.attempts.active ++ last_line w.cells.clock (told_of w).bytes) → Adds s u (history_text (told_of w))
   adds_history w s t u p q = adds_as s u _ _ (adds_then s t u _ _ p q) (sym (text_of w))
 
   -- a write failed before all of it was written
-  pub adds_cut : (w : World P) (s t : Standing) (e : Error) → Adds s t (lines_so_far w.base w.attempts.ended) → t.fault ≡ Some e → Adds s t (history_text (told_of w))
+  pub adds_cut : (w : World P) (s t : Standing) (e : Error) → Adds s t (lines_so_far One w.base w.attempts.ended) → t.fault ≡ Some e → Adds s t (history_text (told_of w))
   adds_cut w s t e p failed = adds_as s t _ _ (adds_failed s t e _ _ p failed) (sym (text_of w))
 
 take_all : (xs : List ℕ) → take (length xs) xs ≡ xs
@@ -284,20 +285,20 @@ adds_front s t e x failed p = leaves_front s.fault e s.written t.written x (subs
 
 module _ {P : Type 0} (rules : Rules P) (items : List Item) (a c : World P) where
   -- after an event
-  pub cut_off : (s t u : Standing) (e : Error) → t.fault ≡ None → u.fault ≡ Some e → Adds s t (lines_so_far a.base a.attempts.ended) → AddsEnded a c t u → Fails rules (ItemsBegin rules items) a c t u → IsCutOff rules items a c s.written u.written
+  pub cut_off : (s t u : Standing) (e : Error) → t.fault ≡ None → u.fault ≡ Some e → Adds s t (lines_so_far One a.base a.attempts.ended) → AddsEnded a c t u → Fails rules (ItemsBegin rules items) a c t u → IsCutOff rules items a c s.written u.written
   cut_off s t u e good failed p ended f = record {
     begun = f.all;
-    got = inl (subst (λ (b : List ℕ). Front s.written u.written (lines_so_far b c.attempts.ended)) ended.base (adds_front s u e _ failed (adds_lines a c s t u p ended)));
+    got = inl (subst (λ (b : List ℕ). Front s.written u.written (lines_so_far One b c.attempts.ended)) ended.base (adds_front s u e _ failed (adds_lines a c s t u p ended)));
     told = inr (
       f.before,
       f.first,
       inr f.last,
-      subst (HasWhole s.written u.written) (sym (ap (lines_so_far a.base) f.ended ∙ so_far_more a.base a.attempts.ended f.more)) (begins_after s t u.written _ _ (adds_fresh s t _ good p) good p f.told),
+      subst (HasWhole s.written u.written) (sym (ap (lines_so_far One a.base) f.ended ∙ so_far_more a.base a.attempts.ended f.more)) (begins_after s t u.written _ _ (adds_fresh s t _ good p) good p f.told),
     );
   }
 
   -- after the last event
-  cut_last : (s t u : Standing) (e : Error) (y : List ℕ) → t.fault ≡ None → u.fault ≡ Some e → Adds s t (lines_so_far c.base c.attempts.ended) → Adds t u y → Adds s u (history_text (told_of c)) → c.base ≡ a.base → ItemsLead rules items a c → IsCutOff rules items a c s.written u.written
+  cut_last : (s t u : Standing) (e : Error) (y : List ℕ) → t.fault ≡ None → u.fault ≡ Some e → Adds s t (lines_so_far One c.base c.attempts.ended) → Adds t u y → Adds s u (history_text (told_of c)) → c.base ≡ a.base → ItemsLead rules items a c → IsCutOff rules items a c s.written u.written
   cut_last s t u e y good failed p q whole base l = record {
     begun = items_whole rules a c items l;
     got = inr (l, adds_front s u e _ failed whole);
@@ -305,11 +306,11 @@ module _ {P : Type 0} (rules : Rules P) (items : List Item) (a c : World P) wher
       c,
       items_whole rules a c items l,
       inl refl,
-      subst (λ (b : List ℕ). HasWhole s.written u.written (lines_so_far b c.attempts.ended)) base (begins_with s t u _ _ (adds_fresh s t _ good p) good p q),
+      subst (λ (b : List ℕ). HasWhole s.written u.written (lines_so_far One b c.attempts.ended)) base (begins_with s t u _ _ (adds_fresh s t _ good p) good p q),
     );
   }
 
-  pub stops_last : {A : Type 0} (s t u : Standing) (r : Result A Error) (y : List ℕ) → t.fault ≡ None → u.fault ≡ result_err r → Adds s t (lines_so_far c.base c.attempts.ended) → Adds t u y → Adds s u (history_text (told_of c)) → c.base ≡ a.base → ItemsLead rules items a c → OnErr r (IsCutOff rules items a c s.written u.written)
+  pub stops_last : {A : Type 0} (s t u : Standing) (r : Result A Error) (y : List ℕ) → t.fault ≡ None → u.fault ≡ result_err r → Adds s t (lines_so_far One c.base c.attempts.ended) → Adds t u y → Adds s u (history_text (told_of c)) → c.base ≡ a.base → ItemsLead rules items a c → OnErr r (IsCutOff rules items a c s.written u.written)
   stops_last s t u (Ok x) y good told p q whole base l = record {}
   stops_last s t u (Err e) y good told p q whole base l = cut_last s t u e y good told p q whole base l
 
@@ -318,10 +319,10 @@ module _ {P : Type 0} (rules : Rules P) (items : List Item) (a c : World P) wher
       subst (λ (x : Option (List ℕ)). IsCutOff rules items a c x v) first (subst (λ (x : Option (List ℕ)). IsCutOff rules items a c u x) (sym last) p)
 
   -- before the first one
-  pub cut_first : (s t : Standing) (e : Error) → c ≡ a → t.fault ≡ Some e → Adds s t (lines_so_far a.base a.attempts.ended) → IsCutOff rules items a c s.written t.written
+  pub cut_first : (s t : Standing) (e : Error) → c ≡ a → t.fault ≡ Some e → Adds s t (lines_so_far One a.base a.attempts.ended) → IsCutOff rules items a c s.written t.written
   cut_first s t e same failed p = record {
     begun = subst (λ (w : World P). ItemsBegin rules items a w) (sym same) (items_unbegun rules a items);
-    got = inl (subst (λ (w : World P). Front s.written t.written (lines_so_far a.base w.attempts.ended)) (sym same) (adds_front s t e _ failed p));
+    got = inl (subst (λ (w : World P). Front s.written t.written (lines_so_far One a.base w.attempts.ended)) (sym same) (adds_front s t e _ failed p));
     told = inl same;
   }
 
@@ -336,7 +337,7 @@ module _ {P : Type 0} (rules : Rules P) (items : List Item) (a c : World P) wher
       inl refl,
       (
         flat_map attempt_lines c.attempts.active ++ last_line c.cells.clock (told_of c).bytes,
-        subst (Appends u v) (text_of c ∙ ap (λ (b : List ℕ). lines_so_far b c.attempts.ended ++ (flat_map attempt_lines c.attempts.active ++ last_line c.cells.clock (told_of c).bytes)) base) p,
+        subst (Appends u v) (text_of c ∙ ap (λ (b : List ℕ). lines_so_far One b c.attempts.ended ++ (flat_map attempt_lines c.attempts.active ++ last_line c.cells.clock (told_of c).bytes)) base) p,
       ),
     );
   }

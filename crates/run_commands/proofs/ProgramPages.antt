@@ -23,6 +23,7 @@ use Rattle.world_laws.specs.Told.{told_of}
 use Rattle.history_reader.proofs.Canon.LegalTexts.{legal_text}
 use Rattle.history_reader.specs.LegalTexts.{IsLegalText}
 use Rattle.tx_history.specs.Bounds.{HistoryFits, IsMemorySize}
+use Rattle.tx_history.specs.declared.history.Version.TheVariants.{One}
 use Rattle.tx_history.specs.Histories.{history_text}
 use Rattle.tx_host.proofs.Histories.ScriptWidths.{script_widths}
 use Rattle.tx_host.specs.Limits.{IsLimitedListing}
@@ -71,7 +72,7 @@ began_as p w (first, begins, leads) =
 -- a world of a program within the limits of a run is within them too
 limited_as : (p : Listing) (w : World Thread) → BeganAs p w → IsLimitedListing p → IsLimitedWorld w
 limited_as p w began limits = record {
-  memory = subst (λ (bytes : List ℕ). IsMemorySize (length bytes)) (sym began.base) limits.memory;
+  memory = subst (λ (bytes : List ℕ). IsMemorySize One (length bytes)) (sym began.base) limits.memory;
   arena = subst (λ (n : ℕ). n ≤ MAX_ARENA) (sym began.arena) limits.arena;
   retries = subst (λ (n : ℕ). n ≤ MAX_RETRIES) (sym began.retries) limits.retries;
   actors = subst (λ (n : ℕ). n ≤ MAX_ACTORS) (sym (ap (λ (l : List Thread). length l) began.players ∙ length-map (threads_of p) opening)) limits.threads;
@@ -101,6 +102,7 @@ module _ (p : Listing) (w : World Thread) (began : BeganAs p w) (player : Thread
       → roomless (told_of w) ≡ page p
   unfolding page
   is_page end all = λ i. record {
+    version = One;
     memory = began.base i;
     attempts = (ap (λ (s : Solo). s.attempts) (sym all)) i;
     clock = (doubled w.cells.clock ∙ ap (λ (s : Solo). 2 * s.commits + one_if s.held) (sym all)) i;

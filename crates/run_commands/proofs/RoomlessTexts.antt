@@ -17,4 +17,4 @@ roomless_all (a ∷ rest) = λ i. roomless_lines a i ++ roomless_all rest i
 
 pub roomless_text : (h : History) → history_text (roomless h) ≡ history_text h
 unfolding history_text
-roomless_text h = ap (λ (lines : List ℕ). first_lines h.memory ++ lines ++ last_line h.clock h.bytes) (roomless_all h.attempts)
+roomless_text h = ap (λ (lines : List ℕ). first_lines h.version h.memory ++ lines ++ last_line h.clock h.bytes) (roomless_all h.attempts)

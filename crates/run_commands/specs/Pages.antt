@@ -13,6 +13,7 @@ use Rattle.norec_world.specs.World.{World, ending_at, observed}
 use Rattle.script_program.specs.Listing.{Listing, opening_of, threads_of}
 use Rattle.script_vm.specs.Threads.{Thread, opening, thread_rules}
 use Rattle.tx_history.specs.declared.history.History.{History}
+use Rattle.tx_history.specs.declared.history.Version.TheVariants.{One}
 use Rattle.tx_history.specs.Histories.{history_text}
 use Rattle.tx_history.specs.Legal.{IsLegal}
 use Rattle.world_laws.specs.Starved.{IsFed, LeavesNoneOpen}
@@ -28,7 +29,7 @@ solo_of p = solo thread_rules MAX_OPEN_BLOCKS p.limits.max_commits 0 (first_thre
 
 -- its history: the clock is odd where its last transaction is irrevocable and has not ended
 unfoldable pub page : Listing → History
-page p = record { memory = opening_of p; attempts = (solo_of p).attempts; clock = 2 * (solo_of p).commits + one_if (solo_of p).held; bytes = (solo_of p).memory }
+page p = record { version = One; memory = opening_of p; attempts = (solo_of p).attempts; clock = 2 * (solo_of p).commits + one_if (solo_of p).held; bytes = (solo_of p).memory }
 
 -- the history, with no room in its attempts
 abbrev pub roomless : History → History

@@ -43,6 +43,7 @@ fn put_history<W: Write>(writer: &mut W, history: &History) -> io::Result<()>
 {
     write_history(
         writer,
+        history.version,
         history.memory.as_slice(),
         history.attempts.as_slice(),
         history.clock,

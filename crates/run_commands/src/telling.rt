@@ -4,6 +4,7 @@ ghost use Rattle.std.specs.Prelude.{◌≡◌, ◌≤◌, ◌++◌, All, None, d
 ghost use Rattle.hex.specs.Hex.{IsBytes};
 ghost use Rattle.norec_world.specs.World.{memory_of};
 ghost use Rattle.tx_history.specs.Bounds.{AttemptFits, IsWord};
+ghost use Rattle.tx_history.specs.declared.history.Version.TheVariants.{One};
 ghost use Rattle.tx_history.specs.Histories.{attempt_lines, last_line};
 ghost use Rattle.tx_history.specs.Streams.{Sends, fault_of, lines_so_far};
 
@@ -11,7 +12,7 @@ use norec_world::World;
 use std::io;
 use std::io::Write;
 use tx_attempts::Attempt;
-use tx_history::Stream;
+use tx_history::{Stream, Version};
 use tx_player::Player;
 
 /// Writes the lines of the attempts. Where a write fails, answers its error; so do the functions below.
@@ -47,10 +48,10 @@ pub(crate) fn open_history<P: Player, W: Write>(
     world: &World<P>,
     stream: &mut Stream<'_, W>,
 ) -> io::Result<()>
-    ensures { Sends W.contents stream.old stream.new (lines_so_far world.now.base world.now.attempts.ended)
+    ensures { Sends W.contents stream.old stream.new (lines_so_far One world.now.base world.now.attempts.ended)
         (IsBytes world.now.base × All AttemptFits world.now.attempts.ended) result }
 {
-    stream.open(world.base())?;
+    stream.open(Version::One, world.base())?;
     put_ended(world, stream, 0)
 }
 

@@ -1,3 +1,4 @@
 pub mod WorkedScripts
+pub mod Judged
 pub mod ReadTexts
 pub mod WrittenTexts

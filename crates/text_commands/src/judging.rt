@@ -75,6 +75,7 @@ fn write_verdict<W: Write>(writer: &mut W, verdict: Verdict) -> Result<(), Failu
 }
 
 /// Judges a history and writes the verdict.
+#[tactic(auto, using(crate::proofs::Judged::told_memory))]
 fn judge<W: Write>(
     alloc: Global,
     history: &History,

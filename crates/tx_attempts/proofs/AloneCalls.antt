@@ -1,5 +1,5 @@
 -- A player that makes its calls alone, one by one: they come first in what it gets.
-use Rattle.std.proofs.Common.{◌≡◌, ℕ, zero, suc, ◌≤◌, Bool, true, false, is_none, is_some, List, [], ◌∷◌, ◌++◌, map, Option, None, Some, refl, sym, ap, ◌∙◌, arith, cond}
+use Rattle.std.proofs.Common.{◌≡◌, ℕ, zero, suc, ◌≤◌, Bool, true, false, is_none, is_some, List, [], ◌∷◌, ◌++◌, length, map, Option, None, Some, refl, sym, ap, ◌∙◌, arith, cond}
 use Rattle.std.proofs.lemmas.Bool.{cond-false}
 use Rattle.itm_types.specs.declared.call.Call.{Call}
 use Rattle.itm_types.specs.declared.call.Call.TheVariants.{Begin}
@@ -7,7 +7,7 @@ use Rattle.itm_types.specs.declared.call.Refusal.{Refusal}
 use Rattle.itm_types.specs.declared.call.Reply.{Reply}
 use Rattle.itm_model.specs.State.{State}
 use Rattle.itm_model.specs.Machine.{after, after_unless, effect, is_open, outside, refusal, reply}
-use Rattle.itm_model.specs.Runs.{answers_within, turn}
+use Rattle.itm_model.specs.Runs.{Breaks, gets_through, later, turn}
 use Rattle.tx_player.specs.Rules.{Obeys, Rules}
 use Rattle.tx_attempts.specs.declared.attempt.CallRecord.{CallRecord}
 use Rattle.tx_attempts.specs.Attempts.{pair_of}
@@ -19,40 +19,46 @@ asked_if : (b : Bool) (o : Option Call) (c : Call) → cond b o None ≡ Some c 
 asked_if true o c e = e
 asked_if false o c e = absurd (cc)
 
+-- the breaks that come after these calls
+abbrev pub breaks_after : Breaks → List CallRecord → Breaks
+breaks_after br [] = br
+breaks_after br (x ∷ xs) = breaks_after (later br) xs
+
 module _ {P : Type 0} (rules : Rules P) (laws : Obeys rules) (deepest : ℕ) where
   pub asked : (p : P) (s : State) (c : Call) → turn rules.next_call rules.answered rules.calls_left p s ≡ Some c → rules.next_call p ≡ Some c
   asked p s c e = asked_if (is_open s) (rules.next_call p) c e
 
-  abbrev gets : ℕ → P → State → Option Call → List (Call × Reply)
-  gets n p s o = answers_within rules.next_call rules.answered rules.calls_left deepest n p s o
+  abbrev gets : ℕ → Breaks → P → State → Option Call → List (Call × Reply)
+  gets n b p s o = gets_through rules.next_call rules.answered rules.calls_left deepest n b p s o
 
   -- so many calls suffice
-  enough : (n k : ℕ) (p : P) (s : State) (o : Option Call) → turn rules.next_call rules.answered rules.calls_left p s ≡ o → rules.calls_left p ≤ n → rules.calls_left p ≤ k → gets n p s o ≡ gets k p s o
-  enough zero zero p s o e a b = refl
-  enough zero (suc k) p s (Some c) e a b = (let l = laws.nearer p c (reply deepest s c) (asked p s c e) in absurd (omega arith))
-  enough (suc n) zero p s None e a b = refl
-  enough (suc n) zero p s (Some c) e a b = (let l = laws.nearer p c (reply deepest s c) (asked p s c e) in absurd (omega arith))
-  enough (suc n) (suc k) p s (Some c) e a b =
+  enough : (n k : ℕ) (br : Breaks) (p : P) (s : State) (o : Option Call) → turn rules.next_call rules.answered rules.calls_left p s ≡ o → rules.calls_left p ≤ n → rules.calls_left p ≤ k → gets n br p s o ≡ gets k br p s o
+  enough zero zero br p s o e a b = refl
+  enough zero (suc k) br p s (Some c) e a b = (let l = laws.nearer p c (reply deepest s c) (asked p s c e) in absurd (omega arith))
+  enough (suc n) zero br p s None e a b = refl
+  enough (suc n) zero br p s (Some c) e a b = (let l = laws.nearer p c (reply deepest s c) (asked p s c e) in absurd (omega arith))
+  enough (suc n) (suc k) br p s (Some c) e a b =
       let r = reply deepest s c in
       let l = laws.nearer p c r (asked p s c e) in
+      let t : State = br 1 (after deepest s c) in
       ap (λ (xs : List (Call × Reply)). (c, r) ∷ xs)
-      (enough n k (rules.answered p r) (after deepest s c) (turn rules.next_call rules.answered rules.calls_left (rules.answered p r) (after deepest s c)) refl (omega arith) (omega arith))
-  enough n k p s None e a b = refl
+      (enough n k (later br) (rules.answered p r) t (turn rules.next_call rules.answered rules.calls_left (rules.answered p r) t) refl (omega arith) (omega arith))
+  enough n k br p s None e a b = refl
 
   -- the calls made alone come first, and then what the player gets after them
-  pub begins_alone : (n : ℕ) (p : P) (s : State) (xs : List CallRecord) → rules.calls_left p ≤ n → IsAlone rules deepest p s xs
-      → gets n p s (turn rules.next_call rules.answered rules.calls_left p s)
-      ≡ map pair_of xs ++ gets n (player_then rules.answered p xs) (state_then deepest s xs) (turn rules.next_call rules.answered rules.calls_left (player_then rules.answered p xs) (state_then deepest s xs))
-  begins_alone n p s [] l h = refl
-  begins_alone zero p s (x ∷ xs) l h = (let k = laws.nearer p x.call x.reply (asked p s x.call h.0) in absurd (omega arith))
-  begins_alone (suc n) p s (x ∷ xs) l h =
+  pub begins_alone : (n : ℕ) (br : Breaks) (p : P) (s : State) (xs : List CallRecord) → rules.calls_left p ≤ n → IsAlone rules deepest br p s xs
+      → gets n br p s (turn rules.next_call rules.answered rules.calls_left p s)
+      ≡ map pair_of xs ++ gets n (breaks_after br xs) (player_then rules.answered p xs) (state_then deepest br s xs) (turn rules.next_call rules.answered rules.calls_left (player_then rules.answered p xs) (state_then deepest br s xs))
+  begins_alone n br p s [] l h = refl
+  begins_alone zero br p s (x ∷ xs) l h = (let k = laws.nearer p x.call x.reply (asked p s x.call h.0) in absurd (omega arith))
+  begins_alone (suc n) br p s (x ∷ xs) l h =
       let k = laws.nearer p x.call x.reply (asked p s x.call h.0) in
       let q : P = rules.answered p x.reply in
-      let t : State = after deepest s x.call in
-      ap (gets (suc n) p s) h.0
-      ∙ (ap (λ (r : Reply). (x.call, r) ∷ gets n (rules.answered p r) t (turn rules.next_call rules.answered rules.calls_left (rules.answered p r) t)) (sym h.1)
-      ∙ (ap (λ (ys : List (Call × Reply)). pair_of x ∷ ys) (enough n (suc n) q t (turn rules.next_call rules.answered rules.calls_left q t) refl (omega arith) (omega arith))
-      ∙ ap (λ (ys : List (Call × Reply)). pair_of x ∷ ys) (begins_alone (suc n) q t xs (omega arith) h.2)))
+      let t : State = br 1 (after deepest s x.call) in
+      ap (gets (suc n) br p s) h.0
+      ∙ (ap (λ (r : Reply). (x.call, r) ∷ gets n (later br) (rules.answered p r) t (turn rules.next_call rules.answered rules.calls_left (rules.answered p r) t)) (sym h.1)
+      ∙ (ap (λ (ys : List (Call × Reply)). pair_of x ∷ ys) (enough n (suc n) (later br) q t (turn rules.next_call rules.answered rules.calls_left q t) refl (omega arith) (omega arith))
+      ∙ ap (λ (ys : List (Call × Reply)). pair_of x ∷ ys) (begins_alone (suc n) (later br) q t xs (omega arith) h.2)))
 
 -- ## One call more
 
@@ -60,16 +66,17 @@ pub player_snoc : {P : Type 0} (answered : P → Reply → P) (p : P) (xs : List
 player_snoc answered p [] x = refl
 player_snoc answered p (y ∷ ys) x = player_snoc answered (answered p y.reply) ys x
 
-pub state_snoc : (deepest : ℕ) (s : State) (xs : List CallRecord) (x : CallRecord) → state_then deepest s (xs ++ x ∷ []) ≡ after deepest (state_then deepest s xs) x.call
-state_snoc deepest s [] x = refl
-state_snoc deepest s (y ∷ ys) x = state_snoc deepest (after deepest s y.call) ys x
+-- the break after it is the one after as many calls as there are then
+pub state_snoc : (deepest : ℕ) (br : Breaks) (s : State) (xs : List CallRecord) (x : CallRecord) → state_then deepest br s (xs ++ x ∷ []) ≡ br (suc (length xs)) (after deepest (state_then deepest br s xs) x.call)
+state_snoc deepest br s [] x = refl
+state_snoc deepest br s (y ∷ ys) x = state_snoc deepest (later br) (br 1 (after deepest s y.call)) ys x
 
 module _ {P : Type 0} (rules : Rules P) (laws : Obeys rules) where
-  pub alone_snoc : (deepest : ℕ) (p : P) (s : State) (xs : List CallRecord) (x : CallRecord) → IsAlone rules deepest p s xs
-      → turn rules.next_call rules.answered rules.calls_left (player_then rules.answered p xs) (state_then deepest s xs) ≡ Some x.call → x.reply ≡ reply deepest (state_then deepest s xs) x.call
-      → IsAlone rules deepest p s (xs ++ x ∷ [])
-  alone_snoc deepest p s [] x h t r = (t, r, tt)
-  alone_snoc deepest p s (y ∷ ys) x h t r = (h.0, h.1, alone_snoc deepest (rules.answered p y.reply) (after deepest s y.call) ys x h.2 t r)
+  pub alone_snoc : (deepest : ℕ) (br : Breaks) (p : P) (s : State) (xs : List CallRecord) (x : CallRecord) → IsAlone rules deepest br p s xs
+      → turn rules.next_call rules.answered rules.calls_left (player_then rules.answered p xs) (state_then deepest br s xs) ≡ Some x.call → x.reply ≡ reply deepest (state_then deepest br s xs) x.call
+      → IsAlone rules deepest br p s (xs ++ x ∷ [])
+  alone_snoc deepest br p s [] x h t r = (t, r, tt)
+  alone_snoc deepest br p s (y ∷ ys) x h t r = (h.0, h.1, alone_snoc deepest (later br) (rules.answered p y.reply) (br 1 (after deepest s y.call)) ys x h.2 t r)
 
 module _ {P : Type 0} (rules : Rules P) (laws : Obeys rules) (deepest : ℕ) where
   abbrev comes : ℕ → P → List ℕ → Option Call → Option (Beginning P)
@@ -93,9 +100,9 @@ module _ {P : Type 0} (rules : Rules P) (laws : Obeys rules) (deepest : ℕ) whe
   comes_enough (suc n) zero p arena None e a c = refl
   comes_enough n k p arena None e a c = refl
 
-  pub gets_none : (n : ℕ) (p : P) (s : State) → answers_within rules.next_call rules.answered rules.calls_left deepest n p s None ≡ []
-  gets_none zero p s = refl
-  gets_none (suc n) p s = refl
+  pub gets_none : (n : ℕ) (br : Breaks) (p : P) (s : State) → gets_through rules.next_call rules.answered rules.calls_left deepest n br p s None ≡ []
+  gets_none zero br p s = refl
+  gets_none (suc n) br p s = refl
 
   -- ## Calls between blocks
 

@@ -6,11 +6,12 @@ use Rattle.itm_types.specs.declared.call.Reply.TheVariants.{Done, Code}
 use Rattle.itm_types.specs.declared.call.Reply.{Reply}
 use Rattle.itm_model.specs.State.{State}
 use Rattle.itm_model.specs.Machine.{opened}
-use Rattle.itm_model.specs.Runs.{state_after}
+use Rattle.itm_model.specs.Runs.{state_through}
 use Rattle.tx_attempts.specs.declared.attempt.CallRecord.{CallRecord}
 use Rattle.tx_attempts.specs.declared.attempt.Outcome.{Outcome}
 use Rattle.tx_attempts.specs.declared.attempt.Outcome.TheVariants.{Committed, ReadOnly, Cancelled, Conflict, Full, NoMemory, Unfinished}
 use Rattle.tx_attempts.specs.declared.attempt.Attempt.{Attempt}
+use Rattle.tx_attempts.specs.Restarts.{breaks_in, breaks_of}
 
 -- it wrote, and holds a position
 abbrev pub is_committed : Outcome → Bool
@@ -53,9 +54,13 @@ calls_of a = map (λ e. e.call) a.calls.list
 abbrev pub replies_of : Attempt → List Reply
 replies_of a = map (λ e. e.reply) a.calls.list
 
--- the plain state after the attempt's calls alone on these bytes; `deepest` blocks may be open
+-- the plain state after the attempt's calls alone on these bytes, each block that ran again from the arena that is told; `deepest` blocks may be open
 abbrev pub alone : ℕ → List ℕ → Attempt → State
-alone deepest memory a = state_after deepest (opened memory a.arena a.props) (calls_of a)
+alone deepest memory a = state_through deepest (breaks_of a.restarts) (opened memory a.arena a.props) (calls_of a)
+
+-- the same, as it was for the engine: with the actions that had run in what was taken out
+abbrev pub alone_whole : ℕ → List ℕ → Attempt → State
+alone_whole deepest memory a = state_through deepest (breaks_in a.restarts) (opened memory a.arena a.props) (calls_of a)
 
 -- the attempt committed at this position
 abbrev pub is_at : ℕ → Attempt → Bool

@@ -1,5 +1,5 @@
 -- Opacity: what an attempt saw is what its player gets alone on the bytes that some first commits left, also where the attempt came to nothing.
-use Rattle.std.specs.Prelude.{ℕ, zero, suc, ◌≡◌, ◌<◌, ◌≤◌, Bool, true, false, not, ◌&&◌, ◌||◌, is_none, is_some, if◌then◌else◌, List, [], ◌∷◌, ◌++◌, Option, None, Some}
+use Rattle.std.specs.Prelude.{ℕ, zero, suc, ◌≡◌, ◌<◌, ◌≤◌, Bool, true, false, not, ◌&&◌, ◌||◌, is_none, is_some, if◌then◌else◌, List, [], ◌∷◌, ◌++◌, length, map, Option, None, Some}
 use Rattle.itm_types.specs.declared.call.Props.{Props}
 use Rattle.itm_types.specs.declared.call.Call.{Call}
 use Rattle.itm_types.specs.declared.call.Call.TheVariants.{Begin}
@@ -8,13 +8,15 @@ use Rattle.itm_types.specs.Calls.{is_begin}
 use Rattle.itm_types.specs.declared.call.Reply.{Reply}
 use Rattle.itm_types.specs.declared.call.Reply.TheVariants.{Code}
 use Rattle.itm_model.specs.State.{State}
-use Rattle.itm_model.specs.Machine.{outside, undone, is_open, refusal, reply, after}
-use Rattle.itm_model.specs.Runs.{answers}
+use Rattle.itm_model.specs.Machine.{opened, outside, undone, is_open, refusal, reply, after}
+use Rattle.itm_model.specs.Runs.{answers_through, state_through}
 use Rattle.tx_attempts.specs.declared.attempt.Outcome.{Outcome}
 use Rattle.tx_attempts.specs.declared.attempt.Outcome.TheVariants.{Committed, ReadOnly, Cancelled, Conflict, Full, NoMemory, Unfinished}
 use Rattle.tx_attempts.specs.declared.attempt.Attempt.{Attempt}
+use Rattle.tx_attempts.specs.declared.attempt.CallRecord.{CallRecord}
 use Rattle.tx_attempts.specs.Attempts.{ClosedBy, alone, pairs_of, replies_of}
 use Rattle.tx_attempts.specs.Beginnings.{IsBeginningOf}
+use Rattle.tx_attempts.specs.Restarts.{AreAgain, AtEach, breaks_of}
 use Rattle.tx_player.specs.Rules.{Rules}
 
 -- how an attempt ended, by the plain state after its calls: whether its block has ended, and whether it wrote; none is given up once it is irrevocable
@@ -82,10 +84,20 @@ module _ {P : Type 0} (rules : Rules P) (deepest : ℕ) where
   abbrev pub begin_of : P → List ℕ → Option (Beginning P)
   begin_of p arena = begin_within (rules.calls_left p) p arena (rules.next_call p)
 
+module _ (deepest : ℕ) where
+  -- after these calls of an attempt the transaction may be tried again
+  abbrev pub StaysRevocable : List ℕ → Attempt → List CallRecord → Type 0
+  StaysRevocable memory a calls = (state_through deepest (breaks_of a.restarts) (opened memory a.arena a.props) (map (λ e. e.call) calls)).irrevocable ≡ false
+
+  -- each block that ran again is one within the outermost, with a whole arena, and was begun while the transaction might be tried again
+  pub record AreRestarts (a : Attempt) (memory : List ℕ) : Type 0 where
+    pub stand : AreAgain (length a.arena) 0 a.calls.list a.restarts
+    pub revocable : AtEach (StaysRevocable memory a) a.calls.list a.restarts
+
 module _ {P : Type 0} (rules : Rules P) (deepest : ℕ) where
-  -- the calls of the attempt's player alone on these bytes, each with its reply, until the attempt's block has ended
+  -- the calls of the attempt's player alone on these bytes, each with its reply, until the attempt's block has ended; each inner block that ran again goes on from the arena that is told
   abbrev pub answers_on : P → Attempt → List ℕ → List (Call × Reply)
-  answers_on p a memory = answers rules.next_call rules.answered rules.calls_left deepest p memory a.arena a.props
+  answers_on p a memory = answers_through rules.next_call rules.answered rules.calls_left deepest (breaks_of a.restarts) p memory a.arena a.props
 
   -- after its calls its player makes one alone that takes the clock
   pub record LacksClock (p : P) (a : Attempt) (memory : List ℕ) : Type 0 where
@@ -104,6 +116,7 @@ module _ {P : Type 0} (rules : Rules P) (deepest : ℕ) where
     pub ends : EndsAs a.outcome (alone deepest memory a)
     pub closed : ClosedBy a.outcome a.calls.list
     pub ran : a.ran ≡ ran_of a.outcome (alone deepest memory a)
+    pub again : AreRestarts deepest a memory  -- else a record could stand anywhere, and hide a wrong arena
     pub full : a.outcome ≡ Full → LacksClock p a memory  -- full is told of a writer's commit alone, or of a call that makes the transaction irrevocable
 
   -- what follows an attempt whose player after the begin was p and that left the plain state s, if anything does

@@ -1,6 +1,6 @@
 //! What the tries of transactions did.
 
-use crate::lists::{Bytes, Calls, RanActions};
+use crate::lists::{Bytes, Calls, RanActions, Restarts};
 use itm_types::{Call, Props, Reply};
 
 /// How an attempt stands.
@@ -29,9 +29,23 @@ pub struct CallRecord {
     pub reply: Reply,
 }
 
+/// That an inner block ran again from its begin.
+#[derive(Debug, Drop)]
+pub struct Again {
+    /// How many calls stand up to its begin, which is the last of them.
+    pub kept: usize,
+    /// The arena from which it ran again.
+    pub arena: Bytes,
+    /// The actions that had run since its begin, in order, those of its rollback among them.
+    pub undone: RanActions,
+}
+
 /// One try of an outermost block, from its accepted begin on.
 #[derive(Debug, Drop)]
 pub struct Attempt {
+    pub outcome: Outcome,
+    /// The properties of the block.
+    pub props: Props,
     /// The actor.
     pub thread: u8,
     /// Which try of its block it is, counted from 1, those that never got past the begin too.
@@ -40,13 +54,12 @@ pub struct Attempt {
     pub began: u64,
     /// Half the snapshot: it saw the memory that so many first commits leave.
     pub at: u64,
-    /// The properties of the block.
-    pub props: Props,
     /// The actor's arena at the begin.
     pub arena: Bytes,
     /// The calls that have a reply, after the begin.
     pub calls: Calls,
+    /// The inner blocks that ran again, by the calls up to their begins. What such a block did before is told nowhere else.
+    pub restarts: Restarts,
     /// The actions that have run, in order: undo actions of what was rolled back, and commit actions once it has committed.
     pub ran: RanActions,
-    pub outcome: Outcome,
 }

@@ -4,5 +4,5 @@
 mod attempt;
 mod lists;
 
-pub use attempt::{Attempt, CallRecord, Outcome};
-pub use lists::{Attempts, Bytes, Calls, RanActions};
+pub use attempt::{Again, Attempt, CallRecord, Outcome};
+pub use lists::{Attempts, Bytes, Calls, RanActions, Restarts};

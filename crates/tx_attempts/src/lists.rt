@@ -1,9 +1,9 @@
 //! Lists that contracts compare by what stands in them.
 
-ghost use Rattle.std.specs.Prelude.{◌≡◌, ◌<◌, ◌≤◌, ◌+◌, ◌∷◌, [], ◌++◌, length, vec_len, vec_capacity, IfOk, OnErr};
+ghost use Rattle.std.specs.Prelude.{◌≡◌, ◌<◌, ◌≤◌, ◌+◌, ◌∷◌, [], ◌++◌, length, vec_len, vec_capacity, IfOk, OnErr, OnOk};
 ghost use Rattle.tx_attempts.specs.Beginnings.{IsBeginningOf};
 
-use crate::attempt::{Attempt, CallRecord};
+use crate::attempt::{Again, Attempt, CallRecord};
 use itm_types::Ran;
 use std::alloc::{AllocError, Global};
 use std::marker::Model;
@@ -223,6 +223,14 @@ impl RanActions {
         &self.items
     }
 
+    /// One more.
+    pub fn push(&mut self, ran: Ran) -> Result<(), AllocError>
+        ensures { OnOk result (self.new ≡ self.old ++ ran ∷ []) }
+    {
+        self.items.push(ran)?;
+        Ok(())
+    }
+
     /// All of these, of which the first ones are there already. There is room for them in `spare`, to which they move.
     pub fn grow(&mut self, spare: &mut Vec<Ran>, all: &[Ran])
         requires first { IsBeginningOf self.old all.now }
@@ -246,5 +254,57 @@ fn copy_all(ran: &mut Vec<Ran>, more: &[Ran])
 {
     for action in more {
         ran.push_reserved(*action);
+    }
+}
+
+/// Inner blocks that ran again, by the calls up to their begins. Nearly always there are none, so they are kept apart: an
+/// attempt is moved about, and has one word for them.
+#[derive(Debug, Drop)]
+pub struct Restarts {
+    items: Option<Box<Vec<Again>>>,
+}
+
+impl Model for Restarts {
+    ghost use Rattle.std.specs.Prelude.{List};
+    ghost use Rattle.tx_attempts.specs.declared.attempt.Again.{Again};
+    ghost use Rattle.tx_attempts.specs.Kept.{blocks_again};
+
+    ghost Value = { List Again };
+
+    ghost view = { λ r. blocks_again r.items };
+}
+
+impl Restarts {
+    ghost use Rattle.itm_model.specs.Runs.{unbroken};
+    ghost use Rattle.tx_attempts.specs.Restarts.{breaks_of};
+
+    /// None: a run with these is one that is never broken off. Takes no memory.
+    pub fn none() -> Self
+        ensures none { result ≡ [] }
+        ensures whole { breaks_of result ≡ unbroken }
+    {
+        Restarts { items: None }
+    }
+
+    /// These. Takes memory only where there are any.
+    pub fn from_vec(alloc: Global, items: Vec<Again>) -> Result<Self, AllocError>
+        ensures all { IfOk result (λ restarts. restarts ≡ items.items) }
+        ensures short { OnErr result (0 < length items.items) }
+    {
+        if items.is_empty() {
+            return Ok(Restarts::none());
+        }
+        Ok(Restarts {
+            items: Some(Box::new(alloc, items)?),
+        })
+    }
+
+    pub fn as_slice(&self) -> &[Again]
+        ensures { result.now ≡ self.now }
+    {
+        match &self.items {
+            Some(items) => items.as_slice(),
+            None => &[],
+        }
     }
 }

@@ -1,9 +1,11 @@
 pub mod TextPieces
 pub mod PagedTexts
 pub mod AppendedTexts
+pub mod CallLines
 pub mod Streams
 pub mod WorkedLines
 pub mod WorkedStreams
+mod WorkedRestarts
 pub mod PlainSizes
 mod WorkedBounds
 pub mod Runs

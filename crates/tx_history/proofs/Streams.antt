@@ -8,6 +8,7 @@ use Rattle.std.specs.Result.{result_err}
 use Rattle.std.specs.declared.io.Error.{Error}
 use Rattle.std.specs.Io.KnownBytes.{Appends}
 use Rattle.tx_attempts.specs.declared.attempt.Attempt.{Attempt}
+use Rattle.tx_history.specs.declared.history.Version.{Version}
 use Rattle.tx_history.specs.Histories.{attempt_lines, first_lines, last_line, history_text}
 use Rattle.tx_history.specs.Pages.{Grows, Spells}
 use Rattle.tx_history.specs.declared.page.Page.{Page}
@@ -157,30 +158,30 @@ adds_attempt a b c all i d h p q = adds_after a b c [] all i d h p q
 all_taken : (i : ℕ) (xs : List Attempt) → length xs ≤ i → take i xs ≡ xs
 all_taken i xs h = grind (arith, common_steps)
 
-lines_split : (memory : List ℕ) (all : List Attempt) (i : ℕ) → lines_so_far memory all ≡ lines_so_far memory (take i all) ++ flat_map attempt_lines (drop i all)
-lines_split memory all i =
-    ap (lines_so_far memory) (sym (take-append-drop i all))
-    ∙ ap (λ (l : List ℕ). first_lines memory ++ l) (flat_map-append attempt_lines (take i all) (drop i all))
-    ∙ sym (append_assoc (first_lines memory) (flat_map attempt_lines (take i all)) (flat_map attempt_lines (drop i all)))
+lines_split : (version : Version) (memory : List ℕ) (all : List Attempt) (i : ℕ) → lines_so_far version memory all ≡ lines_so_far version memory (take i all) ++ flat_map attempt_lines (drop i all)
+lines_split version memory all i =
+    ap (lines_so_far version memory) (sym (take-append-drop i all))
+    ∙ ap (λ (l : List ℕ). first_lines version memory ++ l) (flat_map-append attempt_lines (take i all) (drop i all))
+    ∙ sym (append_assoc (first_lines version memory) (flat_map attempt_lines (take i all)) (flat_map attempt_lines (drop i all)))
 
-whole_text : (memory : List ℕ) (all : List Attempt) (clock : ℕ) (bytes : List ℕ)
-    → history_text (record { memory = memory; attempts = all; clock = clock; bytes = bytes }) ≡ lines_so_far memory all ++ last_line clock bytes
+whole_text : (version : Version) (memory : List ℕ) (all : List Attempt) (clock : ℕ) (bytes : List ℕ)
+    → history_text (record { version = version; memory = memory; attempts = all; clock = clock; bytes = bytes }) ≡ lines_so_far version memory all ++ last_line clock bytes
 unfolding history_text
-whole_text memory all clock bytes = refl
+whole_text version memory all clock bytes = refl
 
 -- its last line is written after the others
-pub adds_whole : (a b c : Standing) (memory : List ℕ) (all : List Attempt) (clock : ℕ) (bytes : List ℕ)
-    → Adds a b (lines_so_far memory all) → Adds b c (last_line clock bytes) → Adds a c (history_text (record { memory = memory; attempts = all; clock = clock; bytes = bytes }))
-adds_whole a b c memory all clock bytes p q = adds_as a c _ _ (adds_then a b c _ _ p q) (sym (whole_text memory all clock bytes))
+pub adds_whole : (a b c : Standing) (version : Version) (memory : List ℕ) (all : List Attempt) (clock : ℕ) (bytes : List ℕ)
+    → Adds a b (lines_so_far version memory all) → Adds b c (last_line clock bytes) → Adds a c (history_text (record { version = version; memory = memory; attempts = all; clock = clock; bytes = bytes }))
+adds_whole a b c version memory all clock bytes p q = adds_as a c _ _ (adds_then a b c _ _ p q) (sym (whole_text version memory all clock bytes))
 
-pub adds_last : (a b c : Standing) (memory : List ℕ) (all : List Attempt) (i clock : ℕ) (bytes : List ℕ)
-    → length all ≤ i → Adds a b (lines_so_far memory (take i all)) → Adds b c (last_line clock bytes) → Adds a c (history_text (record { memory = memory; attempts = all; clock = clock; bytes = bytes }))
-adds_last a b c memory all i clock bytes h p q =
-    adds_whole a b c memory all clock bytes (subst (λ (l : List Attempt). Adds a b (lines_so_far memory l)) (all_taken i all h) p) q
+pub adds_last : (a b c : Standing) (version : Version) (memory : List ℕ) (all : List Attempt) (i clock : ℕ) (bytes : List ℕ)
+    → length all ≤ i → Adds a b (lines_so_far version memory (take i all)) → Adds b c (last_line clock bytes) → Adds a c (history_text (record { version = version; memory = memory; attempts = all; clock = clock; bytes = bytes }))
+adds_last a b c version memory all i clock bytes h p q =
+    adds_whole a b c version memory all clock bytes (subst (λ (l : List Attempt). Adds a b (lines_so_far version memory l)) (all_taken i all h) p) q
 
 -- a write failed before all of it was written
-pub adds_stopped : (a b : Standing) (memory : List ℕ) (all : List Attempt) (i clock : ℕ) (bytes : List ℕ) (e : Error)
-    → Adds a b (lines_so_far memory (take i all)) → b.fault ≡ Some e → Adds a b (history_text (record { memory = memory; attempts = all; clock = clock; bytes = bytes }))
-adds_stopped a b memory all i clock bytes e p failed =
+pub adds_stopped : (a b : Standing) (version : Version) (memory : List ℕ) (all : List Attempt) (i clock : ℕ) (bytes : List ℕ) (e : Error)
+    → Adds a b (lines_so_far version memory (take i all)) → b.fault ≡ Some e → Adds a b (history_text (record { version = version; memory = memory; attempts = all; clock = clock; bytes = bytes }))
+adds_stopped a b version memory all i clock bytes e p failed =
     adds_as a b _ _ (adds_failed a b e _ _ (adds_failed a b e _ _ p failed) failed)
-    (ap (λ (l : List ℕ). l ++ last_line clock bytes) (sym (lines_split memory all i)) ∙ sym (whole_text memory all clock bytes))
+    (ap (λ (l : List ℕ). l ++ last_line clock bytes) (sym (lines_split version memory all i)) ∙ sym (whole_text version memory all clock bytes))

@@ -1,5 +1,5 @@
 -- What a history's numbers fit: of what its text tells, the types of the machine; and of its sizes and counts, the limits of a run.
-use Rattle.std.specs.Prelude.{◌≡◌, ◌⊎◌, ℕ, ◌+◌, ◌-◌, ◌%◌, ◌^◌, ◌<◌, ◌≤◌, length, All}
+use Rattle.std.specs.Prelude.{◌≡◌, ◌⊎◌, ℕ, ◌+◌, ◌%◌, ◌^◌, ◌<◌, ◌≤◌, length, All}
 use Rattle.hex.specs.Hex.{IsBytes}
 use Rattle.itm_types.specs.declared.access.Width.{Width}
 use Rattle.itm_types.specs.declared.access.Width.TheVariants.{U1, U2, U4, U8}
@@ -11,12 +11,15 @@ use Rattle.itm_types.specs.declared.call.Ran.{Ran}
 use Rattle.itm_types.specs.declared.call.Reply.{Reply}
 use Rattle.itm_types.specs.declared.call.Reply.TheVariants as replies
 use Rattle.itm_types.specs.declared.datum.Datum.{Datum}
-use Rattle.itm_types.specs.declared.limits.TheConstants.{MAX_MEMORY, MAX_ARENA, MAX_ACTORS, MAX_RETRIES}
+use Rattle.itm_types.specs.declared.limits.TheConstants.{MAX_ARENA, MAX_RETRIES}
+use Rattle.tx_attempts.specs.declared.attempt.Again.{Again}
 use Rattle.tx_attempts.specs.declared.attempt.Attempt.{Attempt}
 use Rattle.tx_attempts.specs.declared.attempt.CallRecord.{CallRecord}
 use Rattle.tx_history.specs.declared.history.History.{History}
+use Rattle.tx_history.specs.declared.history.Version.{Version}
 use Rattle.tx_history.specs.declared.pieces.Piece.{Piece}
 use Rattle.tx_history.specs.declared.pieces.Piece.TheVariants.{Text, Number, Hex}
+use Rattle.tx_history.specs.Versions.{MayTell, memory_limit, thread_limit}
 
 -- ## Types
 
@@ -72,11 +75,17 @@ EntryFits e = CallFits e.call × ReplyFits e.reply
 abbrev pub RanFits : Ran → Type 0
 RanFits r = IsAction r.action
 
+-- and of a block that ran again
+pub record AgainFits (a : Again) : Type 0 where
+  pub arena : IsBytes a.arena
+  pub undone : All RanFits a.undone
+
 -- what a text tells of an attempt: when its begin was called is not told
 pub record AttemptFits (a : Attempt) : Type 0 where
   pub at : IsWord a.at
   pub arena : IsBytes a.arena
   pub calls : All EntryFits a.calls.list
+  pub restarts : All AgainFits a.restarts
   pub ran : All RanFits a.ran
 
 -- of a history that is written, each number and each byte that its text tells is one of its type
@@ -110,18 +119,19 @@ HasArenaWidth (calls.UndoAction action) = Unit {0}
 HasArenaWidth (calls.Load width at) = IsArenaWidth width
 HasArenaWidth (calls.Save at value) = IsArenaWidth value.width
 
--- an attempt within the limits of a run
-pub record IsLimited (a : Attempt) : Type 0 where
-  pub thread : a.thread ≤ MAX_ACTORS - 1
+-- an attempt within the limits of a version
+pub record IsLimited (version : Version) (a : Attempt) : Type 0 where
+  pub thread : a.thread ≤ thread_limit version
   pub nth : (1 ≤ a.nth) × (a.nth ≤ MAX_RETRIES + 1)
   pub arena : length a.arena ≤ MAX_ARENA
   pub widths : All (λ (e : CallRecord). HasArenaWidth e.call) a.calls.list
+  pub restarts : MayTell version a.restarts
 
--- a memory of 1 to 8,192 words of 8 bytes
-abbrev pub IsMemorySize : ℕ → Type 0
-IsMemorySize n = (8 ≤ n) × (n ≤ MAX_MEMORY) × (n % 8 ≡ 0)
+-- a memory of words of 8 bytes: one at least, and as many as the version allows
+abbrev pub IsMemorySize : Version → ℕ → Type 0
+IsMemorySize version n = (8 ≤ n) × (n ≤ memory_limit version) × (n % 8 ≡ 0)
 
--- a history within them
+-- a history within those of its version
 pub record AreLimited (h : History) : Type 0 where
-  pub memory : IsMemorySize (length h.memory)
-  pub attempts : All IsLimited h.attempts
+  pub memory : IsMemorySize h.version (length h.memory)
+  pub attempts : All (IsLimited h.version) h.attempts

@@ -1,5 +1,5 @@
 -- The text of a history.
-use Rattle.std.specs.Prelude.{ℕ, List, ◌++◌, length, flat_map, decimal, codes, if◌then◌else◌, ◌==◌, ◌%◌}
+use Rattle.std.specs.Prelude.{ℕ, ◌-◌, List, [], ◌∷◌, ◌++◌, length, take, drop, flat_map, decimal, codes, if◌then◌else◌, ◌==◌, ◌%◌}
 use Rattle.hex.specs.Hex.{encode_lower}
 use Rattle.itm_types.specs.Access.{size_of}
 use Rattle.itm_types.specs.Names.{name_of}
@@ -21,8 +21,11 @@ use Rattle.itm_types.specs.declared.entry.Entry.TheVariants as entry
 use Rattle.tx_attempts.specs.declared.attempt.Outcome.{Outcome}
 use Rattle.tx_attempts.specs.declared.attempt.Outcome.TheVariants as outcomes
 use Rattle.tx_attempts.specs.declared.attempt.CallRecord.{CallRecord}
+use Rattle.tx_attempts.specs.declared.attempt.Again.{Again}
 use Rattle.tx_attempts.specs.declared.attempt.Attempt.{Attempt}
 use Rattle.tx_history.specs.declared.history.History.{History}
+use Rattle.tx_history.specs.declared.history.Version.{Version}
+use Rattle.tx_history.specs.declared.history.Version.TheVariants.{One, Two, Three}
 
 abbrev pub outcome_name : Outcome → List ℕ
 outcome_name outcomes.Committed = codes "committed"
@@ -89,6 +92,23 @@ reply_text (replies.Refused refusal) = codes "refused " ++ decimal (number_of re
 unfoldable pub call_line : CallRecord → List ℕ
 call_line e = codes "call " ++ body_text e.call ++ codes " = " ++ reply_text e.reply ++ codes "\n"
 
+-- the arena from which a block ran again
+unfoldable pub restart_line : List ℕ → List ℕ
+restart_line bytes = if length bytes == 0 then codes "restart -\n" else codes "restart " ++ encode_lower bytes ++ codes "\n"
+
+-- an action that had run in it before: its function and its argument
+unfoldable pub undone_line : Ran → List ℕ
+undone_line r = codes "undone " ++ decimal r.action.fun ++ codes " " ++ decimal r.action.arg ++ codes "\n"
+
+-- that a block ran again: the lines behind that of its begin
+unfoldable pub again_lines : Again → List ℕ
+again_lines a = restart_line a.arena ++ flat_map undone_line a.undone
+
+-- the calls that stand behind so many others, and within them the blocks that ran again, each behind the calls up to its begin
+abbrev pub call_lines : ℕ → List CallRecord → List Again → List ℕ
+call_lines n calls [] = flat_map call_line calls
+call_lines n calls (a ∷ rest) = flat_map call_line (take (a.kept - n) calls) ++ again_lines a ++ call_lines a.kept (drop (a.kept - n) calls) rest
+
 abbrev pub kind_text : ActionKind → List ℕ
 kind_text kinds.Commit = codes "commit"
 kind_text kinds.Undo = codes "undo"
@@ -98,15 +118,21 @@ unfoldable pub ran_line : Ran → List ℕ
 ran_line r = codes "ran " ++ kind_text r.kind ++ codes " " ++ decimal r.action.fun ++ codes " " ++ decimal r.action.arg ++ codes "\n"
 
 unfoldable pub attempt_lines : Attempt → List ℕ
-attempt_lines a = head_line a ++ arena_line a.arena ++ flat_map call_line a.calls.list ++ flat_map ran_line a.ran ++ codes "end\n"
+attempt_lines a = head_line a ++ arena_line a.arena ++ call_lines 0 a.calls.list a.restarts ++ flat_map ran_line a.ran ++ codes "end\n"
+
+-- the name of the format, and what a version says of its histories
+abbrev pub version_lines : Version → List ℕ
+version_lines One = codes "itm-history 1\n"
+version_lines Two = codes "itm-history 2\n"
+version_lines (Three depth) = codes "itm-history 3\ndepth " ++ decimal depth.blocks ++ codes "\n"
 
 -- the lines before the first attempt
-unfoldable pub first_lines : List ℕ → List ℕ
-first_lines memory = codes "itm-history 1\nmemory " ++ encode_lower memory ++ codes "\n"
+unfoldable pub first_lines : Version → List ℕ → List ℕ
+first_lines version memory = version_lines version ++ codes "memory " ++ encode_lower memory ++ codes "\n"
 
 unfoldable pub last_line : ℕ → List ℕ → List ℕ
 last_line clock bytes = codes "final " ++ decimal clock ++ codes " " ++ encode_lower bytes ++ codes "\n"
 
 -- the one spelling of a history
 unfoldable pub history_text : History → List ℕ
-history_text h = first_lines h.memory ++ flat_map attempt_lines h.attempts ++ last_line h.clock h.bytes
+history_text h = first_lines h.version h.memory ++ flat_map attempt_lines h.attempts ++ last_line h.clock h.bytes

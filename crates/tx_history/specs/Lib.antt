@@ -1,3 +1,4 @@
+pub mod Versions
 pub mod Spelling
 pub mod Pages
 pub mod Histories

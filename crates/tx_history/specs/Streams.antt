@@ -4,6 +4,7 @@ use Rattle.std.specs.Result.{result_err}
 use Rattle.std.specs.Io.KnownBytes.{Appends, Keeps}
 use Rattle.std.specs.declared.io.Error.{Error}
 use Rattle.tx_attempts.specs.declared.attempt.Attempt.{Attempt}
+use Rattle.tx_history.specs.declared.history.Version.{Version}
 use Rattle.tx_history.specs.declared.page.Page.{Page}
 use Rattle.tx_history.specs.Spelling.{IsCut}
 use Rattle.tx_history.specs.Histories.{attempt_lines, first_lines}
@@ -43,5 +44,5 @@ pub record Sends {W A : Type 0} (contents : W → Option (List ℕ)) (old new : 
   pub fits : OnOk result typed
 
 -- a history so far: the lines before the first attempt, and those of the attempts that there are
-abbrev pub lines_so_far : List ℕ → List Attempt → List ℕ
-lines_so_far memory attempts = first_lines memory ++ flat_map attempt_lines attempts
+abbrev pub lines_so_far : Version → List ℕ → List Attempt → List ℕ
+lines_so_far version memory attempts = first_lines version memory ++ flat_map attempt_lines attempts

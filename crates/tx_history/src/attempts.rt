@@ -2,9 +2,9 @@
 
 ghost use Rattle.std.specs.Prelude.{◌≡◌, ◌++◌, All, [], codes, flat_map};
 ghost use Rattle.hex.specs.Hex.{IsBytes};
-ghost use Rattle.tx_history.specs.Bounds.{AttemptFits, EntryFits, IsWord, RanFits};
+ghost use Rattle.tx_history.specs.Bounds.{AgainFits, AttemptFits, EntryFits, IsWord, RanFits};
 ghost use Rattle.tx_history.specs.Pages.{Carries, Spells};
-ghost use Rattle.tx_history.specs.Histories.{outcome_name, try_text, props_end, head_line, arena_line, call_line, kind_text, ran_line, attempt_lines};
+ghost use Rattle.tx_history.specs.Histories.{outcome_name, try_text, props_end, head_line, arena_line, call_line, call_lines, restart_line, undone_line, again_lines, kind_text, ran_line, attempt_lines};
 
 use crate::bodies::{function_number, put_body, put_reply};
 use crate::page::Page;
@@ -12,7 +12,7 @@ use crate::pieces::Piece;
 use itm_types::{ActionKind, Props, Ran};
 use script_fields::props_text;
 use std::io::Write;
-use tx_attempts::{Attempt, CallRecord, Outcome};
+use tx_attempts::{Again, Attempt, CallRecord, Outcome};
 
 /// Writes a blank and the outcome. Each text stands in the code, so that it is copied with no loop.
 fn put_outcome<W: Write>(page: &mut Page<'_, W>, outcome: Outcome)
@@ -51,7 +51,7 @@ fn put_props<W: Write>(page: &mut Page<'_, W>, props: Props)
         } => page.text(b" -\n"),
         _ => {
             page.text(b" ");
-            page.text(props_text(props).as_bytes());
+            page.bytes(props_text(props).as_bytes());
             page.text(b"\n");
         }
     }
@@ -95,6 +95,71 @@ fn put_calls<W: Write>(page: &mut Page<'_, W>, calls: &[CallRecord])
     }
 }
 
+/// The arena from which a block ran again.
+#[tactic(auto, unfolding(crate::specs::Histories::restart_line), using(crate::proofs::PagedTexts::carries_as))]
+fn put_restart<W: Write>(page: &mut Page<'_, W>, bytes: &[u8])
+    ensures { Spells W.contents page.old page.new (restart_line bytes.now) (IsBytes bytes.now) }
+{
+    if bytes.is_empty() {
+        page.text(b"restart -\n");
+    } else {
+        page.put(&[
+            Piece::Text(b"restart "),
+            Piece::Hex(bytes),
+            Piece::Text(b"\n"),
+        ]);
+    }
+}
+
+/// An action that had run in a block before it ran again.
+#[tactic(auto, unfolding(crate::specs::Histories::undone_line), using(crate::proofs::PagedTexts::carries_as))]
+fn put_undone<W: Write>(page: &mut Page<'_, W>, undone: Ran)
+    ensures { Spells W.contents page.old page.new (undone_line undone) (RanFits undone) }
+{
+    page.put(&[
+        Piece::Text(b"undone "),
+        Piece::Number(function_number(undone.action.fun)),
+        Piece::Text(b" "),
+        Piece::Number(undone.action.arg),
+        Piece::Text(b"\n"),
+    ]);
+}
+
+fn put_all_undone<W: Write>(page: &mut Page<'_, W>, all: &[Ran])
+    ensures { Spells W.contents page.old page.new (flat_map undone_line all.now) (All RanFits all.now) }
+{
+    for ran in all {
+        put_undone(page, *ran);
+    }
+}
+
+/// That a block ran again.
+#[inline(never)]
+fn put_again<W: Write>(page: &mut Page<'_, W>, again: &Again)
+    ensures { Spells W.contents page.old page.new (again_lines again.now) (AgainFits again.now) }
+{
+    put_restart(page, again.arena.as_slice());
+    put_all_undone(page, again.undone.as_slice());
+}
+
+/// The calls, and within them the blocks that ran again.
+fn put_body_lines<W: Write>(page: &mut Page<'_, W>, calls: &[CallRecord], restarts: &[Again])
+    ensures { Spells W.contents page.old page.new
+        (call_lines 0 calls.now restarts.now) (All EntryFits calls.now × All AgainFits restarts.now) }
+{
+    let mut told = 0;
+    let mut left = calls;
+    for again in restarts {
+        let count = again.kept.saturating_sub(told).min(left.len());
+        let (first, later) = left.split_at(count);
+        put_calls(page, first);
+        put_again(page, again);
+        told = again.kept;
+        left = later;
+    }
+    put_calls(page, left);
+}
+
 fn kind_text(kind: ActionKind) -> &'static [u8]
     ensures { result.now ≡ kind_text kind }
 {
@@ -133,7 +198,7 @@ fn put_attempt<W: Write>(page: &mut Page<'_, W>, attempt: &Attempt)
 {
     put_head(page, attempt);
     put_arena(page, attempt.arena.as_slice());
-    put_calls(page, attempt.calls.as_slice());
+    put_body_lines(page, attempt.calls.as_slice(), attempt.restarts.as_slice());
     put_all_ran(page, attempt.ran.as_slice());
     page.text(b"end\n");
 }

@@ -26,7 +26,7 @@ fn put_begin<W: Write>(page: &mut Page<'_, W>, props: Props)
     ensures { Carries W.contents page.old page.new (codes "_ITM_beginTransaction " ++ props_text props) }
 {
     page.text(b"_ITM_beginTransaction ");
-    page.text(props_text(props).as_bytes());
+    page.bytes(props_text(props).as_bytes());
 }
 
 /// The code that a begin is answered with.
@@ -55,7 +55,7 @@ fn put_name<W: Write>(page: &mut Page<'_, W>, function: Function)
     let name = name_of(function).as_bytes();
     match name.as_array::<8>() {
         Some(word) => page.text(word),
-        None => page.text(name),
+        None => page.bytes(name),
     }
 }
 
@@ -83,7 +83,7 @@ fn put_abort<W: Write>(page: &mut Page<'_, W>, outer: bool)
     ensures { Carries W.contents page.old page.new (codes "_ITM_abortTransaction " ++ scope_text outer) }
 {
     page.text(b"_ITM_abortTransaction ");
-    page.text(scope_text(outer).as_bytes());
+    page.bytes(scope_text(outer).as_bytes());
 }
 
 /// Bytes of the arena that are kept: the first, and how many.

@@ -87,23 +87,35 @@ impl<'a, W: Write> Page<'a, W> {
     /// Writes the bytes, for which the page has no room.
     #[cold]
     #[inline(never)]
-    fn text_on_next(&mut self, text: &[u8])
-        ensures { Carries W.contents self.old self.new text.now }
+    fn bytes_on_next(&mut self, bytes: &[u8])
+        ensures { Carries W.contents self.old self.new bytes.now }
     {
         self.flush();
-        match self.bytes.try_extend_from_slice(text) {
+        match self.bytes.try_extend_from_slice(bytes) {
             Ok(()) => {}
-            Err(_) => self.give(text),
+            Err(_) => self.give(bytes),
         }
     }
 
-    /// Writes the bytes. Its code stands where it is called, so that a text that is known there is copied with no loop.
+    /// Writes the bytes.
+    #[inline]
+    pub(crate) fn bytes(&mut self, bytes: &[u8])
+        ensures { Carries W.contents self.old self.new bytes.now }
+    {
+        if self.bytes.try_extend_from_slice(bytes).is_err() {
+            self.bytes_on_next(bytes);
+        }
+    }
+
+    /// Writes a text whose size is known. Its code stands where it is called, with no loop and no call. What goes to the page
+    /// is a copy of the text, so that no test looks whether the text lies on the page.
     #[inline(always)]
-    pub(crate) fn text(&mut self, text: &[u8])
+    pub(crate) fn text<const N: usize>(&mut self, text: &[u8; N])
         ensures { Carries W.contents self.old self.new text.now }
     {
-        if self.bytes.try_extend_from_slice(text).is_err() {
-            self.text_on_next(text);
+        let copy = *text;
+        if self.bytes.try_extend_from_slice(&copy).is_err() {
+            self.bytes_on_next(text);
         }
     }
 
@@ -131,7 +143,7 @@ impl<'a, W: Write> Page<'a, W> {
         ensures { Carries W.contents self.old self.new (decimal n) }
     {
         let mut buffer = Buffer::new();
-        self.text(buffer.format(n).as_bytes());
+        self.bytes(buffer.format(n).as_bytes());
     }
 
     /// Writes the number in decimal digits. Most numbers are one, which is written where it is called.
@@ -168,7 +180,7 @@ impl<'a, W: Write> Page<'a, W> {
         let written = hex::encode_to_slice(chunk, digits);
         let holds = written.is_ok();
         prove!(holds);
-        self.text(digits);
+        self.bytes(digits);
     }
 
     /// Writes a text in which the 8 bytes of a word stand from a place on, each in two hexadecimal digits. Its code stands
@@ -245,7 +257,7 @@ impl<'a, W: Write> Page<'a, W> {
         ensures { Spells W.contents self.old self.new (spelled piece.now) (PieceFits piece.now) }
     {
         match piece {
-            Piece::Text(text) => self.text(text),
+            Piece::Text(text) => self.bytes(text),
             Piece::Number(n) => self.number(*n),
             Piece::Hex(bytes) => self.hex(bytes),
         }

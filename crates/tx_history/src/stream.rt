@@ -7,6 +7,7 @@ ghost use Rattle.tx_history.specs.Histories.{attempt_lines, first_lines, last_li
 ghost use Rattle.tx_history.specs.Streams.{Sends, lent, standing};
 
 use crate::attempts::write_attempt;
+use crate::history::Version;
 use crate::page::Page;
 use crate::rows::{write_first, write_last};
 use std::io;
@@ -25,14 +26,14 @@ impl<'a, W: Write> Page<'a, W> {
         Page::empty(writer)
     }
 
-    /// Writes the lines before the first attempt: the format's name, and the memory before the run. Where a write fails,
+    /// Writes the lines before the first attempt: those of the version, and the memory before the run. Where a write fails,
     /// or has failed, answers its error; so do `attempt` and `finish`.
-    pub fn open(&mut self, memory: &[u8]) -> io::Result<()>
-        ensures { Sends W.contents self.old self.new (first_lines memory.now) (IsBytes memory.now) result }
+    pub fn open(&mut self, version: Version, memory: &[u8]) -> io::Result<()>
+        ensures { Sends W.contents self.old self.new (first_lines version memory.now) (IsBytes memory.now) result }
     {
         self.write_result()?;
         self.begin();
-        write_first(self, memory);
+        write_first(self, version, memory);
         self.write_result()
     }
 

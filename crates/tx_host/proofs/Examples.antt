@@ -12,7 +12,7 @@ use Rattle.tx_host.specs.Reports.{by_number}
 
 -- the second try of a thread's block
 abbrev pub row : ℕ → Attempt
-row thread = record { thread = thread; nth = 2; began = 0; at = 0; props = record { no_abort = false; no_irrevocable = false; goes_irrevocable = false }; arena = []; calls = record { list = []; room = 0 }; ran = []; outcome = ReadOnly }
+row thread = record { thread = thread; nth = 2; began = 0; at = 0; props = record { no_abort = false; no_irrevocable = false; goes_irrevocable = false }; arena = []; calls = record { list = []; room = 0 }; restarts = []; ran = []; outcome = ReadOnly }
 
 -- and the first one
 abbrev pub lost : ℕ → Attempt

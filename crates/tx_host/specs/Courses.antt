@@ -11,6 +11,7 @@ use Rattle.tx_attempts.specs.Opacity.{Beginning, Between, IsRunOf, begin_code}
 use Rattle.tx_runs.specs.declared.ending.End.{End}
 use Rattle.tx_runs.specs.declared.ending.End.TheVariants.{Finished, GaveUp, NoMemory}
 use Rattle.tx_runs.specs.Runs.{begins_at, run_after}
+use Rattle.tx_runs.specs.Unbroken.{AreUnbroken}
 use Rattle.tx_worker.specs.Positions.{AreOwn, AreSince}
 
 -- a thread of this code before its first try, with an arena of so many zeros
@@ -48,4 +49,5 @@ pub record IsCourse (p : Listing) (n : ℕ) (memory : ℕ → List ℕ) (number 
   pub run : IsRunOf thread_rules MAX_OPEN_BLOCKS n memory (Some (first_of p.arena code)) attempts  -- its code's run, in order, each of them opaque
   pub since : AreSince 0 attempts  -- each began with the commits that the one before it told of
   pub own : AreOwn number (p.limits.retries + 1) attempts  -- none is of another thread, or of more tries than there may be
+  pub unbroken : AreUnbroken attempts  -- no inner block of any runs again alone
   pub ends : EndsBy memory (first_of p.arena code) end attempts

@@ -17,7 +17,7 @@ use std::alloc::{AllocError, Global};
 use std::sync::Wait;
 use std::thread::Threads;
 use tx_attempts::Bytes;
-use tx_history::History;
+use tx_history::{History, Version};
 use tx_worker::{ActionSink, Gate};
 
 /// The memory before the run, and as many bytes for the memory after it.
@@ -73,6 +73,7 @@ pub fn run_threads<R: Threads + Wait, G: Gate + Sync, A: ActionSink + Sync>(
         return Err(HostFault::NoMemory);
     };
     let history = History {
+        version: Version::One,
         memory: Bytes::new(before),
         attempts,
         clock,

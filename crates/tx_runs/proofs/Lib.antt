@@ -3,3 +3,4 @@ pub mod Tries
 pub mod Begins
 pub mod PlainCalls
 pub mod Players
+pub mod Unbroken

@@ -1,3 +1,4 @@
 pub mod Nesting
 pub mod Outcomes
 pub mod Runs
+pub mod Unbroken

@@ -1,5 +1,5 @@
 -- Where a worker stands between two calls.
-use Rattle.std.specs.Prelude.{◌≡◌, ℕ, ◌+◌, ◌/◌, ◌<◌, ◌≤◌, Bool, true, false, List, ◌++◌, length, Option, None, Some}
+use Rattle.std.specs.Prelude.{◌≡◌, ℕ, ◌+◌, ◌/◌, ◌<◌, ◌≤◌, Bool, true, false, List, [], ◌++◌, length, Option, None, Some}
 use Rattle.itm_types.specs.declared.limits.TheConstants.{MAX_OPEN_BLOCKS}
 use Rattle.itm_types.specs.Memory.{bytes_of, IsMemory, Agrees}
 use Rattle.itm_model.specs.Machine.{opened}
@@ -12,9 +12,11 @@ use Rattle.itm_runtime.specs.Served.{Went}
 use Rattle.tx_attempts.specs.declared.attempt.Attempt.{Attempt}
 use Rattle.tx_attempts.specs.Alone.{state_then, IsAlone}
 use Rattle.tx_attempts.specs.Opacity.{Between, begin_code, IsRunOf}
+use Rattle.tx_attempts.specs.Restarts.{breaks_of}
 use Rattle.tx_player.specs.Rules.{Rules}
 use Rattle.tx_runs.specs.Nesting.{IsNested}
 use Rattle.tx_runs.specs.Runs.{run_after, IsOfBlock, LeadsTo}
+use Rattle.tx_runs.specs.Unbroken.{AreUnbroken}
 use Rattle.tx_worker.specs.Positions.{bytes_at, positions, AreLeft, AreSince, known_after, AreOwn}
 use Rattle.tx_worker.specs.Tallies.{Tally}
 
@@ -44,10 +46,11 @@ module _ {P : Type 0} (rules : Rules P) where
   pub record IsTry (b : Between P) (row : Attempt) (p : P) (v : View) (e : Core) : Type 0 where
     pub of_block : IsOfBlock rules b row p
     pub began : row.began ≤ e.snapshot / 2
+    pub restarts : row.restarts ≡ []  -- no block of it has run again
     pub ran : row.ran ≡ e.actions.ran
     pub each : (m : List ℕ) → MayRead v e m
-        → IsAlone rules MAX_OPEN_BLOCKS (rules.answered of_block.start.player (begin_code b.again)) (opened (bytes_of m) of_block.start.arena of_block.start.props) row.calls.list
-        × (stands_for e (stood e.irrevocable v m) ≡ state_then MAX_OPEN_BLOCKS (opened (bytes_of m) of_block.start.arena of_block.start.props) row.calls.list)
+        → IsAlone rules MAX_OPEN_BLOCKS (breaks_of row.restarts) (rules.answered of_block.start.player (begin_code b.again)) (opened (bytes_of m) of_block.start.arena of_block.start.props) row.calls.list
+        × (stands_for e (stood e.irrevocable v m) ≡ state_then MAX_OPEN_BLOCKS (breaks_of row.restarts) (opened (bytes_of m) of_block.start.arena of_block.start.props) row.calls.list)
 
   -- before the next one: the player has come as far as its calls outside a transaction led
   pub record IsBefore (b : Between P) (t : Tally P) (arena : List ℕ) : Type 0 where
@@ -64,6 +67,7 @@ module _ {P : Type 0} (rules : Rules P) where
     pub since : AreSince c.known ended
     pub known : known_after c.known ended ≤ length v.seen
     pub own : AreOwn c.number (c.retries + 1) ended
+    pub unbroken : AreUnbroken ended  -- no inner block runs again alone
 
   -- where the run stands after them
   abbrev pub now_at : Course P → View → List Attempt → Option (Between P)

@@ -13,7 +13,7 @@ use Rattle.tx_worker.specs.declared.worker.Worker.{Worker}
 
 -- the open attempt, as it stands. No room is told of its calls: it holds them as a list of its own, whose capacity its contracts see
 abbrev pub row_of : ℕ → ℕ → OpenAttempt → Attempt
-row_of thread nth o = record { thread = thread; nth = nth; began = o.began; at = 0; props = o.props; arena = o.arena.items; calls = record { list = o.calls.items; room = 0 }; ran = o.ran.items; outcome = Unfinished }
+row_of thread nth o = record { thread = thread; nth = nth; began = o.began; at = 0; props = o.props; arena = o.arena.items; calls = record { list = o.calls.items; room = 0 }; restarts = []; ran = o.ran.items; outcome = Unfinished }
 
 pub record Tally (P : Type 0) : Type 0 where
   pub player : P
@@ -50,4 +50,4 @@ module _ {P : Type 0} where
 
   -- the attempt of a begin that is accepted
   abbrev pub begun : ℕ → ℕ → Props → List ℕ → Tally P → Attempt
-  begun number known props arena t = record { thread = number; nth = t.nth; began = known; at = 0; props = props; arena = arena; calls = record { list = []; room = 0 }; ran = []; outcome = Unfinished }
+  begun number known props arena t = record { thread = number; nth = t.nth; began = known; at = 0; props = props; arena = arena; calls = record { list = []; room = 0 }; restarts = []; ran = []; outcome = Unfinished }

@@ -8,7 +8,7 @@ ghost use Rattle.tx_worker.specs.Tallies.{row_of};
 use crate::sink::ActionSink;
 use itm_types::{Call, Props, Ran, Reply};
 use std::alloc::{AllocError, Global};
-use tx_attempts::{Attempt, Bytes, CallRecord, Calls, Outcome, RanActions};
+use tx_attempts::{Attempt, Bytes, CallRecord, Calls, Outcome, RanActions, Restarts};
 
 /// The attempt that is under way. There is room for each action that its transaction may still run.
 #[derive(Drop)]
@@ -108,6 +108,7 @@ impl OpenAttempt {
             props: self.props,
             arena: Bytes::new(self.arena),
             calls: Calls::from_vec(self.calls),
+            restarts: Restarts::none(),
             ran: RanActions::from_vec(self.ran),
             outcome,
         }

@@ -27,7 +27,7 @@ abbrev turning : Plan
 turning = record { calls = begin ∷ Write W 0 (word 7) ∷ Mode 0 ∷ Commit ∷ []; at = 0; blocks = None }
 
 abbrev turned : Attempt
-turned = record { thread = 0; nth = 1; began = 0; at = 0; props = plain; arena = []; calls = record { list = write 7 ∷ record { call = Mode 0; reply = Done } ∷ commit ∷ []; room = 0 }; ran = []; outcome = Committed }
+turned = record { thread = 0; nth = 1; began = 0; at = 0; props = plain; arena = []; calls = record { list = write 7 ∷ record { call = Mode 0; reply = Done } ∷ commit ∷ []; room = 0 }; restarts = []; ran = []; outcome = Committed }
 
 turned_alone : solo plan_rules 2 1 0 turning (replicate 8 0) [] ≡ record { attempts = turned ∷ []; memory = 7 ∷ replicate 7 0; commits = 1; held = false; ending = Finished }
 turned_alone = refl
@@ -43,7 +43,7 @@ abbrev leaving : Plan
 leaving = record { calls = Begin going 0 ∷ Write W 0 (word 7) ∷ []; at = 0; blocks = None }
 
 abbrev left : Attempt
-left = record { thread = 0; nth = 1; began = 0; at = 0; props = going; arena = []; calls = record { list = write 7 ∷ []; room = 0 }; ran = []; outcome = Unfinished }
+left = record { thread = 0; nth = 1; began = 0; at = 0; props = going; arena = []; calls = record { list = write 7 ∷ []; room = 0 }; restarts = []; ran = []; outcome = Unfinished }
 
 left_alone : solo plan_rules 2 1 0 leaving (replicate 8 0) [] ≡ record { attempts = left ∷ []; memory = 7 ∷ replicate 7 0; commits = 0; held = true; ending = Finished }
 left_alone = refl

@@ -3,6 +3,7 @@ use Rattle.std.specs.Prelude.{◌≡◌, ◌⊎◌, ℕ, ◌/◌, ◌%◌, ◌==
 use Rattle.itm_types.specs.Memory.{bytes_of}
 use Rattle.itm_types.specs.declared.limits.TheConstants.{MAX_OPEN_BLOCKS}
 use Rattle.itm_model.specs.Machine.{opened}
+use Rattle.itm_model.specs.Runs.{unbroken}
 use Rattle.tx_attempts.specs.declared.attempt.Attempt.{Attempt}
 use Rattle.tx_attempts.specs.Kept.{Kept}
 use Rattle.tx_attempts.specs.declared.attempt.Outcome.{Outcome}
@@ -23,7 +24,7 @@ module _ {P : Type 0} (rules : Rules P) (max_commits thread : ℕ) where
     pub calls : Kept
     pub rows_are : rows ≡ past ++ row_of MAX_OPEN_BLOCKS thread b start calls outcome ∷ []
     pub begins : begin_of rules MAX_OPEN_BLOCKS b.player b.arena ≡ Some start
-    pub alone : IsAlone rules MAX_OPEN_BLOCKS (rules.answered start.player (begin_code false)) (opened b.memory start.arena start.props) calls.list
+    pub alone : IsAlone rules MAX_OPEN_BLOCKS unbroken (rules.answered start.player (begin_code false)) (opened b.memory start.arena start.props) calls.list
     pub spent : (outcome ≡ outcomes.Unfinished → ⊥) → calls.room ≡ 0  -- room for more is promised only while it has not ended
 
   -- the rows are those of its first blocks, which left this memory after so many commits, and of a block that ends so without its commit

@@ -57,6 +57,7 @@ row_of deepest thread b start calls outcome = record {
   props = start.props;
   arena = start.arena;
   calls = calls;
+  restarts = [];
   ran = ran_of outcome (state_after deepest (opened b.memory start.arena start.props) (map (λ (e : CallRecord). e.call) calls.list));
   outcome = outcome;
 }

@@ -1,7 +1,6 @@
 //! What attempts, schedules and single players come to.
 
 ghost use Rattle.std.specs.Prelude.{◌≡◌, ◌⊎◌, ℕ, List};
-ghost use Rattle.itm_types.specs.declared.limits.TheConstants.{MAX_OPEN_BLOCKS};
 ghost use Rattle.tx_attempts.specs.declared.attempt.Attempt.{Attempt};
 ghost use Rattle.tx_attempts.specs.Attempts.{pairs_of};
 ghost use Rattle.tx_attempts.specs.Opacity.{IsOpaque};
@@ -11,13 +10,13 @@ ghost use Rattle.world_laws.specs.ScheduleDecides.{BeginningDecides, EventDecide
 
 use tx_player::Player;
 
-/// Isolation: of two opaque attempts, in any two worlds, whose players, properties and arenas at the begin are equal
-/// and which read equal memories, the shorter list of calls with replies is a beginning of the longer one. Does
-/// nothing.
+/// Isolation: of two opaque attempts, in any two worlds, whose players, properties and arenas at the begin are equal,
+/// which read equal memories and tell of equal inner blocks that ran again, where as many blocks may be open at once, the
+/// shorter list of calls with replies is a beginning of the longer one. Does nothing.
 pub fn isolation<P: Player>()
-    ensures { (p : P) (a b : Attempt) (n m : ℕ) (memory : List ℕ)
-        → IsOpaque P.Player MAX_OPEN_BLOCKS p a n memory → IsOpaque P.Player MAX_OPEN_BLOCKS p b m memory
-        → a.arena ≡ b.arena → a.props ≡ b.props
+    ensures { (p : P) (a b : Attempt) (deepest n m : ℕ) (memory : List ℕ)
+        → IsOpaque P.Player deepest p a n memory → IsOpaque P.Player deepest p b m memory
+        → a.arena ≡ b.arena → a.props ≡ b.props → a.restarts ≡ b.restarts
         → IsBeginningOf (pairs_of a) (pairs_of b) ⊎ IsBeginningOf (pairs_of b) (pairs_of a) }
 {}
 

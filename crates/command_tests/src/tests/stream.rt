@@ -6,8 +6,8 @@ use std::alloc::Global;
 use std::io;
 use std::process::Abort;
 use std::test::*;
-use tx_attempts::{Attempt, Bytes, Calls, Outcome, RanActions};
-use tx_history::Stream;
+use tx_attempts::{Attempt, Bytes, Calls, Outcome, RanActions, Restarts};
+use tx_history::{Stream, Version};
 
 const LINES: &[u8] =
     b"itm-history 1\nmemory 00ff\nattempt 1 2 3 readonly -\narena -\nend\nfinal 6 01\n";
@@ -22,6 +22,7 @@ fn attempt(alloc: Global) -> Attempt {
         props: Props::default(),
         arena: Bytes::new(Vec::new(alloc)),
         calls: Calls::new(alloc),
+        restarts: Restarts::none(),
         ran: RanActions::new(alloc),
         outcome: Outcome::ReadOnly,
     }
@@ -39,7 +40,7 @@ fn finish(rt: &impl Abort, stream: &mut Stream<'_, Failing>, good: usize) {
 /// The history is written, as far as so many good writes go.
 fn write(rt: &impl Abort, writer: &mut Failing, tried: &Attempt, good: usize) {
     let mut stream = Stream::new(writer);
-    assert_eq!(rt; stream.open(&[0, 255]).is_ok(), 6 <= good);
+    assert_eq!(rt; stream.open(Version::One, &[0, 255]).is_ok(), 6 <= good);
     assert_eq!(rt; stream.attempt(tried).is_ok(), 14 <= good);
     finish(rt, &mut stream, good);
 }

@@ -15,6 +15,7 @@ use Rattle.tx_attempts.specs.declared.attempt.CallRecord.{CallRecord}
 use Rattle.tx_attempts.specs.declared.attempt.Outcome.{Outcome}
 use Rattle.tx_attempts.specs.declared.attempt.Outcome.TheVariants.{Committed, ReadOnly, Unfinished}
 use Rattle.tx_history.specs.declared.history.History.{History}
+use Rattle.tx_history.specs.declared.history.Version.TheVariants.{One}
 
 -- ## Calls with their replies
 
@@ -57,7 +58,7 @@ abbrev pub plain : Props
 plain = record { no_abort = false; no_irrevocable = false; goes_irrevocable = false }
 
 abbrev pub attempt : Outcome → ℕ → List CallRecord → Attempt
-attempt outcome at calls = record { thread = 0; nth = 1; began = 0; at = at; props = plain; arena = []; calls = record { list = calls; room = 0 }; ran = []; outcome = outcome }
+attempt outcome at calls = record { thread = 0; nth = 1; began = 0; at = at; props = plain; arena = []; calls = record { list = calls; room = 0 }; restarts = []; ran = []; outcome = outcome }
 
 -- after which these actions had run
 abbrev pub attempt_ran : Outcome → List CallRecord → List Ran → Attempt
@@ -78,4 +79,4 @@ holder at = attempt Unfinished at (goes ∷ [])
 -- ## Histories
 
 abbrev pub history : List Attempt → ℕ → ℕ → History
-history attempts clock b = record { memory = eight 0; attempts = attempts; clock = clock; bytes = eight b }
+history attempts clock b = record { version = One; memory = eight 0; attempts = attempts; clock = clock; bytes = eight b }

@@ -1,32 +1,35 @@
 -- An attempt has no fault on a memory exactly where it is one alone on it.
-use Rattle.std.proofs.Common.{◌≡◌, ℕ, suc, ◌-◌, Bool, true, false, not, ◌&&◌, if◌then◌else◌, List, [], ◌∷◌, ◌++◌, length, map, take, Option, None, Some, refl, sym, ap, subst, ◌∙◌, arith, length-append}
+use Rattle.std.proofs.Common.{◌≡◌, ℕ, zero, suc, ◌-◌, ◌<◌, Bool, true, false, not, ◌&&◌, if◌then◌else◌, is_some, List, [], ◌∷◌, ◌++◌, length, map, take, Option, None, Some, refl, sym, ap, subst, ◌∙◌, arith, length-append}
 use Rattle.std.specs.Prelude.{bytes_eq}
 use Rattle.std.specs.Bool.{Decides}
 use Rattle.std.specs.Cmp.Lexicographic.{pointwise}
 use Rattle.std.proofs.Math.Seq.{take-append_seam}
-use Rattle.std.proofs.lemmas.Bool.{and_from, and_parts, cond-true, eqb-true, not-true, not_from_false}
+use Rattle.std.proofs.lemmas.Bool.{and_from, and_parts, cond-false, cond-true, eqb-true, not-true, not_from_false}
 use Rattle.std.proofs.lemmas.Bool.Decides.{Decides-and}
 use Rattle.std.proofs.lemmas.Slice.Eq.{bytes_eq-Decides}
-use Rattle.itm_types.specs.declared.limits.TheConstants.{MAX_OPEN_BLOCKS}
 use Rattle.itm_types.specs.declared.call.Call.{Call}
 use Rattle.itm_types.specs.declared.call.Call.TheVariants.{Begin, Commit, Abort, Mode, InTransaction, Read, Write, Log, LogBytes, Copy, Fill, CommitAction, UndoAction, Load, Save}
 use Rattle.itm_types.specs.declared.call.Reply.{Reply}
 use Rattle.itm_types.specs.declared.call.Reply.TheVariants.{Done, Bytes, Code, Refused}
 use Rattle.itm_model.specs.State.{State}
 use Rattle.itm_model.specs.Machine.{after, is_open, opened, reply}
-use Rattle.itm_model.specs.Runs.{replies, state_after}
+use Rattle.itm_model.specs.Runs.{Breaks, replies_through, state_through}
+use Rattle.tx_attempts.specs.declared.attempt.Again.{Again}
 use Rattle.tx_attempts.specs.declared.attempt.Attempt.{Attempt}
 use Rattle.tx_attempts.specs.declared.attempt.CallRecord.{CallRecord}
 use Rattle.tx_attempts.specs.declared.attempt.Outcome.{Outcome}
 use Rattle.tx_attempts.specs.declared.attempt.Outcome.TheVariants.{Committed, ReadOnly, Cancelled, Conflict, Full, NoMemory, Unfinished}
 use Rattle.tx_attempts.specs.Attempts.{ByAbort, ByCommit, ClosedBy, alone}
+use Rattle.tx_attempts.specs.Opacity.{StaysRevocable}
+use Rattle.tx_attempts.specs.Restarts.{again_at, arena_set}
 use Rattle.tx_history.specs.Legal.{EndsIn, IsAlone, may_begin, ran_alone, state_at}
 use Rattle.history_checker.specs.declared.verdict.BadKind.TheVariants as kind
 use Rattle.history_checker.specs.declared.verdict.Fault.{Fault}
 use Rattle.history_checker.specs.Matches.{same_ran, same_reply}
-use Rattle.history_checker.specs.Replays.{at_call, at_head, calls_fault, came_irrevocable, end_fault, ends_by_abort, ends_by_commit, fault_in, first_of, fits, is_abort_done, is_cancelled, is_commit_done, is_done, last_is}
+use Rattle.history_checker.specs.Replays.{again_fault, are_again, at_call, at_head, calls_fault, came_irrevocable, end_fault, ends_by_abort, ends_by_commit, fault_in, first_of, fits, is_abort_done, is_cancelled, is_commit_done, is_done, last_is, may_stand}
 use Rattle.history_checker.proofs.Steps.Calls.{made}
 use Rattle.history_checker.proofs.Legality.Replies.{all_ran_decides, reply_decides}
+use Rattle.history_checker.proofs.Legality.Restarts.{again_decides, each_at, each_from}
 
 -- lists that are one have one head
 same_head : {A : Type 0} (x y : A) (xs ys : List A) → x ∷ xs ≡ y ∷ ys → x ≡ y
@@ -44,42 +47,88 @@ both_passed true true later f g e = (refl, refl, e)
 both_passed true false later f g e = absurd (cc)
 both_passed false b later f g e = absurd (cc)
 
--- no call stands after the block's end
-abbrev StaysOpen : State → List CallRecord → Type 0
-StaysOpen s es = (before : List CallRecord) (e : CallRecord) (rest : List CallRecord) → es ≡ before ++ e ∷ rest → is_open (state_after MAX_OPEN_BLOCKS s (made before)) ≡ true
+-- where no block ran again in an irrevocable transaction, nothing later is wrong
+free : (b : Bool) (later : Option Fault) (f : Fault) → (if b then Some f else later) ≡ None → (b ≡ false) × (later ≡ None)
+free true later f e = absurd (cc)
+free false later f e = (refl, e)
 
--- of no calls none does
-none_there : (s : State) → StaysOpen s []
-none_there s [] e rest is = absurd (cc)
-none_there s (b ∷ before) e rest is = absurd (cc)
+none_held : (o : Option Again) (s : State) (later : Option Fault) → again_fault o s later ≡ None → (is_some o ≡ true → s.irrevocable ≡ false) × (later ≡ None)
+none_held None s later e = (λ is. absurd (cc), e)
+none_held (Some a) s later e = (let parts = free s.irrevocable later (at_head kind.Shape) e in (λ is. parts.0, parts.1))
 
--- with one more that is made in an open block it stays so
-one_more_there : (s : State) (x : CallRecord) (xs : List CallRecord) → is_open s ≡ true → StaysOpen (after MAX_OPEN_BLOCKS s x.call) xs → StaysOpen s (x ∷ xs)
-one_more_there s x xs o later [] e rest is = o
-one_more_there s x xs o later (b ∷ before) e rest is =
-    let call : x.call ≡ b.call = ap (λ (c : CallRecord). c.call) (same_head x b xs (before ++ e ∷ rest) is) in
-    subst (λ (c : Call). is_open (state_after MAX_OPEN_BLOCKS (after MAX_OPEN_BLOCKS s c) (made before)) ≡ true) call (later before e rest (same_tail x b xs (before ++ e ∷ rest) is))
+-- and where nothing is, none did
+held_none : (o : Option Again) (s : State) (later : Option Fault) → (is_some o ≡ true → s.irrevocable ≡ false) → later ≡ None → again_fault o s later ≡ None
+held_none None s later h e = e
+held_none (Some a) s later h e = cond-false s.irrevocable (Some (at_head kind.Shape)) later (h refl) ∙ e
 
--- with no fault the replies are the plain machine's, each of a call in an open block
-calls_told : (s : State) (i : ℕ) (es : List CallRecord) → calls_fault s i es ≡ None → (map (λ (e : CallRecord). e.reply) es ≡ replies MAX_OPEN_BLOCKS s (made es)) × StaysOpen s es
-calls_told s i [] f = (refl, none_there s)
-calls_told s i (x ∷ xs) f =
-    let parts = both_passed (is_open s) (same_reply x.reply (reply MAX_OPEN_BLOCKS s x.call)) (calls_fault (after MAX_OPEN_BLOCKS s x.call) (suc i) xs) (at_call i kind.Reply) (at_head kind.Shape) f in
-    let later = calls_told (after MAX_OPEN_BLOCKS s x.call) (suc i) xs parts.2 in
-    let first : x.reply ≡ reply MAX_OPEN_BLOCKS s x.call = (reply_decides x.reply (reply MAX_OPEN_BLOCKS s x.call)).0 parts.1 in
-    (λ t. first t ∷ later.0 t, one_more_there s x xs parts.0 later.1)
+-- an arena that is set leaves the mode
+mode_set : (o : Option Again) (s : State) → (arena_set o s).irrevocable ≡ s.irrevocable
+mode_set None s = refl
+mode_set (Some a) s = refl
 
--- and where they are there is none
-calls_right : (s : State) (i : ℕ) (es : List CallRecord) → map (λ (e : CallRecord). e.reply) es ≡ replies MAX_OPEN_BLOCKS s (made es) → StaysOpen s es → calls_fault s i es ≡ None
-calls_right s i [] r o = refl
-calls_right s i (x ∷ xs) r o =
-    let there = reply MAX_OPEN_BLOCKS s x.call in
-    let next = after MAX_OPEN_BLOCKS s x.call in
-    let first : x.reply ≡ there = same_head x.reply there (map (λ (e : CallRecord). e.reply) xs) (replies MAX_OPEN_BLOCKS next (made xs)) r in
-    let more : map (λ (e : CallRecord). e.reply) xs ≡ replies MAX_OPEN_BLOCKS next (made xs) = same_tail x.reply there (map (λ (e : CallRecord). e.reply) xs) (replies MAX_OPEN_BLOCKS next (made xs)) r in
-    cond-true (is_open s) (if same_reply x.reply there then calls_fault next (suc i) xs else Some (at_call i kind.Reply)) (Some (at_head kind.Shape)) (o [] x xs refl)
-    ∙ (cond-true (same_reply x.reply there) (calls_fault next (suc i) xs) (Some (at_call i kind.Reply)) ((reply_decides x.reply there).1 first)
-    ∙ calls_right next (suc i) xs more (λ before e rest is. o (x ∷ before) e rest (ap (λ (l : List CallRecord). x ∷ l) is)))
+-- what the blocks that ran again make of a run
+abbrev sets : (ℕ → Option Again) → Breaks
+sets again n s = arena_set (again n) s
+
+module _ (deepest : ℕ) where
+  -- no call stands after the outermost block's end
+  abbrev StaysOpen : (ℕ → Option Again) → State → List CallRecord → Type 0
+  StaysOpen again s es = (before : List CallRecord) (e : CallRecord) (rest : List CallRecord) → es ≡ before ++ e ∷ rest → is_open (state_through deepest (sets again) s (made before)) ≡ true
+
+  -- of no calls none does
+  none_there : (again : ℕ → Option Again) (s : State) → StaysOpen again s []
+  none_there again s [] e rest is = absurd (cc)
+  none_there again s (b ∷ before) e rest is = absurd (cc)
+
+  -- the state before the calls that follow a first one
+  abbrev next : (ℕ → Option Again) → State → CallRecord → State
+  next again s x = arena_set (again 1) (after deepest s x.call)
+
+  -- with one more that is made in an open block it stays so
+  one_more_there : (again : ℕ → Option Again) (s : State) (x : CallRecord) (xs : List CallRecord) → is_open s ≡ true → StaysOpen (λ n. again (suc n)) (next again s x) xs → StaysOpen again s (x ∷ xs)
+  one_more_there again s x xs o later [] e rest is = o
+  one_more_there again s x xs o later (b ∷ before) e rest is =
+      let call : x.call ≡ b.call = ap (λ (c : CallRecord). c.call) (same_head x b xs (before ++ e ∷ rest) is) in
+      subst (λ (c : Call). is_open (state_through deepest (sets (λ n. again (suc n))) (arena_set (again 1) (after deepest s c)) (made before)) ≡ true) call (later before e rest (same_tail x b xs (before ++ e ∷ rest) is))
+
+  -- where a block ran again the transaction was not irrevocable
+  abbrev StaysFree : (ℕ → Option Again) → State → List CallRecord → Type 0
+  StaysFree again s es = (n : ℕ) → n < length es → is_some (again (suc n)) ≡ true → (state_through deepest (sets again) s (made (take (suc n) es))).irrevocable ≡ false
+
+  one_more_free : (again : ℕ → Option Again) (s : State) (x : CallRecord) (xs : List CallRecord) → (is_some (again 1) ≡ true → (after deepest s x.call).irrevocable ≡ false) → StaysFree (λ n. again (suc n)) (next again s x) xs → StaysFree again s (x ∷ xs)
+  one_more_free again s x xs h later zero l is = mode_set (again 1) (after deepest s x.call) ∙ h is
+  one_more_free again s x xs h later (suc n) l is = later n (omega (arith, l)) is
+
+  -- with no fault the replies are the plain machine's, each of a call in an open block
+  calls_told : (again : ℕ → Option Again) (s : State) (i : ℕ) (es : List CallRecord) → calls_fault deepest again s i es ≡ None
+      → (map (λ (e : CallRecord). e.reply) es ≡ replies_through deepest (sets again) s (made es)) × StaysOpen again s es × StaysFree again s es
+  calls_told again s i [] f = (refl, none_there again s, λ n l is. absurd (omega (arith, l)))
+  calls_told again s i (x ∷ xs) f =
+      let t = after deepest s x.call in
+      let rest = calls_fault deepest (λ n. again (suc n)) (arena_set (again 1) t) (suc i) xs in
+      let parts = both_passed (is_open s) (same_reply x.reply (reply deepest s x.call)) (again_fault (again 1) t rest) (at_call i kind.Reply) (at_head kind.Shape) f in
+      let held = none_held (again 1) t rest parts.2 in
+      let later = calls_told (λ n. again (suc n)) (arena_set (again 1) t) (suc i) xs held.1 in
+      let first : x.reply ≡ reply deepest s x.call = (reply_decides x.reply (reply deepest s x.call)).0 parts.1 in
+      (λ t. first t ∷ later.0 t, one_more_there again s x xs parts.0 later.1, one_more_free again s x xs held.0 later.2)
+
+  -- and where they are there is none
+  calls_right : (again : ℕ → Option Again) (s : State) (i : ℕ) (es : List CallRecord) → map (λ (e : CallRecord). e.reply) es ≡ replies_through deepest (sets again) s (made es) → StaysOpen again s es → StaysFree again s es
+      → calls_fault deepest again s i es ≡ None
+  calls_right again s i [] r o h = refl
+  calls_right again s i (x ∷ xs) r o h =
+      let there = reply deepest s x.call in
+      let t = after deepest s x.call in
+      let more_again : ℕ → Option Again = λ n. again (suc n) in
+      let later = calls_fault deepest more_again (arena_set (again 1) t) (suc i) xs in
+      let replies = replies_through deepest (sets more_again) (arena_set (again 1) t) (made xs) in
+      let first : x.reply ≡ there = same_head x.reply there (map (λ (e : CallRecord). e.reply) xs) replies r in
+      let more : map (λ (e : CallRecord). e.reply) xs ≡ replies = same_tail x.reply there (map (λ (e : CallRecord). e.reply) xs) replies r in
+      let rest : later ≡ None = calls_right more_again (arena_set (again 1) t) (suc i) xs more (λ before e rest is. o (x ∷ before) e rest (ap (λ (l : List CallRecord). x ∷ l) is)) (λ n l is. h (suc n) (omega (arith, l)) is) in
+      let held : is_some (again 1) ≡ true → t.irrevocable ≡ false = λ is. sym (mode_set (again 1) t) ∙ h 0 (omega arith) is in
+      cond-true (is_open s) (if same_reply x.reply there then again_fault (again 1) t later else Some (at_call i kind.Reply)) (Some (at_head kind.Shape)) (o [] x xs refl)
+      ∙ (cond-true (same_reply x.reply there) (again_fault (again 1) t later) (Some (at_call i kind.Reply)) ((reply_decides x.reply there).1 first)
+      ∙ held_none (again 1) t later held rest)
 
 -- ## The last call
 
@@ -172,10 +221,10 @@ front_is before e =
     ap (λ (n : ℕ). take n (before ++ e ∷ [])) size ∙ take-append_seam before (e ∷ [])
 
 -- the mode as the last call came
-came_is : (memory : List ℕ) (a : Attempt) (before : List CallRecord) (last : CallRecord) → a.calls.list ≡ before ++ last ∷ [] → came_irrevocable memory a ≡ (state_at memory a before).irrevocable
-came_is memory a before last is =
-    ap (λ (xs : List CallRecord). (state_at memory a (take (length xs - 1) xs)).irrevocable) is
-    ∙ ap (λ (xs : List CallRecord). (state_at memory a xs).irrevocable) (front_is before last)
+came_is : (deepest : ℕ) (memory : List ℕ) (a : Attempt) (before : List CallRecord) (last : CallRecord) → a.calls.list ≡ before ++ last ∷ [] → came_irrevocable deepest memory a ≡ (state_at deepest memory a before).irrevocable
+came_is deepest memory a before last is =
+    ap (λ (xs : List CallRecord). (state_at deepest memory a (take (length xs - 1) xs)).irrevocable) is
+    ∙ ap (λ (xs : List CallRecord). (state_at deepest memory a xs).irrevocable) (front_is before last)
 
 -- a test that is to be false
 off_decides : (b : Bool) → Decides (not b) (b ≡ false)
@@ -189,23 +238,23 @@ given_up inside irrevocable = (
 )
 
 -- the state fits the outcome exactly where it is as the outcome says, and the last call too
-fits_decides : (o : Outcome) (memory : List ℕ) (a : Attempt) (s : State) → Decides (fits o memory a s) (EndsIn o memory a s × ClosedBy o a.calls.list)
-fits_decides Committed memory a s = Decides-and (not (is_open s)) (ends_by_commit a.calls.list) (off_decides (is_open s)) (commit_decides a.calls.list)
-fits_decides ReadOnly memory a s = (
-  λ h. (let p = and_parts (not (is_open s) && ends_by_commit a.calls.list) (bytes_eq s.memory memory && not (came_irrevocable memory a)) h in
+fits_decides : (deepest : ℕ) (o : Outcome) (memory : List ℕ) (a : Attempt) (s : State) → Decides (fits deepest o memory a s) (EndsIn deepest o memory a s × ClosedBy o a.calls.list)
+fits_decides deepest Committed memory a s = Decides-and (not (is_open s)) (ends_by_commit a.calls.list) (off_decides (is_open s)) (commit_decides a.calls.list)
+fits_decides deepest ReadOnly memory a s = (
+  λ h. (let p = and_parts (not (is_open s) && ends_by_commit a.calls.list) (bytes_eq s.memory memory && not (came_irrevocable deepest memory a)) h in
       let q = and_parts (not (is_open s)) (ends_by_commit a.calls.list) p.0 in
-      let r = and_parts (bytes_eq s.memory memory) (not (came_irrevocable memory a)) p.1 in
-      ((not-true (is_open s) q.0, (bytes_eq-Decides s.memory memory).0 r.0, λ before last is. sym (came_is memory a before last is) ∙ not-true (came_irrevocable memory a) r.1), (commit_decides a.calls.list).0 q.1)),
-  λ h. (let late : came_irrevocable memory a ≡ false = came_is memory a h.1.0 (record { call = Commit; reply = Done }) h.1.1 ∙ h.0.2 h.1.0 (record { call = Commit; reply = Done }) h.1.1 in
-      and_from (not (is_open s) && ends_by_commit a.calls.list) (bytes_eq s.memory memory && not (came_irrevocable memory a))
+      let r = and_parts (bytes_eq s.memory memory) (not (came_irrevocable deepest memory a)) p.1 in
+      ((not-true (is_open s) q.0, (bytes_eq-Decides s.memory memory).0 r.0, λ before last is. sym (came_is deepest memory a before last is) ∙ not-true (came_irrevocable deepest memory a) r.1), (commit_decides a.calls.list).0 q.1)),
+  λ h. (let late : came_irrevocable deepest memory a ≡ false = came_is deepest memory a h.1.0 (record { call = Commit; reply = Done }) h.1.1 ∙ h.0.2 h.1.0 (record { call = Commit; reply = Done }) h.1.1 in
+      and_from (not (is_open s) && ends_by_commit a.calls.list) (bytes_eq s.memory memory && not (came_irrevocable deepest memory a))
       (and_from (not (is_open s)) (ends_by_commit a.calls.list) (not_from_false (is_open s) h.0.0) ((commit_decides a.calls.list).1 h.1))
-      (and_from (bytes_eq s.memory memory) (not (came_irrevocable memory a)) ((bytes_eq-Decides s.memory memory).1 h.0.1) (not_from_false (came_irrevocable memory a) late))),
+      (and_from (bytes_eq s.memory memory) (not (came_irrevocable deepest memory a)) ((bytes_eq-Decides s.memory memory).1 h.0.1) (not_from_false (came_irrevocable deepest memory a) late))),
 )
-fits_decides Cancelled memory a s = Decides-and (not (is_open s)) (ends_by_abort a.calls.list) (off_decides (is_open s)) (abort_decides a.calls.list)
-fits_decides Conflict memory a s = given_up (is_open s) s.irrevocable
-fits_decides Full memory a s = given_up (is_open s) s.irrevocable
-fits_decides NoMemory memory a s = given_up (is_open s) s.irrevocable
-fits_decides Unfinished memory a s = (λ h. (h, tt), λ h. h.0)
+fits_decides deepest Cancelled memory a s = Decides-and (not (is_open s)) (ends_by_abort a.calls.list) (off_decides (is_open s)) (abort_decides a.calls.list)
+fits_decides deepest Conflict memory a s = given_up (is_open s) s.irrevocable
+fits_decides deepest Full memory a s = given_up (is_open s) s.irrevocable
+fits_decides deepest NoMemory memory a s = given_up (is_open s) s.irrevocable
+fits_decides deepest Unfinished memory a s = (λ h. (h, tt), λ h. h.0)
 
 -- ## The attempt
 
@@ -219,34 +268,42 @@ begun_nothing : (b : Bool) (later : Option Fault) (f : Fault) → (if b then lat
 begun_nothing true later f e = (refl, e)
 begun_nothing false later f e = absurd (cc)
 
-module _ (memory : List ℕ) (a : Attempt) where
+module _ (deepest : ℕ) (memory : List ℕ) (a : Attempt) where
   -- an attempt with no fault is one alone
-  pub alone_from : fault_in memory a ≡ None → IsAlone memory a
+  pub alone_from : fault_in deepest memory a ≡ None → IsAlone deepest memory a
   unfolding fault_in
   alone_from e =
-      let s = alone MAX_OPEN_BLOCKS memory a in
-      let begun = begun_nothing (may_begin a.props) (first_of (calls_fault (opened memory a.arena a.props) 0 a.calls.list) (end_fault memory a s)) (at_head kind.Shape) e in
-      let parts = first_nothing (calls_fault (opened memory a.arena a.props) 0 a.calls.list) (end_fault memory a s) begun.1 in
-      let told = calls_told (opened memory a.arena a.props) 0 a.calls.list parts.0 in
-      let ended = both_passed (fits a.outcome memory a s) (pointwise same_ran a.ran (ran_alone a.outcome s)) None (at_head kind.Ran) (at_head kind.Shape) parts.1 in
-      let as_told = (fits_decides a.outcome memory a s).0 ended.0 in
+      let s = alone deepest memory a in
+      let start = opened memory a.arena a.props in
+      let called = calls_fault deepest (again_at a.restarts) start 0 a.calls.list in
+      let begun = begun_nothing (may_stand a) (first_of called (end_fault deepest memory a s)) (at_head kind.Shape) e in
+      let stands = and_parts (may_begin a.props) (are_again (length a.arena) 0 a.calls.list a.restarts) begun.0 in
+      let again = (again_decides (length a.arena) 0 a.calls.list a.restarts).0 stands.1 in
+      let parts = first_nothing called (end_fault deepest memory a s) begun.1 in
+      let told = calls_told deepest (again_at a.restarts) start 0 a.calls.list parts.0 in
+      let ended = both_passed (fits deepest a.outcome memory a s) (pointwise same_ran a.ran (ran_alone a.outcome s)) None (at_head kind.Ran) (at_head kind.Shape) parts.1 in
+      let as_told = (fits_decides deepest a.outcome memory a s).0 ended.0 in
       record {
-        props = begun.0;
+        props = stands.0;
         replies = told.0;
         stays_open = told.1;
         ends = as_told.0;
         closed = as_told.1;
         ran = (all_ran_decides a.ran (ran_alone a.outcome s)).0 ended.1;
+        again = record { stand = again; revocable = each_from (StaysRevocable deepest memory a) (length a.arena) 0 a.calls.list a.restarts again told.2 };
       }
 
   -- and one alone has no fault
-  pub faultless : IsAlone memory a → fault_in memory a ≡ None
+  pub faultless : IsAlone deepest memory a → fault_in deepest memory a ≡ None
   unfolding fault_in
   faultless i =
-      let s = alone MAX_OPEN_BLOCKS memory a in
-      let calls : calls_fault (opened memory a.arena a.props) 0 a.calls.list ≡ None = calls_right (opened memory a.arena a.props) 0 a.calls.list i.replies i.stays_open in
-      let ended : end_fault memory a s ≡ None =
-      cond-true (fits a.outcome memory a s) (if pointwise same_ran a.ran (ran_alone a.outcome s) then None else Some (at_head kind.Ran)) (Some (at_head kind.Shape)) ((fits_decides a.outcome memory a s).1 (i.ends, i.closed))
+      let s = alone deepest memory a in
+      let start = opened memory a.arena a.props in
+      let stands : may_stand a ≡ true = and_from (may_begin a.props) (are_again (length a.arena) 0 a.calls.list a.restarts) i.props ((again_decides (length a.arena) 0 a.calls.list a.restarts).1 i.again.stand) in
+      let calls : calls_fault deepest (again_at a.restarts) start 0 a.calls.list ≡ None =
+      calls_right deepest (again_at a.restarts) start 0 a.calls.list i.replies i.stays_open (λ n l is. each_at (StaysRevocable deepest memory a) a.calls.list a.restarts i.again.revocable (suc n) is) in
+      let ended : end_fault deepest memory a s ≡ None =
+      cond-true (fits deepest a.outcome memory a s) (if pointwise same_ran a.ran (ran_alone a.outcome s) then None else Some (at_head kind.Ran)) (Some (at_head kind.Shape)) ((fits_decides deepest a.outcome memory a s).1 (i.ends, i.closed))
       ∙ cond-true (pointwise same_ran a.ran (ran_alone a.outcome s)) None (Some (at_head kind.Ran)) ((all_ran_decides a.ran (ran_alone a.outcome s)).1 i.ran) in
-      cond-true (may_begin a.props) (first_of (calls_fault (opened memory a.arena a.props) 0 a.calls.list) (end_fault memory a s)) (Some (at_head kind.Shape)) i.props
+      cond-true (may_stand a) (first_of (calls_fault deepest (again_at a.restarts) start 0 a.calls.list) (end_fault deepest memory a s)) (Some (at_head kind.Shape)) stands
       ∙ (λ t. first_of (calls t) (ended t))

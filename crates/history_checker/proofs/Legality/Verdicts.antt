@@ -42,7 +42,7 @@ module _ (h : History) where
         positions = each_once ts once;
         others = seen_from n ts once second.0;
         alone = all_alone h n once third.0 third.1;
-        final = (ends_decides h n).0 (legal_by_test (ends_free h n || ends_held h n) (told_row (head_row ts (length ts))) kind.Final final);
+        final = (ends_decides h n).0 (legal_by_test (ends_free h n || ends_held h n) (told_row (head_row h.version ts (length ts))) kind.Final final);
       }
 
   -- and a legal one has that verdict
@@ -56,7 +56,7 @@ module _ (h : History) where
       let committed : committed_fault h n ≡ None = committed_faultless h n i.alone in
       let others : others_fault h 0 ts ≡ None = others_faultless h i.alone in
       let none : first_fault h n ≡ None = (λ t. first_of (position t) (first_of (beyond t) (first_of (committed t) (others t)))) in
-      ap (verdict_on h n) none ∙ ap (λ (b : Bool). if b then Legal else Bad (told_row (head_row ts (length ts))) kind.Final) ((ends_decides h n).1 i.final)
+      ap (verdict_on h n) none ∙ ap (λ (b : Bool). if b then Legal else Bad (told_row (head_row h.version ts (length ts))) kind.Final) ((ends_decides h n).1 i.final)
 
   -- the verdict is that it is legal exactly where it is
   pub legal_verdict : (verdict_of h ≡ Legal) ↔ IsLegal h

@@ -1,18 +1,20 @@
 -- One call after the other.
-use Rattle.std.proofs.Common.{◌≡◌, ℕ, zero, suc, ◌+◌, ◌-◌, ◌<◌, Bool, true, false, List, [], ◌∷◌, length, get_or, take, drop, map, refl, ap, ◌∙◌, arith, add-one, drop-cons, Option, None, Some}
+use Rattle.std.proofs.Common.{◌≡◌, ℕ, zero, suc, ◌+◌, ◌-◌, ◌<◌, Bool, true, false, List, [], ◌∷◌, length, get_or, take, drop, map, refl, ap, subst, ◌∙◌, arith, drop-cons, Option, None, Some}
 use Rattle.std.proofs.lemmas.Bool.{cond-true, cond-false}
-use Rattle.itm_types.specs.declared.limits.TheConstants.{MAX_OPEN_BLOCKS}
 use Rattle.itm_types.specs.declared.call.Refusal.{Refusal}
 use Rattle.itm_types.specs.declared.call.Call.{Call}
 use Rattle.itm_types.specs.declared.call.Call.TheVariants.{Begin, Commit, Abort, Mode, InTransaction, Read, Write, Log, LogBytes, Copy, Fill, CommitAction, UndoAction, Load, Save}
 use Rattle.itm_model.specs.State.{State}
 use Rattle.itm_model.specs.Machine.{is_open, reply, after, refusal}
-use Rattle.itm_model.specs.Runs.{state_after}
+use Rattle.itm_model.specs.Runs.{Breaks, later, state_through}
 use Rattle.itm_model.specs.Undoable.{Undoable, before_after, before_next, before_unless}
+use Rattle.tx_attempts.specs.declared.attempt.Again.{Again}
 use Rattle.tx_attempts.specs.declared.attempt.CallRecord.{CallRecord}
+use Rattle.tx_attempts.specs.Restarts.{arena_set}
 use Rattle.history_checker.specs.declared.verdict.BadKind.TheVariants as kind
+use Rattle.history_checker.specs.declared.verdict.Fault.{Fault}
 use Rattle.history_checker.specs.Matches.{same_reply}
-use Rattle.history_checker.specs.Replays.{calls_fault, at_head, at_call, last_is}
+use Rattle.history_checker.specs.Replays.{again_fault, calls_fault, at_head, at_call, last_is}
 
 -- the last of some calls
 pub last_item : (test : CallRecord → Bool) (es : List CallRecord) (d : CallRecord) → 0 < length es → last_is test es ≡ test (get_or es (length es - 1) d)
@@ -21,32 +23,48 @@ last_item test (e ∷ []) d h = refl
 last_item test (e ∷ f ∷ rest) d h =
     last_item test (f ∷ rest) d (omega arith) ∙ (let at : suc (length (f ∷ rest) - 1) ≡ length (e ∷ f ∷ rest) - 1 = omega arith in ap (λ (n : ℕ). test (get_or (e ∷ f ∷ rest) n d)) at)
 
-pub calls_next : (s : State) (i : ℕ) (es : List CallRecord) (d : CallRecord) → i < length es → is_open s ≡ true → same_reply (get_or es i d).reply (reply MAX_OPEN_BLOCKS s (get_or es i d).call) ≡ true
-    → calls_fault s i (drop i es) ≡ calls_fault (after MAX_OPEN_BLOCKS s (get_or es i d).call) (i + 1) (drop (i + 1) es)
-calls_next s i es d h o r =
-    let e = get_or es i d in
-    rw (add-one) (ap (calls_fault s i) (drop-cons es i d h) ∙ (cond-true (is_open s) _ _ o ∙ cond-true (same_reply e.reply (reply MAX_OPEN_BLOCKS s e.call)) _ _ r))
+-- ## The fault of the calls from one on
 
-pub calls_closed : (s : State) (i : ℕ) (es : List CallRecord) (d : CallRecord) → i < length es → is_open s ≡ false → calls_fault s i (drop i es) ≡ Some (at_head kind.Shape)
-calls_closed s i es d h o = ap (calls_fault s i) (drop-cons es i d h) ∙ cond-false (is_open s) _ _ o
+module _ (deepest : ℕ) (again : ℕ → Option Again) (s : State) (i : ℕ) (es : List CallRecord) (d : CallRecord) (h : i < length es) where
+  -- behind i calls
+  abbrev pub fault_from : Option Fault
+  fault_from = calls_fault deepest (λ n. again (i + n)) s i (drop i es)
 
-pub calls_wrong : (s : State) (i : ℕ) (es : List CallRecord) (d : CallRecord) → i < length es → is_open s ≡ true → same_reply (get_or es i d).reply (reply MAX_OPEN_BLOCKS s (get_or es i d).call) ≡ false
-    → calls_fault s i (drop i es) ≡ Some (at_call i kind.Reply)
-calls_wrong s i es d h o r =
-    let e = get_or es i d in
-    ap (calls_fault s i) (drop-cons es i d h) ∙ (cond-true (is_open s) _ _ o ∙ cond-false (same_reply e.reply (reply MAX_OPEN_BLOCKS s e.call)) _ _ r)
+  pub calls_closed : is_open s ≡ false → fault_from ≡ Some (at_head kind.Shape)
+  calls_closed o = ap (calls_fault deepest (λ n. again (i + n)) s i) (drop-cons es i d h) ∙ cond-false (is_open s) _ _ o
+
+  pub calls_wrong : is_open s ≡ true → same_reply (get_or es i d).reply (reply deepest s (get_or es i d).call) ≡ false → fault_from ≡ Some (at_call i kind.Reply)
+  calls_wrong o r =
+      let e = get_or es i d in
+      ap (calls_fault deepest (λ n. again (i + n)) s i) (drop-cons es i d h) ∙ (cond-true (is_open s) _ _ o ∙ cond-false (same_reply e.reply (reply deepest s e.call)) _ _ r)
+
+  pub calls_next : is_open s ≡ true → same_reply (get_or es i d).reply (reply deepest s (get_or es i d).call) ≡ true
+      → fault_from ≡ again_fault (again (i + 1)) (after deepest s (get_or es i d).call) (calls_fault deepest (λ n. again (i + 1 + n)) (arena_set (again (i + 1)) (after deepest s (get_or es i d).call)) (i + 1) (drop (i + 1) es))
+  calls_next o r =
+      let e = get_or es i d in
+      let t = after deepest s e.call in
+      let more : (n : ℕ) → i + suc n ≡ i + 1 + n = λ n. omega arith in
+      let at : suc i ≡ i + 1 = omega arith in
+      ap (calls_fault deepest (λ n. again (i + n)) s i) (drop-cons es i d h)
+      ∙ (cond-true (is_open s) _ _ o
+      ∙ (cond-true (same_reply e.reply (reply deepest s e.call)) _ _ r
+      ∙ (λ j. again_fault (again (i + 1)) t (calls_fault deepest (λ n. again (more n j)) (arena_set (again (i + 1)) t) (at j) (drop (at j) es)))))
 
 -- the calls of these entries
 abbrev pub made : List CallRecord → List Call
 made es = map (λ (e : CallRecord). e.call) es
 
-pub state_suc : (n : ℕ) (s : State) (es : List CallRecord) (i : ℕ) (d : CallRecord) → i < length es → state_after n s (made (take (suc i) es)) ≡ after n (state_after n s (made (take i es))) (get_or es i d).call
-state_suc n s [] i d h = absurd (omega (arith, h))
-state_suc n s (e ∷ es) zero d h = refl
-state_suc n s (e ∷ es) (suc i) d h = state_suc n (after n s e.call) es i d (omega (arith, h))
+pub state_suc : (deepest : ℕ) (b : Breaks) (s : State) (es : List CallRecord) (i : ℕ) (d : CallRecord) → i < length es
+    → state_through deepest b s (made (take (suc i) es)) ≡ b (suc i) (after deepest (state_through deepest b s (made (take i es))) (get_or es i d).call)
+state_suc deepest b s [] i d h = absurd (omega (arith, h))
+state_suc deepest b s (e ∷ es) zero d h = refl
+state_suc deepest b s (e ∷ es) (suc i) d h = state_suc deepest (later b) (b 1 (after deepest s e.call)) es i d (omega (arith, h))
 
-pub state_next : (n : ℕ) (s : State) (es : List CallRecord) (i : ℕ) (d : CallRecord) → i < length es → state_after n s (made (take (i + 1) es)) ≡ after n (state_after n s (made (take i es))) (get_or es i d).call
-state_next n s es i d h = rw (add-one) (state_suc n s es i d h)
+pub state_next : (deepest : ℕ) (b : Breaks) (s : State) (es : List CallRecord) (i : ℕ) (d : CallRecord) → i < length es
+    → state_through deepest b s (made (take (i + 1) es)) ≡ b (i + 1) (after deepest (state_through deepest b s (made (take i es))) (get_or es i d).call)
+state_next deepest b s es i d h =
+    let at : suc i ≡ i + 1 = omega arith in
+    subst (λ (n : ℕ). state_through deepest b s (made (take n es)) ≡ b n (after deepest (state_through deepest b s (made (take i es))) (get_or es i d).call)) at (state_suc deepest b s es i d h)
 
 -- a call within a block leaves what stood at its begin
 before_same : (r : Option Refusal) (old new : List ℕ) → new ≡ old → before_unless r old new ≡ old

@@ -4,17 +4,18 @@ use Rattle.std.proofs.lemmas.Grind.{common_steps}
 use Rattle.std.proofs.lemmas.Bool.{cases_lt}
 use Rattle.tx_attempts.specs.declared.attempt.Attempt.{Attempt}
 use Rattle.tx_attempts.specs.Attempts.{alone, is_committed}
-use Rattle.itm_types.specs.declared.limits.TheConstants.{MAX_OPEN_BLOCKS}
 use Rattle.tx_attempts.specs.declared.attempt.Outcome.{Outcome}
 use Rattle.tx_attempts.specs.declared.attempt.Outcome.TheVariants.{Committed, ReadOnly, Cancelled, Conflict, Full, NoMemory, Unfinished}
 use Rattle.tx_attempts.specs.Counts.{one_where}
 use Rattle.tx_history.specs.declared.history.History.{History}
+use Rattle.tx_history.specs.declared.history.Version.{Version}
 use Rattle.tx_history.specs.Legal.{is_unfinished, is_holding, count_holding, memory_at}
+use Rattle.tx_history.specs.Versions.{depth_of}
 use Rattle.history_checker.specs.declared.verdict.Fault.{Fault}
 use Rattle.history_checker.specs.declared.verdict.Spot.{Spot}
 use Rattle.history_checker.specs.declared.replays.Told.{Told}
 use Rattle.history_checker.specs.Replays.{first_of, fault_in}
-use Rattle.history_checker.specs.Verdicts.{at_fault, at_place, committed_fault, fault_at, is_beyond, head_row, is_away, is_waiting, line_count, others_fault, told_row}
+use Rattle.history_checker.specs.Verdicts.{at_fault, at_place, committed_fault, fault_at, is_beyond, first_row, head_row, is_away, is_waiting, line_count, others_fault, told_row}
 use Rattle.history_checker.specs.Tables.{AreTold, IsTold, nothing_told, told_away, told_fault, told_holding, told_of, told_on, unless_fault}
 use Rattle.history_checker.proofs.Steps.Tables.{none_beyond, seen_within}
 use Rattle.history_checker.proofs.Steps.Walks.{place_none}
@@ -25,28 +26,28 @@ fault_stays : (h : History) (k : ℕ) (s : Spot) (n : ℕ) → committed_fault h
 fault_stays h k s zero e l = let is : 0 ≡ k = omega (arith, l) in ap (committed_fault h) is ∙ e
 fault_stays h k s (suc n) e l = elim (cases_lt n k) [
   | inl b ↦ let is : suc n ≡ k = omega (arith, l, b) in ap (committed_fault h) is ∙ e
-  | inr g ↦ ap (λ (o : Option Spot). first_of o (fault_at (memory_at h n) n 0 h.attempts)) (fault_stays h k s n e g)
+  | inr g ↦ ap (λ (o : Option Spot). first_of o (fault_at (depth_of h.version) (memory_at h n) n 0 h.attempts)) (fault_stays h k s n e g)
 ]
 
 some_stays : (h : History) (k n : ℕ) (f : Option Spot) → f ≡ committed_fault h k → is_some f ≡ true → k ≤ n → f ≡ committed_fault h n
 some_stays h k n None e s l = cc
 some_stays h k n (Some x) e s l = sym (fault_stays h k x n (sym e) l)
 
-pub committed_first : (h : History) (k n : ℕ) (f : Option Spot) → committed_fault h k ≡ None → f ≡ fault_at (memory_at h k) k 0 h.attempts → is_some f ≡ true → k < n → f ≡ committed_fault h n
+pub committed_first : (h : History) (k n : ℕ) (f : Option Spot) → committed_fault h k ≡ None → f ≡ fault_at (depth_of h.version) (memory_at h k) k 0 h.attempts → is_some f ≡ true → k < n → f ≡ committed_fault h n
 committed_first h k n f none e s l =
-    some_stays h (suc k) n f (e ∙ ap (λ (o : Option Spot). first_of o (fault_at (memory_at h k) k 0 h.attempts)) (sym none)) s (omega (arith, l))
+    some_stays h (suc k) n f (e ∙ ap (λ (o : Option Spot). first_of o (fault_at (depth_of h.version) (memory_at h k) k 0 h.attempts)) (sym none)) s (omega (arith, l))
 
 -- ## Rows
 
-pub row_next : (ts : List Attempt) (i : ℕ) (d : Attempt) (row : ℕ) → i < length ts → row ≡ told_row (head_row ts i) → told_row (row + line_count (get_or ts i d)) ≡ told_row (head_row ts (i + 1))
-row_next ts i d row h e =
+pub row_next : (v : Version) (ts : List Attempt) (i : ℕ) (d : Attempt) (row : ℕ) → i < length ts → row ≡ told_row (head_row v ts i) → told_row (row + line_count (get_or ts i d)) ≡ told_row (head_row v ts (i + 1))
+row_next v ts i d row h e =
     let sum : sum_by line_count (take (i + 1) ts) ≡ sum_by line_count (take i ts) + line_count (get_or ts i d) = grind (arith, common_steps) in
     omega (arith, e, sum)
 
-pub row_last : (ts : List Attempt) (i place : ℕ) → length ts ≤ i → i ≤ place → head_row ts i ≡ head_row ts place
-row_last ts i place h l =
+pub row_last : (v : Version) (ts : List Attempt) (i place : ℕ) → length ts ≤ i → i ≤ place → head_row v ts i ≡ head_row v ts place
+row_last v ts i place h l =
     let whole : take i ts ≡ take place ts = grind (arith, common_steps) in
-    ap (λ (xs : List Attempt). 3 + sum_by line_count xs) whole
+    ap (λ (xs : List Attempt). first_row v + sum_by line_count xs) whole
 
 -- ## What is told
 
@@ -88,7 +89,7 @@ pub all_told : (h : History) (n : ℕ) (told : List Told) → at_fault n 0 h.att
 all_told h n told off t = lists_same (told_of h) told h.attempts nothing_told t.size
     (λ j d l. t.each j d l (is_told n j h.attempts (get_or h.attempts j d) (is_committed (get_or h.attempts j d).outcome) refl (none_beyond n 0 h.attempts j d off l)))
 
-other_told : (h : History) (i : ℕ) (a : Attempt) (b : Bool) → (if b then None else at_place i (fault_in (memory_at h a.at) a)) ≡ at_place i (if b then nothing_told else told_on (memory_at h a.at) a).fault
+other_told : (h : History) (i : ℕ) (a : Attempt) (b : Bool) → (if b then None else at_place i (fault_in (depth_of h.version) (memory_at h a.at) a)) ≡ at_place i (if b then nothing_told else told_on (depth_of h.version) (memory_at h a.at) a).fault
 unfolding told_on
 other_told h i a true = refl
 other_told h i a false = refl
@@ -96,7 +97,7 @@ other_told h i a false = refl
 pub others_told : (h : History) (i : ℕ) (ts : List Attempt) → others_fault h i ts ≡ told_fault i (map (told_of h) ts)
 others_told h i [] = refl
 others_told h i (a ∷ ts) =
-    let here : (if is_committed a.outcome then None else at_place i (fault_in (memory_at h a.at) a)) ≡ at_place i (told_of h a).fault = other_told h i a (is_committed a.outcome) in
+    let here : (if is_committed a.outcome then None else at_place i (fault_in (depth_of h.version) (memory_at h a.at) a)) ≡ at_place i (told_of h a).fault = other_told h i a (is_committed a.outcome) in
     let rest = others_told h (suc i) ts in
     (λ t. first_of (here t) (rest t))
 
@@ -114,16 +115,16 @@ ended_or_not Full e = refl
 ended_or_not NoMemory e = refl
 ended_or_not Unfinished e = sym e
 
-held : (h : History) (i : ℕ) (a : Attempt) (b : Bool) → is_committed a.outcome ≡ b → (if b then None else at_place i (fault_in (memory_at h a.at) a)) ≡ None → (if b then nothing_told else told_on (memory_at h a.at) a).holds ≡ is_holding h a
+held : (h : History) (i : ℕ) (a : Attempt) (b : Bool) → is_committed a.outcome ≡ b → (if b then None else at_place i (fault_in (depth_of h.version) (memory_at h a.at) a)) ≡ None → (if b then nothing_told else told_on (depth_of h.version) (memory_at h a.at) a).holds ≡ is_holding h a
 unfolding told_on
-held h i a true e f = sym (ap (λ (u : Bool). u && (alone MAX_OPEN_BLOCKS (memory_at h a.at) a).irrevocable) (ended_or_not a.outcome e))
-held h i a false e f = ap (λ (g : Option Fault). unless_fault g (is_unfinished a.outcome && (alone MAX_OPEN_BLOCKS (memory_at h a.at) a).irrevocable)) (place_none i (fault_in (memory_at h a.at) a) f)
+held h i a true e f = sym (ap (λ (u : Bool). u && (alone (depth_of h.version) (memory_at h a.at) a).irrevocable) (ended_or_not a.outcome e))
+held h i a false e f = ap (λ (g : Option Fault). unless_fault g (is_unfinished a.outcome && (alone (depth_of h.version) (memory_at h a.at) a).irrevocable)) (place_none i (fault_in (depth_of h.version) (memory_at h a.at) a) f)
 
 pub held_here : (h : History) (i : ℕ) (a : Attempt) (ts : List Attempt) → others_fault h i (a ∷ ts) ≡ None → (told_of h a).holds ≡ is_holding h a
-held_here h i a ts e = held h i a (is_committed a.outcome) refl (first_nothing (if is_committed a.outcome then None else at_place i (fault_in (memory_at h a.at) a)) (others_fault h (suc i) ts) e).0
+held_here h i a ts e = held h i a (is_committed a.outcome) refl (first_nothing (if is_committed a.outcome then None else at_place i (fault_in (depth_of h.version) (memory_at h a.at) a)) (others_fault h (suc i) ts) e).0
 
 none_later : (h : History) (i : ℕ) (a : Attempt) (ts : List Attempt) → others_fault h i (a ∷ ts) ≡ None → others_fault h (suc i) ts ≡ None
-none_later h i a ts e = (first_nothing (if is_committed a.outcome then None else at_place i (fault_in (memory_at h a.at) a)) (others_fault h (suc i) ts) e).1
+none_later h i a ts e = (first_nothing (if is_committed a.outcome then None else at_place i (fault_in (depth_of h.version) (memory_at h a.at) a)) (others_fault h (suc i) ts) e).1
 
 pub holding_told : (h : History) (i : ℕ) (ts : List Attempt) → others_fault h i ts ≡ None → told_holding (map (told_of h) ts) ≡ count_holding h ts
 holding_told h i [] e = refl

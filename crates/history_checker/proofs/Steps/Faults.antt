@@ -1,30 +1,30 @@
 -- The fault of an attempt, by where it is found.
-use Rattle.std.proofs.Common.{◌≡◌, ℕ, Bool, true, false, not, ◌&&◌, is_some, List, refl, ap, sym, ◌∙◌, Option, None, Some}
+use Rattle.std.proofs.Common.{◌≡◌, ℕ, Bool, true, false, ◌&&◌, is_some, List, refl, ap, sym, ◌∙◌, Option, None, Some}
 use Rattle.std.proofs.lemmas.Bool.{cond-true, cond-false}
-use Rattle.itm_types.specs.declared.limits.TheConstants.{MAX_OPEN_BLOCKS}
 use Rattle.itm_model.specs.State.{State}
 use Rattle.itm_model.specs.Machine.{opened}
 use Rattle.tx_attempts.specs.declared.attempt.Attempt.{Attempt}
 use Rattle.tx_attempts.specs.declared.attempt.Outcome.{Outcome}
 use Rattle.tx_attempts.specs.declared.attempt.Outcome.TheVariants.{Committed, ReadOnly, Cancelled, Conflict, Full, NoMemory, Unfinished}
 use Rattle.tx_attempts.specs.Attempts.{alone, is_committed}
+use Rattle.tx_attempts.specs.Restarts.{again_at}
 use Rattle.tx_history.specs.Legal.{is_unfinished}
 use Rattle.history_checker.specs.declared.verdict.BadKind.TheVariants as kind
 use Rattle.history_checker.specs.declared.verdict.Fault.{Fault}
-use Rattle.history_checker.specs.Replays.{first_of, at_head, calls_fault, end_fault, fault_in}
+use Rattle.history_checker.specs.Replays.{first_of, at_head, calls_fault, end_fault, fault_in, may_stand}
 use Rattle.history_checker.specs.Tables.{ended, told_on, unless_fault}
 
--- what an outermost begin refuses
-abbrev pub refuses : Attempt → Bool
-refuses a = a.props.goes_irrevocable && a.props.no_irrevocable
-
-pub fault_refused : (m : List ℕ) (a : Attempt) → refuses a ≡ true → fault_in m a ≡ Some (at_head kind.Shape)
+pub fault_refused : (deepest : ℕ) (m : List ℕ) (a : Attempt) → may_stand a ≡ false → fault_in deepest m a ≡ Some (at_head kind.Shape)
 unfolding fault_in
-fault_refused m a h = cond-false (not (refuses a)) _ _ (ap not h)
+fault_refused deepest m a h = cond-false (may_stand a) _ _ h
 
-fault_begun : (m : List ℕ) (a : Attempt) → refuses a ≡ false → fault_in m a ≡ first_of (calls_fault (opened m a.arena a.props) 0 a.calls.list) (end_fault m a (alone MAX_OPEN_BLOCKS m a))
+-- what is wrong with the calls of an attempt
+abbrev pub called_fault : ℕ → List ℕ → Attempt → Option Fault
+called_fault deepest m a = calls_fault deepest (again_at a.restarts) (opened m a.arena a.props) 0 a.calls.list
+
+pub fault_begun : (deepest : ℕ) (m : List ℕ) (a : Attempt) → may_stand a ≡ true → fault_in deepest m a ≡ first_of (called_fault deepest m a) (end_fault deepest m a (alone deepest m a))
 unfolding fault_in
-fault_begun m a h = cond-true (not (refuses a)) _ _ (ap not h)
+fault_begun deepest m a h = cond-true (may_stand a) _ _ h
 
 first_some : (f g : Option Fault) → is_some f ≡ true → first_of f g ≡ f
 first_some None g h = cc
@@ -34,11 +34,13 @@ first_none : (f g : Option Fault) → is_some f ≡ false → first_of f g ≡ g
 first_none None g h = refl
 first_none (Some x) g h = cc
 
-pub fault_early : (m : List ℕ) (a : Attempt) (f : Option Fault) → refuses a ≡ false → f ≡ calls_fault (opened m a.arena a.props) 0 a.calls.list → is_some f ≡ true → f ≡ fault_in m a
-fault_early m a f r e h = sym (first_some f (end_fault m a (alone MAX_OPEN_BLOCKS m a)) h) ∙ (ap (λ g. first_of g (end_fault m a (alone MAX_OPEN_BLOCKS m a))) e ∙ sym (fault_begun m a r))
+pub fault_early : (deepest : ℕ) (m : List ℕ) (a : Attempt) (f : Option Fault) → may_stand a ≡ true → f ≡ called_fault deepest m a → is_some f ≡ true → f ≡ fault_in deepest m a
+fault_early deepest m a f r e h =
+    sym (first_some f (end_fault deepest m a (alone deepest m a)) h) ∙ (ap (λ g. first_of g (end_fault deepest m a (alone deepest m a))) e ∙ sym (fault_begun deepest m a r))
 
-pub fault_late : (m : List ℕ) (a : Attempt) (f : Option Fault) → refuses a ≡ false → f ≡ calls_fault (opened m a.arena a.props) 0 a.calls.list → is_some f ≡ false → end_fault m a (alone MAX_OPEN_BLOCKS m a) ≡ fault_in m a
-fault_late m a f r e h = sym (first_none f (end_fault m a (alone MAX_OPEN_BLOCKS m a)) h) ∙ (ap (λ g. first_of g (end_fault m a (alone MAX_OPEN_BLOCKS m a))) e ∙ sym (fault_begun m a r))
+pub fault_late : (deepest : ℕ) (m : List ℕ) (a : Attempt) (f : Option Fault) → may_stand a ≡ true → f ≡ called_fault deepest m a → is_some f ≡ false → end_fault deepest m a (alone deepest m a) ≡ fault_in deepest m a
+fault_late deepest m a f r e h =
+    sym (first_none f (end_fault deepest m a (alone deepest m a)) h) ∙ (ap (λ g. first_of g (end_fault deepest m a (alone deepest m a))) e ∙ sym (fault_begun deepest m a r))
 
 pub none_of : (f : Option Fault) → is_some f ≡ false → f ≡ None
 none_of None h = refl
@@ -59,12 +61,12 @@ held_unless : (f : Option Fault) (o : Outcome) (s t : State) → (f ≡ None →
 held_unless None o s t e = ap (λ (x : State). is_unfinished o && x.irrevocable) (e refl) ∙ held_same o s
 held_unless (Some x) o s t e = refl
 
-pub told_is : (m : List ℕ) (a : Attempt) (f : Option Fault) (t : State) (holds : Bool) → f ≡ fault_in m a → (f ≡ None → t ≡ ended a.outcome (alone MAX_OPEN_BLOCKS m a))
-    → holds ≡ unless_fault f (is_unfinished a.outcome && t.irrevocable) → record { fault = f; holds = holds } ≡ told_on m a
+pub told_is : (deepest : ℕ) (m : List ℕ) (a : Attempt) (f : Option Fault) (t : State) (holds : Bool) → f ≡ fault_in deepest m a → (f ≡ None → t ≡ ended a.outcome (alone deepest m a))
+    → holds ≡ unless_fault f (is_unfinished a.outcome && t.irrevocable) → record { fault = f; holds = holds } ≡ told_on deepest m a
 unfolding told_on
-told_is m a f t holds e s h =
-    let s1 = alone MAX_OPEN_BLOCKS m a in
-    let held : holds ≡ unless_fault (fault_in m a) (is_unfinished a.outcome && s1.irrevocable) = h ∙ (held_unless f a.outcome s1 t s ∙ ap (λ g. unless_fault g (is_unfinished a.outcome && s1.irrevocable)) e) in
+told_is deepest m a f t holds e s h =
+    let s1 = alone deepest m a in
+    let held : holds ≡ unless_fault (fault_in deepest m a) (is_unfinished a.outcome && s1.irrevocable) = h ∙ (held_unless f a.outcome s1 t s ∙ ap (λ g. unless_fault g (is_unfinished a.outcome && s1.irrevocable)) e) in
     (λ i. record { fault = e i; holds = held i })
 
 -- a committed attempt gives nothing up

@@ -34,30 +34,30 @@ verdict_from h ts n p b c o f =
     let oo = f.others in
     (λ i. verdict_on h (count_committed h.attempts) (first_of (pp i) (first_of (bb i) (first_of (kept i) (oo i)))))
 
-pub bad_position : (h : History) (ts : List Attempt) (n : ℕ) (s : Spot) → ts ≡ h.attempts → n ≡ count_committed ts → position_fault n [] ts ≡ Some s → bad ts s ≡ verdict_of h
+pub bad_position : (h : History) (ts : List Attempt) (n : ℕ) (s : Spot) → ts ≡ h.attempts → n ≡ count_committed ts → position_fault n [] ts ≡ Some s → bad h.version ts s ≡ verdict_of h
 bad_position h ts n s e f g =
     let found : Found h ts n (Some s) (at_fault n 0 ts) (committed_fault h (count_committed h.attempts)) (others_fault h 0 h.attempts) =
     record { attempts = e; count = f; position = sym g; beyond = λ i. at_fault n 0 ts; committed = λ i. committed_fault h (count_committed h.attempts); others = λ i. others_fault h 0 h.attempts } in
-    ap (λ (xs : List Attempt). bad xs s) e ∙ verdict_from h ts n (Some s) (at_fault n 0 ts) (committed_fault h (count_committed h.attempts)) (others_fault h 0 h.attempts) found
+    ap (λ (xs : List Attempt). bad h.version xs s) e ∙ verdict_from h ts n (Some s) (at_fault n 0 ts) (committed_fault h (count_committed h.attempts)) (others_fault h 0 h.attempts) found
 
-pub bad_beyond : (h : History) (ts : List Attempt) (n : ℕ) (s : Spot) → ts ≡ h.attempts → n ≡ count_committed ts → position_fault n [] ts ≡ None → at_fault n 0 ts ≡ Some s → bad ts s ≡ verdict_of h
+pub bad_beyond : (h : History) (ts : List Attempt) (n : ℕ) (s : Spot) → ts ≡ h.attempts → n ≡ count_committed ts → position_fault n [] ts ≡ None → at_fault n 0 ts ≡ Some s → bad h.version ts s ≡ verdict_of h
 bad_beyond h ts n s e f g k =
     let found : Found h ts n None (Some s) (committed_fault h (count_committed h.attempts)) (others_fault h 0 h.attempts) =
     record { attempts = e; count = f; position = sym g; beyond = sym k; committed = λ i. committed_fault h (count_committed h.attempts); others = λ i. others_fault h 0 h.attempts } in
-    ap (λ (xs : List Attempt). bad xs s) e ∙ verdict_from h ts n None (Some s) (committed_fault h (count_committed h.attempts)) (others_fault h 0 h.attempts) found
+    ap (λ (xs : List Attempt). bad h.version xs s) e ∙ verdict_from h ts n None (Some s) (committed_fault h (count_committed h.attempts)) (others_fault h 0 h.attempts) found
 
 pub bad_committed : (h : History) (ts : List Attempt) (n : ℕ) (s : Spot) → ts ≡ h.attempts → n ≡ count_committed ts → position_fault n [] ts ≡ None → at_fault n 0 ts ≡ None
-    → committed_fault h (count_committed h.attempts) ≡ Some s → bad ts s ≡ verdict_of h
+    → committed_fault h (count_committed h.attempts) ≡ Some s → bad h.version ts s ≡ verdict_of h
 bad_committed h ts n s e f g k c =
     let found : Found h ts n None None (Some s) (others_fault h 0 h.attempts) =
     record { attempts = e; count = f; position = sym g; beyond = sym k; committed = sym c; others = λ i. others_fault h 0 h.attempts } in
-    ap (λ (xs : List Attempt). bad xs s) e ∙ verdict_from h ts n None None (Some s) (others_fault h 0 h.attempts) found
+    ap (λ (xs : List Attempt). bad h.version xs s) e ∙ verdict_from h ts n None None (Some s) (others_fault h 0 h.attempts) found
 
 pub bad_other : (h : History) (ts : List Attempt) (n : ℕ) (s : Spot) → ts ≡ h.attempts → n ≡ count_committed ts → position_fault n [] ts ≡ None → at_fault n 0 ts ≡ None
-    → committed_fault h (count_committed h.attempts) ≡ None → others_fault h 0 h.attempts ≡ Some s → bad ts s ≡ verdict_of h
+    → committed_fault h (count_committed h.attempts) ≡ None → others_fault h 0 h.attempts ≡ Some s → bad h.version ts s ≡ verdict_of h
 bad_other h ts n s e f g k c o =
     let found : Found h ts n None None None (Some s) = record { attempts = e; count = f; position = sym g; beyond = sym k; committed = sym c; others = sym o } in
-    ap (λ (xs : List Attempt). bad xs s) e ∙ verdict_from h ts n None None None (Some s) found
+    ap (λ (xs : List Attempt). bad h.version xs s) e ∙ verdict_from h ts n None None None (Some s) found
 
 pub told_final : (h : History) (ts : List Attempt) (n : ℕ) → ts ≡ h.attempts → n ≡ count_committed ts → position_fault n [] ts ≡ None → at_fault n 0 ts ≡ None
     → committed_fault h (count_committed h.attempts) ≡ None → others_fault h 0 h.attempts ≡ None → final_verdict h n ≡ verdict_of h

@@ -7,6 +7,7 @@ use Rattle.tx_attempts.specs.declared.attempt.Attempt.{Attempt}
 use Rattle.tx_attempts.specs.Attempts.{is_committed, is_at, committed_at}
 use Rattle.tx_history.specs.declared.history.History.{History}
 use Rattle.tx_history.specs.Legal.{memory_at}
+use Rattle.tx_history.specs.Versions.{depth_of}
 use Rattle.history_checker.specs.declared.verdict.Fault.{Fault}
 use Rattle.history_checker.specs.declared.replays.Told.{Told}
 use Rattle.history_checker.specs.Replays.{fault_in}
@@ -16,67 +17,67 @@ use Rattle.history_checker.proofs.Steps.Tables.{last_next, same_item}
 
 -- ## The committed one
 
-pub record Found (m : List ℕ) (k : ℕ) (ts : List Attempt) (a : Attempt) (i : ℕ) : Type 0 where
+pub record Found (deepest : ℕ) (m : List ℕ) (k : ℕ) (ts : List Attempt) (a : Attempt) (i : ℕ) : Type 0 where
   pub committed : is_committed a.outcome ≡ true
   pub kept : committed_at ts k ≡ Some a
-  pub fault : (n : ℕ) → fault_at m k n ts ≡ at_place (n + i) (fault_in m a)
+  pub fault : (n : ℕ) → fault_at deepest m k n ts ≡ at_place (n + i) (fault_in deepest m a)
 
-found_suc : (m : List ℕ) (k : ℕ) (b : Attempt) (ts : List Attempt) (a : Attempt) (i : ℕ) → is_at k b ≡ false → Found m k ts a i → Found m k (b ∷ ts) a (suc i)
-found_suc m k b ts a i off f = record {
+found_suc : (deepest : ℕ) (m : List ℕ) (k : ℕ) (b : Attempt) (ts : List Attempt) (a : Attempt) (i : ℕ) → is_at k b ≡ false → Found deepest m k ts a i → Found deepest m k (b ∷ ts) a (suc i)
+found_suc deepest m k b ts a i off f = record {
   committed = f.committed;
   kept = cond-false (is_at k b) (Some b) (committed_at ts k) off ∙ f.kept;
   fault = λ n. let e : suc n + i ≡ n + suc i = omega arith in
-      cond-false (is_at k b) (at_place n (fault_in m b)) (fault_at m k (suc n) ts) off ∙ (f.fault (suc n) ∙ ap (λ (p : ℕ). at_place p (fault_in m a)) e);
+      cond-false (is_at k b) (at_place n (fault_in deepest m b)) (fault_at deepest m k (suc n) ts) off ∙ (f.fault (suc n) ∙ ap (λ (p : ℕ). at_place p (fault_in deepest m a)) e);
 }
 
 committed_part : (c e : Bool) → (c && e) ≡ true → c ≡ true
 committed_part true e h = refl
 committed_part false e h = h
 
-found_zero : (m : List ℕ) (k : ℕ) (b : Attempt) (ts : List Attempt) → is_at k b ≡ true → Found m k (b ∷ ts) b 0
-found_zero m k b ts on = record {
+found_zero : (deepest : ℕ) (m : List ℕ) (k : ℕ) (b : Attempt) (ts : List Attempt) → is_at k b ≡ true → Found deepest m k (b ∷ ts) b 0
+found_zero deepest m k b ts on = record {
   committed = committed_part (is_committed b.outcome) (b.at == k) on;
   kept = cond-true (is_at k b) (Some b) (committed_at ts k) on;
   fault = λ n. let e : n ≡ n + 0 = omega arith in
-      cond-true (is_at k b) (at_place n (fault_in m b)) (fault_at m k (suc n) ts) on ∙ ap (λ (p : ℕ). at_place p (fault_in m b)) e;
+      cond-true (is_at k b) (at_place n (fault_in deepest m b)) (fault_at deepest m k (suc n) ts) on ∙ ap (λ (p : ℕ). at_place p (fault_in deepest m b)) e;
 }
 
 -- what is at a place in the list of attempts from a number on
-abbrev IsFoundFrom : List ℕ → ℕ → ℕ → List Attempt → Option ℕ → Type 0
-IsFoundFrom m k n ts None = (committed_at ts k ≡ None) × ((p : ℕ) → fault_at m k p ts ≡ None)
-IsFoundFrom m k n ts (Some p) = (i : ℕ) × (p ≡ n + i) × (i < length ts) × ((d : Attempt) → Found m k ts (get_or ts i d) i)
+abbrev IsFoundFrom : ℕ → List ℕ → ℕ → ℕ → List Attempt → Option ℕ → Type 0
+IsFoundFrom deepest m k n ts None = (committed_at ts k ≡ None) × ((p : ℕ) → fault_at deepest m k p ts ≡ None)
+IsFoundFrom deepest m k n ts (Some p) = (i : ℕ) × (p ≡ n + i) × (i < length ts) × ((d : Attempt) → Found deepest m k ts (get_or ts i d) i)
 
-found_later : (m : List ℕ) (k n : ℕ) (b : Attempt) (ts : List Attempt) → is_at k b ≡ false → (o : Option ℕ) → IsFoundFrom m k (suc n) ts o → IsFoundFrom m k n (b ∷ ts) o
-found_later m k n b ts off None f =
-    (cond-false (is_at k b) (Some b) (committed_at ts k) off ∙ f.0, λ p. cond-false (is_at k b) (at_place p (fault_in m b)) (fault_at m k (suc p) ts) off ∙ f.1 (suc p))
-found_later m k n b ts off (Some p) f = (suc f.0, omega (arith, f.1), omega (arith, f.2), λ d. found_suc m k b ts (get_or ts f.0 d) f.0 off (f.3 d))
+found_later : (deepest : ℕ) (m : List ℕ) (k n : ℕ) (b : Attempt) (ts : List Attempt) → is_at k b ≡ false → (o : Option ℕ) → IsFoundFrom deepest m k (suc n) ts o → IsFoundFrom deepest m k n (b ∷ ts) o
+found_later deepest m k n b ts off None f =
+    (cond-false (is_at k b) (Some b) (committed_at ts k) off ∙ f.0, λ p. cond-false (is_at k b) (at_place p (fault_in deepest m b)) (fault_at deepest m k (suc p) ts) off ∙ f.1 (suc p))
+found_later deepest m k n b ts off (Some p) f = (suc f.0, omega (arith, f.1), omega (arith, f.2), λ d. found_suc deepest m k b ts (get_or ts f.0 d) f.0 off (f.3 d))
 
-found_case : (m : List ℕ) (k n : ℕ) (b : Attempt) (ts : List Attempt) (c : Bool) → is_at k b ≡ c → IsFoundFrom m k (suc n) ts (first_at (suc n) ts k) → IsFoundFrom m k n (b ∷ ts) (if c then Some n else first_at (suc n) ts k)
-found_case m k n b ts true on f = (0, omega arith, omega arith, λ d. found_zero m k b ts on)
-found_case m k n b ts false off f = found_later m k n b ts off (first_at (suc n) ts k) f
+found_case : (deepest : ℕ) (m : List ℕ) (k n : ℕ) (b : Attempt) (ts : List Attempt) (c : Bool) → is_at k b ≡ c → IsFoundFrom deepest m k (suc n) ts (first_at (suc n) ts k) → IsFoundFrom deepest m k n (b ∷ ts) (if c then Some n else first_at (suc n) ts k)
+found_case deepest m k n b ts true on f = (0, omega arith, omega arith, λ d. found_zero deepest m k b ts on)
+found_case deepest m k n b ts false off f = found_later deepest m k n b ts off (first_at (suc n) ts k) f
 
-pub found_from : (m : List ℕ) (k n : ℕ) (ts : List Attempt) → IsFoundFrom m k n ts (first_at n ts k)
-found_from m k n [] = (refl, λ p. refl)
-found_from m k n (b ∷ ts) = found_case m k n b ts (is_at k b) refl (found_from m k (suc n) ts)
+pub found_from : (deepest : ℕ) (m : List ℕ) (k n : ℕ) (ts : List Attempt) → IsFoundFrom deepest m k n ts (first_at n ts k)
+found_from deepest m k n [] = (refl, λ p. refl)
+found_from deepest m k n (b ∷ ts) = found_case deepest m k n b ts (is_at k b) refl (found_from deepest m k (suc n) ts)
 
-pub found_none : (m : List ℕ) (k : ℕ) (ts : List Attempt) → first_at 0 ts k ≡ None → (committed_at ts k ≡ None) × (fault_at m k 0 ts ≡ None)
-found_none m k ts e = let f = subst (IsFoundFrom m k 0 ts) e (found_from m k 0 ts) in (f.0, f.1 0)
+pub found_none : (deepest : ℕ) (m : List ℕ) (k : ℕ) (ts : List Attempt) → first_at 0 ts k ≡ None → (committed_at ts k ≡ None) × (fault_at deepest m k 0 ts ≡ None)
+found_none deepest m k ts e = let f = subst (IsFoundFrom deepest m k 0 ts) e (found_from deepest m k 0 ts) in (f.0, f.1 0)
 
-pub found_there : (m : List ℕ) (k : ℕ) (ts : List Attempt) (i : ℕ) (d : Attempt) → first_at 0 ts k ≡ Some i → (i < length ts) × (is_committed (get_or ts i d).outcome ≡ true) × (committed_at ts k ≡ Some (get_or ts i d)) × (fault_at m k 0 ts ≡ at_place i (fault_in m (get_or ts i d)))
-found_there m k ts i d e =
-    let f = subst (IsFoundFrom m k 0 ts) e (found_from m k 0 ts) in
+pub found_there : (deepest : ℕ) (m : List ℕ) (k : ℕ) (ts : List Attempt) (i : ℕ) (d : Attempt) → first_at 0 ts k ≡ Some i → (i < length ts) × (is_committed (get_or ts i d).outcome ≡ true) × (committed_at ts k ≡ Some (get_or ts i d)) × (fault_at deepest m k 0 ts ≡ at_place i (fault_in deepest m (get_or ts i d)))
+found_there deepest m k ts i d e =
+    let f = subst (IsFoundFrom deepest m k 0 ts) e (found_from deepest m k 0 ts) in
     let j = f.0 in
     let is : j ≡ i = omega (arith, f.1) in
-    let here : Found m k ts (get_or ts i d) i = subst (λ (x : ℕ). Found m k ts (get_or ts x d) x) is (f.3 d) in
+    let here : Found deepest m k ts (get_or ts i d) i = subst (λ (x : ℕ). Found deepest m k ts (get_or ts x d) x) is (f.3 d) in
     let zero_i : 0 + i ≡ i = omega arith in
-    (omega (arith, f.2, is), here.committed, here.kept, here.fault 0 ∙ ap (λ (p : ℕ). at_place p (fault_in m (get_or ts i d))) zero_i)
+    (omega (arith, f.2, is), here.committed, here.kept, here.fault 0 ∙ ap (λ (p : ℕ). at_place p (fault_in deepest m (get_or ts i d))) zero_i)
 
 -- its place is one of the list
-first_in : (n : ℕ) (ts : List Attempt) (k i : ℕ) → IsFoundFrom [] k n ts (Some i) → i < n + length ts
+first_in : (n : ℕ) (ts : List Attempt) (k i : ℕ) → IsFoundFrom 0 [] k n ts (Some i) → i < n + length ts
 first_in n ts k i f = omega (arith, f.1, f.2)
 
 pub found_in : (ts : List Attempt) (k i : ℕ) → first_at 0 ts k ≡ Some i → i < length ts
-found_in ts k i e = let f = first_in 0 ts k i (subst (IsFoundFrom [] k 0 ts) e (found_from [] k 0 ts)) in omega (arith, f)
+found_in ts k i e = let f = first_in 0 ts k i (subst (IsFoundFrom 0 [] k 0 ts) e (found_from 0 [] k 0 ts)) in omega (arith, f)
 
 -- ## The others
 
@@ -112,10 +113,10 @@ both true e h = cc
 both false e h = (refl, h)
 
 -- one is told
-told_other : (h : History) (k : ℕ) (a : Attempt) → is_other k a ≡ true → told_on (memory_at h k) a ≡ told_of h a
+told_other : (h : History) (k : ℕ) (a : Attempt) → is_other k a ≡ true → told_on (depth_of h.version) (memory_at h k) a ≡ told_of h a
 told_other h k a on =
     let parts = both (is_committed a.outcome) (a.at == k) on in
-    ap (λ (n : ℕ). told_on (memory_at h n) a) (sym (eqb-true a.at k parts.1)) ∙ sym (cond-false (is_committed a.outcome) nothing_told (told_on (memory_at h a.at) a) parts.0)
+    ap (λ (n : ℕ). told_on (depth_of h.version) (memory_at h n) a) (sym (eqb-true a.at k parts.1)) ∙ sym (cond-false (is_committed a.outcome) nothing_told (told_on (depth_of h.version) (memory_at h a.at) a) parts.0)
 
 -- what is told stays so, where a place before is told too
 abbrev kept_told : (h : History) (k c i : ℕ) (told : List Told) (d : Attempt) → AreTold h k c told → IsLatest h.attempts k c d (Some i) → (j : ℕ) → j < length h.attempts → (j ≡ i → ⊥) → IsTold k i j (get_or h.attempts j d)
@@ -128,19 +129,19 @@ kept_told h k c i told d t l j b ne (inr (inr here)) = elim (cases_lt j c) [
 ]
 
 told_here : (h : History) (k i : ℕ) (told : List Told) (d : Attempt) → i < length told → i < length h.attempts → is_other k (get_or h.attempts i d) ≡ true → (j : ℕ) (e : Attempt) → j ≡ i
-    → get_or (set told i (told_on (memory_at h k) (get_or h.attempts i d))) j nothing_told ≡ told_of h (get_or h.attempts j e)
+    → get_or (set told i (told_on (depth_of h.version) (memory_at h k) (get_or h.attempts i d))) j nothing_told ≡ told_of h (get_or h.attempts j e)
 told_here h k i told d b b' on j e is =
-    ap (λ (m : ℕ). get_or (set told i (told_on (memory_at h k) (get_or h.attempts i d))) m nothing_told) is
-    ∙ (get_or-set_same told i (told_on (memory_at h k) (get_or h.attempts i d)) nothing_told b
+    ap (λ (m : ℕ). get_or (set told i (told_on (depth_of h.version) (memory_at h k) (get_or h.attempts i d))) m nothing_told) is
+    ∙ (get_or-set_same told i (told_on (depth_of h.version) (memory_at h k) (get_or h.attempts i d)) nothing_told b
     ∙ (told_other h k (get_or h.attempts i d) on
     ∙ (ap (told_of h) (same_item h.attempts i d e b') ∙ ap (λ (m : ℕ). told_of h (get_or h.attempts m e)) (sym is))))
 
 -- one more is told
 pub told_step : (h : History) (k c i : ℕ) (told : List Told) (d : Attempt) → c ≤ length h.attempts → AreTold h k c told → last_other 0 (take c h.attempts) k ≡ Some i
-    → AreTold h k i (set told i (told_on (memory_at h k) (get_or h.attempts i d)))
+    → AreTold h k i (set told i (told_on (depth_of h.version) (memory_at h k) (get_or h.attempts i d)))
 told_step h k c i told d w t e =
     let ts = h.attempts in
-    let new = told_on (memory_at h k) (get_or ts i d) in
+    let new = told_on (depth_of h.version) (memory_at h k) (get_or ts i d) in
     let found = λ (f : Attempt). subst (IsLatest ts k c f) e (latest ts k c f w) in
     let there : i < length ts = omega (arith, (found d).0, w) in
     record {
@@ -190,7 +191,7 @@ next_is h k told i d n =
     (omega (arith, found.0, n.within), parts.0, eqb-true (get_or h.attempts i d).at k parts.1)
 
 pub next_then : (h : History) (k : ℕ) (told : List Told) (i : ℕ) (d : Attempt) (next : Option ℕ) → IsNext h k told (Some i) → next ≡ last_other 0 (take i h.attempts) k
-    → IsNext h k (set told i (told_on (memory_at h k) (get_or h.attempts i d))) next
+    → IsNext h k (set told i (told_on (depth_of h.version) (memory_at h k) (get_or h.attempts i d))) next
 next_then h k told i d next n e = record {
   from = i;
   within = let w = (next_is h k told i d n).0 in omega (arith, w);

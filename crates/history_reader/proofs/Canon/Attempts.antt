@@ -1,18 +1,28 @@
 -- The canonical attempt of one that is alone on a memory is alone there.
-use Rattle.std.proofs.Common.{◌≡◌, ℕ, true, false, List, [], ◌∷◌, ◌++◌, map, refl, sym, ap, subst, ◌∙◌}
-use Rattle.itm_types.specs.declared.limits.TheConstants.{MAX_OPEN_BLOCKS}
+use Rattle.std.proofs.Common.{◌≡◌, ℕ, true, false, List, [], ◌∷◌, ◌++◌, map, take, length, Option, None, Some, refl, sym, ap, subst, ◌∙◌}
+use Rattle.std.specs.Option.{option_map}
+use Rattle.std.specs.List.{slice_get}
+use Rattle.std.proofs.lemmas.List.{take-map}
+use Rattle.std.proofs.lemmas.Option.{slice_get-map}
+use Rattle.itm_types.specs.Calls.{is_begin}
+use Rattle.itm_types.specs.declared.call.Call.{Call}
+use Rattle.itm_types.specs.declared.call.Call.TheVariants as calls
 use Rattle.itm_types.specs.declared.call.Call.TheVariants.{Commit, Abort}
 use Rattle.itm_types.specs.declared.call.Reply.TheVariants.{Done, Code}
 use Rattle.itm_model.specs.State.{State}
 use Rattle.itm_model.specs.Machine.{is_open, opened}
+use Rattle.itm_model.specs.Runs.{Breaks, replies_through, state_through}
+use Rattle.tx_attempts.specs.Opacity.{AreRestarts, StaysRevocable}
+use Rattle.tx_attempts.specs.Restarts.{AreAgain, AtEach, IsAgain, IsInnerBegin, breaks_of}
+use Rattle.tx_attempts.specs.declared.attempt.Again.{Again}
 use Rattle.tx_attempts.specs.declared.attempt.Attempt.{Attempt}
 use Rattle.tx_attempts.specs.declared.attempt.CallRecord.{CallRecord}
 use Rattle.tx_attempts.specs.declared.attempt.Outcome.{Outcome}
 use Rattle.tx_attempts.specs.declared.attempt.Outcome.TheVariants.{Committed, ReadOnly, Cancelled, Conflict, Full, NoMemory, Unfinished}
 use Rattle.tx_attempts.specs.Attempts.{ByAbort, ByCommit, ClosedBy, alone}
 use Rattle.tx_history.specs.Legal.{EndsIn, IsAlone, ran_alone, state_at}
-use Rattle.history_reader.specs.Canonical.{canonical_attempt, canonical_entry}
-use Rattle.history_reader.proofs.Canon.Runs.{same_alone, same_replies, same_state, same_told}
+use Rattle.history_reader.specs.Canonical.{canonical_again, canonical_attempt, canonical_call, canonical_entry}
+use Rattle.history_reader.proofs.Canon.Runs.{calls_in, same_alone, same_breaks, same_replies, same_state, same_told}
 
 -- ## Lists that a function made
 
@@ -60,28 +70,76 @@ closed_too Full calls h = tt
 closed_too NoMemory calls h = tt
 closed_too Unfinished calls h = tt
 
-module _ (memory : List ℕ) (a : Attempt) (h : IsAlone memory a) where
-  same : alone MAX_OPEN_BLOCKS memory (canonical_attempt a) ≡ alone MAX_OPEN_BLOCKS memory a
-  same = same_alone MAX_OPEN_BLOCKS memory a
+-- ## Blocks that ran again
+
+same_begin : (c : Call) → is_begin (canonical_call c) ≡ is_begin c
+same_begin (calls.Begin props room) = refl
+same_begin calls.Commit = refl
+same_begin (calls.Abort outer) = refl
+same_begin (calls.Mode room) = refl
+same_begin calls.InTransaction = refl
+same_begin (calls.Read hint width at) = refl
+same_begin (calls.Write hint at value) = refl
+same_begin (calls.Log width at) = refl
+same_begin (calls.LogBytes at size) = refl
+same_begin (calls.Copy c) = refl
+same_begin (calls.Fill hint to byte size) = refl
+same_begin (calls.CommitAction action) = refl
+same_begin (calls.UndoAction action) = refl
+same_begin (calls.Load width at) = refl
+same_begin (calls.Save at value) = refl
+
+begins_so : (o : Option CallRecord) → IsInnerBegin o → IsInnerBegin (option_map canonical_entry o)
+begins_so None b = b
+begins_so (Some e) b = (same_begin e.call ∙ b.0, b.1)
+
+again_so : (size : ℕ) (es : List CallRecord) (a : Again) → IsAgain size es a → IsAgain size (map canonical_entry es) (canonical_again a)
+again_so size es a h = record {
+  place = h.place;
+  kept = h.kept;
+  begins = subst IsInnerBegin (sym (slice_get-map canonical_entry es h.place)) (begins_so (slice_get es h.place) h.begins);
+  arena = h.arena;
+}
+
+pub stand_so : (size from : ℕ) (es : List CallRecord) (rs : List Again) → AreAgain size from es rs → AreAgain size from (map canonical_entry es) (map canonical_again rs)
+stand_so size from es [] h = tt
+stand_so size from es (a ∷ rest) h = (again_so size es a h.0, h.1, stand_so size a.kept es rest h.2)
+
+each_so : (P Q : List CallRecord → Type 0) → ((es : List CallRecord) → P es → Q (map canonical_entry es)) → (es : List CallRecord) (rs : List Again) → AtEach P es rs → AtEach Q (map canonical_entry es) (map canonical_again rs)
+each_so P Q f es [] h = tt
+each_so P Q f es (a ∷ rest) h = (subst Q (sym (take-map canonical_entry a.kept es)) (f (take a.kept es) h.0), each_so P Q f es rest h.1)
+
+-- ## The attempt
+
+module _ (deepest : ℕ) (memory : List ℕ) (a : Attempt) (h : IsAlone deepest memory a) where
+  abbrev start : State
+  start = opened memory a.arena a.props
+
+  same : alone deepest memory (canonical_attempt a) ≡ alone deepest memory a
+  same = same_alone deepest memory a
+
+  -- the state after these calls
+  same_after_calls : (es : List CallRecord) → state_at deepest memory (canonical_attempt a) (map canonical_entry es) ≡ state_at deepest memory a es
+  same_after_calls es =
+      ap (λ (breaks : Breaks). state_through deepest breaks start (calls_in (map canonical_entry es))) (same_breaks a.restarts) ∙ same_state deepest (breaks_of a.restarts) start es
 
   -- the state after some first calls
-  same_at : (before : List CallRecord) (rest : List CallRecord) (p : Parts canonical_entry a.calls.list before rest) → state_at memory (canonical_attempt a) before ≡ state_at memory a p.front
-  same_at before rest p =
-      ap (state_at memory (canonical_attempt a)) (sym p.front_is) ∙ same_state MAX_OPEN_BLOCKS (opened memory a.arena a.props) p.front
+  same_at : (before : List CallRecord) (rest : List CallRecord) (p : Parts canonical_entry a.calls.list before rest) → state_at deepest memory (canonical_attempt a) before ≡ state_at deepest memory a p.front
+  same_at before rest p = ap (state_at deepest memory (canonical_attempt a)) (sym p.front_is) ∙ same_after_calls p.front
 
-  stays : (before : List CallRecord) (e : CallRecord) (rest : List CallRecord) → map canonical_entry a.calls.list ≡ before ++ e ∷ rest → is_open (state_at memory (canonical_attempt a) before) ≡ true
+  stays : (before : List CallRecord) (e : CallRecord) (rest : List CallRecord) → map canonical_entry a.calls.list ≡ before ++ e ∷ rest → is_open (state_at deepest memory (canonical_attempt a) before) ≡ true
   stays before e rest is =
       let p = parts_of canonical_entry a.calls.list before e rest is in
       ap is_open (same_at before rest p) ∙ h.stays_open p.front p.here p.back p.whole
 
-  was_revocable : ((before : List CallRecord) (last : CallRecord) → a.calls.list ≡ before ++ last ∷ [] → (state_at memory a before).irrevocable ≡ false)
-      → (before : List CallRecord) (last : CallRecord) → map canonical_entry a.calls.list ≡ before ++ last ∷ [] → (state_at memory (canonical_attempt a) before).irrevocable ≡ false
+  was_revocable : ((before : List CallRecord) (last : CallRecord) → a.calls.list ≡ before ++ last ∷ [] → (state_at deepest memory a before).irrevocable ≡ false)
+      → (before : List CallRecord) (last : CallRecord) → map canonical_entry a.calls.list ≡ before ++ last ∷ [] → (state_at deepest memory (canonical_attempt a) before).irrevocable ≡ false
   was_revocable r before last is =
       let p = parts_of canonical_entry a.calls.list before last [] is in
       let whole : a.calls.list ≡ p.front ++ p.here ∷ [] = p.whole ∙ ap (λ (l : List CallRecord). p.front ++ p.here ∷ l) (none_left canonical_entry p.back p.back_is) in
       ap (λ (s : State). s.irrevocable) (same_at before [] p) ∙ r p.front p.here whole
 
-  ends_so : (o : Outcome) (s : State) → EndsIn o memory a s → EndsIn o memory (canonical_attempt a) s
+  ends_so : (o : Outcome) (s : State) → EndsIn deepest o memory a s → EndsIn deepest o memory (canonical_attempt a) s
   ends_so Committed s e = e
   ends_so ReadOnly s e = (e.0, e.1, was_revocable e.2)
   ends_so Cancelled s e = e
@@ -90,12 +148,21 @@ module _ (memory : List ℕ) (a : Attempt) (h : IsAlone memory a) where
   ends_so NoMemory s e = e
   ends_so Unfinished s e = e
 
-  pub canonical_alone : IsAlone memory (canonical_attempt a)
+  restarts_so : AreRestarts deepest (canonical_attempt a) memory
+  restarts_so = record {
+    stand = stand_so (length a.arena) 0 a.calls.list a.restarts h.again.stand;
+    revocable = each_so (StaysRevocable deepest memory a) (StaysRevocable deepest memory (canonical_attempt a))
+        (λ es r. ap (λ (s : State). s.irrevocable) (same_after_calls es) ∙ r) a.calls.list a.restarts h.again.revocable;
+  }
+
+  pub canonical_alone : IsAlone deepest memory (canonical_attempt a)
   canonical_alone = record {
     props = h.props;
-    replies = same_told a.calls.list ∙ h.replies ∙ sym (same_replies MAX_OPEN_BLOCKS (opened memory a.arena a.props) a.calls.list);
+    replies = same_told a.calls.list ∙ h.replies ∙ sym (same_replies deepest (breaks_of a.restarts) start a.calls.list)
+        ∙ ap (λ (breaks : Breaks). replies_through deepest breaks start (calls_in (map canonical_entry a.calls.list))) (sym (same_breaks a.restarts));
     stays_open = stays;
-    ends = subst (EndsIn a.outcome memory (canonical_attempt a)) (sym same) (ends_so a.outcome (alone MAX_OPEN_BLOCKS memory a) h.ends);
+    ends = subst (EndsIn deepest a.outcome memory (canonical_attempt a)) (sym same) (ends_so a.outcome (alone deepest memory a) h.ends);
     closed = closed_too a.outcome a.calls.list h.closed;
     ran = h.ran ∙ ap (ran_alone a.outcome) (sym same);
+    again = restarts_so;
   }

@@ -26,7 +26,7 @@ byte_of_a_fill = refl
 
 -- an attempt that began when two had committed, with these calls
 abbrev tried : ℕ → List CallRecord → Attempt
-tried began calls = record { thread = 1; nth = 2; began = began; at = 3; props = plain; arena = []; calls = record { list = calls; room = 0 }; ran = []; outcome = Committed }
+tried began calls = record { thread = 1; nth = 2; began = began; at = 3; props = plain; arena = []; calls = record { list = calls; room = 0 }; restarts = []; ran = []; outcome = Committed }
 
 begin_of_an_attempt : canonical_attempt (tried 2 (record { call = Fill W 8 263 1; reply = Done } ∷ record { call = Commit; reply = Done } ∷ []))
     ≡ tried 0 (record { call = Fill W 8 7 1; reply = Done } ∷ record { call = Commit; reply = Done } ∷ [])

@@ -9,7 +9,7 @@ use Rattle.itm_types.specs.declared.call.Refusal.TheVariants.{OutOfRange, OutOfA
 use Rattle.itm_types.specs.declared.call.Reply.TheVariants as replies
 use Rattle.itm_model.specs.State.{State}
 use Rattle.itm_model.specs.Machine.{after, answer, refusal, reply, reply_unless, standing}
-use Rattle.itm_model.specs.Runs.{replies as replies_to}
+use Rattle.itm_model.specs.Runs.{Breaks, later, replies_through as replies_to}
 use Rattle.tx_attempts.specs.declared.attempt.CallRecord.{CallRecord}
 use Rattle.tx_history.specs.Bounds.{CallFits, EntryFits, HasArenaWidth, ReplyFits}
 use Rattle.tx_history.proofs.PlainSizes.{later_none, length-slice, within}
@@ -106,9 +106,9 @@ entry_is deepest s e is f w = (
 )
 
 -- so can it those of calls, where the replies are the plain machine's
-pub entries_are : (deepest : ℕ) (s : State) (es : List CallRecord) → replies_in es ≡ replies_to deepest s (calls_in es) → All EntryFits es → All (λ (e : CallRecord). HasArenaWidth e.call) es → All IsEntry (map canonical_entry es)
-entries_are deepest s [] is f w = All-nil IsEntry
-entries_are deepest s (e ∷ es) is f w =
+pub entries_are : (deepest : ℕ) (breaks : Breaks) (s : State) (es : List CallRecord) → replies_in es ≡ replies_to deepest breaks s (calls_in es) → All EntryFits es → All (λ (e : CallRecord). HasArenaWidth e.call) es → All IsEntry (map canonical_entry es)
+entries_are deepest breaks s [] is f w = All-nil IsEntry
+entries_are deepest breaks s (e ∷ es) is f w =
     All-cons IsEntry (canonical_entry e) (map canonical_entry es)
     (entry_is deepest s e (same_first _ _ _ _ is) (All-head EntryFits e es f) (All-head (λ (e : CallRecord). HasArenaWidth e.call) e es w))
-    (entries_are deepest (after deepest s e.call) es (same_later _ _ _ _ is) (All-tail EntryFits e es f) (All-tail (λ (e : CallRecord). HasArenaWidth e.call) e es w))
+    (entries_are deepest (later breaks) (breaks 1 (after deepest s e.call)) es (same_later _ _ _ _ is) (All-tail EntryFits e es f) (All-tail (λ (e : CallRecord). HasArenaWidth e.call) e es w))

@@ -2,12 +2,12 @@
 use Rattle.std.proofs.Common.{◌≡◌, ◌⊎◌, inl, inr, ℕ, zero, suc, ◌+◌, ◌≤◌, Bool, true, false, ◌&&◌, if◌then◌else◌, nat_lt, List, [], ◌∷◌, map, All, Option, None, Some, refl, sym, ap, subst, ◌∙◌}
 use Rattle.std.specs.Option.{option_map}
 use Rattle.std.proofs.lemmas.List.Elements.{All-map, All-weaker}
-use Rattle.itm_types.specs.declared.limits.TheConstants.{MAX_OPEN_BLOCKS}
 use Rattle.itm_model.specs.State.{State}
 use Rattle.tx_attempts.specs.declared.attempt.Attempt.{Attempt}
 use Rattle.tx_attempts.specs.Attempts.{alone, committed_at, is_at, is_committed, memory_after, memory_left}
 use Rattle.tx_attempts.specs.Counts.{count_at, count_committed, one_where}
 use Rattle.tx_history.specs.declared.history.History.{History}
+use Rattle.tx_history.specs.Versions.{depth_of}
 use Rattle.tx_history.specs.Legal.{EndsFree, EndsHeld, IsAlone, IsLegal, count_holding, is_holding, is_unfinished, memory_at}
 use Rattle.history_reader.specs.Canonical.{canonical, canonical_attempt}
 use Rattle.history_reader.proofs.Canon.Runs.{same_alone}
@@ -33,24 +33,24 @@ same_committed k (a ∷ rest) = by_test (same_committed k rest) (is_at k a)
     by_test later true = refl
     by_test later false = later
 
-same_left : (memory : List ℕ) (o : Option Attempt) → memory_left MAX_OPEN_BLOCKS memory (option_map canonical_attempt o) ≡ memory_left MAX_OPEN_BLOCKS memory o
-same_left memory None = refl
-same_left memory (Some a) = ap (λ (s : State). s.memory) (same_alone MAX_OPEN_BLOCKS memory a)
+same_left : (deepest : ℕ) (memory : List ℕ) (o : Option Attempt) → memory_left deepest memory (option_map canonical_attempt o) ≡ memory_left deepest memory o
+same_left deepest memory None = refl
+same_left deepest memory (Some a) = ap (λ (s : State). s.memory) (same_alone deepest memory a)
 
-same_memory : (base : List ℕ) (all : List Attempt) (k : ℕ) → memory_after MAX_OPEN_BLOCKS base (map canonical_attempt all) k ≡ memory_after MAX_OPEN_BLOCKS base all k
-same_memory base all zero = refl
-same_memory base all (suc k) =
-    (λ i. memory_left MAX_OPEN_BLOCKS (same_memory base all k i) (same_committed k all i))
-    ∙ same_left (memory_after MAX_OPEN_BLOCKS base all k) (committed_at all k)
+same_memory : (deepest : ℕ) (base : List ℕ) (all : List Attempt) (k : ℕ) → memory_after deepest base (map canonical_attempt all) k ≡ memory_after deepest base all k
+same_memory deepest base all zero = refl
+same_memory deepest base all (suc k) =
+    (λ i. memory_left deepest (same_memory deepest base all k i) (same_committed k all i))
+    ∙ same_left deepest (memory_after deepest base all k) (committed_at all k)
 
 module _ (h : History) where
   same_at : (k : ℕ) → memory_at (canonical h) k ≡ memory_at h k
-  same_at k = same_memory h.memory h.attempts k
+  same_at k = same_memory (depth_of h.version) h.memory h.attempts k
 
   -- ## Who holds the clock
 
   same_holding : (a : Attempt) → is_holding (canonical h) (canonical_attempt a) ≡ is_holding h a
-  same_holding a = ap (λ (s : State). is_unfinished a.outcome && s.irrevocable) (ap (λ (m : List ℕ). alone MAX_OPEN_BLOCKS m (canonical_attempt a)) (same_at a.at) ∙ same_alone MAX_OPEN_BLOCKS (memory_at h a.at) a)
+  same_holding a = ap (λ (s : State). is_unfinished a.outcome && s.irrevocable) (ap (λ (m : List ℕ). alone (depth_of h.version) m (canonical_attempt a)) (same_at a.at) ∙ same_alone (depth_of h.version) (memory_at h a.at) a)
 
   same_holders : (all : List Attempt) → count_holding (canonical h) (map canonical_attempt all) ≡ count_holding h all
   same_holders [] = refl
@@ -92,8 +92,8 @@ module _ (h : History) where
     positions = λ k. same_count_at k h.attempts ∙ l.positions k ∙ ap (λ (n : ℕ). one_where (nat_lt k n)) (sym (same_count h.attempts));
     others = All-map (λ (a : Attempt). a.at ≤ count_committed (map canonical_attempt h.attempts)) canonical_attempt h.attempts
         (subst (λ (n : ℕ). All (λ (a : Attempt). a.at ≤ n) h.attempts) (sym (same_count h.attempts)) l.others);
-    alone = All-map (λ (a : Attempt). IsAlone (memory_at (canonical h) a.at) a) canonical_attempt h.attempts
-        (All-weaker (λ (a : Attempt). IsAlone (memory_at h a.at) a) (λ (a : Attempt). IsAlone (memory_at (canonical h) a.at) (canonical_attempt a))
-        (λ a f. subst (λ (m : List ℕ). IsAlone m (canonical_attempt a)) (sym (same_at a.at)) (canonical_alone (memory_at h a.at) a f)) h.attempts l.alone);
+    alone = All-map (λ (a : Attempt). IsAlone (depth_of h.version) (memory_at (canonical h) a.at) a) canonical_attempt h.attempts
+        (All-weaker (λ (a : Attempt). IsAlone (depth_of h.version) (memory_at h a.at) a) (λ (a : Attempt). IsAlone (depth_of h.version) (memory_at (canonical h) a.at) (canonical_attempt a))
+        (λ a f. subst (λ (m : List ℕ). IsAlone (depth_of h.version) m (canonical_attempt a)) (sym (same_at a.at)) (canonical_alone (depth_of h.version) (memory_at h a.at) a f)) h.attempts l.alone);
     final = subst (λ (n : ℕ). EndsFree (canonical h) n ⊎ EndsHeld (canonical h) n) (sym (same_count h.attempts)) (ends (count_committed h.attempts) l.final);
   }

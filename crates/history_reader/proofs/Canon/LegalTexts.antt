@@ -1,33 +1,49 @@
 -- The text of a legal history, of which each number fits its type and each size its limit, is that of its canonical one, which a text can tell and which is legal.
-use Rattle.std.proofs.Common.{◌≡◌, ◌⊎◌, inl, inr, ℕ, List, length, get_or, refl, sym, ap, ◌∙◌}
+use Rattle.std.proofs.Common.{◌≡◌, ◌⊎◌, inl, inr, ℕ, List, length, map, get_or, refl, sym, ap, ◌∙◌}
 use Rattle.std.proofs.lemmas.List.Elements.{All-map}
-use Rattle.itm_types.specs.declared.limits.TheConstants.{MAX_OPEN_BLOCKS}
 use Rattle.itm_model.specs.Machine.{opened}
+use Rattle.tx_attempts.specs.Restarts.{breaks_of}
+use Rattle.tx_attempts.specs.declared.attempt.Again.{Again}
 use Rattle.tx_attempts.specs.declared.attempt.Attempt.{Attempt}
 use Rattle.tx_attempts.specs.Counts.{count_committed}
 use Rattle.tx_history.specs.declared.history.History.{History}
-use Rattle.tx_history.specs.Bounds.{AreLimited, AttemptFits, HistoryFits, IsLimited}
+use Rattle.tx_history.specs.declared.history.Version.{Version}
+use Rattle.tx_history.specs.declared.history.Version.TheVariants.{One, Two, Three}
+use Rattle.tx_history.specs.Bounds.{AgainFits, AreLimited, AttemptFits, HistoryFits, IsLimited}
+use Rattle.tx_history.specs.Versions.{MayTell, depth_of}
 use Rattle.tx_history.specs.Histories.{history_text}
 use Rattle.tx_history.specs.Legal.{EndsFree, EndsHeld, IsAlone, IsLegal, memory_at}
 use Rattle.tx_history.proofs.PlainSizes.{sized_at}
-use Rattle.history_reader.specs.Canonical.{canonical, canonical_attempt}
+use Rattle.history_reader.specs.Canonical.{canonical, canonical_again, canonical_attempt, canonical_undone}
 use Rattle.history_reader.specs.LegalTexts.{IsLegalText}
 use Rattle.history_reader.specs.Reading.{read_of}
-use Rattle.history_reader.specs.Tellable.{IsAttempt, IsHistory}
+use Rattle.history_reader.specs.Tellable.{IsAttempt, IsHistory, IsTold, IsUndone}
 use Rattle.history_reader.proofs.RoundTrips.Texts.{read_again}
+use Rattle.history_reader.proofs.Canon.Attempts.{stand_so}
 use Rattle.history_reader.proofs.Canon.Histories.{canonical_legal}
 use Rattle.history_reader.proofs.Canon.Texts.{canonical_text}
 use Rattle.history_reader.proofs.Canon.FittingReplies.{entries_are}
 
-attempt_is : (memory : List ℕ) (a : Attempt) → IsAlone memory a → AttemptFits a → IsLimited a → IsAttempt (canonical_attempt a)
-attempt_is memory a h f l = record {
+told_is : (a : Again) → AgainFits a → IsTold (canonical_again a)
+told_is a f = (f.arena, All-map IsUndone canonical_undone a.undone (λ k d l. (refl, f.undone k d l)))
+
+may_too : (version : Version) (rs : List Again) → MayTell version rs → MayTell version (map canonical_again rs)
+may_too One rs m = ap (map canonical_again) m
+may_too Two rs m = tt
+may_too (Three depth) rs m = tt
+
+attempt_is : (version : Version) (memory : List ℕ) (a : Attempt) → IsAlone (depth_of version) memory a → AttemptFits a → IsLimited version a → IsAttempt version (canonical_attempt a)
+attempt_is version memory a h f l = record {
   thread = l.thread;
   nth = l.nth;
   began = refl;
   at = f.at;
   arena = (f.arena, l.arena);
   room = refl;
-  calls = entries_are MAX_OPEN_BLOCKS (opened memory a.arena a.props) a.calls.list h.replies f.calls l.widths;
+  calls = entries_are (depth_of version) (breaks_of a.restarts) (opened memory a.arena a.props) a.calls.list h.replies f.calls l.widths;
+  again = stand_so (length a.arena) 0 a.calls.list a.restarts h.again.stand;
+  restarts = All-map IsTold canonical_again a.restarts (λ k d i. told_is (get_or a.restarts k d) (f.restarts k d i));
+  may = may_too version a.restarts l.restarts;
   ran = f.ran;
 }
 
@@ -40,8 +56,8 @@ module _ (h : History) (legal : IsLegal h) (fits : HistoryFits h) (limited : Are
   canonical_tellable : IsHistory (canonical h)
   canonical_tellable = record {
     memory = (fits.memory, limited.memory.0, limited.memory.1, limited.memory.2);
-    attempts = All-map IsAttempt canonical_attempt h.attempts
-        (λ k d l. attempt_is (memory_at h (get_or h.attempts k d).at) (get_or h.attempts k d) (legal.alone k d l) (fits.attempts k d l) (limited.attempts k d l));
+    attempts = All-map (IsAttempt h.version) canonical_attempt h.attempts
+        (λ k d l. attempt_is h.version (memory_at h (get_or h.attempts k d).at) (get_or h.attempts k d) (legal.alone k d l) (fits.attempts k d l) (limited.attempts k d l));
     clock = fits.clock;
     bytes = (fits.bytes, as_long h (count_committed h.attempts) legal.final);
   }

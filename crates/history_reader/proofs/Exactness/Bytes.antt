@@ -7,12 +7,12 @@ use Rattle.std.proofs.lemmas.Slice.Eq.{bytes_eq-Decides}
 use Rattle.hex.specs.declared.error.FromHexError.{FromHexError}
 use Rattle.hex.specs.Hex.{IsBytes, ◌>>=◌, encode_lower, encode_with, lower_digits, hex_digit_value, digit_or_error, value_at, pair_value, decode_pairs}
 use Rattle.hex.proofs.HexLemmas.{decode_of-even}
-use Rattle.itm_types.specs.declared.limits.TheConstants.{MAX_MEMORY, MAX_ARENA}
+use Rattle.itm_types.specs.declared.limits.TheConstants.{MAX_ARENA}
 use Rattle.script_fields.specs.declared.fault.AsmKind.TheVariants as kinds
 use Rattle.script_fields.specs.Operands.{decoded}
 use Rattle.script_fields.proofs.FirstLines.{chosen}
 use Rattle.script_fields.proofs.HexDigits.{decode_of-hex}
-use Rattle.history_reader.specs.Digits.{is_lower_digit, is_lower_hex, bytes_if, sized, are_words, memory_bytes, arena_bytes}
+use Rattle.history_reader.specs.Digits.{is_lower_digit, is_lower_hex, bytes_if, sized, are_words, memory_bytes, arena_bytes, restart_bytes}
 use Rattle.history_reader.specs.Tellable.{IsMemory}
 use Rattle.history_reader.specs.LineFields.{arena_text}
 use Rattle.history_reader.proofs.Values.{hex_is, some_said}
@@ -137,15 +137,15 @@ sized_exact n f bytes e =
     let twice : length f ≡ 2 * length bytes = s.1.count in
     (s.1.same, omega arith, s.1.are)
 
-pub memory_exact : (f bytes : List ℕ) → memory_bytes f ≡ Ok bytes → (f ≡ encode_lower bytes) × IsMemory bytes
+pub memory_exact : (limit : ℕ) (f bytes : List ℕ) → memory_bytes limit f ≡ Ok bytes → (f ≡ encode_lower bytes) × IsMemory limit bytes
 unfolding memory_bytes
-memory_exact f bytes e =
-    let s = bytes_exact (are_words (length f)) f bytes e in
-    let a = and_parts (leb 16 (length f)) (leb (length f) (2 * MAX_MEMORY) && eqb (length f % 16) 0) s.0 in
-    let b = and_parts (leb (length f) (2 * MAX_MEMORY)) (eqb (length f % 16) 0) a.1 in
+memory_exact limit f bytes e =
+    let s = bytes_exact (are_words limit (length f)) f bytes e in
+    let a = and_parts (leb 16 (length f)) (leb (length f) (2 * limit) && eqb (length f % 16) 0) s.0 in
+    let b = and_parts (leb (length f) (2 * limit)) (eqb (length f % 16) 0) a.1 in
     let twice : length f ≡ 2 * length bytes = s.1.count in
     let low : 16 ≤ length f = leb-true 16 (length f) a.0 in
-    let high : length f ≤ 131072 = leb-true (length f) (2 * MAX_MEMORY) b.0 in
+    let high : length f ≤ 2 * limit = leb-true (length f) (2 * limit) b.0 in
     let words : length f % 16 ≡ 0 = eqb-true (length f % 16) 0 b.1 in
     (s.1.same, (s.1.are, omega arith, omega arith, omega arith))
 
@@ -163,4 +163,29 @@ arena_exact f bytes e =
           let full : 0 < length bytes = s.1.some in
           let none : length bytes ≡ 0 → ⊥ = λ z. omega arith in
           (s.1.same ∙ sym (ap (λ (b : Bool). cond b (codes "-") (encode_lower bytes)) (ne_eqb (length bytes) 0 none)), s.1.are, omega arith)
+    ]
+
+none_of : (bytes : List ℕ) (n : ℕ) → [] ≡ bytes → n ≡ 0 → length bytes ≡ n
+none_of bytes n is z = ap (length {A = ℕ}) (sym is) ∙ sym z
+
+some_text : (bytes : List ℕ) → 0 < length bytes → arena_text bytes ≡ encode_lower bytes
+some_text bytes full =
+    let none : length bytes ≡ 0 → ⊥ = λ z. omega arith in
+    ap (λ (b : Bool). cond b (codes "-") (encode_lower bytes)) (ne_eqb (length bytes) 0 none)
+
+pub restart_exact : (n : ℕ) (f bytes : List ℕ) → restart_bytes n f ≡ Ok bytes → (f ≡ arena_text bytes) × IsBytes bytes × (length bytes ≡ n)
+unfolding restart_bytes sized
+restart_exact n f bytes e =
+    elim (chosen (bytes_eq f (codes "-")) (cond (eqb n 0) (Ok []) (Err kinds.Range)) (sized n f) (Ok bytes) e) [
+      | inl dash ↦ elim (chosen (eqb n 0) (Ok []) (Err kinds.Range) (Ok bytes) dash.1) [
+        | inl none ↦
+            let is : [] ≡ bytes = cc in
+            ((bytes_eq-Decides f (codes "-")).0 dash.0 ∙ ap arena_text is, subst IsBytes is (λ i. omega arith), none_of bytes n is (eqb-true n 0 none.0))
+        | inr some ↦ absurd cc
+      ]
+      | inr digits ↦
+          let s = bytes_exact (eqb (length f / 2) n) f bytes digits.1 in
+          let half : length f / 2 ≡ n = eqb-true (length f / 2) n s.0 in
+          let twice : length f ≡ 2 * length bytes = s.1.count in
+          (s.1.same ∙ sym (some_text bytes s.1.some), s.1.are, omega arith)
     ]

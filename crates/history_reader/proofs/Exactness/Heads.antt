@@ -1,11 +1,13 @@
 -- What is read of the fields of a line that is no call's is so spelled.
-use Rattle.std.proofs.Common.{◌≡◌, ℕ, ◌+◌, ◌-◌, ◌≤◌, List, [], ◌∷◌, length, Ok, refl, ap, subst, ◌∙◌}
+use Rattle.std.proofs.Common.{◌≡◌, ℕ, ◌+◌, ◌≤◌, List, [], ◌∷◌, length, Ok, refl, sym, ap, subst, ◌∙◌}
 use Rattle.std.specs.Prelude.{decimal}
 use Rattle.hex.specs.Hex.{IsBytes, encode_lower}
 use Rattle.itm_types.specs.declared.call.ActionKind.{ActionKind}
+use Rattle.itm_types.specs.declared.call.ActionKind.TheVariants.{Undo}
 use Rattle.itm_types.specs.declared.call.Ran.{Ran}
 use Rattle.itm_types.specs.declared.call.Props.{Props}
-use Rattle.itm_types.specs.declared.limits.TheConstants.{MAX_ARENA, MAX_ACTORS, MAX_RETRIES}
+use Rattle.itm_types.specs.declared.limits.Depth.{Depth}
+use Rattle.itm_types.specs.declared.limits.TheConstants.{MAX_ARENA, MAX_DEPTH, MAX_RETRIES}
 use Rattle.script_fields.specs.Properties.{props_text}
 use Rattle.script_fields.specs.Names.{lookup}
 use Rattle.script_fields.specs.Operands.{◌>>=◌, both, number, function}
@@ -13,15 +15,16 @@ use Rattle.tx_attempts.specs.declared.attempt.Outcome.{Outcome}
 use Rattle.tx_history.specs.Histories.{outcome_name, kind_text}
 use Rattle.history_reader.specs.declared.state.Head.{Head}
 use Rattle.history_reader.specs.Fields.{next, next_three, none, one}
-use Rattle.history_reader.specs.Numbers.{thread, nth}
+use Rattle.history_reader.specs.Numbers.{depth, depth_from, ranged, thread, nth}
 use Rattle.history_reader.specs.Words.{outcome_names, outcome, kind_names, kind, block_props}
-use Rattle.history_reader.specs.Digits.{sized, memory_bytes, arena_bytes}
-use Rattle.history_reader.specs.Lines.{memory_of, arena_of, try_of, outcome_of, head_of, ran_of, final_of}
+use Rattle.history_reader.specs.Digits.{sized, memory_bytes, arena_bytes, restart_bytes}
+use Rattle.history_reader.specs.Lines.{depth_of, memory_of, arena_of, try_of, outcome_of, head_of, ran_of, undone_of, restart_of, final_of}
 use Rattle.tx_history.specs.Bounds.{IsWord}
-use Rattle.history_reader.specs.Tellable.{IsMemory, IsRan}
+use Rattle.history_reader.specs.Tellable.{IsMemory, IsRan, IsUndone}
 use Rattle.history_reader.specs.LineFields.{arena_text}
+use Rattle.history_reader.proofs.Values.{near_is}
 use Rattle.history_reader.proofs.Exactness.Fields.{bind_ok, both_ok, lookup_exact, or_operand_ok, ranged_exact, function_exact}
-use Rattle.history_reader.proofs.Exactness.Bytes.{sized_exact, memory_exact, arena_exact}
+use Rattle.history_reader.proofs.Exactness.Bytes.{sized_exact, memory_exact, arena_exact, restart_exact}
 use Rattle.history_reader.proofs.Exactness.Calls.{next_exact, none_exact, one_exact, three_exact, number_is, props_is}
 
 -- ## Words
@@ -37,8 +40,8 @@ kind_exact f k e = lookup_exact kind_text kind_names f k (refl, (refl, tt)) (or_
 -- ## The first line of an attempt
 
 -- what it tells is what a text can tell
-abbrev pub IsHead : Head → Type 0
-IsHead h = (h.thread ≤ MAX_ACTORS - 1) × ((1 ≤ h.nth) × (h.nth ≤ MAX_RETRIES + 1)) × IsWord h.at
+abbrev pub IsHead : ℕ → Head → Type 0
+IsHead limit h = (h.thread ≤ limit) × ((1 ≤ h.nth) × (h.nth ≤ MAX_RETRIES + 1)) × IsWord h.at
 
 -- the fields behind its first one
 abbrev pub told_fields : Head → List (List ℕ)
@@ -47,18 +50,18 @@ told_fields h = decimal h.thread ∷ decimal h.nth ∷ decimal h.at ∷ outcome_
 abbrev pub head_from : (ℕ × (ℕ × ℕ)) × (Outcome × Props) → Head
 head_from r = record { thread = r.0.0; nth = r.0.1.0; at = r.0.1.1; outcome = r.1.0; props = r.1.1 }
 
-pub head_exact : (fs : List (List ℕ)) (h : Head) → head_of fs ≡ Ok h → (fs ≡ told_fields h) × IsHead h
+pub head_exact : (limit : ℕ) (fs : List (List ℕ)) (h : Head) → head_of limit fs ≡ Ok h → (fs ≡ told_fields h) × IsHead limit h
 unfolding head_of
-head_exact fs h e =
-    let x = bind_ok (next_three fs) (λ x. next x.3 >>= λ y. one y.1 >>= λ last. both (try_of x.0 x.1 x.2) (outcome_of y.0 last) >>= λ r. Ok (head_from r)) h e in
-    let y = bind_ok (next x.0.3) (λ y. one y.1 >>= λ last. both (try_of x.0.0 x.0.1 x.0.2) (outcome_of y.0 last) >>= λ r. Ok (head_from r)) h x.2 in
-    let z = bind_ok (one y.0.1) (λ last. both (try_of x.0.0 x.0.1 x.0.2) (outcome_of y.0.0 last) >>= λ r. Ok (head_from r)) h y.2 in
-    let r = bind_ok (both (try_of x.0.0 x.0.1 x.0.2) (outcome_of y.0.0 z.0)) (λ r. Ok (head_from r)) h z.2 in
-    let b = both_ok (try_of x.0.0 x.0.1 x.0.2) (outcome_of y.0.0 z.0) r.0 r.1 in
-    let p = both_ok (thread x.0.0) (both (nth x.0.1) (number x.0.2)) r.0.0 b.0 in
+head_exact limit fs h e =
+    let x = bind_ok (next_three fs) (λ x. next x.3 >>= λ y. one y.1 >>= λ last. both (try_of limit x.0 x.1 x.2) (outcome_of y.0 last) >>= λ r. Ok (head_from r)) h e in
+    let y = bind_ok (next x.0.3) (λ y. one y.1 >>= λ last. both (try_of limit x.0.0 x.0.1 x.0.2) (outcome_of y.0 last) >>= λ r. Ok (head_from r)) h x.2 in
+    let z = bind_ok (one y.0.1) (λ last. both (try_of limit x.0.0 x.0.1 x.0.2) (outcome_of y.0.0 last) >>= λ r. Ok (head_from r)) h y.2 in
+    let r = bind_ok (both (try_of limit x.0.0 x.0.1 x.0.2) (outcome_of y.0.0 z.0)) (λ r. Ok (head_from r)) h z.2 in
+    let b = both_ok (try_of limit x.0.0 x.0.1 x.0.2) (outcome_of y.0.0 z.0) r.0 r.1 in
+    let p = both_ok (thread limit x.0.0) (both (nth x.0.1) (number x.0.2)) r.0.0 b.0 in
     let q = both_ok (nth x.0.1) (number x.0.2) r.0.0.1 p.1 in
     let o = both_ok (outcome y.0.0) (block_props z.0) r.0.1 b.1 in
-    let first = ranged_exact 0 (MAX_ACTORS - 1) x.0.0 r.0.0.0 p.0 in
+    let first = ranged_exact 0 limit x.0.0 r.0.0.0 p.0 in
     let second = ranged_exact 1 (MAX_RETRIES + 1) x.0.1 r.0.0.1.0 q.0 in
     let third = number_is x.0.2 r.0.0.1.1 q.1 in
     let fourth : y.0.0 ≡ outcome_name r.0.1.0 = outcome_exact y.0.0 r.0.1.0 o.0 in
@@ -66,15 +69,15 @@ head_exact fs h e =
     let is : head_from r.0 ≡ h = cc in
     let all : fs ≡ told_fields (head_from r.0) =
     cc (three_exact fs x.0 x.1, next_exact x.0.3 y.0 y.1, one_exact y.0.1 z.0 z.1, first.0, second.0, third.0, fourth, fifth) in
-    subst (λ (g : Head). (fs ≡ told_fields g) × IsHead g) is (all, (first.2, (second.1, second.2), third.1))
+    subst (λ (g : Head). (fs ≡ told_fields g) × IsHead limit g) is (all, (first.2, (second.1, second.2), third.1))
 
 -- ## Bytes
 
-pub memory_of_exact : (fs : List (List ℕ)) (bytes : List ℕ) → memory_of fs ≡ Ok bytes → (fs ≡ encode_lower bytes ∷ []) × IsMemory bytes
+pub memory_of_exact : (limit : ℕ) (fs : List (List ℕ)) (bytes : List ℕ) → memory_of limit fs ≡ Ok bytes → (fs ≡ encode_lower bytes ∷ []) × IsMemory limit bytes
 unfolding memory_of
-memory_of_exact fs bytes e =
-    let x = bind_ok (one fs) memory_bytes bytes e in
-    let m = memory_exact x.0 bytes x.2 in
+memory_of_exact limit fs bytes e =
+    let x = bind_ok (one fs) (memory_bytes limit) bytes e in
+    let m = memory_exact limit x.0 bytes x.2 in
     (one_exact fs x.0 x.1 ∙ ap (λ (f : List ℕ). f ∷ []) m.0, m.1)
 
 pub arena_of_exact : (fs : List (List ℕ)) (bytes : List ℕ) → arena_of fs ≡ Ok bytes → (fs ≡ arena_text bytes ∷ []) × (IsBytes bytes × (length bytes ≤ MAX_ARENA))
@@ -83,6 +86,27 @@ arena_of_exact fs bytes e =
     let x = bind_ok (one fs) arena_bytes bytes e in
     let a = arena_exact x.0 bytes x.2 in
     (one_exact fs x.0 x.1 ∙ ap (λ (f : List ℕ). f ∷ []) a.0, (a.1, a.2))
+
+pub restart_of_exact : (size : ℕ) (fs : List (List ℕ)) (bytes : List ℕ) → restart_of size fs ≡ Ok bytes → (fs ≡ arena_text bytes ∷ []) × (IsBytes bytes × (length bytes ≡ size))
+unfolding restart_of
+restart_of_exact size fs bytes e =
+    let x = bind_ok (one fs) (restart_bytes size) bytes e in
+    let a = restart_exact size x.0 bytes x.2 in
+    (one_exact fs x.0 x.1 ∙ ap (λ (f : List ℕ). f ∷ []) a.0, (a.1, a.2))
+
+-- ## How many blocks may be open
+
+pub depth_exact : (fs : List (List ℕ)) (d : Depth) → depth_of fs ≡ Ok d → fs ≡ decimal d.blocks ∷ []
+unfolding depth_of depth
+depth_exact fs d e =
+    let x = bind_ok (one fs) depth d e in
+    let n = bind_ok (ranged 1 MAX_DEPTH x.0) (λ n. Ok (depth_from n)) d x.2 in
+    let w = ranged_exact 1 MAX_DEPTH x.0 n.0 n.1 in
+    let is : depth_from n.0 ≡ d = cc in
+    let same : n.0 ≡ d.blocks = sym (near_is n.0 w.1 w.2) ∙ ap (λ (z : Depth). z.blocks) is in
+    one_exact fs x.0 x.1 ∙ ap (λ (f : List ℕ). f ∷ []) (w.0 ∙ ap decimal same)
+
+-- ## The end
 
 -- the clock, and as many bytes as are wanted
 pub final_exact : (size : ℕ) (fs : List (List ℕ)) (x : ℕ × List ℕ) → final_of size fs ≡ Ok x → (fs ≡ decimal x.0 ∷ encode_lower x.1 ∷ []) × IsWord x.0 × (IsBytes x.1 × (length x.1 ≡ size))
@@ -115,3 +139,21 @@ ran_exact fs r e =
     let is : ran_from w.0 ≡ r = cc in
     let all : fs ≡ kind_text w.0.0 ∷ decimal w.0.1.0 ∷ decimal w.0.1.1 ∷ [] = cc (three_exact fs x.0 x.1, none_exact x.0.3 y.0 y.1, first, second.0, third.0) in
     subst (λ (g : Ran). (fs ≡ kind_text g.kind ∷ decimal g.action.fun ∷ decimal g.action.arg ∷ []) × IsRan g) is (all, (second.1, third.1))
+
+-- ## One that had run in a block before it ran again
+
+abbrev undone_from : ℕ × ℕ → Ran
+undone_from r = record { kind = Undo; action = record { fun = r.0; arg = r.1 } }
+
+pub undone_exact : (fs : List (List ℕ)) (r : Ran) → undone_of fs ≡ Ok r → (fs ≡ decimal r.action.fun ∷ decimal r.action.arg ∷ []) × IsUndone r
+unfolding undone_of
+undone_exact fs r e =
+    let x = bind_ok (next fs) (λ x. one x.1 >>= λ last. both (function x.0) (number last) >>= λ w. Ok (undone_from w)) r e in
+    let y = bind_ok (one x.0.1) (λ last. both (function x.0.0) (number last) >>= λ w. Ok (undone_from w)) r x.2 in
+    let w = bind_ok (both (function x.0.0) (number y.0)) (λ w. Ok (undone_from w)) r y.2 in
+    let p = both_ok (function x.0.0) (number y.0) w.0 w.1 in
+    let first = function_exact x.0.0 w.0.0 p.0 in
+    let second = number_is y.0 w.0.1 p.1 in
+    let is : undone_from w.0 ≡ r = cc in
+    let all : fs ≡ decimal w.0.0 ∷ decimal w.0.1 ∷ [] = cc (next_exact fs x.0 x.1, one_exact x.0.1 y.0 y.1, first.0, second.0) in
+    subst (λ (g : Ran). (fs ≡ decimal g.action.fun ∷ decimal g.action.arg ∷ []) × IsUndone g) is (all, (refl, (first.1, second.1)))

@@ -10,12 +10,15 @@ use Rattle.itm_types.specs.declared.call.Ran.{Ran}
 use Rattle.itm_types.specs.declared.call.Reply.{Reply}
 use Rattle.itm_types.specs.declared.call.Reply.TheVariants as replies
 use Rattle.itm_types.specs.declared.entry.Entry.TheVariants as points
+use Rattle.itm_types.specs.declared.limits.Depth.{Depth}
 use Rattle.script_fields.specs.Properties.{props_text}
 use Rattle.script_fields.specs.Text.{joined}
 use Rattle.tx_attempts.specs.declared.attempt.Attempt.{Attempt}
 use Rattle.tx_attempts.specs.declared.attempt.CallRecord.{CallRecord}
-use Rattle.tx_history.specs.Histories.{outcome_name, kind_text, try_text, props_end, head_line, arena_line, copy_text, fill_text, commit_action_text, undo_action_text, body_text, reply_text, call_line, ran_line, first_lines, last_line}
-use Rattle.history_reader.specs.LineFields.{verb_text, verb_in, operands_of, reply_fields, call_fields, ran_fields, head_fields, arena_fields, memory_fields, final_fields}
+use Rattle.tx_history.specs.declared.history.Version.{Version}
+use Rattle.tx_history.specs.declared.history.Version.TheVariants.{Three}
+use Rattle.tx_history.specs.Histories.{outcome_name, kind_text, try_text, props_end, head_line, arena_line, copy_text, fill_text, commit_action_text, undo_action_text, body_text, reply_text, call_line, ran_line, restart_line, undone_line, version_lines, first_lines, last_line}
+use Rattle.history_reader.specs.LineFields.{verb_text, verb_in, operands_of, reply_fields, call_fields, ran_fields, head_fields, arena_fields, restart_fields, undone_fields, depth_fields, memory_fields, final_fields}
 
 -- ## Texts put together from the left, and from the right
 
@@ -55,9 +58,24 @@ pub arena_joined : (bytes : List ℕ) → arena_line bytes ≡ line_of (arena_fi
 unfolding arena_line
 arena_joined bytes = arena_chosen (eqb (length bytes) 0) (encode_lower bytes)
 
-pub memory_joined : (bytes : List ℕ) → first_lines bytes ≡ codes "itm-history 1\n" ++ line_of (memory_fields bytes)
+pub memory_joined : (version : Version) (bytes : List ℕ) → first_lines version bytes ≡ version_lines version ++ line_of (memory_fields bytes)
 unfolding first_lines
-memory_joined bytes = refl
+memory_joined version bytes = four (version_lines version) (codes "memory ") (encode_lower bytes) (codes "\n")
+
+pub depth_joined : (depth : Depth) → version_lines (Three depth) ≡ codes "itm-history 3\n" ++ line_of (depth_fields depth.blocks)
+depth_joined depth = refl
+
+restart_chosen : (b : Bool) (digits : List ℕ) → cond b (codes "restart -\n") (codes "restart " ++ digits ++ codes "\n") ≡ line_of (codes "restart" ∷ cond b (codes "-") digits ∷ [])
+restart_chosen true digits = refl
+restart_chosen false digits = refl
+
+pub restart_joined : (bytes : List ℕ) → restart_line bytes ≡ line_of (restart_fields bytes)
+unfolding restart_line
+restart_joined bytes = restart_chosen (eqb (length bytes) 0) (encode_lower bytes)
+
+pub undone_joined : (r : Ran) → undone_line r ≡ line_of (undone_fields r)
+unfolding undone_line
+undone_joined r = ending (codes "undone ") (decimal r.action.fun) (codes " ") (decimal r.action.arg) (codes "\n")
 
 pub final_joined : (clock : ℕ) (bytes : List ℕ) → last_line clock bytes ≡ line_of (final_fields clock bytes)
 unfolding last_line

@@ -36,13 +36,14 @@ then_ok (Err k) f y e = absurd cc
 
 whole_exact : (p : Place) (s : State) (h : History) → IsSoFar p s → whole p s ≡ Ok h → Spells (so_far p s) h
 whole_exact places.AtHeader s h k e = absurd cc
+whole_exact places.AtDepth s h k e = absurd cc
 whole_exact places.AtMemory s h k e = absurd cc
 whole_exact places.Between s h k e = absurd cc
 whole_exact (places.AtArena head) s h k e = absurd cc
-whole_exact (places.InCalls head) s h k e = absurd cc
+whole_exact (places.InCalls head b) s h k e = absurd cc
 whole_exact (places.InRan head) s h k e = absurd cc
 whole_exact (places.AtEnd clock) s h k e =
-    let is : record { memory = s.memory; attempts = s.attempts; clock = clock; bytes = s.bytes } ≡ h = cc in
+    let is : record { version = s.version; memory = s.memory; attempts = s.attempts; clock = clock; bytes = s.bytes } ≡ h = cc in
     subst (Spells (so_far (places.AtEnd clock) s)) is (sym (at_end clock s), k)
 
 empty : (xs : List ℕ) → length xs ≡ 0 → xs ≡ []
@@ -76,4 +77,4 @@ parts_exact s n (line ∷ part ∷ parts) h k e =
 -- a text that is read is the one spelling of the history, and a text can tell that history
 pub read_exact : (t : List ℕ) (h : History) → read_of t ≡ Ok h → (history_text h ≡ t) × IsHistory h
 unfolding read_of
-read_exact t h e = subst (λ (l : List ℕ). Spells l h) (join_with_byte-slice_split 10 t) (parts_exact initial 1 (slice_split is_feed t) h (refl, (refl, refl)) e)
+read_exact t h e = subst (λ (l : List ℕ). Spells l h) (join_with_byte-slice_split 10 t) (parts_exact initial 1 (slice_split is_feed t) h (refl, refl, (refl, refl, refl)) e)

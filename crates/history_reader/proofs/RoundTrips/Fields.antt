@@ -1,5 +1,5 @@
 -- What is spelled in a field is read of it again.
-use Rattle.std.proofs.Common.{◌≡◌, ℕ, suc, ◌*◌, ◌/◌, ◌%◌, ◌^◌, ◌<◌, ◌≤◌, ◌+◌, Bool, true, false, cond, eqb, leb, List, [], ◌∷◌, ◌++◌, length, Option, Some, Result, Ok, refl, sym, ap, subst, ◌∙◌, arith, lit<, inl, inr}
+use Rattle.std.proofs.Common.{◌≡◌, ℕ, suc, ◌*◌, ◌/◌, ◌%◌, ◌^◌, ◌<◌, ◌≤◌, ◌+◌, Bool, true, false, cond, eqb, leb, List, [], ◌∷◌, ◌++◌, length, Option, Some, Result, Ok, Err, refl, sym, ap, subst, ◌∙◌, arith, lit<, inl, inr}
 use Rattle.std.specs.Prelude.{decimal, bytes_eq, codes, slice_index}
 use Rattle.std.specs.List.{list_all}
 use Rattle.std.proofs.lemmas.Bool.{ne_eqb, eq-eqb, le-leb, cases_Bool}
@@ -22,8 +22,10 @@ use Rattle.itm_types.specs.declared.call.Refusal.{Refusal}
 use Rattle.itm_types.specs.declared.call.Refusal.TheVariants as refusals
 use Rattle.itm_types.specs.declared.datum.Datum.{Datum}
 use Rattle.itm_types.specs.declared.entry.Entry.{Entry as Point}
-use Rattle.itm_types.specs.declared.limits.TheConstants.{MAX_MEMORY, MAX_ARENA}
+use Rattle.itm_types.specs.declared.limits.Depth.{Depth}
+use Rattle.itm_types.specs.declared.limits.TheConstants.{MAX_ARENA, MAX_DEPTH}
 use Rattle.script_fields.specs.declared.fault.AsmKind.{AsmKind}
+use Rattle.script_fields.specs.declared.fault.AsmKind.TheVariants as kinds
 use Rattle.script_fields.specs.Names.{lookup}
 use Rattle.script_fields.specs.Operands.{◌>>=◌, within}
 use Rattle.script_fields.specs.Properties.{props_text}
@@ -34,15 +36,15 @@ use Rattle.tx_attempts.specs.declared.attempt.Outcome.TheVariants as outcomes
 use Rattle.tx_history.specs.Histories.{outcome_name, kind_text}
 use Rattle.history_reader.specs.declared.verb.Verb.{Verb}
 use Rattle.history_reader.specs.declared.verb.Verb.TheVariants as verbs
-use Rattle.history_reader.specs.Numbers.{ranged}
-use Rattle.history_reader.specs.Digits.{is_lower_digit, is_lower_hex, bytes_if, sized, are_words, memory_bytes, arena_bytes, datum, datum_of}
+use Rattle.history_reader.specs.Numbers.{depth, depth_from, ranged}
+use Rattle.history_reader.specs.Digits.{is_lower_digit, is_lower_hex, bytes_if, sized, are_words, memory_bytes, arena_bytes, restart_bytes, datum, datum_of}
 use Rattle.history_reader.specs.Words.{outcome, kind, block_props}
 use Rattle.history_reader.specs.Replies.{refusal_of}
 use Rattle.history_reader.specs.Calls.{access_names, point_verb, or_point, verb_of}
 use Rattle.tx_history.specs.Bounds.{IsArenaWidth, IsDatum}
 use Rattle.history_reader.specs.Tellable.{IsMemory}
 use Rattle.history_reader.specs.LineFields.{verb_text, arena_text}
-use Rattle.history_reader.proofs.Values.{low_is, same_datum}
+use Rattle.history_reader.proofs.Values.{low_is, near_is, same_datum, same_depth}
 
 -- ## Numbers
 
@@ -85,17 +87,17 @@ sized_again n bytes e some h =
     bytes_again (eqb (length (encode_lower bytes) / 2) n) bytes (eq-eqb _ n (omega arith)) h (omega arith)
 
 -- a memory is read as it was
-pub memory_again : (bytes : List ℕ) → IsMemory bytes → memory_bytes (encode_lower bytes) ≡ Ok bytes
+pub memory_again : (limit : ℕ) (bytes : List ℕ) → IsMemory limit bytes → memory_bytes limit (encode_lower bytes) ≡ Ok bytes
 unfolding memory_bytes
-memory_again bytes h =
+memory_again limit bytes h =
     let twice = length-encode_with lower_digits bytes in
     let some : 8 ≤ length bytes = h.1 in
-    let few : length bytes ≤ MAX_MEMORY = h.2 in
+    let few : length bytes ≤ limit = h.2 in
     let words : length bytes % 8 ≡ 0 = h.3 in
     let low : leb 16 (length (encode_lower bytes)) ≡ true = le-leb 16 _ (omega arith) in
-    let high : leb (length (encode_lower bytes)) (2 * MAX_MEMORY) ≡ true = le-leb _ (2 * MAX_MEMORY) (omega arith) in
+    let high : leb (length (encode_lower bytes)) (2 * limit) ≡ true = le-leb _ (2 * limit) (omega arith) in
     let whole : eqb (length (encode_lower bytes) % 16) 0 ≡ true = eq-eqb _ 0 (omega arith) in
-    bytes_again (are_words (length (encode_lower bytes))) bytes (rw (low, high, whole) refl) h.0 (omega arith)
+    bytes_again (are_words limit (length (encode_lower bytes))) bytes (rw (low, high, whole) refl) h.0 (omega arith)
 
 -- digits are even in number, and so no text that is odd in length
 pub no_digits : (bytes text : List ℕ) → length text % 2 ≡ 1 → bytes_eq (encode_lower bytes) text ≡ false
@@ -118,6 +120,28 @@ arena_again (b ∷ rest) h few =
     ap (λ (t : Bool). arena_bytes (cond t (codes "-") (encode_lower (b ∷ rest)))) some
     ∙ ap (λ (t : Bool). cond t (Ok []) (bytes_if (leb (length (encode_lower (b ∷ rest))) (2 * MAX_ARENA)) (encode_lower (b ∷ rest)))) (no_digits (b ∷ rest) (codes "-") refl)
     ∙ bytes_again (leb (length (encode_lower (b ∷ rest))) (2 * MAX_ARENA)) (b ∷ rest) high h (omega arith)
+
+-- so is the arena from which a block ran again
+pub restart_again : (n : ℕ) (bytes : List ℕ) → IsBytes bytes → length bytes ≡ n → restart_bytes n (arena_text bytes) ≡ Ok bytes
+unfolding restart_bytes
+restart_again n [] h e =
+    let none : Bool → Result (List ℕ) AsmKind = λ t. cond t (Ok []) (Err kinds.Range) in
+    ap none (eq-eqb n 0 (sym e))
+restart_again n (b ∷ rest) h e =
+    let some : eqb (length (b ∷ rest)) 0 ≡ false = ne_eqb _ 0 (λ f. omega arith) in
+    ap (λ (t : Bool). restart_bytes n (cond t (codes "-") (encode_lower (b ∷ rest)))) some
+    ∙ ap (λ (t : Bool). cond t (cond (eqb n 0) (Ok []) (Err kinds.Range)) (sized n (encode_lower (b ∷ rest)))) (no_digits (b ∷ rest) (codes "-") refl)
+    ∙ sized_again n (b ∷ rest) e (omega (arith, e)) h
+
+-- ## How many blocks may be open
+
+pub depth_again : (d : Depth) → depth (decimal d.blocks) ≡ Ok d
+unfolding depth
+depth_again d =
+    let some : 1 ≤ d.blocks = omega (arith, d.some) in
+    let few : d.blocks ≤ MAX_DEPTH = d.few in
+    ap (λ (r : Result ℕ AsmKind). r >>= λ n. Ok (depth_from n)) (ranged_again 1 MAX_DEPTH d.blocks some few (omega (arith, few)))
+    ∙ ap (λ (z : Depth). Ok z) (same_depth (depth_from d.blocks) d (near_is d.blocks some few))
 
 -- ## Values of a width
 

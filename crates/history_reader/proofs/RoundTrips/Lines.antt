@@ -1,11 +1,13 @@
 -- What a line's fields were spelled for is what they say where they stand.
-use Rattle.std.proofs.Common.{◌≡◌, ℕ, ◌-◌, ◌+◌, ◌≤◌, Bool, true, false, List, [], ◌∷◌, ◌++◌, length, Result, Ok, refl, ap, ◌∙◌, arith}
+use Rattle.std.proofs.Common.{◌≡◌, ℕ, ◌+◌, ◌≤◌, List, [], ◌∷◌, ◌++◌, length, Option, None, Some, Result, Ok, refl, sym, ap, ◌∙◌, arith}
 use Rattle.std.specs.Prelude.{decimal, codes}
 use Rattle.hex.specs.Hex.{IsBytes, encode_lower}
 use Rattle.itm_types.specs.declared.call.ActionKind.{ActionKind}
+use Rattle.itm_types.specs.declared.call.ActionKind.TheVariants.{Undo}
 use Rattle.itm_types.specs.declared.call.Props.{Props}
 use Rattle.itm_types.specs.declared.call.Ran.{Ran}
-use Rattle.itm_types.specs.declared.limits.TheConstants.{MAX_ARENA, MAX_ACTORS, MAX_RETRIES}
+use Rattle.itm_types.specs.declared.limits.Depth.{Depth}
+use Rattle.itm_types.specs.declared.limits.TheConstants.{MAX_ARENA, MAX_RETRIES}
 use Rattle.script_fields.specs.declared.fault.AsmKind.{AsmKind}
 use Rattle.script_fields.specs.Operands.{◌>>=◌, both, number, function}
 use Rattle.script_fields.specs.Properties.{props_text}
@@ -15,6 +17,10 @@ use Rattle.tx_attempts.specs.declared.attempt.Attempt.{Attempt}
 use Rattle.tx_attempts.specs.declared.attempt.CallRecord.{CallRecord}
 use Rattle.tx_attempts.specs.declared.attempt.Outcome.{Outcome}
 use Rattle.tx_history.specs.Histories.{outcome_name, kind_text}
+use Rattle.tx_history.specs.declared.history.Version.TheVariants.{Three}
+use Rattle.tx_history.specs.Versions.{memory_limit, thread_limit}
+use Rattle.history_reader.specs.declared.state.Behind.{Behind}
+use Rattle.history_reader.specs.declared.state.Behind.TheVariants as behinds
 use Rattle.history_reader.specs.declared.state.Head.{Head}
 use Rattle.history_reader.specs.declared.state.Place.{Place}
 use Rattle.history_reader.specs.declared.state.Place.TheVariants as places
@@ -25,13 +31,13 @@ use Rattle.history_reader.specs.Numbers.{thread, nth}
 use Rattle.history_reader.specs.Words.{outcome, kind, block_props}
 use Rattle.history_reader.specs.Digits.{sized}
 use Rattle.history_reader.specs.Lines as lines
-use Rattle.history_reader.specs.Lines.{head_of, ran_of, final_of, memory_of, arena_of, try_of, outcome_of, memory_line, final_line, end_line, between_line, later_line, call_or_later, placed, fields_line, meaning}
+use Rattle.history_reader.specs.Lines.{head_of, ran_of, undone_of, restart_of, final_of, depth_of, memory_of, arena_of, try_of, outcome_of, behind_call, with_undone, depth_line, memory_line, final_line, end_line, between_line, later_line, again_or_later, call_or_later, placed, fields_line, meaning}
 use Rattle.tx_history.specs.Bounds.{IsWord}
-use Rattle.history_reader.specs.Tellable.{IsRan, IsAttempt, IsEntry, IsMemory}
+use Rattle.history_reader.specs.Tellable.{IsRan, IsUndone, IsAttempt, IsEntry, IsMemory}
 use Rattle.history_reader.specs.LineFields.{arena_text, verb_text, verb_in, rest_of}
-use Rattle.history_reader.proofs.RoundTrips.Fields.{ranged_again, sized_again, memory_again, arena_again, outcome_again, kind_again, block_props_again}
+use Rattle.history_reader.proofs.RoundTrips.Fields.{depth_again, ranged_again, sized_again, memory_again, arena_again, restart_again, outcome_again, kind_again, block_props_again}
 use Rattle.history_reader.proofs.RoundTrips.Calls.{both_again, call_again}
-use Rattle.history_reader.proofs.RoundTrips.Spellings.{AreFields, fields_again}
+use Rattle.history_reader.proofs.RoundTrips.Spellings.{AreFields, few_threads, fields_again}
 
 -- a line of fields says what its fields say where they stand
 pub says_again : (s t : State) (word : List ℕ) (fs : List (List ℕ)) → meaning s (joined (word ∷ fs)) ≡ fields_line s (joined (word ∷ fs)) → AreFields (word ∷ fs)
@@ -40,10 +46,15 @@ unfolding next
 says_again s t word fs m h e =
     m ∙ ap (λ (l : List (List ℕ)). told (next l >>= λ x. placed s.place s x.0 x.1)) (fields_again word fs h) ∙ ap (λ (r : Result State AsmKind). told r) e
 
+-- how many blocks may be open
+pub depth_says : (s : State) (d : Depth) → placed places.AtDepth s (codes "depth") (decimal d.blocks ∷ []) ≡ Ok (record s { place = places.AtMemory; version = Three d })
+unfolding placed depth_line depth_of next none one
+depth_says s d = ap (λ (r : Result Depth AsmKind). r >>= λ z. Ok (record s { place = places.AtMemory; version = Three z })) (depth_again d)
+
 -- the memory before the run
-pub memory_says : (s : State) (bytes : List ℕ) → IsMemory bytes → placed places.AtMemory s (codes "memory") (encode_lower bytes ∷ []) ≡ Ok (record s { place = places.Between; memory = bytes })
+pub memory_says : (s : State) (bytes : List ℕ) → IsMemory (memory_limit s.version) bytes → placed places.AtMemory s (codes "memory") (encode_lower bytes ∷ []) ≡ Ok (record s { place = places.Between; memory = bytes })
 unfolding placed memory_line memory_of next none one
-memory_says s bytes h = ap (λ (r : Result (List ℕ) AsmKind). r >>= λ b. Ok (record s { place = places.Between; memory = b })) (memory_again bytes h)
+memory_says s bytes h = ap (λ (r : Result (List ℕ) AsmKind). r >>= λ b. Ok (record s { place = places.Between; memory = b })) (memory_again (memory_limit s.version) bytes h)
 
 -- the clock and the memory after the run
 pub final_says : (s : State) (clock : ℕ) (bytes : List ℕ) → IsWord clock → IsBytes bytes → length bytes ≡ length s.memory → 1 ≤ length s.memory
@@ -58,54 +69,77 @@ abbrev pub head_in : Attempt → Head
 head_in a = record { thread = a.thread; nth = a.nth; at = a.at; outcome = a.outcome; props = a.props }
 
 -- a new attempt
-pub head_says : (s : State) (a : Attempt) → IsAttempt a
+pub head_says : (s : State) (a : Attempt) → IsAttempt s.version a
     → placed places.Between s (codes "attempt") (decimal a.thread ∷ decimal a.nth ∷ decimal a.at ∷ outcome_name a.outcome ∷ props_text a.props ∷ []) ≡ Ok (record s { place = places.AtArena (head_in a) })
 unfolding placed between_line lines.head_line head_of next next_three none one
 head_says s a h =
-    let th = ranged_again 0 (MAX_ACTORS - 1) a.thread (omega arith) h.thread (omega (arith, h.thread)) in
+    let limit = thread_limit s.version in
+    let th = ranged_again 0 limit a.thread (omega arith) h.thread (omega (arith, h.thread, few_threads s.version)) in
     let try = ranged_again 1 (MAX_RETRIES + 1) a.nth h.nth.0 h.nth.1 (omega (arith, h.nth.1)) in
-    let tried = both_again (thread (decimal a.thread)) (both (nth (decimal a.nth)) (number (decimal a.at))) a.thread (a.nth, a.at) th
+    let tried = both_again (thread limit (decimal a.thread)) (both (nth (decimal a.nth)) (number (decimal a.at))) a.thread (a.nth, a.at) th
     (both_again (nth (decimal a.nth)) (number (decimal a.at)) a.nth a.at try (number_again a.at h.at)) in
     let came = both_again (outcome (outcome_name a.outcome)) (block_props (props_text a.props)) a.outcome a.props (outcome_again a.outcome) (block_props_again a.props) in
     ap (λ (r : Result ((ℕ × (ℕ × ℕ)) × (Outcome × Props)) AsmKind).
     r >>= (λ x. Ok (record { thread = x.0.0; nth = x.0.1.0; at = x.0.1.1; outcome = x.1.0; props = x.1.1 })) >>= λ head. Ok (record s { place = places.AtArena head }))
-    (both_again (try_of (decimal a.thread) (decimal a.nth) (decimal a.at)) (outcome_of (outcome_name a.outcome) (props_text a.props)) (a.thread, (a.nth, a.at)) (a.outcome, a.props) tried came)
+    (both_again (try_of limit (decimal a.thread) (decimal a.nth) (decimal a.at)) (outcome_of (outcome_name a.outcome) (props_text a.props)) (a.thread, (a.nth, a.at)) (a.outcome, a.props) tried came)
 
 -- the arena at its begin
 pub arena_says : (s : State) (head : Head) (bytes : List ℕ) → IsBytes bytes → length bytes ≤ MAX_ARENA
-    → placed (places.AtArena head) s (codes "arena") (arena_text bytes ∷ []) ≡ Ok (record s { place = places.InCalls head; arena = bytes })
+    → placed (places.AtArena head) s (codes "arena") (arena_text bytes ∷ []) ≡ Ok (record s { place = places.InCalls head behinds.Call; arena = bytes })
 unfolding placed lines.arena_line arena_of next none one
-arena_says s head bytes h few = ap (λ (r : Result (List ℕ) AsmKind). r >>= λ b. Ok (record s { place = places.InCalls head; arena = b })) (arena_again bytes h few)
+arena_says s head bytes h few = ap (λ (r : Result (List ℕ) AsmKind). r >>= λ b. Ok (record s { place = places.InCalls head behinds.Call; arena = b })) (arena_again bytes h few)
 
 -- a call
-pub call_says : (s : State) (head : Head) (e : CallRecord) → IsEntry e
-    → placed (places.InCalls head) s (codes "call") (verb_text (verb_in e.call) ∷ rest_of e) ≡ Ok (record s { calls = s.calls ++ e ∷ [] })
+pub call_says : (s : State) (head : Head) (b : Behind) (e : CallRecord) → IsEntry e
+    → placed (places.InCalls head b) s (codes "call") (verb_text (verb_in e.call) ∷ rest_of e) ≡ Ok (record s { place = places.InCalls head (behind_call s.version e); calls = s.calls ++ e ∷ [] })
 unfolding placed call_or_later lines.call_line
-call_says s head e h = ap (λ (r : Result CallRecord AsmKind). r >>= λ x. Ok (record s { calls = s.calls ++ x ∷ [] })) (call_again e h)
+call_says s head b e h = ap (λ (r : Result CallRecord AsmKind). r >>= λ x. Ok (record s { place = places.InCalls head (behind_call s.version x); calls = s.calls ++ x ∷ [] })) (call_again e h)
+
+-- that a block ran again, right behind its begin
+pub restart_says : (s : State) (head : Head) (bytes : List ℕ) → IsBytes bytes → length bytes ≡ length s.arena
+    → placed (places.InCalls head behinds.Begin) s (codes "restart") (arena_text bytes ∷ [])
+    ≡ Ok (record s { place = places.InCalls head behinds.Restart; restarts = s.restarts ++ record { kept = length s.calls; arena = bytes; undone = [] } ∷ [] })
+unfolding placed call_or_later again_or_later lines.restart_line restart_of next none one
+restart_says s head bytes h e =
+    ap (λ (r : Result (List ℕ) AsmKind). r >>= λ b. Ok (record s { place = places.InCalls head behinds.Restart; restarts = s.restarts ++ record { kept = length s.calls; arena = b; undone = [] } ∷ [] }))
+    (restart_again (length s.arena) bytes h e)
+
+-- an action that had run in it before
+pub undone_says : (s : State) (head : Head) (r : Ran) → IsUndone r
+    → placed (places.InCalls head behinds.Restart) s (codes "undone") (decimal r.action.fun ∷ decimal r.action.arg ∷ []) ≡ Ok (record s { restarts = with_undone s.restarts r })
+unfolding placed call_or_later again_or_later lines.undone_line undone_of next none one
+undone_says s head r h =
+    ap (λ (q : Result (ℕ × ℕ) AsmKind). q >>= (λ x. Ok (record { kind = Undo; action = record { fun = x.0; arg = x.1 } })) >>= λ y. Ok (record s { restarts = with_undone s.restarts y }))
+    (both_again (function (decimal r.action.fun)) (number (decimal r.action.arg)) r.action.fun r.action.arg (function_again r.action.fun (omega (arith, h.1.0))) (number_again r.action.arg h.1.1))
+    ∙ ap (λ (k : ActionKind). Ok (record s { restarts = with_undone s.restarts (record { kind = k; action = r.action }) })) (sym h.0)
 
 -- where an action that ran may stand, and the attempt's end: behind the calls, and behind an action
-abbrev pub late : Bool → Head → Place
-late false head = places.InCalls head
-late true head = places.InRan head
+abbrev pub late : Option Behind → Head → Place
+late (Some b) head = places.InCalls head b
+late None head = places.InRan head
 
--- an action that ran is read alike in both places
-ran_later : (b : Bool) (s : State) (head : Head) (fs : List (List ℕ)) → placed (late b head) s (codes "ran") fs ≡ lines.ran_line s head fs
-unfolding placed call_or_later later_line
-ran_later false s head fs = refl
-ran_later true s head fs = refl
+-- an action that ran is read alike in all these places
+ran_later : (o : Option Behind) (s : State) (head : Head) (fs : List (List ℕ)) → placed (late o head) s (codes "ran") fs ≡ lines.ran_line s head fs
+unfolding placed call_or_later again_or_later later_line
+ran_later (Some behinds.Call) s head fs = refl
+ran_later (Some behinds.Begin) s head fs = refl
+ran_later (Some behinds.Restart) s head fs = refl
+ran_later None s head fs = refl
 
 -- an action that ran
-pub ran_says : (b : Bool) (s : State) (head : Head) (r : Ran) → IsRan r
-    → placed (late b head) s (codes "ran") (kind_text r.kind ∷ decimal r.action.fun ∷ decimal r.action.arg ∷ []) ≡ Ok (record s { place = places.InRan head; ran = s.ran ++ r ∷ [] })
+pub ran_says : (o : Option Behind) (s : State) (head : Head) (r : Ran) → IsRan r
+    → placed (late o head) s (codes "ran") (kind_text r.kind ∷ decimal r.action.fun ∷ decimal r.action.arg ∷ []) ≡ Ok (record s { place = places.InRan head; ran = s.ran ++ r ∷ [] })
 unfolding lines.ran_line ran_of next next_three none
-ran_says b s head r h =
+ran_says o s head r h =
     let action = both_again (function (decimal r.action.fun)) (number (decimal r.action.arg)) r.action.fun r.action.arg (function_again r.action.fun (omega (arith, h.0))) (number_again r.action.arg h.1) in
-    ran_later b s head (kind_text r.kind ∷ decimal r.action.fun ∷ decimal r.action.arg ∷ [])
+    ran_later o s head (kind_text r.kind ∷ decimal r.action.fun ∷ decimal r.action.arg ∷ [])
     ∙ ap (λ (q : Result (ActionKind × (ℕ × ℕ)) AsmKind). q >>= (λ x. Ok (record { kind = x.0; action = record { fun = x.1.0; arg = x.1.1 } })) >>= λ y. Ok (record s { place = places.InRan head; ran = s.ran ++ y ∷ [] }))
     (both_again (kind (kind_text r.kind)) (both (function (decimal r.action.fun)) (number (decimal r.action.arg))) r.kind (r.action.fun, r.action.arg) (kind_again r.kind) action)
 
 -- the end of an attempt
-pub end_says : (b : Bool) (s : State) (head : Head) → placed (late b head) s (codes "end") [] ≡ Ok (lines.ended s head)
-unfolding placed call_or_later later_line end_line none
-end_says false s head = refl
-end_says true s head = refl
+pub end_says : (o : Option Behind) (s : State) (head : Head) → placed (late o head) s (codes "end") [] ≡ Ok (lines.ended s head)
+unfolding placed call_or_later again_or_later later_line end_line none
+end_says (Some behinds.Call) s head = refl
+end_says (Some behinds.Begin) s head = refl
+end_says (Some behinds.Restart) s head = refl
+end_says None s head = refl

@@ -1,5 +1,5 @@
 -- Lines that are read one after the other.
-use Rattle.std.proofs.Common.{◌≡◌, ℕ, ◌+◌, ◌<◌, ◌≤◌, Bool, true, false, cond, eqb, List, [], ◌∷◌, ◌++◌, length, Result, Ok, Err, refl, sym, ap, subst, ◌∙◌, arith, length-append, append_assoc, IfErr}
+use Rattle.std.proofs.Common.{◌≡◌, ℕ, ◌+◌, ◌<◌, Bool, true, false, cond, eqb, List, [], ◌∷◌, ◌++◌, length, Result, Ok, Err, refl, sym, ap, subst, ◌∙◌, arith, length-append, append_assoc, IfErr}
 use Rattle.std.specs.List.{slice_split}
 use Rattle.script_fields.specs.Text.{is_feed}
 use Rattle.script_fields.proofs.FirstLines.{parts_nonempty}
@@ -11,7 +11,7 @@ use Rattle.history_reader.specs.declared.state.Place.{Place}
 use Rattle.history_reader.specs.declared.state.Place.TheVariants as places
 use Rattle.history_reader.specs.declared.state.State.{State}
 use Rattle.history_reader.specs.Lines.{initial, meaning}
-use Rattle.history_reader.specs.Reading.{in_line, ◌>>=◌, whole, end_of, parts_say, read_of, lines_leave, taken, Adds, Steps, RunsOut, Fails, Gives}
+use Rattle.history_reader.specs.Reading.{in_line, ◌>>=◌, whole, end_of, parts_say, lines_leave, taken, Adds, Steps, RunsOut, Fails, Gives}
 
 -- the lines before the rest of a text are well, so many, and leave this state
 pub record HasRead (text rest : List ℕ) (n : ℕ) (s : State) : Type 0 where
@@ -94,10 +94,11 @@ ends s n rest result read a e is =
 
 no_want : (p : Place) (s : State) → whole p s ≡ Err kinds.Memory → ⊥
 no_want places.AtHeader s e = cc
+no_want places.AtDepth s e = cc
 no_want places.AtMemory s e = cc
 no_want places.Between s e = cc
 no_want (places.AtArena h) s e = cc
-no_want (places.InCalls h) s e = cc
+no_want (places.InCalls h b) s e = cc
 no_want (places.InRan h) s e = cc
 no_want (places.AtEnd clock) s e = cc
 

@@ -1,5 +1,5 @@
 -- What is spelled stands in fields: visible bytes, with one space between each two fields of a line.
-use Rattle.std.proofs.Common.{◌≡◌, ℕ, ◌%◌, ◌<◌, ◌≤◌, Bool, true, false, cond, eqb, List, [], ◌∷◌, ◌++◌, length, All, refl, sym, ap, subst, ◌∙◌, arith, lit<}
+use Rattle.std.proofs.Common.{◌≡◌, ℕ, ◌%◌, ◌<◌, ◌≤◌, Bool, true, false, cond, eqb, List, [], ◌∷◌, ◌++◌, length, All, refl, sym, ap, subst, ◌∙◌, arith, lit<, lit≤}
 use Rattle.std.specs.Prelude.{decimal, codes, Contains}
 use Rattle.std.specs.List.{AllByRecursion, list_all}
 use Rattle.std.proofs.lemmas.Bool.{ne_eqb, and_parts, leb-true}
@@ -27,15 +27,18 @@ use Rattle.tx_attempts.specs.declared.attempt.Attempt.{Attempt}
 use Rattle.tx_attempts.specs.declared.attempt.CallRecord.{CallRecord}
 use Rattle.tx_attempts.specs.declared.attempt.Outcome.{Outcome}
 use Rattle.tx_attempts.specs.declared.attempt.Outcome.TheVariants as outcomes
+use Rattle.tx_history.specs.declared.history.Version.{Version}
+use Rattle.tx_history.specs.declared.history.Version.TheVariants as versions
 use Rattle.tx_history.specs.Histories.{outcome_name, kind_text}
+use Rattle.tx_history.specs.Versions.{thread_limit}
 use Rattle.history_reader.specs.declared.reply.ReplyKind.{ReplyKind}
 use Rattle.history_reader.specs.declared.reply.ReplyKind.TheVariants as answers
 use Rattle.history_reader.specs.declared.verb.Verb.{Verb}
 use Rattle.history_reader.specs.declared.verb.Verb.TheVariants as verbs
 use Rattle.history_reader.specs.Fields.{is_space, fields}
 use Rattle.tx_history.specs.Bounds.{IsWord}
-use Rattle.history_reader.specs.Tellable.{IsCall, answer_to, IsReply, IsEntry, IsRan, IsAttempt, IsMemory}
-use Rattle.history_reader.specs.LineFields.{arena_text, verb_text, verb_in, operands_of, reply_fields, call_fields, ran_fields, head_fields, arena_fields, memory_fields, final_fields}
+use Rattle.history_reader.specs.Tellable.{IsCall, answer_to, IsReply, IsEntry, IsRan, IsUndone, IsAttempt, IsMemory}
+use Rattle.history_reader.specs.LineFields.{arena_text, verb_text, verb_in, operands_of, reply_fields, call_fields, ran_fields, head_fields, arena_fields, restart_fields, undone_fields, depth_fields, memory_fields, final_fields}
 use Rattle.history_reader.proofs.RoundTrips.Fields.{some_bytes, refusal_number, IsCalled, arena_cases}
 use Rattle.history_reader.proofs.RoundTrips.Calls.{called}
 
@@ -160,12 +163,18 @@ outcome_field outcomes.Full = (lit< tt, refl)
 outcome_field outcomes.NoMemory = (lit< tt, refl)
 outcome_field outcomes.Unfinished = (lit< tt, refl)
 
+-- threads are few
+pub few_threads : (version : Version) → thread_limit version ≤ 63
+few_threads versions.One = lit≤ tt
+few_threads versions.Two = lit≤ tt
+few_threads (versions.Three depth) = lit≤ tt
+
 -- the first line of an attempt is of fields
-pub head_are : (a : Attempt) → IsAttempt a → AreFields (head_fields a)
-head_are a h = (
+pub head_are : (version : Version) (a : Attempt) → IsAttempt version a → AreFields (head_fields a)
+head_are version a h = (
   (lit< tt, refl),
   (
-    decimal_field a.thread (omega (arith, h.thread)),
+    decimal_field a.thread (omega (arith, h.thread, few_threads version)),
     (decimal_field a.nth (omega (arith, h.nth.1)), (decimal_field a.at h.at, (outcome_field a.outcome, (props_field a.props, tt)))),
   ),
 )
@@ -181,9 +190,21 @@ arena_field (b ∷ rest) h =
 pub arena_are : (bytes : List ℕ) → IsBytes bytes → AreFields (arena_fields bytes)
 arena_are bytes h = ((lit< tt, refl), (arena_field bytes h, tt))
 
+-- so is that of a block that ran again
+pub restart_are : (bytes : List ℕ) → IsBytes bytes → AreFields (restart_fields bytes)
+restart_are bytes h = ((lit< tt, refl), (arena_field bytes h, tt))
+
+-- and that of an action that had run in it before
+pub undone_are : (r : Ran) → IsUndone r → AreFields (undone_fields r)
+undone_are r h = ((lit< tt, refl), (decimal_field r.action.fun (omega (arith, h.1.0)), (decimal_field r.action.arg h.1.1, tt)))
+
+-- the line of how many blocks may be open is of fields
+pub depth_are : (blocks : ℕ) → blocks ≤ 64 → AreFields (depth_fields blocks)
+depth_are blocks few = ((lit< tt, refl), (decimal_field blocks (omega (arith, few)), tt))
+
 -- the line of the memory before the run is of fields
-pub memory_are : (bytes : List ℕ) → IsMemory bytes → AreFields (memory_fields bytes)
-memory_are bytes h = ((lit< tt, refl), (hex_field bytes h.0 (omega (arith, h.1)), tt))
+pub memory_are : (limit : ℕ) (bytes : List ℕ) → IsMemory limit bytes → AreFields (memory_fields bytes)
+memory_are limit bytes h = ((lit< tt, refl), (hex_field bytes h.0 (omega (arith, h.1)), tt))
 
 -- the last line is of fields
 pub final_are : (clock : ℕ) (bytes : List ℕ) → IsWord clock → IsBytes bytes → 1 ≤ length bytes → AreFields (final_fields clock bytes)

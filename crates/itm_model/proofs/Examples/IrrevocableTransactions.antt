@@ -126,7 +126,7 @@ logs_keep_nothing = refl
 -- ## The memory as at the outermost begin is told as ever, and the call takes no memory
 
 abbrev rewritten : Undoable
-rewritten = record { state = state_after 16 (opened (eight 2) [] plain) (Write W 0 (byte 3) ∷ []); before = eight 2; kept = 1 }
+rewritten = record { state = state_after 16 (opened (eight 2) [] plain) (Write W 0 (byte 3) ∷ []); before = eight 2; kept = 1; deepest = 16 }
 
 mode_before : before_after 16 rewritten (Mode 0) ≡ eight 2
 mode_before = refl

@@ -26,6 +26,7 @@ impl Plain {
     pub(super) fn register(&mut self, kind: ActionKind, action: Action) -> Result<(), AllocError>
         ensures ok { OnOk result (self.new.state ≡ with_action self.old.state kind action) }
         ensures before { OnOk result (self.new.before ≡ self.old.before) }
+        ensures deepest { self.new.deepest ≡ self.old.deepest }
         ensures err { OnErr result (self.new ≡ self.old) }
     {
         self.actions.register(kind, action)?;
@@ -36,6 +37,7 @@ impl Plain {
     pub(super) fn register_undo(&mut self, action: Action) -> Result<(), AllocError>
         ensures ok { OnOk result (self.new.state ≡ with_undo self.old.state action) }
         ensures before { OnOk result (self.new.before ≡ self.old.before) }
+        ensures deepest { self.new.deepest ≡ self.old.deepest }
         ensures held { self.old.state.irrevocable ≡ true → IsOk result }
         ensures err { OnErr result (self.new ≡ self.old) }
     {

@@ -22,6 +22,7 @@ impl Plain {
         requires props { (props.goes_irrevocable && props.no_irrevocable) ≡ false }
         ensures state { OnOk result (self.new.state ≡ opened self.old.state.memory arena.now props) }
         ensures before { OnOk result (self.new.before ≡ self.old.state.memory) }
+        ensures deepest { self.new.deepest ≡ self.old.deepest }
         ensures err { OnErr result (self.new ≡ self.old) }
     {
         let own = arena.to_vec(alloc)?;

@@ -18,6 +18,7 @@ impl Plain {
         requires { copy_ranges self.old.state copying.now ≡ None }
         ensures ok { OnOk result (self.new.state ≡ copied self.old.state copying.now) }
         ensures before { OnOk result (self.new.before ≡ self.old.before) }
+        ensures deepest { self.new.deepest ≡ self.old.deepest }
         ensures none { (copies_shared copying.now.pair && nat_lt 0 copying.now.size) ≡ false → IsOk result }
         ensures err { OnErr result (self.new ≡ self.old) }
     {
@@ -38,6 +39,7 @@ impl Plain {
         requires from { IsTrue (in_range self.old.state.arena from size) }
         ensures ok { OnOk result (self.new.state ≡ written self.old.state to (slice self.old.state.arena from size)) }
         ensures before { OnOk result (self.new.before ≡ self.old.before) }
+        ensures deepest { self.new.deepest ≡ self.old.deepest }
         ensures none { size ≡ 0 → IsOk result }
         ensures err { OnErr result (self.new ≡ self.old) }
     {
@@ -61,6 +63,7 @@ impl Plain {
         requires from { IsTrue (in_range self.old.state.memory from size) }
         ensures ok { self.new.state ≡ saved_in_arena self.old.state to (slice self.old.state.memory from size) }
         ensures before { self.new.before ≡ self.old.before }
+        ensures deepest { self.new.deepest ≡ self.old.deepest }
     {
         replace(&mut self.arena, to, range_at(&self.memory, from, size));
     }
@@ -71,6 +74,7 @@ impl Plain {
         requires from { IsTrue (in_range self.old.state.memory from size) }
         ensures ok { OnOk result (self.new.state ≡ written self.old.state to (slice self.old.state.memory from size)) }
         ensures before { OnOk result (self.new.before ≡ self.old.before) }
+        ensures deepest { self.new.deepest ≡ self.old.deepest }
         ensures none { size ≡ 0 → IsOk result }
         ensures err { OnErr result (self.new ≡ self.old) }
     {
@@ -93,6 +97,7 @@ impl Plain {
         requires { IsTrue (in_range self.old.state.memory to size) }
         ensures ok { OnOk result (self.new.state ≡ written self.old.state to (replicate size byte)) }
         ensures before { OnOk result (self.new.before ≡ self.old.before) }
+        ensures deepest { self.new.deepest ≡ self.old.deepest }
         ensures none { size ≡ 0 → IsOk result }
         ensures err { OnErr result (self.new ≡ self.old) }
     {

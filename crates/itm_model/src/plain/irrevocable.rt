@@ -31,6 +31,7 @@ impl Plain {
     pub(super) fn go_irrevocable(&mut self)
         ensures state { self.new.state ≡ irrevocable_from self.old.state }
         ensures before { self.new.before ≡ self.old.before }
+        ensures deepest { self.new.deepest ≡ self.old.deepest }
     {
         if self.irrevocable {
             return;

@@ -5,19 +5,19 @@ ghost use Rattle.itm_model.specs.Machine.{abort_for, begin_for, copy_ranges, in_
 
 use super::Plain;
 use crate::bytes::is_in_range;
-use itm_types::{Call, CopyPair, Copying, MAX_OPEN_BLOCKS, Props, Refusal};
+use itm_types::{Call, CopyPair, Copying, Props, Refusal};
 
 impl Plain {
     /// Why the call is refused, if it is.
     pub(super) fn refusal(&self, call: &Call) -> Option<Refusal>
-        ensures { result ≡ refusal MAX_OPEN_BLOCKS self.now.state call.now }
+        ensures { result ≡ refusal self.now.deepest self.now.state call.now }
     {
         self.standing(call).or(self.ranges(call))
     }
 
     /// Why no such call is served with these blocks open, if it is not.
     fn standing(&self, call: &Call) -> Option<Refusal>
-        ensures { result ≡ standing MAX_OPEN_BLOCKS self.now.state call.now }
+        ensures { result ≡ standing self.now.deepest self.now.state call.now }
     {
         match call {
             Call::Begin { props, .. } => self.no_begin(*props),
@@ -89,7 +89,7 @@ impl Plain {
 
     /// Why a block with these properties does not begin, if it does not.
     fn no_begin(&self, props: Props) -> Option<Refusal>
-        ensures { result ≡ begin_for MAX_OPEN_BLOCKS self.now.state props }
+        ensures { result ≡ begin_for self.now.deepest self.now.state props }
     {
         if props.goes_irrevocable && (props.no_irrevocable || self.keeps_revocable()) {
             Some(Refusal::NoIrrevocable)
@@ -100,9 +100,9 @@ impl Plain {
 
     /// One more block is too many.
     fn too_deep(&self) -> Option<Refusal>
-        ensures { result ≡ unless (nat_lt (length self.now.state.blocks) MAX_OPEN_BLOCKS) Refusal.TooDeep }
+        ensures { result ≡ unless (nat_lt (length self.now.state.blocks) self.now.deepest) Refusal.TooDeep }
     {
-        if self.depth() < MAX_OPEN_BLOCKS {
+        if self.depth() < usize::from(self.deepest.blocks) {
             None
         } else {
             Some(Refusal::TooDeep)

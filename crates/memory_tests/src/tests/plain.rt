@@ -2,7 +2,7 @@
 
 use itm_model::Plain;
 use itm_types::{
-    Action, Call, CopyPair, Copying, Datum, Props, Reply, SharedSide, Width, WriteHint,
+    Action, Call, CopyPair, Copying, Datum, Depth, Props, Reply, SharedSide, Width, WriteHint,
 };
 use std::alloc::{AllocError, Global};
 use std::process::Abort;
@@ -22,7 +22,7 @@ const GOES: Props = Props {
 
 /// A block just begun on 40 bytes of 9, with an arena of 40 bytes of 8.
 fn opened(alloc: Global) -> Result<Plain, AllocError> {
-    Plain::new(alloc, &[9; 40], &[8; 40], BLOCK)
+    Plain::new(alloc, &[9; 40], &[8; 40], Depth::new(16).unwrap(), BLOCK)
 }
 
 /// The same, where memory is found at the second time at the latest.

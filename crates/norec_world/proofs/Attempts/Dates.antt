@@ -8,6 +8,8 @@ use Rattle.tx_attempts.specs.declared.attempt.Outcome.TheVariants as outcomes
 use Rattle.norec_world.specs.Dates.{AreDated, IsDated, led_by, tried_by, tried_in, up_to_last}
 use Rattle.norec_world.specs.Tries.{HasStopped}
 use Rattle.norec_world.specs.Invariant.{IsDatedActor, IsDatedWorld, IsTry}
+use Rattle.tx_runs.specs.Unbroken.{AreUnbroken}
+use Rattle.tx_runs.proofs.Unbroken.{unbroken_both, unbroken_more}
 use Rattle.norec_world.proofs.Attempts.ActiveRows.{past_all}
 use Rattle.norec_world.proofs.Commits.CommitCounts.{count_committed_both}
 use Rattle.norec_world.proofs.Events.SoundOthers.{first_found, set_place, there_is}
@@ -95,24 +97,25 @@ dated_both : (k : ℕ) (before xs ys : List Attempt) → AreDated k before xs �
 dated_both k before [] ys d e = subst (λ (l : List Attempt). AreDated k l ys) (append-nil before) e
 dated_both k before (x ∷ xs) ys d e = (d.0, dated_both k (before ++ x ∷ []) xs ys d.1 (subst (λ (l : List Attempt). AreDated k l ys) (sym (append_assoc before (x ∷ []) xs)) e))
 
+-- an open one that stands later is another actor's
+found_past : (x : Attempt) (xs : List Attempt) (row : Attempt) → AreFrom (x.thread + 1) xs → active_of row.thread xs ≡ Some row → active_of row.thread (x ∷ xs) ≡ Some row
+found_past x xs row from e = elim (cases_Bool (x.thread == row.thread)) [
+  | inl is ↦ absurd (let same = eqb-true x.thread row.thread is in none-some row (sym (past_all row.thread (x.thread + 1) xs (omega arith) from) ∙ e))
+  | inr is ↦ simp is e
+]
+
 -- the open ones, of which each comes next after those that have ended
 open_dated : (k n : ℕ) (ended more xs : List Attempt) → AreOfActors n more → AreFrom n xs → ((row : Attempt) → active_of row.thread xs ≡ Some row → IsDated k ended row) → AreDated k (ended ++ more) xs
 open_dated k n ended more [] below from each = tt
 open_dated k n ended more (x ∷ xs) below from each = (
   dated_else k ended more x (else_below x.thread n more from.0 below) (each x (first_found x xs)),
   subst (λ (l : List Attempt). AreDated k l xs) (sym (append_assoc ended more (x ∷ [])))
-      (open_dated k (x.thread + 1) ended (more ++ x ∷ []) xs (below_more more below) from.1 (λ row e. each row (found_past row e))),
+      (open_dated k (x.thread + 1) ended (more ++ x ∷ []) xs (below_more more below) from.1 (λ row e. each row (found_past x xs row from.1 e))),
 )
   where
     below_more : (ys : List Attempt) → AreOfActors n ys → AreOfActors (x.thread + 1) (ys ++ x ∷ [])
     below_more [] all = ((let l : x.thread < x.thread + 1 = omega arith in l), tt)
     below_more (y ∷ ys) all = ((let l = all.0 in let m = from.0 in omega arith), below_more ys all.1)
-
-    found_past : (row : Attempt) → active_of row.thread xs ≡ Some row → active_of row.thread (x ∷ xs) ≡ Some row
-    found_past row e = elim (cases_Bool (x.thread == row.thread)) [
-      | inl is ↦ absurd (let same = eqb-true x.thread row.thread is in none-some row (sym (past_all row.thread (x.thread + 1) xs (omega arith) from.1) ∙ e))
-      | inr is ↦ simp is e
-    ]
 
 pub all_dated : {P : Type 0} {rules : Rules P} (w : World P) → AreActors rules w.cells w.attempts w.actors → AreFrom 0 w.attempts.active → IsDatedWorld w → AreDated w.retries [] (attempts_of w)
 all_dated {P} w sound ordered d =
@@ -124,6 +127,20 @@ all_dated {P} w sound ordered d =
         let here = there_is w.actors row.thread (sound.listed row.thread row e) in
         let thread = (sound.each row.thread here.0 here.1).thread in
         ((d.each row.thread here.0 here.1).opened row (ap (λ (t : ℕ). active_of t w.attempts.active) thread ∙ e)).dated
+
+-- nor has an inner block of any run again
+open_unbroken : (n : ℕ) (xs : List Attempt) → AreFrom n xs → ((row : Attempt) → active_of row.thread xs ≡ Some row → row.restarts ≡ []) → AreUnbroken xs
+open_unbroken n [] from each = tt
+open_unbroken n (x ∷ xs) from each = (each x (first_found x xs), open_unbroken (x.thread + 1) xs from.1 (λ row e. each row (found_past x xs row from.1 e)))
+
+pub all_unbroken : {P : Type 0} {rules : Rules P} (w : World P) → AreActors rules w.cells w.attempts w.actors → AreFrom 0 w.attempts.active → IsDatedWorld w → AreUnbroken (attempts_of w)
+all_unbroken {P} w sound ordered d = unbroken_both w.attempts.ended w.attempts.active d.unbroken (open_unbroken 0 w.attempts.active ordered open_one)
+  where
+    open_one : (row : Attempt) → active_of row.thread w.attempts.active ≡ Some row → row.restarts ≡ []
+    open_one row e =
+        let here = there_is w.actors row.thread (sound.listed row.thread row e) in
+        let thread = (sound.each row.thread here.0 here.1).thread in
+        ((d.each row.thread here.0 here.1).opened row (ap (λ (t : ℕ). active_of t w.attempts.active) thread ∙ e)).unbroken
 
 -- ## An event
 
@@ -150,6 +167,7 @@ module _ {P : Type 0} (k clock : ℕ) (r : Rows) (a : Actor P) (counted : count_
         record {
           thread = thread;
           nth = tries ∙ sym b.tries;
+          unbroken = ap (λ (x : Attempt). x.restarts) is;
           dated = record {
             later = omega arith;
             few = omega arith;
@@ -167,7 +185,7 @@ module _ {P : Type 0} (k clock : ℕ) (r : Rows) (a : Actor P) (counted : count_
   again_dated nth false e t later at_once = between_dated (nth + 1) t (omega arith) (let l = ltb-false k nth e in omega arith) (λ f. at_once (omega (arith, f)))
 
 module _ {P : Type 0} (k clock clock' : ℕ) (p : Prior) (r : Rows) (a : Actor P) (limit : p.retries ≡ k) (counted : count_committed r.ended ≡ clock' / 2)
-    (now : (row : Attempt) → current_of p.active p.pending ≡ Some row → (row.thread ≡ a.thread) × (row.nth ≡ p.nth) × IsDated k p.ended row) (some : current_of p.active p.pending ≡ None → ⊥) (all : AreDated k [] p.ended) where
+    (now : (row : Attempt) → current_of p.active p.pending ≡ Some row → (row.thread ≡ a.thread) × (row.nth ≡ p.nth) × IsDated k p.ended row × (row.restarts ≡ [])) (some : current_of p.active p.pending ≡ None → ⊥) (all : AreDated k [] p.ended) where
   -- no attempt ended
   still_dated : r.ended ≡ p.ended → (row : Attempt) → IsDated k p.ended row → IsDated k r.ended row
   still_dated same row d = subst (λ (l : List Attempt). IsDated k l row) (sym same) d
@@ -191,7 +209,7 @@ module _ {P : Type 0} (k clock clock' : ℕ) (p : Prior) (r : Rows) (a : Actor P
         opened = λ row e. absurd (none-some row (sym t.still ∙ e));
         next = λ none on row e.
             (let same : t.row ≡ row = same_Some _ _ (sym t.now ∙ e) in
-            subst (IsTry k r a) same (record { thread = d.0; nth = d.1 ∙ sym t.tries; dated = still_dated t.ended t.row d.2 }));
+            subst (IsTry k r a) same (record { thread = d.0; nth = d.1 ∙ sym t.tries; unbroken = d.3; dated = still_dated t.ended t.row d.2 }));
       }
   dated_actor (runs t) =
       let d = now t.row t.was in
@@ -201,6 +219,7 @@ module _ {P : Type 0} (k clock clock' : ℕ) (p : Prior) (r : Rows) (a : Actor P
             subst (IsTry k r a) same (record {
               thread = t.continues.thread ∙ d.0;
               nth = t.continues.nth ∙ (d.1 ∙ sym t.tries);
+              unbroken = t.continues.restarts ∙ d.3;
               dated = still_dated t.ended t.row' (dated_as k p.ended t.row t.row' t.continues.thread t.continues.nth t.continues.began d.2);
             }));
         next = λ none. absurd (none-some t.row' (sym none ∙ t.now));
@@ -248,6 +267,15 @@ module _ {P : Type 0} (k clock clock' : ℕ) (p : Prior) (r : Rows) (a : Actor P
   dated_ended (outrun t) = subst (AreDated k []) (sym t.ended) all
   dated_ended (shut_out t) = subst (AreDated k []) (sym t.ended) all
 
+  pub unbroken_ended : Tries clock p clock' r a → AreUnbroken p.ended → AreUnbroken r.ended
+  unbroken_ended (over t) none = subst AreUnbroken (sym t.ended) (unbroken_more p.ended t.row' none (t.continues.restarts ∙ (now t.row t.was).3))
+  unbroken_ended (between t) none = subst AreUnbroken (sym t.ended) none
+  unbroken_ended (begins t) none = subst AreUnbroken (sym t.ended) none
+  unbroken_ended (runs t) none = subst AreUnbroken (sym t.ended) none
+  unbroken_ended (turned_away t) none = subst AreUnbroken (sym t.ended) none
+  unbroken_ended (outrun t) none = subst AreUnbroken (sym t.ended) none
+  unbroken_ended (shut_out t) none = subst AreUnbroken (sym t.ended) none
+
 -- ## In a world
 
 module _ {P : Type 0} (rules : Rules P) where
@@ -282,8 +310,8 @@ module _ {P : Type 0} {rules : Rules P} (w : World P) (kept : IsWorld rules w) (
   same : new.thread ≡ got.thread
   same = event.others.thread
 
-  tries_now : (row : Attempt) → current_of (active_of got.thread w.attempts.active) got.pending ≡ Some row → (row.thread ≡ new.thread) × (row.nth ≡ got.nth) × IsDated w.retries w.attempts.ended row
-  tries_now row e = (let t = dated_now row e in (t.thread ∙ sym same, t.nth, t.dated))
+  tries_now : (row : Attempt) → current_of (active_of got.thread w.attempts.active) got.pending ≡ Some row → (row.thread ≡ new.thread) × (row.nth ≡ got.nth) × IsDated w.retries w.attempts.ended row × (row.restarts ≡ [])
+  tries_now row e = (let t = dated_now row e in (t.thread ∙ sym same, t.nth, t.dated, t.unbroken))
 
   some_now : current_of (active_of got.thread w.attempts.active) got.pending ≡ None → ⊥
   some_now none =
@@ -304,6 +332,7 @@ module _ {P : Type 0} {rules : Rules P} (w : World P) (kept : IsWorld rules w) (
       record {
         thread = t.thread;
         nth = t.nth;
+        unbroken = t.unbroken;
         dated = subst (λ (l : List Attempt). IsDated w.retries l row) (sym own.ended)
             (dated_else w.retries w.attempts.ended own.more row (else_all row.thread got.thread own.more (λ z. others (sym t.thread ∙ sym z)) own.mine) t.dated);
       }) in
@@ -315,6 +344,7 @@ module _ {P : Type 0} {rules : Rules P} (w : World P) (kept : IsWorld rules w) (
   pub dated_after : IsDatedWorld (record w { cells = cells'; actors = slice_set w.actors i new; attempts = r'; events = events })
   dated_after = record {
     ended = dated_ended w.retries w.cells.clock cells'.clock (prior_of w.attempts got) r' new limit counted tries_now some_now kept.dated.ended event.tries;
+    unbroken = unbroken_ended w.retries w.cells.clock cells'.clock (prior_of w.attempts got) r' new limit counted tries_now some_now kept.dated.ended event.tries kept.dated.unbroken;
     each = λ j b e. elim (set_place w.actors i got new here j b e) [
       | inl h ↦ subst (IsDatedActor w.retries r') (sym h.1) (dated_actor w.retries w.cells.clock cells'.clock (prior_of w.attempts got) r' new limit counted tries_now some_now kept.dated.ended event.tries)
       | inr h ↦ other_dated j b h.0 h.1
@@ -325,6 +355,7 @@ module _ {P : Type 0} {rules : Rules P} (w : World P) (kept : IsWorld rules w) (
 pub dated_first : {P : Type 0} (w : World P) → w.cells.clock ≡ 0 → w.attempts.ended ≡ [] → ((place : ℕ) (a : Actor P) → slice_get w.actors place ≡ Some a → IsBetween w.cells.clock 1 w.attempts a) → IsDatedWorld w
 dated_first {P} w zero_clock none first = record {
   ended = subst (AreDated w.retries []) (sym none) tt;
+  unbroken = subst AreUnbroken (sym none) tt;
   each = λ place a e.
       (let led : up_to_last a.thread w.attempts.ended ≡ [] = ap (up_to_last a.thread) none in
       let tried : tried_in (up_to_last a.thread w.attempts.ended) ≡ 0 = ap tried_in led in

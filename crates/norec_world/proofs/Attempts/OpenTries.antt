@@ -2,7 +2,7 @@
 use Rattle.tx_attempts.specs.Kept.{grown}
 use Rattle.std.proofs.Common.{◌≡◌, ℕ, ◌/◌, ◌<◌, ◌≤◌, Bool, true, false, if◌then◌else◌, List, [], ◌∷◌, ◌++◌, Option, None, Some, refl, sym, true≢false, ap, subst, ◌∙◌, arith}
 use Rattle.itm_types.specs.declared.row.LogRow.{LogRow}
-use Rattle.norec_world.proofs.Common.{Agrees, AsksFor, Attempt, Begin, Between, Call, Code, Core, Enters, CallRecord, IsAlone, IsInTry, IsMemory, MAX_OPEN_BLOCKS, Obeys, Props, ReadsFrom, Refusal, Replied, Replies, Rules, State, Step, after, begin_code, begins_at, bytes_of, handed_is, handed_to, in_transaction, inside_all, is_inside, is_open, none_inside, opened, player_then, recoded, reply, stands_for, state_over, state_then}
+use Rattle.norec_world.proofs.Common.{Agrees, AsksFor, Attempt, Begin, Between, Call, Code, Core, Enters, CallRecord, IsAlone, IsInTry, IsMemory, MAX_OPEN_BLOCKS, Obeys, Props, ReadsFrom, Refusal, Replied, Replies, Rules, State, Step, after, begin_code, breaks_of, begins_at, bytes_of, handed_is, handed_to, in_transaction, inside_all, is_inside, is_open, none_inside, opened, player_then, recoded, reply, stands_for, state_over, state_then}
 use Rattle.write_set.specs.Rows.{overlay}
 use Rattle.itm_model.specs.Machine.{after_unless, or_else, refusal, reply_unless, unless}
 use Rattle.itm_types.specs.declared.call.Refusal.TheVariants.{NoIrrevocable}
@@ -11,8 +11,9 @@ use Rattle.norec_core.specs.Stands.{state_in}
 use Rattle.norec_core.specs.Effects.{actions_after, blocks_after}
 use Rattle.user_actions.specs.Actions.{Actions}
 use Rattle.norec_core.proofs.Replies.AnsweredEngines.{told_plainly}
-use Rattle.tx_attempts.proofs.AloneCalls.{player_snoc, state_snoc}
+use Rattle.tx_attempts.proofs.AloneCalls.{player_snoc}
 use Rattle.tx_runs.proofs.Tries.{alone_more}
+use Rattle.tx_runs.proofs.Unbroken.{state_whole}
 use Rattle.norec_world.proofs.Engines.OpenEngines.{stands_open}
 
 -- a memory that may have been read may have been read before too
@@ -71,6 +72,7 @@ module _ {P : Type 0} {rules : Rules P} (laws : Obeys rules) {position : List �
     tries = t.tries;
     began = began;
     anew = anew;
+    restarts = t.restarts;
     ran = t.ran ∙ ap (λ (a : Actions). a.ran) (sym actions);
     player = t.player;
     alone = λ m mem reads. t.alone m (subst (λ (n : ℕ). IsMemory n m) words mem) (reads_less position new.irrevocable mid.irrevocable mid.log new.log m mode (λ e. less e m) reads);
@@ -88,7 +90,7 @@ module _ {P : Type 0} {rules : Rules P} (laws : Obeys rules) {position : List �
   -- the attempt is told where it reads
   pub try_told : {b : Between P} {row : Attempt} {p : P} {e : Core} (at : ℕ) → IsInTry rules position b row p e → IsInTry rules position b (record row { at = at }) p e
   try_told at t =
-      record { start = t.start; begins = t.begins; arena = t.arena; props = t.props; tries = t.tries; began = t.began; anew = t.anew; ran = t.ran; player = t.player; alone = t.alone; stands = t.stands }
+      record { start = t.start; begins = t.begins; arena = t.arena; props = t.props; tries = t.tries; began = t.began; anew = t.anew; restarts = t.restarts; ran = t.ran; player = t.player; alone = t.alone; stands = t.stands }
 
   -- a step is asked for
   pub try_asks : {b : Between P} {row : Attempt} {p : P} {mid new : Core} {step : Step} → IsInTry rules position b row p mid → AsksFor mid step new → row.began ≤ new.snapshot / 2 → (new.irrevocable ≡ false → (m : List ℕ) → Agrees m new.log → Agrees m mid.log)
@@ -106,6 +108,7 @@ module _ {P : Type 0} {rules : Rules P} (laws : Obeys rules) {position : List �
     tries = t.tries;
     began = t.began;
     anew = t.anew;
+    restarts = t.restarts;
     ran = t.ran;
     player = t.player;
     alone = λ m mem reads. t.alone m mem (from_there e.irrevocable refl m reads);
@@ -138,6 +141,7 @@ module _ {P : Type 0} {rules : Rules P} (laws : Obeys rules) {position : List �
           tries = t.tries;
           began = began;
           anew = ap (λ (c : Core). c.again) g.stays;
+          restarts = t.restarts;
           ran = refl;
           player = ap (λ (q : P). rules.answered q r) t.player ∙ sym (player_snoc rules.answered begun row.calls.list (record { call = call; reply = r }));
           alone = λ m mem reads.
@@ -145,19 +149,19 @@ module _ {P : Type 0} {rules : Rules P} (laws : Obeys rules) {position : List �
               let agrees : Agrees m new.log = reads_agree position new.irrevocable new.log m revocable reads in
               let old = less m agrees in
               let stands = t.stands g.revocable m memory old in
-              let replied : r ≡ reply MAX_OPEN_BLOCKS (state_then MAX_OPEN_BLOCKS (state m) row.calls.list) call =
+              let replied : r ≡ reply MAX_OPEN_BLOCKS (state_then MAX_OPEN_BLOCKS (breaks_of row.restarts) (state m) row.calls.list) call =
               g.reply_is m memory agrees ∙ (ap (λ (a : Bool). recoded call a (reply MAX_OPEN_BLOCKS (stands_for mid m) call)) t.anew
               ∙ (told_plainly call (reply MAX_OPEN_BLOCKS (stands_for mid m) call) ∙ ap (λ (s : State). reply MAX_OPEN_BLOCKS s call) stands)) in
-              alone_more laws begun p (state m) row.calls.list (record { call = call; reply = r }) (t.alone m memory (agree_reads position mid.irrevocable mid.log m g.revocable old)) (ap is_open (sym stands) ∙ stands_open mid m inside) t.player asks replied);
+              alone_more laws (breaks_of row.restarts) begun p (state m) row.calls.list (record { call = call; reply = r }) (t.alone m memory (agree_reads position mid.irrevocable mid.log m g.revocable old)) (ap is_open (sym stands) ∙ stands_open mid m inside) t.player asks replied);
           stands = λ e m mem agrees.
               (let memory : IsMemory mid.words m = subst (λ (n : ℕ). IsMemory n m) words mem in
-              g.meets m memory agrees ∙ (ap (λ (s : State). after MAX_OPEN_BLOCKS s call) (t.stands g.revocable m memory (less m agrees)) ∙ sym (state_snoc MAX_OPEN_BLOCKS (state m) row.calls.list (record { call = call; reply = r }))));
+              g.meets m memory agrees ∙ (ap (λ (s : State). after MAX_OPEN_BLOCKS s call) (t.stands g.revocable m memory (less m agrees)) ∙ sym (state_whole row.restarts (state m) row.calls.list (record { call = call; reply = r }) t.restarts)));
         }
 
     -- of a transaction that is irrevocable then, by the memory of its position
-    pub try_holds : {new : Core} {r : Replied} (ahead : ℕ) → row.began ≤ new.snapshot / 2 → new.words ≡ mid.words → new.irrevocable ≡ true → new.again ≡ false → IsAlone rules MAX_OPEN_BLOCKS (rules.answered t.start.player (begin_code b.again)) (opened (bytes_of position) t.start.arena t.start.props) row.calls.list
-        → is_open (state_then MAX_OPEN_BLOCKS (opened (bytes_of position) t.start.arena t.start.props) row.calls.list) ≡ true
-        → r ≡ reply MAX_OPEN_BLOCKS (state_then MAX_OPEN_BLOCKS (opened (bytes_of position) t.start.arena t.start.props) row.calls.list) call
+    pub try_holds : {new : Core} {r : Replied} (ahead : ℕ) → row.began ≤ new.snapshot / 2 → new.words ≡ mid.words → new.irrevocable ≡ true → new.again ≡ false → IsAlone rules MAX_OPEN_BLOCKS (breaks_of row.restarts) (rules.answered t.start.player (begin_code b.again)) (opened (bytes_of position) t.start.arena t.start.props) row.calls.list
+        → is_open (state_then MAX_OPEN_BLOCKS (breaks_of row.restarts) (opened (bytes_of position) t.start.arena t.start.props) row.calls.list) ≡ true
+        → r ≡ reply MAX_OPEN_BLOCKS (state_then MAX_OPEN_BLOCKS (breaks_of row.restarts) (opened (bytes_of position) t.start.arena t.start.props) row.calls.list) call
         → IsInTry rules position b (record row { calls = grown row.calls (record { call = call; reply = r }) ahead; ran = new.actions.ran }) (rules.answered p r) new
     unfolding begun state
     try_holds {new} {r} ahead began words holds anew made still_open replied =
@@ -170,11 +174,12 @@ module _ {P : Type 0} {rules : Rules P} (laws : Obeys rules) {position : List �
           tries = t.tries;
           began = began;
           anew = anew;
+          restarts = t.restarts;
           ran = refl;
           player = ap (λ (q : P). rules.answered q r) t.player ∙ sym (player_snoc rules.answered begun row.calls.list last);
           alone = λ m mem reads.
               (let here : m ≡ position = subst (λ (x : Bool). ReadsFrom x position new.log m) holds reads in
-              subst (λ (x : List ℕ). IsAlone rules MAX_OPEN_BLOCKS begun (state x) (row.calls.list ++ last ∷ [])) (sym here) (alone_more laws begun p (state position) row.calls.list last made still_open t.player asks replied));
+              subst (λ (x : List ℕ). IsAlone rules MAX_OPEN_BLOCKS (breaks_of row.restarts) begun (state x) (row.calls.list ++ last ∷ [])) (sym here) (alone_more laws (breaks_of row.restarts) begun p (state position) row.calls.list last made still_open t.player asks replied));
           stands = λ revocable. absurd (true≢false (sym holds ∙ revocable));
         }
 
@@ -183,9 +188,9 @@ module _ {P : Type 0} (rules : Rules P) (position : List ℕ) where
 
   module _ (b : Between P) (row : Attempt) (p : P) (mid new : Core) (props : Props) (room : ℕ) (r : Replied) (comes : begins_at rules b ≡ Some (record { player = p; arena = mid.arena; props = row.props }))
       (row_arena : row.arena ≡ mid.arena) (row_props : row.props ≡ props) (row_calls : row.calls.list ≡ []) (row_ran : row.ran ≡ []) (tries : b.tries < row.nth) (outside : in_transaction mid ≡ false) (empty : mid.writes ≡ []) (again : mid.again ≡ b.again)
-      (began : row.began ≤ new.snapshot / 2) (revocable : mid.irrevocable ≡ false) where
-    made_none : (m : List ℕ) → IsAlone rules MAX_OPEN_BLOCKS (rules.answered p (begin_code b.again)) (opened (bytes_of m) mid.arena row.props) row.calls.list
-    made_none m = subst (λ (xs : List CallRecord). IsAlone rules MAX_OPEN_BLOCKS (rules.answered p (begin_code b.again)) (opened (bytes_of m) mid.arena row.props) xs) (sym row_calls) tt
+      (row_restarts : row.restarts ≡ []) (began : row.began ≤ new.snapshot / 2) (revocable : mid.irrevocable ≡ false) where
+    made_none : (m : List ℕ) → IsAlone rules MAX_OPEN_BLOCKS (breaks_of row.restarts) (rules.answered p (begin_code b.again)) (opened (bytes_of m) mid.arena row.props) row.calls.list
+    made_none m = subst (λ (xs : List CallRecord). IsAlone rules MAX_OPEN_BLOCKS (breaks_of row.restarts) (rules.answered p (begin_code b.again)) (opened (bytes_of m) mid.arena row.props) xs) (sym row_calls) tt
 
     player_so : r ≡ begin_code b.again → rules.answered p r ≡ player_then rules.answered (rules.answered p (begin_code b.again)) row.calls.list
     player_so entered = ap (rules.answered p) entered ∙ ap (λ (xs : List CallRecord). player_then rules.answered (rules.answered p (begin_code b.again)) xs) (sym row_calls)
@@ -194,11 +199,11 @@ module _ {P : Type 0} (rules : Rules P) (position : List ℕ) where
     ran_so entered = row_ran ∙ sym (ap (λ (a : Actions). a.ran) (ap (actions_after mid (Begin props room)) entered) ∙ ap (λ (w : Bool). (if w then mid.actions else record mid.actions { ran = [] }).ran) outside)
 
     -- the plain state then
-    pub begin_leaves : (m : List ℕ) → refusal MAX_OPEN_BLOCKS (outside_of mid m) (Begin props room) ≡ None → after MAX_OPEN_BLOCKS (stands_for mid m) (Begin props room) ≡ state_then MAX_OPEN_BLOCKS (opened (bytes_of m) mid.arena row.props) row.calls.list
+    pub begin_leaves : (m : List ℕ) → refusal MAX_OPEN_BLOCKS (outside_of mid m) (Begin props room) ≡ None → after MAX_OPEN_BLOCKS (stands_for mid m) (Begin props room) ≡ state_then MAX_OPEN_BLOCKS (breaks_of row.restarts) (opened (bytes_of m) mid.arena row.props) row.calls.list
     begin_leaves m none =
         ap (λ (s : State). after MAX_OPEN_BLOCKS s (Begin props room)) (stands_outside mid outside revocable m)
         ∙ (ap (λ (o : Option Refusal). after_unless o (outside_of mid m) (opened (bytes_of (overlay m mid.writes)) mid.arena props)) none
-        ∙ ((λ i. opened (bytes_of (overlay m (empty i))) mid.arena (sym row_props i)) ∙ ap (λ (xs : List CallRecord). state_then MAX_OPEN_BLOCKS (opened (bytes_of m) mid.arena row.props) xs) (sym row_calls)))
+        ∙ ((λ i. opened (bytes_of (overlay m (empty i))) mid.arena (sym row_props i)) ∙ ap (λ (xs : List CallRecord). state_then MAX_OPEN_BLOCKS (breaks_of row.restarts) (opened (bytes_of m) mid.arena row.props) xs) (sym row_calls)))
 
     module _ (g : Replies mid (Begin props room) r new) (words : List ℕ) (mem : IsMemory mid.words words) (agrees : Agrees words new.log) (opens : in_transaction new ≡ true) where
       served : (refusal MAX_OPEN_BLOCKS (outside_of mid words) (Begin props room) ≡ None) × (r ≡ begin_code b.again)
@@ -215,6 +220,7 @@ module _ {P : Type 0} (rules : Rules P) (position : List ℕ) where
         tries = tries;
         began = began;
         anew = ap (λ (c : Core). c.again) g.stays;
+        restarts = row_restarts;
         ran = ran_so served.1 ∙ sym (ap (λ (a : Actions). a.ran) g.actions);
         player = player_so served.1;
         alone = λ m memory reads. made_none m;
@@ -237,6 +243,7 @@ module _ {P : Type 0} (rules : Rules P) (position : List ℕ) where
         tries = tries;
         began = began;
         anew = ap (λ (c : Core). c.again) g.stays;
+        restarts = row_restarts;
         ran = ran_so held_served.1 ∙ sym (ap (λ (c : Core). c.actions.ran) g.stays);
         player = player_so held_served.1;
         alone = λ m memory reads. made_none m;

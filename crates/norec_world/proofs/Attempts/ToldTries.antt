@@ -36,7 +36,7 @@ module _ {P : Type 0} (clock clock' : ℕ) (p : Prior) (r r' : Rows) (a : Actor 
         row' = at t.row';
         was = t.was;
         now = ap (λ (x : Rows). active_of a.thread x.active) moved ∙ changed_here a.thread at r.active t.row' (λ x. refl) t.now;
-        continues = record { thread = k.thread; nth = k.nth; began = k.began; props = k.props; arena = k.arena; more = k.more; calls = k.calls; more_ran = k.more_ran; ran = k.ran };
+        continues = record { thread = k.thread; nth = k.nth; began = k.began; props = k.props; arena = k.arena; restarts = k.restarts; more = k.more; calls = k.calls; more_ran = k.more_ran; ran = k.ran };
         ended = ap (λ (x : Rows). x.ended) moved ∙ t.ended;
         half = t.half;
         tries = t.tries;

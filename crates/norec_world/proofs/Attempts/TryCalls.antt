@@ -61,11 +61,11 @@ module _ {P : Type 0} (rules : Rules P)
 module _ {P : Type 0} {rules : Rules P} {cells : Cells} {r0 r : Rows} {old a : Actor P} {call : Call} {what : Next} (m : IsCalling rules cells r0 r old a call what) where
   -- an attempt that is to be opened then is one of this moment
   opens_now : (c : Call) → (row : Attempt) → asked_pending false cells.clock old c ≡ Some row → a.engine.arena ≡ old.engine.arena
-      → row ≡ record { thread = a.thread; nth = old.nth; began = cells.clock / 2; at = 0; props = row.props; arena = a.engine.arena; calls = record { list = []; room = row.calls.room }; ran = []; outcome = outcomes.Unfinished }
+      → row ≡ record { thread = a.thread; nth = old.nth; began = cells.clock / 2; at = 0; props = row.props; arena = a.engine.arena; calls = record { list = []; room = row.calls.room }; restarts = []; ran = []; outcome = outcomes.Unfinished }
   opens_now (Begin props room) row e arena =
-      let fresh : Attempt = record { thread = old.thread; nth = old.nth; began = cells.clock / 2; at = 0; props = props; arena = old.engine.arena; calls = record { list = []; room = unwrap_or (irrevocable_room old.engine (Begin props room)) 0 }; ran = []; outcome = outcomes.Unfinished } in
+      let fresh : Attempt = record { thread = old.thread; nth = old.nth; began = cells.clock / 2; at = 0; props = props; arena = old.engine.arena; calls = record { list = []; room = unwrap_or (irrevocable_room old.engine (Begin props room)) 0 }; restarts = []; ran = []; outcome = outcomes.Unfinished } in
       let is : fresh ≡ row = cc in
-      sym is ∙ (λ i. record { thread = (sym m.asks.thread) i; nth = old.nth; began = cells.clock / 2; at = 0; props = (ap (λ (x : Attempt). x.props) is) i; arena = (sym arena) i; calls = record { list = []; room = (ap (λ (x : Attempt). x.calls.room) is) i }; ran = []; outcome = outcomes.Unfinished })
+      sym is ∙ (λ i. record { thread = (sym m.asks.thread) i; nth = old.nth; began = cells.clock / 2; at = 0; props = (ap (λ (x : Attempt). x.props) is) i; arena = (sym arena) i; calls = record { list = []; room = (ap (λ (x : Attempt). x.calls.room) is) i }; restarts = []; ran = []; outcome = outcomes.Unfinished })
   opens_now c row e arena = absurd (let n = sym (rests m.sound m.ready).nothing ∙ e in cc)
 
   -- it waits for its first step

@@ -45,6 +45,7 @@ continues_twice a b c x y = record {
   began = y.began ∙ x.began;
   props = y.props ∙ x.props;
   arena = y.arena ∙ x.arena;
+  restarts = y.restarts ∙ x.restarts;
   more = x.more ++ y.more;
   calls = y.calls ∙ (ap (λ (l : List CallRecord). l ++ y.more) x.calls ∙ append_assoc a.calls.list x.more y.more);
   more_ran = x.more_ran ++ y.more_ran;

@@ -47,7 +47,7 @@ module _ {P : Type 0} (clock clock' : ℕ) (r r' : Rows) (a a' : Actor P) (ended
     row' = row;
     was = ap (λ (o : Option Attempt). current_of o a.pending) was;
     now = now;
-    continues = record { thread = refl; nth = refl; began = refl; props = refl; arena = refl; more = []; calls = sym (append-nil row.calls.list); more_ran = []; ran = sym (append-nil row.ran) };
+    continues = record { thread = refl; nth = refl; began = refl; props = refl; arena = refl; restarts = refl; more = []; calls = sym (append-nil row.calls.list); more_ran = []; ran = sym (append-nil row.ran) };
     ended = ended;
     half = half;
     tries = nth;
@@ -57,7 +57,7 @@ module _ {P : Type 0} (clock clock' : ℕ) (r r' : Rows) (a a' : Actor P) (ended
 
   -- either
   pub stays : (b : Bool) → HasRow b r a.thread → a.pending ≡ None → active_of a'.thread r'.active ≡ active_of a.thread r.active → a'.nth ≡ a.nth
-      → (b ≡ false → (row : Attempt) → a'.pending ≡ Some row → row ≡ record { thread = a'.thread; nth = a.nth; began = clock' / 2; at = 0; props = row.props; arena = a'.engine.arena; calls = record { list = []; room = row.calls.room }; ran = []; outcome = outcomes.Unfinished })
+      → (b ≡ false → (row : Attempt) → a'.pending ≡ Some row → row ≡ record { thread = a'.thread; nth = a.nth; began = clock' / 2; at = 0; props = row.props; arena = a'.engine.arena; calls = record { list = []; room = row.calls.room }; restarts = []; ran = []; outcome = outcomes.Unfinished })
       → (ending_of a'.status ≡ Some ends.GaveUp → ⊥) → (ending_of a'.status ≡ Some ends.NoMemory → a'.engine.irrevocable ≡ true) → Tries clock (prior_of r a) clock' r' a'
   stays true h nothing same nth opens goes_on fed = stays_open h.0 h.1 (same ∙ h.1) nth goes_on fed
   stays false h nothing same nth opens goes_on fed = stays_between h nothing (record { none = same ∙ h; tries = nth; opens = opens refl; goes_on = goes_on })
@@ -72,7 +72,7 @@ stops_try seen clock clock' r r' a a' row at outcome ran was ended more_ran ran_
   row' = record row { calls = spent row.calls; at = at; ran = ran; outcome = outcome };
   was = ap (λ (o : Option Attempt). current_of o a.pending) was;
   ended = ended;
-  continues = record { thread = refl; nth = refl; began = refl; props = refl; arena = refl; more = []; calls = sym (append-nil row.calls.list); more_ran = more_ran; ran = ran_is };
+  continues = record { thread = refl; nth = refl; began = refl; props = refl; arena = refl; restarts = refl; more = []; calls = sym (append-nil row.calls.list); more_ran = more_ran; ran = ran_is };
   reads = reads;
   at = ends;
   closed = not_closed outcome undone row.calls.list;
@@ -152,7 +152,7 @@ module _ {P : Type 0} {rules : Rules P} {cells cells' : Cells} {r r1 : Rows} {mi
             row' = with_call row.0;
             was = ap (λ (o : Option Attempt). current_of o a.pending) row.1;
             now = ap (λ (t : ℕ). active_of t r1.active) m.settled.thread ∙ (ap (λ (x : Rows). active_of a.thread x.active) told.0 ∙ changed_here a.thread with_call r.active row.0 (λ x. refl) row.1);
-            continues = record { thread = refl; nth = refl; began = refl; props = refl; arena = refl; more = record { call = call; reply = reply } ∷ []; calls = refl; more_ran = later.0; ran = later.1 };
+            continues = record { thread = refl; nth = refl; began = refl; props = refl; arena = refl; restarts = refl; more = record { call = call; reply = reply } ∷ []; calls = refl; more_ran = later.0; ran = later.1 };
             ended = ap (λ (x : Rows). x.ended) told.0;
             half = half;
             tries = told.3;
@@ -170,7 +170,7 @@ module _ {P : Type 0} {rules : Rules P} {cells cells' : Cells} {r r1 : Rows} {mi
             row' = record row.0 { calls = spent (grown row.0.calls (record { call = call; reply = reply }) 0); at = last.engine.snapshot / 2; ran = last.engine.actions.ran; outcome = outcomes.Cancelled };
             was = ap (λ (o : Option Attempt). current_of o a.pending) row.1;
             ended = ap (λ (x : Rows). x.ended) (told.0 row.0 row.1);
-            continues = record { thread = refl; nth = refl; began = refl; props = refl; arena = refl; more = record { call = call; reply = reply } ∷ []; calls = refl; more_ran = later.0; ran = later.1 };
+            continues = record { thread = refl; nth = refl; began = refl; props = refl; arena = refl; restarts = refl; more = record { call = call; reply = reply } ∷ []; calls = refl; more_ran = later.0; ran = later.1 };
             reads = refl;
             at = (half, omega (arith, ap (λ (c : Core). c.snapshot) m.settled.engine, reached cells' a.engine m.taken.tied));
             closed = (row.0.calls.list, abort.0, (λ i. row.0.calls.list ++ record { call = abort.1 i; reply = abort.2 i } ∷ []));
@@ -187,7 +187,7 @@ module _ {P : Type 0} {rules : Rules P} {cells cells' : Cells} {r r1 : Rows} {mi
         row' = done;
         was = ap (λ (o : Option Attempt). current_of o a.pending) row.1;
         ended = ap (λ (x : Rows). x.ended) (m.told.0 row.0 row.1);
-        continues = record { thread = refl; nth = refl; began = refl; props = refl; arena = refl; more = record { call = call; reply = replies.Done } ∷ []; calls = refl; more_ran = later.0; ran = later.1 };
+        continues = record { thread = refl; nth = refl; began = refl; props = refl; arena = refl; restarts = refl; more = record { call = call; reply = replies.Done } ∷ []; calls = refl; more_ran = later.0; ran = later.1 };
         reads = m.ends.at_is ∙ ap (λ (n : ℕ). n / 2) (sym (ap (λ (c : Core). c.snapshot) (m.settled.engine ∙ m.ends.stays)));
         at = at_end wrote refl;
         closed = closed_end wrote;
@@ -299,7 +299,7 @@ module _ {P : Type 0} {rules : Rules P} {cells cells' : Cells} {r r1 : Rows} {mi
           row' = new_row;
           was = ap (λ (o : Option Attempt). current_of o a.pending) m.answered.kept.row ∙ b.1;
           now = ap (λ (t : ℕ). active_of t r1.active) (m.settled.thread ∙ sym q.thread) ∙ (ap (λ (x : Rows). active_of row.thread x.active) b.3 ∙ opened_here new_row r.active free);
-          continues = record { thread = refl; nth = refl; began = refl; props = refl; arena = refl; more = []; calls = sym (append-nil row.calls.list); more_ran = []; ran = sym (append-nil row.ran) };
+          continues = record { thread = refl; nth = refl; began = refl; props = refl; arena = refl; restarts = refl; more = []; calls = sym (append-nil row.calls.list); more_ran = []; ran = sym (append-nil row.ran) };
           ended = ap (λ (x : Rows). x.ended) b.3;
           half = half;
           tries = m.told.3;

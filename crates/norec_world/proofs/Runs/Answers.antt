@@ -21,7 +21,7 @@ before_on {rules = rules} {b = b} {a = a} k e s arena again = record {
   leads = subst (LeadsTo rules k.calls b.player b.arena a.player) (sym arena) k.leads;
   again = k.again;
   tries = k.tries;
-  pending = λ row is. (let p = k.pending row is in (p.0, p.1 ∙ sym arena, p.2, p.3, λ may. p.4 may ∙ (λ i. Some (record { player = a.player; arena = sym arena i; props = row.props })), again ∙ p.5));
+  pending = λ row is. (let p = k.pending row is in (p.0, p.1 ∙ sym arena, p.2, p.3, λ may. p.4 may ∙ (λ i. Some (record { player = a.player; arena = sym arena i; props = row.props })), again ∙ p.5, p.6));
 }
 
 -- the run of the thread over these attempts, where it stands then, and both under other names

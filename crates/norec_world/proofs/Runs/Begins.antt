@@ -1,7 +1,7 @@
 -- An actor's run between two tries: calls outside a transaction, and begins.
 use Rattle.std.proofs.Common.{◌≡◌, ◌⊎◌, ℕ, suc, ◌/◌, ◌<◌, ◌≤◌, Bool, true, false, List, [], Option, None, Some, refl, sym, true≢false, ap, subst, ◌∙◌, arith, is_some, inl, inr}
 use Rattle.user_actions.specs.Actions.{Actions}
-use Rattle.norec_world.proofs.Common.{Actor, Agrees, Answer, Attempt, Begin, Between, Busy, Call, Cells, Committed, Conflict, ConflictsIn, Core, CountsTry, Enters, Full, IsBeforeTry, IsInTry, IsMemory, IsRun, LeadsTo, MAX_OPEN_BLOCKS, Obeys, Props, Ready, Refusal, Replied, Replies, RepliesHeld, Reply, Row, Rows, Rules, State, active_of, after, alone, backed, begin_of, begins_at, bytes_at, ending_of, in_transaction, inside_all, is_inside, opened, outside, recoded, refusal, reply, reply_cases, same_Some, stands_for, state_over, state_then, with_opened, words_at}
+use Rattle.norec_world.proofs.Common.{Actor, Agrees, Answer, Attempt, Begin, Between, Busy, Call, Cells, Committed, Conflict, ConflictsIn, Core, CountsTry, Enters, Full, IsBeforeTry, IsInTry, IsMemory, IsRun, LeadsTo, MAX_OPEN_BLOCKS, Obeys, Props, Ready, Refusal, Replied, Replies, RepliesHeld, Reply, Row, Rows, Rules, State, active_of, after, alone, backed, begin_of, begins_at, bytes_at, ending_of, in_transaction, inside_all, is_inside, opened, outside, recoded, refusal, reply, reply_cases, same_Some, stands_for, state_over, state_then, with_opened, words_at, breaks_of}
 use Rattle.itm_model.specs.Machine.{answer, in_arena, or_else, reply_unless, unless}
 use Rattle.itm_types.specs.declared.call.Refusal.TheVariants.{NoIrrevocable}
 use Rattle.norec_core.specs.Core.{may_go}
@@ -129,10 +129,10 @@ module _ {P : Type 0} {rules : Rules P} (laws : Obeys rules) {first : Between P}
         let try : IsInTry rules (words_at base r.ended (cells.clock / 2)) t.0 (record row { at = at }) (rules.answered a.player reply) a.engine =
         elim by_case [
           | inl g ↦
-              try_begins rules _ t.0 row a.player mid a.engine props room reply comes p.1 props_same p.2 p.3 tries m.taken.was_is (m.taken.empty refl) p.5 began revocable
+              try_begins rules _ t.0 row a.player mid a.engine props room reply comes p.1 props_same p.2 p.3 tries m.taken.was_is (m.taken.empty refl) p.5 p.6 began revocable
               (subst (λ (c : Call). Replies mid c reply a.engine) is g) (words_at base r.ended (a.engine.snapshot / 2)) (memory_at seen (a.engine.snapshot / 2) k_late) (seen.now now) now at
           | inr (inl g) ↦
-              try_begins_held rules _ t.0 row a.player mid a.engine props room reply comes p.1 props_same p.2 p.3 tries m.taken.was_is (m.taken.empty refl) p.5 began revocable
+              try_begins_held rules _ t.0 row a.player mid a.engine props room reply comes p.1 props_same p.2 p.3 tries m.taken.was_is (m.taken.empty refl) p.5 p.6 began revocable
               (subst (λ (c : Call). Enters mid c reply a.engine) is g) now at
           | inr (inr g) ↦ absurd (true≢false (sym g.irrevocable ∙ revocable))
         ] in
@@ -199,13 +199,13 @@ module _ {P : Type 0} {rules : Rules P} (laws : Obeys rules) {first : Between P}
             let late = seen.opens m.taken.was_is now in
             let began : row'.began ≤ a.engine.snapshot / 2 = (let early = p.0 in omega arith) in
             let comes = p.4 (subst (λ (x : Props). may_go [] x ≡ true) (sym props_same) (accepted c.0 c.1 c.2 now)) in
-            let served = held_served rules position t.0 row' a.player mid a.engine c.0 c.1 reply comes p.1 props_same p.2 p.3 tries m.taken.was_is (m.taken.empty refl) p.5 began revocable g' now in
-            let leaves = begin_leaves rules position t.0 row' a.player mid a.engine c.0 c.1 reply comes p.1 props_same p.2 p.3 tries m.taken.was_is (m.taken.empty refl) p.5 began revocable position served.0 in
-            let try = try_begins_held rules position t.0 row' a.player mid a.engine c.0 c.1 reply comes p.1 props_same p.2 p.3 tries m.taken.was_is (m.taken.empty refl) p.5 began revocable g' now at in (
+            let served = held_served rules position t.0 row' a.player mid a.engine c.0 c.1 reply comes p.1 props_same p.2 p.3 tries m.taken.was_is (m.taken.empty refl) p.5 p.6 began revocable g' now in
+            let leaves = begin_leaves rules position t.0 row' a.player mid a.engine c.0 c.1 reply comes p.1 props_same p.2 p.3 tries m.taken.was_is (m.taken.empty refl) p.5 p.6 began revocable position served.0 in
+            let try = try_begins_held rules position t.0 row' a.player mid a.engine c.0 c.1 reply comes p.1 props_same p.2 p.3 tries m.taken.was_is (m.taken.empty refl) p.5 p.6 began revocable g' now at in (
               ap (stands_for a.engine) words
                   ∙ (g'.meets position fits nothing
                   ∙ (leaves
-                  ∙ ((ap (λ (bytes : List ℕ). state_then MAX_OPEN_BLOCKS (opened bytes mid.arena row'.props) row'.calls.list) (same_at seen (cells.clock / 2) l) ∙ ap (λ (arena : List ℕ). state_then MAX_OPEN_BLOCKS (opened (bytes_at base r.ended (cells.clock / 2)) arena row'.props) row'.calls.list) (sym p.1)) ∙ ap (alone MAX_OPEN_BLOCKS (bytes_at base r.ended (cells.clock / 2))) same))),
+                  ∙ ((ap (λ (bytes : List ℕ). state_then MAX_OPEN_BLOCKS (breaks_of row'.restarts) (opened bytes mid.arena row'.props) row'.calls.list) (same_at seen (cells.clock / 2) l) ∙ ap (λ (arena : List ℕ). state_then MAX_OPEN_BLOCKS (breaks_of row'.restarts) (opened (bytes_at base r.ended (cells.clock / 2)) arena row'.props) row'.calls.list) (sym p.1)) ∙ ap (alone MAX_OPEN_BLOCKS (bytes_at base r.ended (cells.clock / 2))) same))),
               ap (λ (x : Attempt). x.ran) (sym same) ∙ try.ran,
             )
 

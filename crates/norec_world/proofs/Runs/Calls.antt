@@ -54,8 +54,9 @@ module _ {P : Type 0} {rules : Rules P} (laws : Obeys rules) {cells : Cells} {r0
   -- the attempt that is to be opened then
   fresh_pending : (b : Between P) → IsBeforeTry rules (cells.clock / 2) b old → in_transaction old.engine ≡ false → (c : Call) → c ≡ call → (row : Attempt) → asked_pending false cells.clock old c ≡ Some row
       → (row.began ≤ cells.clock / 2) × (row.arena ≡ old.engine.arena) × (row.calls.list ≡ []) × (row.ran ≡ []) × (may_go [] row.props ≡ true → begins_at rules b ≡ Some (record { player = a.player; arena = old.engine.arena; props = row.props })) × ((mid m).again ≡ b.again)
+      × (row.restarts ≡ [])
   fresh_pending b k o (Begin props room) is row e =
-      let made : record { thread = old.thread; nth = old.nth; began = cells.clock / 2; at = 0; props = props; arena = old.engine.arena; calls = record { list = []; room = unwrap_or (irrevocable_room old.engine (Begin props room)) 0 }; ran = []; outcome = outcomes.Unfinished } ≡ row = cc in
+      let made : record { thread = old.thread; nth = old.nth; began = cells.clock / 2; at = 0; props = props; arena = old.engine.arena; calls = record { list = []; room = unwrap_or (irrevocable_room old.engine (Begin props room)) 0 }; restarts = []; ran = []; outcome = outcomes.Unfinished } ≡ row = cc in
       let asks : rules.next_call old.player ≡ Some (Begin props room) = ap rules.next_call (sym m.asked.same.player) ∙ (m.asked.in_call.asks ∙ ap (λ (c : Call). Some c) (sym is)) in
       let same : props ≡ row.props = ap (λ (x : Attempt). x.props) made in (
         (let began = ap (λ (x : Attempt). x.began) made in omega arith),
@@ -64,6 +65,7 @@ module _ {P : Type 0} {rules : Rules P} (laws : Obeys rules) {cells : Cells} {r0
         ap (λ (x : Attempt). x.ran) (sym made),
         λ may. led_before rules laws k ∙ (begin_here rules laws old.player old.engine.arena props room asks (may_begin old.engine.arena props room (subst (λ (x : Props). may_go [] x ≡ true) (sym same) may)) ∙ (λ i. Some (record { player = (sym m.asks.player) i; arena = old.engine.arena; props = same i }))),
         (λ i. begins_again (o i) old.again (sym is i) && not (o i)) ∙ (and-true old.again ∙ k.again),
+        ap (λ (x : Attempt). x.restarts) (sym made),
       )
   fresh_pending b k o c is row e = absurd (let z = sym (rests m.sound m.ready).nothing ∙ e in cc)
 

@@ -1,7 +1,7 @@
 -- An actor's run, once its attempt has ended.
 use Rattle.tx_attempts.specs.Kept.{grown, spent}
 use Rattle.std.proofs.Common.{◌≡◌, ℕ, ◌/◌, ◌≤◌, Bool, true, false, if◌then◌else◌, List, [], ◌∷◌, ◌++◌, map, Option, Some, refl, sym, true≢false, ap, subst, ◌∙◌, arith, inl, inr}
-use Rattle.norec_world.proofs.Common.{Actor, Agrees, Answers, Attempt, Between, Call, Cells, Code, Commit, Committed, Conflict, ConflictsIn, Core, Done, EndsAs, CallRecord, Full, Next, IsMemory, IsRun, LacksClock, MAX_OPEN_BLOCKS, Obeys, Outcome, Replied, Replies, RecordsReply, Reply, Rows, Rules, State, StopsAt, after, after_try, alone, answered_all, backed, begin_code, bytes_at, bytes_of, cases_Bool, ending_of, false_from_ne_true, follows, in_transaction, is_done, is_open, opened, recoded, stands_for, state_then, takes_clock, words_at, words_of}
+use Rattle.norec_world.proofs.Common.{Actor, Agrees, Answers, Attempt, Between, Call, Cells, Code, Commit, Committed, Conflict, ConflictsIn, Core, Done, EndsAs, CallRecord, Full, Next, IsMemory, IsRun, LacksClock, MAX_OPEN_BLOCKS, Obeys, Outcome, Replied, Replies, RecordsReply, Reply, Rows, Rules, State, StopsAt, after, after_try, alone, answered_all, backed, begin_code, breaks_of, bytes_at, bytes_of, cases_Bool, ending_of, false_from_ne_true, follows, in_transaction, is_done, is_open, opened, recoded, stands_for, state_then, takes_clock, words_at, words_of}
 use Rattle.itm_model.specs.Machine.{undone, reply as plainly}
 use Rattle.itm_types.specs.declared.call.Call.TheVariants.{Abort}
 use Rattle.itm_types.specs.declared.call.Ran.{Ran}
@@ -31,7 +31,7 @@ module _ {P : Type 0} {rules : Rules P} (laws : Obeys rules) {first : Between P}
     (n' : ℕ) (later : cells.clock / 2 ≤ n') (still : (k : ℕ) → k ≤ cells.clock / 2 → bytes_at base r1.ended k ≡ bytes_at base r.ended k) (inside : in_transaction mid ≡ true) where
   -- the plain state that its calls so far lead to from these bytes
   abbrev led : List ℕ → State
-  led memory = state_then MAX_OPEN_BLOCKS (opened memory (run.inside inside).4.start.arena (run.inside inside).4.start.props) (run.inside inside).1.calls.list
+  led memory = state_then MAX_OPEN_BLOCKS (breaks_of (run.inside inside).1.restarts) (opened memory (run.inside inside).4.start.arena (run.inside inside).4.start.props) (run.inside inside).1.calls.list
 
   -- ## By its commit
 

@@ -12,7 +12,7 @@ use Rattle.norec_world.proofs.Engines.HeldCalls.{HasHeld, stands_actions, stands
 use Rattle.tx_runs.proofs.Tries.{alone_led}
 use Rattle.norec_world.proofs.Attempts.TryOutcomes.{of_block, stands_led}
 use Rattle.norec_world.proofs.Attempts.ActiveRows.{changed_here}
-use Rattle.tx_attempts.proofs.AloneCalls.{state_snoc}
+use Rattle.tx_runs.proofs.Unbroken.{state_whole}
 use Rattle.norec_world.proofs.Engines.OpenEngines.{stands_open}
 use Rattle.user_actions.specs.Actions.{Actions}
 use Rattle.norec_world.proofs.Runs.Begins.{begin_holds, shut_runs}
@@ -208,7 +208,7 @@ module _ {P : Type 0} {rules : Rules P} (laws : Obeys rules) {first : Between P}
             let memory : bytes_at base r.ended (cells.clock / 2) ≡ bytes_at base r1.ended (cells'.clock / 2) = λ i. bytes_at base (sym (ap (λ (x : Rows). x.ended) told.0) i) (sym half i) in
             subst (λ (x : Attempt). IsHeld (bytes_at base r1.ended (cells'.clock / 2)) cells'.words x a.engine) same
             (subst (λ (bytes : List ℕ). IsHeld bytes cells'.words (with_call t.1) a.engine) memory
-            (stands_held (bytes_at base r.ended (cells.clock / 2)) (with_call t.1) inside now (s ∙ sym (state_snoc MAX_OPEN_BLOCKS (opened (bytes_at base r.ended (cells.clock / 2)) t.1.arena t.1.props) t.1.calls.list (record { call = call; reply = reply })))
+            (stands_held (bytes_at base r.ended (cells.clock / 2)) (with_call t.1) inside now (s ∙ sym (state_whole t.1.restarts (opened (bytes_at base r.ended (cells.clock / 2)) t.1.arena t.1.props) t.1.calls.list (record { call = call; reply = reply }) t.4.restarts))
             (ap (λ (c : Core). c.actions.ran) m.settled.engine) idle))
         by_answer false (Reply reply) m held now inside idle =
             let half = half_same m refl in

@@ -1,11 +1,12 @@
 -- The actors' runs: one's event leaves the others', and together they are the headline.
 use Rattle.std.proofs.Common.{◌≡◌, ◌≢◌, inl, inr, ℕ, ◌+◌, ◌/◌, ◌%◌, ◌≤◌, Bool, true, false, List, [], ◌∷◌, ◌++◌, length, length-set, replicate, None, Some, slice_get, slice_set, refl, sym, ap, subst, ◌∙◌, arith, nat_lt}
-use Rattle.norec_world.proofs.Common.{Actor, Agrees, AllFit, AreActors, AreLaid, AreOfActors, AreOpaque, AreOpen, AreRunning, AreTied, Attempt, Between, Cells, ChangesOwn, ClocksOn, Core, Got, HasRead, HasRow, IsHeld, IsMemory, IsRunOf, IsTied, IsTryAt, IsWorld, KeepsOthers, MAX_OPEN_BLOCKS, Obeys, Ready, Rows, Rules, RunsFrom, StandsIn, State, World, active_of, alone, append-nil, attempts_of, backed, observed, begins_at, bytes_at, bytes_of, cases_Bool, count_at, count_committed, first_of, in_transaction, is_open, le-ltb, of_thread, one_where, opened, opening, run_after, same_Some, state_then, words_at, words_of, write_at, slice_get_within}
+use Rattle.norec_world.proofs.Common.{Actor, Agrees, AllFit, AreActors, AreLaid, AreOfActors, AreOpaque, AreOpen, AreRunning, AreTied, Attempt, Between, Cells, ChangesOwn, ClocksOn, Core, Got, HasRead, HasRow, IsHeld, IsMemory, IsRunOf, IsTied, IsTryAt, IsWorld, KeepsOthers, MAX_OPEN_BLOCKS, Obeys, Ready, Rows, Rules, RunsFrom, StandsIn, State, World, active_of, alone, append-nil, attempts_of, backed, observed, begins_at, bytes_at, bytes_of, cases_Bool, count_at, count_committed, first_of, in_transaction, is_open, le-ltb, of_thread, one_where, opened, opening, run_after, same_Some, state_then, words_at, words_of, write_at, slice_get_within, breaks_of}
 use Rattle.tx_attempts.specs.declared.attempt.Outcome.TheVariants as outcomes
 use Rattle.itm_types.proofs.WordLists.{words_of-bytes_of}
 use Rattle.norec_world.specs.Runs.{StillRuns}
 use Rattle.norec_world.specs.Dates.{AreDated}
-use Rattle.norec_world.proofs.Attempts.Dates.{all_dated}
+use Rattle.tx_runs.specs.Unbroken.{AreUnbroken}
+use Rattle.norec_world.proofs.Attempts.Dates.{all_dated, all_unbroken}
 use Rattle.norec_world.proofs.Events.SoundOthers.{set_place, there_is, are_open, held_apart, odd_held, row_unfinished, row_open}
 use Rattle.norec_world.proofs.Attempts.OpenTries.{try_moved}
 use Rattle.tx_runs.proofs.Tries.{IsMadeAlone, alone_led, try_stops}
@@ -32,7 +33,7 @@ module _ {P : Type 0} (rules : Rules P) (laws : Obeys rules) where
               (let t = x.runs.between o gave_up starved in let k = t.2 in (
                 t.0,
                 now ∙ t.1,
-                record { calls = k.calls; leads = k.leads; again = k.again; tries = k.tries; pending = λ row e. (let p = k.pending row e in ((let early = p.0 in omega arith), p.1, p.2, p.3, p.4, p.5)) },
+                record { calls = k.calls; leads = k.leads; again = k.again; tries = k.tries; pending = λ row e. (let p = k.pending row e in ((let early = p.0 in omega arith), p.1, p.2, p.3, p.4, p.5, p.6)) },
               ));
         };
         sees = (let s = x.sees in record {
@@ -86,8 +87,8 @@ module _ {P : Type 0} (rules : Rules P) (laws : Obeys rules) where
     -- of an open attempt: its calls are made alone on the memory of its position, and its actions are those of the state that they lead to
     open_parts : (place : ℕ) (p : P) (a : Actor P) (e : slice_get w.opening place ≡ Some p) (f : slice_get w.actors place ≡ Some a) (o : in_transaction a.engine ≡ true)
         → let t = (running.each place p a e f).runs.inside o in let k : ℕ = a.engine.snapshot / 2 in
-        IsMadeAlone rules t.0 t.4.start t.1 (bytes_at w.base (attempts_of w) k) × (a.engine.actions.ran ≡ (state_then MAX_OPEN_BLOCKS (opened (bytes_at w.base (attempts_of w) k) t.4.start.arena t.4.start.props) t.1.calls.list).actions.ran)
-        × ((state_then MAX_OPEN_BLOCKS (opened (bytes_at w.base (attempts_of w) k) t.4.start.arena t.4.start.props) t.1.calls.list).irrevocable ≡ a.engine.irrevocable)
+        IsMadeAlone rules t.0 t.4.start t.1 (bytes_at w.base (attempts_of w) k) × (a.engine.actions.ran ≡ (state_then MAX_OPEN_BLOCKS (breaks_of t.1.restarts) (opened (bytes_at w.base (attempts_of w) k) t.4.start.arena t.4.start.props) t.1.calls.list).actions.ran)
+        × ((state_then MAX_OPEN_BLOCKS (breaks_of t.1.restarts) (opened (bytes_at w.base (attempts_of w) k) t.4.start.arena t.4.start.props) t.1.calls.list).irrevocable ≡ a.engine.irrevocable)
     open_parts place p a e f o = elim (cases_Bool a.engine.irrevocable) [ inl i ↦ held_so i | inr r ↦ open_so r ]
       where
         x : RunsFrom rules (first_of p w.arena) w.base w.cells w.attempts a
@@ -112,8 +113,8 @@ module _ {P : Type 0} (rules : Rules P) (laws : Obeys rules) where
         agrees = subst (λ (m : List ℕ). Agrees m a.engine.log) (sym words) (x.sees.logged o)
 
         open_so : a.engine.irrevocable ≡ false → IsMadeAlone rules (x.runs.inside o).0 (x.runs.inside o).4.start (x.runs.inside o).1 (bytes_at w.base (attempts_of w) (a.engine.snapshot / 2))
-            × (a.engine.actions.ran ≡ (state_then MAX_OPEN_BLOCKS (opened (bytes_at w.base (attempts_of w) (a.engine.snapshot / 2)) (x.runs.inside o).4.start.arena (x.runs.inside o).4.start.props) (x.runs.inside o).1.calls.list).actions.ran)
-            × ((state_then MAX_OPEN_BLOCKS (opened (bytes_at w.base (attempts_of w) (a.engine.snapshot / 2)) (x.runs.inside o).4.start.arena (x.runs.inside o).4.start.props) (x.runs.inside o).1.calls.list).irrevocable ≡ a.engine.irrevocable)
+            × (a.engine.actions.ran ≡ (state_then MAX_OPEN_BLOCKS (breaks_of (x.runs.inside o).1.restarts) (opened (bytes_at w.base (attempts_of w) (a.engine.snapshot / 2)) (x.runs.inside o).4.start.arena (x.runs.inside o).4.start.props) (x.runs.inside o).1.calls.list).actions.ran)
+            × ((state_then MAX_OPEN_BLOCKS (breaks_of (x.runs.inside o).1.restarts) (opened (bytes_at w.base (attempts_of w) (a.engine.snapshot / 2)) (x.runs.inside o).4.start.arena (x.runs.inside o).4.start.props) (x.runs.inside o).1.calls.list).irrevocable ≡ a.engine.irrevocable)
         open_so r =
             let m : List ℕ = words_at w.base (attempts_of w) (a.engine.snapshot / 2) in
             let stands = stands_led laws (x.runs.inside o).4 (bytes_at w.base (attempts_of w) (a.engine.snapshot / 2)) m r o memory same agrees in (
@@ -123,8 +124,8 @@ module _ {P : Type 0} (rules : Rules P) (laws : Obeys rules) where
             )
 
         held_so : a.engine.irrevocable ≡ true → IsMadeAlone rules (x.runs.inside o).0 (x.runs.inside o).4.start (x.runs.inside o).1 (bytes_at w.base (attempts_of w) (a.engine.snapshot / 2))
-            × (a.engine.actions.ran ≡ (state_then MAX_OPEN_BLOCKS (opened (bytes_at w.base (attempts_of w) (a.engine.snapshot / 2)) (x.runs.inside o).4.start.arena (x.runs.inside o).4.start.props) (x.runs.inside o).1.calls.list).actions.ran)
-            × ((state_then MAX_OPEN_BLOCKS (opened (bytes_at w.base (attempts_of w) (a.engine.snapshot / 2)) (x.runs.inside o).4.start.arena (x.runs.inside o).4.start.props) (x.runs.inside o).1.calls.list).irrevocable ≡ a.engine.irrevocable)
+            × (a.engine.actions.ran ≡ (state_then MAX_OPEN_BLOCKS (breaks_of (x.runs.inside o).1.restarts) (opened (bytes_at w.base (attempts_of w) (a.engine.snapshot / 2)) (x.runs.inside o).4.start.arena (x.runs.inside o).4.start.props) (x.runs.inside o).1.calls.list).actions.ran)
+            × ((state_then MAX_OPEN_BLOCKS (breaks_of (x.runs.inside o).1.restarts) (opened (bytes_at w.base (attempts_of w) (a.engine.snapshot / 2)) (x.runs.inside o).4.start.arena (x.runs.inside o).4.start.props) (x.runs.inside o).1.calls.list).irrevocable ≡ a.engine.irrevocable)
         held_so i =
             let t = x.runs.inside o in
             let h = x.held i t.1 t.3 in
@@ -203,12 +204,13 @@ module _ {P : Type 0} (rules : Rules P) (laws : Obeys rules) where
         let half : a.engine.snapshot / 2 ≡ w.cells.clock / 2 = omega (arith, tied.holder h, holder.1, tied.settled.even) in
         (t.1, ap (λ (k : ℕ). active_of k w.attempts.active) (sym own.thread) ∙ t.3, x.reads holder.0 t.1 t.3 ∙ half)
 
-    pub are_opaque : AreDated w.retries [] (attempts_of w) → AreOpaque rules (observed w)
-    are_opaque dated = record {
+    pub are_opaque : AreDated w.retries [] (attempts_of w) → AreUnbroken (attempts_of w) → AreOpaque rules (observed w)
+    are_opaque dated unbroken = record {
       runs = λ place p e. (let here = there_is w.actors place (omega (arith, long, slice_get_within w.opening place p e)) in of_actor place p here.0 e here.1);
       threads = subst (λ (n : ℕ). AreOfActors n (attempts_of w)) long (of_actors_both (length w.actors) w.attempts.ended w.attempts.active running.threads (of_actors_active (length w.actors) w.attempts.active sound.listed));
       counted = counted_both w.cells.clock w.attempts.ended w.attempts.active open_rows.unfinished running.laid.counted;
       dated = dated;
+      unbroken = unbroken;
       size = omega (arith, length-bytes_of w.cells.words, length-bytes_of (words_of w.base), (running.laid.memories.fits 0 (omega arith)).0, ap (length {A = ℕ}) (running.laid.memories.same 0 (omega arith)));
       free = λ even.
           (let top : w.cells.clock / 2 ≤ w.cells.clock / 2 = omega arith in
@@ -248,7 +250,7 @@ module _ {P : Type 0} (rules : Rules P) (laws : Obeys rules) where
     }
 
   pub world_opaque : (w : World P) → IsWorld rules w → AreOpaque rules (observed w)
-  world_opaque w kept = are_opaque w kept.actors (are_open rules w.cells w.attempts w.actors kept.actors kept.running.ordered) kept.long kept.running (all_dated w kept.actors kept.running.ordered kept.dated)
+  world_opaque w kept = are_opaque w kept.actors (are_open rules w.cells w.attempts w.actors kept.actors kept.running.ordered) kept.long kept.running (all_dated w kept.actors kept.running.ordered kept.dated) (all_unbroken w kept.actors kept.running.ordered kept.dated)
 
   pub world_tied : (w : World P) → IsWorld rules w → AreTied rules w
   world_tied w kept = are_tied w kept.actors (are_open rules w.cells w.attempts w.actors kept.actors kept.running.ordered) kept.long kept.running

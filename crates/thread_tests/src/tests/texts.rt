@@ -51,6 +51,7 @@ fn write(text: &mut Vec<u8>, report: &Report) -> io::Result<()> {
     let history = &report.history;
     write_history(
         text,
+        history.version,
         history.memory.as_slice(),
         history.attempts.as_slice(),
         history.clock,

@@ -1,7 +1,6 @@
 -- Every attempt of a player's run is one alone on the memory of its position.
-use Rattle.std.proofs.Common.{◌≡◌, ℕ, zero, suc, ◌<◌, ◌≤◌, ◌==◌, Bool, true, false, not, ◌&&◌, ◌||◌, is_none, if◌then◌else◌, All, List, [], ◌∷◌, Option, None, Some, refl, sym, ap, subst, ◌∙◌, eq-eqb}
-use Rattle.std.proofs.lemmas.List.Elements.{All-nil, All-cons, All-head, All-tail}
-use Rattle.itm_types.specs.declared.limits.TheConstants.{MAX_OPEN_BLOCKS}
+use Rattle.std.proofs.Common.{◌≡◌, ℕ, zero, suc, ◌≤◌, Bool, true, false, not, ◌&&◌, ◌||◌, is_none, if◌then◌else◌, All, List, [], ◌∷◌, Option, None, Some, refl, sym, ap, ◌∙◌}
+use Rattle.std.proofs.lemmas.List.Elements.{All-nil, All-cons}
 use Rattle.itm_types.specs.declared.call.Call.{Call}
 use Rattle.itm_types.specs.declared.call.Call.TheVariants.{Begin}
 use Rattle.itm_types.specs.declared.call.Refusal.{Refusal}
@@ -41,20 +40,20 @@ module _ {P : Type 0} (rules : Rules P) (deepest : ℕ) where
 
 -- ## Runs
 
-module _ {P : Type 0} (rules : Rules P) (n : ℕ) (memory : ℕ → List ℕ) where
+module _ {P : Type 0} (rules : Rules P) (deepest n : ℕ) (memory : ℕ → List ℕ) where
   -- it is alone on the memory of its position, which is one of these
   abbrev pub IsPlaced : Attempt → Type 0
-  IsPlaced a = IsAlone (memory a.at) a × (a.at ≤ n)
+  IsPlaced a = IsAlone deepest (memory a.at) a × (a.at ≤ n)
 
-  of_try : (b : Between P) (o : Option (Beginning P)) (a : Attempt) → begin_of rules MAX_OPEN_BLOCKS b.player b.arena ≡ o → IsTryAt rules MAX_OPEN_BLOCKS n memory b o a → IsPlaced a
+  of_try : (b : Between P) (o : Option (Beginning P)) (a : Attempt) → begin_of rules deepest b.player b.arena ≡ o → IsTryAt rules deepest n memory b o a → IsPlaced a
   of_try b None a e t = absurd t
   of_try b (Some start) a e t = (
-    is_alone rules _ a n (memory a.at) t.3
-        (ap may_begin t.1 ∙ may_begin_there rules MAX_OPEN_BLOCKS (rules.calls_left b.player) b.player b.arena (rules.next_call b.player) start e),
+    is_alone rules deepest _ a n (memory a.at) t.3
+        (ap may_begin t.1 ∙ may_begin_there rules deepest (rules.calls_left b.player) b.player b.arena (rules.next_call b.player) start e),
     t.3.no_newer,
   )
 
-  pub of_run : (b : Option (Between P)) (xs : List Attempt) → IsRunOf rules MAX_OPEN_BLOCKS n memory b xs → All IsPlaced xs
+  pub of_run : (b : Option (Between P)) (xs : List Attempt) → IsRunOf rules deepest n memory b xs → All IsPlaced xs
   of_run b [] h = All-nil IsPlaced
   of_run None (a ∷ rest) h = absurd h
-  of_run (Some b) (a ∷ rest) h = All-cons IsPlaced a rest (of_try b _ a refl h.0) (of_run (after_try rules MAX_OPEN_BLOCKS memory b (begin_of rules MAX_OPEN_BLOCKS b.player b.arena) a) rest h.1)
+  of_run (Some b) (a ∷ rest) h = All-cons IsPlaced a rest (of_try b _ a refl h.0) (of_run (after_try rules deepest memory b (begin_of rules deepest b.player b.arena) a) rest h.1)

@@ -1,5 +1,5 @@
 -- A transaction on the plain machine that has written nothing stands on the memory that it was opened on, and was never irrevocable.
-use Rattle.std.proofs.Common.{◌≡◌, ℕ, ◌+◌, ◌%◌, Bool, true, false, true≢false, ◌||◌, nat_lt, if◌then◌else◌, length, replicate, take, drop, List, [], ◌∷◌, ◌++◌, Option, None, Some, refl, sym, ap, subst, ◌∙◌, arith, map, append-nil, lt-ltb}
+use Rattle.std.proofs.Common.{◌≡◌, ℕ, suc, ◌+◌, ◌%◌, Bool, true, false, true≢false, ◌||◌, nat_lt, if◌then◌else◌, length, replicate, take, drop, List, [], ◌∷◌, ◌++◌, Option, None, Some, refl, sym, ap, subst, ◌∙◌, arith, map, append-nil, lt-ltb}
 use Rattle.std.specs.Option.{option_map}
 use Rattle.std.proofs.lemmas.List.{take-append-drop}
 use Rattle.itm_types.specs.Slices.{with_slice}
@@ -15,7 +15,9 @@ use Rattle.itm_types.specs.declared.call.Props.{Props}
 use Rattle.itm_types.specs.declared.call.Refusal.{Refusal}
 use Rattle.itm_model.specs.State.{Block, Saved, State}
 use Rattle.itm_model.specs.Machine.{after, after_unless, back, back_from, closed, closed_in, closed_irrevocable, effect, entered, handed, irrevocable_from, is_open, logged, logged_in, made_irrevocable, opened, outside, pushed, refusal, rolled_back, source_bytes, target_written, undone, undone_from, with_action, with_undo, written}
-use Rattle.itm_model.specs.Runs.{state_after}
+use Rattle.itm_model.specs.Runs.{Breaks, later, state_through}
+use Rattle.tx_attempts.specs.declared.attempt.Again.{Again}
+use Rattle.tx_attempts.specs.Restarts.{again_at, arena_set, breaks_of}
 
 -- what a block goes back to, if nothing was written before it, is this memory
 abbrev pub GoesBackTo : List ℕ → Option Saved → Type 0
@@ -280,23 +282,46 @@ fixed_effect s (Save at value) o h = record { wrote = h.wrote; lasts = h.lasts; 
 -- ## Many calls
 
 -- a block is open before each of these calls
-abbrev pub AllInside : ℕ → State → List Call → Type 0
-AllInside deepest s [] = Unit {0}
-AllInside deepest s (c ∷ cs) = (is_open s ≡ true) × AllInside deepest (after deepest s c) cs
+abbrev pub AllInside : ℕ → Breaks → State → List Call → Type 0
+AllInside deepest breaks s [] = Unit {0}
+AllInside deepest breaks s (c ∷ cs) = (is_open s ≡ true) × AllInside deepest (later breaks) (breaks 1 (after deepest s c)) cs
+
+-- it stays so where a run is broken off
+abbrev pub Keeps : (State → Type 0) → Breaks → Type 0
+Keeps S breaks = (n : ℕ) (s : State) → S s → S (breaks n s)
 
 module _ (deepest : ℕ) (m : List ℕ) where
-  pub stands_after : (s : State) (cs : List Call) → AllInside deepest s cs → StandsOn m s → StandsOn m (state_after deepest s cs)
-  stands_after s [] i h = h
-  stands_after s (c ∷ cs) i h = stands_after (after deepest s c) cs i.1 (unless_so (StandsOn m) (refusal deepest s c) s (effect s c) h (effect_so m s c i.0 h))
+  pub stands_after : (breaks : Breaks) → Keeps (StandsOn m) breaks → (s : State) (cs : List Call) → AllInside deepest breaks s cs → StandsOn m s → StandsOn m (state_through deepest breaks s cs)
+  stands_after breaks kept s [] i h = h
+  stands_after breaks kept s (c ∷ cs) i h =
+      stands_after (later breaks) (λ n t g. kept (suc n) t g) (breaks 1 (after deepest s c)) cs i.1 (kept 1 (after deepest s c) (unless_so (StandsOn m) (refusal deepest s c) s (effect s c) h (effect_so m s c i.0 h)))
 
   -- as it begins
   pub stands_opened : (arena : List ℕ) (props : Props) → StandsOn m (opened m arena props)
   stands_opened arena props = entered_so m (outside m arena) props (record { memory = λ e. refl; back = tt; lasts = λ i. absurd (cc) })
 
-pub fixed_after : (deepest : ℕ) (s : State) (cs : List Call) → AllInside deepest s cs → IsFixed s → IsFixed (state_after deepest s cs)
-fixed_after deepest s [] i h = h
-fixed_after deepest s (c ∷ cs) i h = fixed_after deepest (after deepest s c) cs i.1 (unless_so IsFixed (refusal deepest s c) s (effect s c) h (fixed_effect s c i.0 h))
+pub fixed_after : (deepest : ℕ) (breaks : Breaks) → Keeps IsFixed breaks → (s : State) (cs : List Call) → AllInside deepest breaks s cs → IsFixed s → IsFixed (state_through deepest breaks s cs)
+fixed_after deepest breaks kept s [] i h = h
+fixed_after deepest breaks kept s (c ∷ cs) i h =
+    fixed_after deepest (later breaks) (λ n t g. kept (suc n) t g) (breaks 1 (after deepest s c)) cs i.1 (kept 1 (after deepest s c) (unless_so IsFixed (refusal deepest s c) s (effect s c) h (fixed_effect s c i.0 h)))
 
 -- once irrevocable, it has written at its end
 pub fixed_from : (m : List ℕ) (s : State) → StandsOn m s → s.irrevocable ≡ true → IsFixed s
 fixed_from m s h i = (let l = h.lasts i in record { wrote = l.0; lasts = l.1; mode = λ o. i })
+
+-- ## Blocks that run again
+
+stands_set : (m : List ℕ) (o : Option Again) (s : State) → StandsOn m s → StandsOn m (arena_set o s)
+stands_set m None s h = h
+stands_set m (Some a) s h = record { memory = h.memory; back = h.back; lasts = h.lasts }
+
+fixed_set : (o : Option Again) (s : State) → IsFixed s → IsFixed (arena_set o s)
+fixed_set None s h = h
+fixed_set (Some a) s h = record { wrote = h.wrote; lasts = h.lasts; mode = h.mode }
+
+-- a block that runs again from another arena leaves both
+pub stands_again : (m : List ℕ) (rs : List Again) → Keeps (StandsOn m) (breaks_of rs)
+stands_again m rs n s h = stands_set m (again_at rs n) s h
+
+pub fixed_again : (rs : List Again) → Keeps IsFixed (breaks_of rs)
+fixed_again rs n s h = fixed_set (again_at rs n) s h

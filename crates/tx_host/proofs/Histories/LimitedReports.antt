@@ -2,12 +2,15 @@
 use Rattle.std.proofs.Common.{◌≡◌, ℕ, zero, suc, ◌+◌, ◌-◌, ◌<◌, ◌≤◌, All, List, [], ◌∷◌, ◌++◌, length, get_or, Some, slice_get, refl, sym, subst, arith}
 use Rattle.std.proofs.lemmas.List.{length-replicate}
 use Rattle.std.proofs.lemmas.List.Elements.{All-nil, All-cons, All-head, All-tail, All-append}
-use Rattle.itm_types.specs.declared.limits.TheConstants.{MAX_ACTORS, MAX_ARENA, MAX_RETRIES}
+use Rattle.itm_types.specs.declared.limits.TheConstants.{MAX_ACTORS, MAX_ARENA, MAX_OPEN_BLOCKS, MAX_RETRIES}
 use Rattle.script_program.specs.declared.instruction.Instruction.{Instruction}
 use Rattle.script_program.specs.Listing.{Listing, opening_of, threads_of}
 use Rattle.script_vm.specs.Threads.{thread_rules}
 use Rattle.tx_attempts.specs.declared.attempt.Attempt.{Attempt}
 use Rattle.tx_attempts.specs.Attempts.{of_thread}
+use Rattle.tx_history.specs.declared.history.Version.{Version}
+use Rattle.tx_history.specs.declared.history.Version.TheVariants.{One}
+use Rattle.tx_runs.specs.Unbroken.{AreUnbroken}
 use Rattle.tx_history.specs.Bounds.{AreLimited, HasArenaWidth, IsLimited, IsMemorySize}
 use Rattle.tx_history.specs.Legal.{memory_at}
 use Rattle.tx_runs.specs.declared.ending.End.{End}
@@ -30,31 +33,33 @@ by_threads Q k zero all each = All-nil Q
 by_threads Q k (suc n) all each = All-append Q (of_thread k all) (by_number (k + 1) n all) (each k (omega arith)) (by_threads Q (k + 1) n all (λ thread l. each thread (omega arith)))
 
 -- the attempts of a thread with this number and so many tries of a block at most
-limited_each : (thread tries k : ℕ) → thread < MAX_ACTORS → tries ≤ MAX_RETRIES + 1 → k ≤ MAX_ARENA → (xs : List Attempt) → AreOwn thread tries xs → All (IsOwn HasArenaWidth k) xs → All IsLimited xs
-limited_each thread tries k t n l [] own all = All-nil IsLimited
-limited_each thread tries k t n l (x ∷ xs) own all =
-    All-cons IsLimited x xs
+limited_each : (thread tries k : ℕ) → thread < MAX_ACTORS → tries ≤ MAX_RETRIES + 1 → k ≤ MAX_ARENA → (xs : List Attempt) → AreOwn thread tries xs → All (IsOwn HasArenaWidth k) xs → AreUnbroken xs → All (IsLimited One) xs
+limited_each thread tries k t n l [] own all none = All-nil (IsLimited One)
+limited_each thread tries k t n l (x ∷ xs) own all none =
+    All-cons (IsLimited One) x xs
     (let is : IsOwn HasArenaWidth k x = All-head (IsOwn HasArenaWidth k) x xs all in
     record {
       thread = (let same = own.0 in omega arith);
       nth = (is.nth, (let few = own.1 in omega arith));
       arena = (let same = is.arena in omega arith);
       widths = is.calls;
+      restarts = none.0;
     })
-    (limited_each thread tries k t n l xs own.2 (All-tail (IsOwn HasArenaWidth k) x xs all))
+    (limited_each thread tries k t n l xs own.2 (All-tail (IsOwn HasArenaWidth k) x xs all) none.1)
 
 module _ (p : Listing) (r : Report) (ran : Ran p r) (limits : IsLimitedListing p) where
-  limited_thread : (thread : ℕ) → thread < length (threads_of p) → All IsLimited (of_thread thread r.history.attempts)
+  limited_thread : (thread : ℕ) → thread < length (threads_of p) → All (IsLimited One) (of_thread thread r.history.attempts)
   limited_thread thread l =
       let code = there_is (threads_of p) thread l in
       let end = there_is r.ends.items thread (subst (λ (n : ℕ). thread < n) (sym ran.count) l) in
       let course : IsCourse p (commits_of r) (memory_at r.history) thread code.0 end.0 (of_thread thread r.history.attempts) = ran.threads thread code.0 end.0 code.1 end.1 in
       limited_each thread (p.limits.retries + 1) p.arena (let few = limits.threads in omega arith) (let few = limits.retries in omega arith) limits.arena
       (of_thread thread r.history.attempts) course.own
-      (own_run thread_rules HasArenaWidth script_widths p.arena (commits_of r) (memory_at r.history) (Some (first_of p.arena code.0)) (of_thread thread r.history.attempts) (length-replicate p.arena 0) course.run)
+      (own_run thread_rules HasArenaWidth script_widths MAX_OPEN_BLOCKS p.arena (commits_of r) (memory_at r.history) (Some (first_of p.arena code.0)) (of_thread thread r.history.attempts) (length-replicate p.arena 0) course.run) course.unbroken
 
   pub limited_report : AreLimited r.history
   limited_report = record {
-    memory = subst (λ (bytes : List ℕ). IsMemorySize (length bytes)) (sym ran.memory) limits.memory;
-    attempts = subst (All IsLimited) (sym ran.by_thread) (by_threads IsLimited 0 (length (threads_of p)) r.history.attempts (λ thread l. limited_thread thread (omega arith)));
+    memory = subst (λ (v : Version). IsMemorySize v (length r.history.memory)) (sym ran.version) (subst (λ (bytes : List ℕ). IsMemorySize One (length bytes)) (sym ran.memory) limits.memory);
+    attempts = subst (λ (v : Version). All (IsLimited v) r.history.attempts) (sym ran.version)
+        (subst (All (IsLimited One)) (sym ran.by_thread) (by_threads (IsLimited One) 0 (length (threads_of p)) r.history.attempts (λ thread l. limited_thread thread (omega arith))));
   }

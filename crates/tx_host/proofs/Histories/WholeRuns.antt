@@ -12,8 +12,12 @@ use Rattle.script_program.specs.declared.instruction.Instruction.{Instruction}
 use Rattle.script_program.specs.Listing.{Listing, opening_of, threads_of}
 use Rattle.script_vm.specs.Threads.{thread_rules}
 use Rattle.tx_attempts.specs.declared.attempt.Attempt.{Attempt}
-use Rattle.tx_attempts.specs.Attempts.{of_thread}
+use Rattle.itm_types.specs.declared.limits.TheConstants.{MAX_OPEN_BLOCKS}
+use Rattle.tx_attempts.specs.Attempts.{memory_after, of_thread}
 use Rattle.tx_attempts.specs.Counts.{count_at, count_committed, one_where}
+use Rattle.tx_history.specs.declared.history.Version.{Version}
+use Rattle.tx_history.specs.declared.history.Version.TheVariants.{One}
+use Rattle.tx_history.specs.Versions.{depth_of}
 use Rattle.tx_history.specs.Legal.{IsAlone, IsLegal, count_holding, memory_at}
 use Rattle.tx_history.proofs.Runs.AloneRuns.{IsPlaced}
 use Rattle.tx_runs.specs.declared.ending.End.{End}
@@ -30,7 +34,7 @@ use Rattle.tx_host.proofs.Histories.LegalRuns.{all_free, all_placed}
 use Rattle.tx_host.proofs.Histories.PositionTotals.{count_is}
 use Rattle.tx_host.proofs.Histories.ThreadAttempts.{all_left, all_own, all_stand, ends_count}
 
-module _ (p : Listing) (r : Report) (start now : View) (all : List Done) (opens : start ≡ opening start.base) (from : bytes_of start.base ≡ r.history.memory) (begun : r.history.memory ≡ opening_of p) (gathered : Gathers start p now all) (closed : EndsWith now r.history.clock r.history.bytes) (attempts : r.history.attempts ≡ attempts_in all) (ends_are : r.ends.items ≡ ends_in all) where
+module _ (p : Listing) (r : Report) (start now : View) (all : List Done) (opens : start ≡ opening start.base) (from : bytes_of start.base ≡ r.history.memory) (begun : r.history.memory ≡ opening_of p) (gathered : Gathers start p now all) (closed : EndsWith now r.history.clock r.history.bytes) (attempts : r.history.attempts ≡ attempts_in all) (ends_are : r.ends.items ≡ ends_in all) (version : r.history.version ≡ One) where
   abbrev rows : List Attempt
   rows = r.history.attempts
 
@@ -59,7 +63,7 @@ module _ (p : Listing) (r : Report) (start now : View) (all : List Done) (opens 
   left = subst (AreLeft now) (sym attempts) (all_left p now 0 all gathered.joins.workers)
 
   memory_same : (k : ℕ) → k ≤ n → memory_at r.history k ≡ bytes_at now k
-  memory_same = memory_is now r.history.memory rows (sym from ∙ sym (ap bytes_of gathered.joins.base)) left once
+  memory_same k few = ap (λ (x : Version). memory_after (depth_of x) r.history.memory rows k) version ∙ memory_is now r.history.memory rows (sym from ∙ sym (ap bytes_of gathered.joins.base)) left once k few
 
   bytes_are : r.history.bytes ≡ memory_at r.history (count_committed rows)
   bytes_are =
@@ -78,8 +82,8 @@ module _ (p : Listing) (r : Report) (start now : View) (all : List Done) (opens 
   stands_by : rows ≡ by_number 0 (length (threads_of p)) rows
   stands_by = subst (λ (q : List Attempt × ℕ). q.0 ≡ by_number 0 q.1 q.0) (λ i. (sym attempts i, gathered.count i)) (all_stand p now all gathered.joins.workers)
 
-  placed : All (IsPlaced thread_rules n (bytes_at now)) rows
-  placed = subst (All (IsPlaced thread_rules n (bytes_at now))) (sym attempts) (all_placed p now 0 all gathered.joins.workers)
+  placed : All (IsPlaced thread_rules MAX_OPEN_BLOCKS n (bytes_at now)) rows
+  placed = subst (All (IsPlaced thread_rules MAX_OPEN_BLOCKS n (bytes_at now))) (sym attempts) (all_placed p now 0 all gathered.joins.workers)
 
   clock_is : r.history.clock ≡ 2 * count_committed rows
   clock_is = closed.clock_is ∙ ap (λ (m : ℕ). 2 * m) (sym commits_are)
@@ -88,16 +92,18 @@ module _ (p : Listing) (r : Report) (start now : View) (all : List Done) (opens 
   legal = record {
     positions = counted;
     others = λ k d l. subst (λ (m : ℕ). (get_or rows k d).at ≤ m) (sym commits_are) (placed k d l).1;
-    alone = λ k d l. subst (λ (m : List ℕ). IsAlone m (get_or rows k d)) (sym (memory_same (get_or rows k d).at (placed k d l).1)) (placed k d l).0;
+    alone = λ k d l. subst (λ (x : Version). IsAlone (depth_of x) (memory_at r.history (get_or rows k d).at) (get_or rows k d)) (sym version)
+        (subst (λ (m : List ℕ). IsAlone MAX_OPEN_BLOCKS m (get_or rows k d)) (sym (memory_same (get_or rows k d).at (placed k d l).1)) (placed k d l).0);
     final = inl (record {
       clock = clock_is;
       bytes = bytes_are;
-      holding = ap (count_holding r.history) attempts ∙ all_free r.history now memory_same p 0 all gathered.joins.workers;
+      holding = ap (count_holding r.history) attempts ∙ all_free r.history now memory_same version p 0 all gathered.joins.workers;
     });
   }
 
   pub ran : Ran p r
   ran = record {
+    version = version;
     memory = begun;
     count = ap length ends_are ∙ (ends_count all ∙ gathered.count);
     threads = thread_course;

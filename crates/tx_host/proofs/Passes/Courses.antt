@@ -57,5 +57,6 @@ module _ (n n' : ℕ) (memory memory' : ℕ → List ℕ) (later : n ≤ n') (sa
     run = (run_still thread_rules n n' memory memory' later same (Some (first_of p.arena code)) xs c.run).0;
     since = c.since;
     own = c.own;
+    unbroken = c.unbroken;
     ends = ends_still (first_of p.arena code) end xs c.run c.ends;
   }

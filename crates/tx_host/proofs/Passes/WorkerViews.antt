@@ -112,6 +112,7 @@ module _ (words : Words) (base : List ℕ) (p : Listing) (n : ℕ) (w : WorksOn)
     run = subst (λ (b : Between Thread). IsRunOf thread_rules MAX_OPEN_BLOCKS (length left_view.seen) (bytes_at left_view) (Some b) r.attempts) first_is done.runs.run;
     since = subst (λ (k : ℕ). AreSince k r.attempts) known_is done.runs.since;
     own = subst (λ (q : ℕ × ℕ). AreOwn q.0 (q.1 + 1) r.attempts) (λ i. (is.number_is i, is.retries_are i)) done.runs.own;
+    unbroken = done.runs.unbroken;
     ends = subst (λ (b : Between Thread). EndsBy (bytes_at left_view) b r.end r.attempts) first_is (ends_by r.end done.ends);
   }
 

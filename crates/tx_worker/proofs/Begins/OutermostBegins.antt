@@ -184,6 +184,7 @@ module _ {P : Type 0} {rules : Rules P} (laws : Obeys rules) (c : Course P) (s :
         player = ap (rules.answered t.player) told;
       };
       began = omega (arith, running.has_run.known, (served.opens outside now).seen);
+      restarts = refl;
       ran = sym (ap (λ (a : Actions). a.ran) (begins_actions s v e before outside props room is r served now));
       each = λ m may. (tt, begins_over s v e before outside props room is r served now m may);
     }

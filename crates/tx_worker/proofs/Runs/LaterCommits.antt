@@ -12,6 +12,7 @@ use Rattle.tx_attempts.specs.Opacity.{Between, IsTryAt, after_try}
 use Rattle.tx_player.specs.Rules.{Rules}
 use Rattle.tx_runs.specs.Runs.{begins_at}
 use Rattle.tx_runs.proofs.RunLists.{run_more, run_still}
+use Rattle.tx_runs.proofs.Unbroken.{unbroken_more}
 use Rattle.tx_attempts.specs.declared.attempt.Outcome.TheVariants.{Unfinished}
 use Rattle.tx_worker.specs.Positions.{AreLeft, AreOver, AreOwn, AreSince, IsLeft, bytes_at, known_after, known_by, positions}
 use Rattle.tx_worker.specs.Progress.{Course, HasRun, now_at}
@@ -108,15 +109,15 @@ module _ {P : Type 0} (rules : Rules P) (c : Course P) where
       let more = seen_later v w went in
       let known = h.known in
       let still = run_still rules (length v.seen) (length w.seen) (bytes_at v) (bytes_at w) more (bytes_later v w went) (Some c.first) xs h.run in (
-        record { went = went_on c.view v w h.went went; run = still.0; left = all_left_in v w (later_of v w went) xs h.left; since = h.since; known = omega arith; own = h.own },
+        record { went = went_on c.view v w h.went went; run = still.0; left = all_left_in v w (later_of v w went) xs h.left; since = h.since; known = omega arith; own = h.own; unbroken = h.unbroken },
         still.1,
       )
 
   -- with one attempt more
   pub run_with : (v : View) (xs : List Attempt) (b : Between P) (a : Attempt) → HasRun rules c v xs → now_at rules c v xs ≡ Some b → IsTryAt rules MAX_OPEN_BLOCKS (length v.seen) (bytes_at v) b (begins_at rules b) a
-      → (is_committed a.outcome ≡ true → IsLeft v a) → a.began ≡ known_after c.known xs → known_by a ≤ length v.seen → a.thread ≡ c.number → a.nth ≤ c.retries + 1
+      → (is_committed a.outcome ≡ true → IsLeft v a) → a.began ≡ known_after c.known xs → known_by a ≤ length v.seen → a.thread ≡ c.number → a.nth ≤ c.retries + 1 → a.restarts ≡ []
       → HasRun rules c v (xs ++ a ∷ []) × (now_at rules c v (xs ++ a ∷ []) ≡ after_try rules MAX_OPEN_BLOCKS (bytes_at v) b (begins_at rules b) a)
-  run_with v xs b a h now try left began known thread nth =
+  run_with v xs b a h now try left began known thread nth none =
       let more = run_more rules (length v.seen) (bytes_at v) (Some c.first) xs b a h.run now try in (
         record {
           went = h.went;
@@ -125,6 +126,7 @@ module _ {P : Type 0} (rules : Rules P) (c : Course P) where
           since = since_more c.known xs a h.since began;
           known = (let k = known_more c.known xs a in omega arith);
           own = own_more c.number (c.retries + 1) xs a h.own thread nth;
+          unbroken = unbroken_more xs a h.unbroken none;
         },
         more.1,
       )

@@ -22,7 +22,9 @@ use Rattle.tx_attempts.specs.declared.attempt.Outcome.TheVariants as outcomes
 use Rattle.tx_player.specs.Depth.{depth_after}
 use Rattle.tx_player.specs.Rules.{Obeys, Rules}
 use Rattle.tx_runs.proofs.Players.{plays}
+use Rattle.tx_attempts.specs.Restarts.{breaks_of}
 use Rattle.tx_runs.proofs.Tries.{IsMadeAlone, alone_led, try_stops}
+use Rattle.tx_runs.proofs.Unbroken.{none_again}
 use Rattle.tx_runs.specs.Nesting.{IsDeep, IsNested}
 use Rattle.tx_runs.specs.Outcomes.{is_done}
 use Rattle.tx_runs.specs.Runs.{begins_at}
@@ -67,7 +69,7 @@ positions_same xs a e = positions_more xs a ∙ (ap (λ (b : Bool). positions xs
 module _ {P : Type 0} {rules : Rules P} (laws : Obeys rules) (c : Course P) (t : Tally P) (u v : View) (e : Core) (running : IsRunning rules c u e t) (inside : in_transaction e ≡ true) (went : Went u v) where
   -- what its calls led to
   abbrev pub led : List ℕ → State
-  led memory = state_then MAX_OPEN_BLOCKS (opened memory (running.inside inside).try.of_block.start.arena (running.inside inside).try.of_block.start.props) (running.inside inside).row.calls.list
+  led memory = state_then MAX_OPEN_BLOCKS (breaks_of (running.inside inside).row.restarts) (opened memory (running.inside inside).try.of_block.start.arena (running.inside inside).try.of_block.start.props) (running.inside inside).row.calls.list
 
   module _ (m : List ℕ) (read : MayRead u e m) where
     pub stood_led : stands_for e (stood e.irrevocable u m) ≡ led (bytes_of m)
@@ -77,6 +79,7 @@ module _ {P : Type 0} {rules : Rules P} (laws : Obeys rules) (c : Course P) (t :
     made_open = record {
       alone = ((running.inside inside).try.each m read).0;
       still_open = ap is_open (sym stood_led) ∙ stands_open e (stood e.irrevocable u m) inside;
+      again = none_again (running.inside inside).row (bytes_of m) (running.inside inside).try.restarts;
     }
 
     -- by its own fields
@@ -85,15 +88,15 @@ module _ {P : Type 0} {rules : Rules P} (laws : Obeys rules) (c : Course P) (t :
 
   -- the run with it
   pub run_ended : (a : Attempt) → IsTryAt rules MAX_OPEN_BLOCKS (length v.seen) (bytes_at v) (running.inside inside).between (Some (running.inside inside).try.of_block.start) a → (is_committed a.outcome ≡ true → IsLeft v a) → known_by a ≤ length v.seen
-      → a.began ≡ (running.inside inside).row.began → a.thread ≡ (running.inside inside).row.thread → a.nth ≡ (running.inside inside).row.nth
+      → a.began ≡ (running.inside inside).row.began → a.thread ≡ (running.inside inside).row.thread → a.nth ≡ (running.inside inside).row.nth → a.restarts ≡ (running.inside inside).row.restarts
       → HasRun rules c v (t.ended ++ a ∷ []) × (now_at rules c v (t.ended ++ a ∷ []) ≡ after_try rules MAX_OPEN_BLOCKS (bytes_at v) (running.inside inside).between (Some (running.inside inside).try.of_block.start) a)
-  run_ended a try left known began thread nth =
+  run_ended a try left known began thread nth restarts =
       let h = running.inside inside in
       let now = run_later rules c u v went t.ended running.has_run in
       let tries = running.tries in
       let same = h.nth in
       let here : IsTryAt rules MAX_OPEN_BLOCKS (length v.seen) (bytes_at v) h.between (begins_at rules h.between) a = subst (λ (o : _). IsTryAt rules MAX_OPEN_BLOCKS (length v.seen) (bytes_at v) h.between o a) (sym h.try.of_block.begins) try in
-      let more = run_with rules c v t.ended h.between a now.0 (now.1 ∙ h.now_is) here left (began ∙ h.began) known (thread ∙ h.thread) (omega arith) in
+      let more = run_with rules c v t.ended h.between a now.0 (now.1 ∙ h.now_is) here left (began ∙ h.began) known (thread ∙ h.thread) (omega arith) (restarts ∙ h.try.restarts) in
       (more.0, more.1 ∙ ap (λ (o : _). after_try rules MAX_OPEN_BLOCKS (bytes_at v) h.between o a) h.try.of_block.begins)
 
   -- ## Without a commit
@@ -113,7 +116,7 @@ module _ {P : Type 0} {rules : Rules P} (laws : Obeys rules) (c : Course P) (t :
         let stands = stood_led (memory_of v k) read in
         run_ended (ending_as outcome k ran h.row)
         (try_stops laws h.try.of_block (length v.seen) (bytes_at v) k outcome ran undone (made_open (memory_of v k) read) (subst (EndsAs outcome) stands ends) older newer (ran_is ∙ ap (ran_of outcome) stands) full)
-        (λ committed. absurd (true≢false (sym committed ∙ none))) (subst (λ (b : Bool). (if b then suc k else k) ≤ length v.seen) (sym none) newer) refl refl refl
+        (λ committed. absurd (true≢false (sym committed ∙ none))) (subst (λ (b : Bool). (if b then suc k else k) ≤ length v.seen) (sym none) newer) refl refl refl refl
 
     pub stop_mine : v.mine ≡ u.mine → v.mine ≡ c.view.mine ++ positions (t.ended ++ ending_as outcome k ran (running.inside inside).row ∷ [])
     stop_mine same = same ∙ (running.mine ∙ ap (λ (ps : List ℕ). c.view.mine ++ ps) (sym (positions_same t.ended (ending_as outcome k ran (running.inside inside).row) (not_committed outcome undone))))

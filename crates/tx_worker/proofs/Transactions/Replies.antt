@@ -63,6 +63,7 @@ module _ {P : Type 0} {rules : Rules P} (laws : Obeys rules) (c : Course P) (s :
             player = ap (λ (q : P). rules.answered q r) try.of_block.player ∙ sym (player_snoc rules.answered (rules.answered try.of_block.start.player (begin_code h.between.again)) h.row.calls.list (record { call = s.call; reply = r }));
           };
           began = (let up = grows.snapshot in let began = try.began in omega arith);
+          restarts = try.restarts;
           ran = refl;
           each = λ m read.
               (let told = told_before s v e before stands inside r served o m read in

@@ -41,6 +41,7 @@ module _ {P : Type 0} (rules : Rules P) (words : Words) (thread : Standing) (pla
       since = tt;
       known = (let reached = stands.settled.reached in let seen = stands.known in omega arith);
       own = tt;
+      unbroken = tt;
     }
 
     pub begins_works : IsWorking rules words (course_of thread player number retries) (bounds_of thread.engine) (record { number = number; retries = retries; player = player; thread = thread; ended = ended; current = None; nth = 1; again = false; known = known; calls = 0 })

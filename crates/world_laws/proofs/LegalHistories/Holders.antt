@@ -2,13 +2,13 @@
 use Rattle.std.proofs.Common.{inl, inr, ◌≡◌, ℕ, ◌+◌, ◌<◌, ◌≤◌, ◌==◌, Bool, true, false, true≢false, ◌&&◌, All, List, [], ◌∷◌, ◌++◌, None, Some, refl, sym, ap, ◌∙◌, arith, eqb-true}
 use Rattle.std.proofs.lemmas.Bool.{cases_Bool}
 use Rattle.std.proofs.lemmas.List.Elements.{All-nil, All-cons, All-head, All-tail}
-use Rattle.itm_types.specs.declared.limits.TheConstants.{MAX_OPEN_BLOCKS}
 use Rattle.tx_attempts.specs.declared.attempt.Attempt.{Attempt}
 use Rattle.tx_attempts.specs.declared.attempt.Outcome.{Outcome}
 use Rattle.tx_attempts.specs.declared.attempt.Outcome.TheVariants.{Committed, ReadOnly, Cancelled, Conflict, Full, NoMemory, Unfinished}
 use Rattle.tx_attempts.specs.Attempts.{alone}
 use Rattle.tx_attempts.specs.Counts.{one_where}
 use Rattle.tx_history.specs.declared.history.History.{History}
+use Rattle.tx_history.specs.Versions.{depth_of}
 use Rattle.tx_history.specs.Legal.{count_holding, is_holding, is_unfinished, memory_at}
 use Rattle.norec_world.specs.Rows.{AreEnded, AreFrom, AreUnfinished, active_of}
 use Rattle.norec_world.proofs.Attempts.ActiveRows.{past_all}
@@ -33,7 +33,7 @@ over Unfinished n = absurd (n refl)
 
 module _ (h : History) where
   over_free : (a : Attempt) → (a.outcome ≡ Unfinished → ⊥) → is_holding h a ≡ false
-  over_free a n = ap (λ (b : Bool). b && (alone MAX_OPEN_BLOCKS (memory_at h a.at) a).irrevocable) (over a.outcome n)
+  over_free a n = ap (λ (b : Bool). b && (alone (depth_of h.version) (memory_at h a.at) a).irrevocable) (over a.outcome n)
 
   pub ended_free : (xs : List Attempt) → AreEnded xs → count_holding h xs ≡ 0
   ended_free [] e = refl
@@ -45,10 +45,10 @@ module _ (h : History) where
 
   -- ## Open attempts, of which one thread's may hold it
 
-  pub irrevocable_of : (a : Attempt) → is_holding h a ≡ true → (alone MAX_OPEN_BLOCKS (memory_at h a.at) a).irrevocable ≡ true
+  pub irrevocable_of : (a : Attempt) → is_holding h a ≡ true → (alone (depth_of h.version) (memory_at h a.at) a).irrevocable ≡ true
   irrevocable_of a t = by_outcome (is_unfinished a.outcome) t
     where
-      by_outcome : (b : Bool) → (b && (alone MAX_OPEN_BLOCKS (memory_at h a.at) a).irrevocable) ≡ true → (alone MAX_OPEN_BLOCKS (memory_at h a.at) a).irrevocable ≡ true
+      by_outcome : (b : Bool) → (b && (alone (depth_of h.version) (memory_at h a.at) a).irrevocable) ≡ true → (alone (depth_of h.version) (memory_at h a.at) a).irrevocable ≡ true
       by_outcome true e = e
       by_outcome false e = absurd (cc)
 

@@ -2,6 +2,7 @@
 use Rattle.std.proofs.Common.{◌≡◌, inl, inr, get_or, ℕ, ◌/◌, ◌%◌, ◌<◌, ◌≤◌, true, true≢false, All, List, [], ◌∷◌, ◌++◌, length, Some, slice_get, nat_lt, sym, ap, subst, ◌∙◌, arith, append_assoc}
 use Rattle.std.proofs.lemmas.List.Elements.{All-append}
 use Rattle.std.proofs.lemmas.Option.{same_Some}
+use Rattle.itm_types.specs.declared.limits.TheConstants.{MAX_OPEN_BLOCKS}
 use Rattle.tx_attempts.specs.declared.attempt.Attempt.{Attempt}
 use Rattle.tx_attempts.specs.Attempts.{of_thread}
 use Rattle.tx_attempts.specs.Counts.{count_at, count_committed, one_where}
@@ -34,10 +35,10 @@ module _ {P : Type 0} (rules : Rules P) (w : World P) (commits : CommitsInOrder 
   at_position : (k : ℕ) → count_at k (attempts_of w) ≡ one_where (nat_lt k (count_committed (attempts_of w)))
   at_position k = opaque.counted.each k ∙ ap (λ (n : ℕ). one_where (nat_lt k n)) (sym half)
 
-  placed : All (IsPlaced rules (w.cells.clock / 2) (bytes_at w.base (attempts_of w))) (attempts_of w)
-  placed = of_threads (IsPlaced rules (w.cells.clock / 2) (bytes_at w.base (attempts_of w))) (length w.opening) (attempts_of w) opaque.threads (λ thread l.
+  placed : All (IsPlaced rules MAX_OPEN_BLOCKS (w.cells.clock / 2) (bytes_at w.base (attempts_of w))) (attempts_of w)
+  placed = of_threads (IsPlaced rules MAX_OPEN_BLOCKS (w.cells.clock / 2) (bytes_at w.base (attempts_of w))) (length w.opening) (attempts_of w) opaque.threads (λ thread l.
       (let p = there_is w.opening thread l in
-      of_run rules (w.cells.clock / 2) (bytes_at w.base (attempts_of w)) (Some (first_of p.0 w.arena)) (of_thread thread (attempts_of w)) (opaque.runs thread p.0 p.1)))
+      of_run rules MAX_OPEN_BLOCKS (w.cells.clock / 2) (bytes_at w.base (attempts_of w)) (Some (first_of p.0 w.arena)) (of_thread thread (attempts_of w)) (opaque.runs thread p.0 p.1)))
 
   -- an attempt that holds the clock in the history is that of an actor that does
   holder_of : (row : Attempt) → active_of row.thread w.attempts.active ≡ Some row → is_holding (told_of w) row ≡ true

@@ -1,10 +1,13 @@
 -- The history of a world is within the limits of a run.
-use Rattle.std.proofs.Common.{ℕ, ◌+◌, ◌/◌, ◌<◌, ◌≤◌, All, List, [], ◌∷◌, ◌++◌, length, get_or, Some, arith}
+use Rattle.std.proofs.Common.{◌≡◌, ℕ, ◌+◌, ◌/◌, ◌<◌, ◌≤◌, All, List, [], ◌∷◌, ◌++◌, length, get_or, Some, arith}
 use Rattle.std.proofs.lemmas.List.{length-replicate}
 use Rattle.std.proofs.lemmas.List.Elements.{All-nil, All-cons}
 use Rattle.tx_attempts.specs.declared.attempt.Attempt.{Attempt}
 use Rattle.tx_attempts.specs.Attempts.{of_thread}
+use Rattle.itm_types.specs.declared.limits.TheConstants.{MAX_OPEN_BLOCKS}
 use Rattle.tx_history.specs.Bounds.{AreLimited, HasArenaWidth, IsLimited}
+use Rattle.tx_history.specs.declared.history.Version.TheVariants.{One}
+use Rattle.tx_runs.specs.Unbroken.{AreUnbroken}
 use Rattle.tx_player.specs.Rules.{Rules}
 use Rattle.norec_world.specs.Dates.{AreDated}
 use Rattle.norec_world.specs.Headline.{AreOfActors, AreOpaque, bytes_at, first_of}
@@ -25,23 +28,29 @@ all_few : (retries : ℕ) (before xs : List Attempt) → AreDated retries before
 all_few retries before [] d = All-nil (λ (a : Attempt). a.nth ≤ retries + 1)
 all_few retries before (x ∷ xs) d = All-cons (λ (a : Attempt). a.nth ≤ retries + 1) x xs d.0.few (all_few retries (before ++ x ∷ []) xs d.1)
 
+-- no inner block of any ran again
+each_unbroken : (xs : List Attempt) → AreUnbroken xs → All (λ (a : Attempt). a.restarts ≡ []) xs
+each_unbroken [] none = All-nil (λ (a : Attempt). a.restarts ≡ [])
+each_unbroken (x ∷ xs) none = All-cons (λ (a : Attempt). a.restarts ≡ []) x xs none.0 (each_unbroken xs none.1)
+
 module _ {P : Type 0} (rules : Rules P) (widths : HasArenaWidths rules) (w : World P) (opaque : AreOpaque rules (observed w)) where
   all_own : All (IsOwn HasArenaWidth w.arena) (attempts_of w)
   all_own = of_threads (IsOwn HasArenaWidth w.arena) (length w.opening) (attempts_of w) opaque.threads (λ thread l.
       (let p = there_is w.opening thread l in
-      own_run rules HasArenaWidth widths w.arena (w.cells.clock / 2) (bytes_at w.base (attempts_of w)) (Some (first_of p.0 w.arena)) (of_thread thread (attempts_of w))
+      own_run rules HasArenaWidth widths MAX_OPEN_BLOCKS w.arena (w.cells.clock / 2) (bytes_at w.base (attempts_of w)) (Some (first_of p.0 w.arena)) (of_thread thread (attempts_of w))
       (length-replicate w.arena 0) (opaque.runs thread p.0 p.1)))
 
-  limited_by : IsLimitedWorld w → (a : Attempt) → IsOwn HasArenaWidth w.arena a → a.thread < length w.opening → a.nth ≤ w.retries + 1 → IsLimited a
-  limited_by h a own of few = record {
+  limited_by : IsLimitedWorld w → (a : Attempt) → IsOwn HasArenaWidth w.arena a → a.thread < length w.opening → a.nth ≤ w.retries + 1 → a.restarts ≡ [] → IsLimited One a
+  limited_by h a own of few none = record {
     thread = (let most = h.actors in omega arith);
     nth = (own.nth, (let most = h.retries in omega arith));
     arena = (let most = h.arena in let same = own.arena in omega arith);
     widths = own.calls;
+    restarts = none;
   }
 
   pub limited_world : IsLimitedWorld w → AreLimited (told_of w)
   limited_world h = record {
     memory = h.memory;
-    attempts = λ k d l. limited_by h (get_or (attempts_of w) k d) (all_own k d l) (all_of_actors (length w.opening) (attempts_of w) opaque.threads k d l) (all_few w.retries [] (attempts_of w) opaque.dated k d l);
+    attempts = λ k d l. limited_by h (get_or (attempts_of w) k d) (all_own k d l) (all_of_actors (length w.opening) (attempts_of w) opaque.threads k d l) (all_few w.retries [] (attempts_of w) opaque.dated k d l) (each_unbroken (attempts_of w) opaque.unbroken k d l);
   }

@@ -77,6 +77,7 @@ pending_same false clock a b (requests.Begin props room) thread p = λ i. Some (
   props = props;
   arena = (p.engine i).arena;
   calls = record { list = []; room = unwrap_or (irrevocable_room (p.engine i) (requests.Begin props room)) 0 };
+  restarts = [];
   ran = [];
   outcome = outcomes.Unfinished;
 })

@@ -4,7 +4,7 @@ use Rattle.norec_world.proofs.Common.{Begin, Beginning, Call, CallRecord, IsAlon
 use Rattle.tx_runs.specs.declared.ending.End.TheVariants.{Finished, GaveUp}
 use Rattle.world_laws.specs.Solo.{Progress, Solo, ended_as, one_if, row_of, solo_within, stopped, with_first}
 use Rattle.itm_types.specs.declared.call.Reply.{Reply}
-use Rattle.itm_model.specs.Runs.{state_after}
+use Rattle.itm_model.specs.Runs.{state_after, unbroken}
 use Rattle.tx_attempts.specs.declared.attempt.Outcome.TheVariants.{Full}
 use Rattle.itm_types.specs.Calls.{is_abort}
 use Rattle.world_laws.specs.Solo.{entry_of, player_after, passed, before_taking, block_then, limited_then, within_limit, left_open, begun_then, aborts}
@@ -12,7 +12,7 @@ use Rattle.tx_attempts.proofs.AloneCalls.{asked}
 use Rattle.world_laws.proofs.Solos.TakingCalls.{goes_opened, marked_opened, marked_then, next_takes, none_takes}
 use Rattle.std.proofs.lemmas.Bool.{and_from, and_left, and_right, or_from}
 
-pub state_pairs : (deepest : ℕ) (s : State) (xs : List CallRecord) → state_after deepest s (map (λ (c : Call × Reply). c.0) (map pair_of xs)) ≡ state_then deepest s xs
+pub state_pairs : (deepest : ℕ) (s : State) (xs : List CallRecord) → state_after deepest s (map (λ (c : Call × Reply). c.0) (map pair_of xs)) ≡ state_then deepest unbroken s xs
 state_pairs deepest s [] = refl
 state_pairs deepest s (x ∷ xs) = state_pairs deepest (after deepest s x.call) xs
 
@@ -142,7 +142,7 @@ module _ {P : Type 0} (rules : Rules P) (laws : Obeys rules) (deepest : ℕ) whe
     begun start = rules.answered start.player (begin_code false)
 
     abbrev pub state_of : Progress P → Beginning P → List CallRecord → State
-    state_of b start xs = state_then deepest (opened b.memory start.arena start.props) xs
+    state_of b start xs = state_then deepest unbroken (opened b.memory start.arena start.props) xs
 
     -- the block that begins here
     module _ (b : Progress P) (start : Beginning P) (comes_to : begin_of rules deepest b.player b.arena ≡ Some start) where
@@ -178,7 +178,7 @@ module _ {P : Type 0} (rules : Rules P) (laws : Obeys rules) (deepest : ℕ) whe
 
       -- the player makes these alone, and then one that takes the clock, as many writers having committed as may
       pub full_block : (ys : List CallRecord) (c : Call) (r : Reply) (rest : List (Call × Reply))
-          → answers rules.next_call rules.answered rules.calls_left deepest (begun start) b.memory start.arena start.props ≡ map pair_of ys ++ (c, r) ∷ rest → IsAlone rules deepest (begun start) first_state ys
+          → answers rules.next_call rules.answered rules.calls_left deepest (begun start) b.memory start.arena start.props ≡ map pair_of ys ++ (c, r) ∷ rest → IsAlone rules deepest unbroken (begun start) first_state ys
           → is_open (state_of b start ys) ≡ true → (state_of b start ys).irrevocable ≡ false → takes_clock (after deepest (state_of b start ys) c) ≡ true → nat_le max_commits b.commits ≡ true
           → goes (rules.calls_left b.player) b ≡ with_first (row_of deepest thread b start (record { list = ys; room = 0 }) Full) (stopped rules deepest max_commits thread b GaveUp)
       full_block ys c r rest all made opens revocable takes full =
@@ -189,7 +189,7 @@ module _ {P : Type 0} (rules : Rules P) (laws : Obeys rules) (deepest : ℕ) whe
 
       -- these are all that the player makes
       module _ (xs : List CallRecord) (all : answers rules.next_call rules.answered rules.calls_left deepest (begun start) b.memory start.arena start.props ≡ map pair_of xs)
-          (made : IsAlone rules deepest (begun start) (opened b.memory start.arena start.props) xs) where
+          (made : IsAlone rules deepest unbroken (begun start) (opened b.memory start.arena start.props) xs) where
         abbrev last_state : State
         last_state = state_of b start xs
 

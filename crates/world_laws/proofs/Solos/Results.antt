@@ -2,20 +2,22 @@
 use Rattle.std.proofs.Common.{◌≡◌, ◌⊎◌, inl, inr, ℕ, zero, suc, ◌+◌, ◌/◌, ◌%◌, ◌≤◌, Bool, true, false, ◌&&◌, ◌==◌, nat_le, if◌then◌else◌, List, [], ◌∷◌, ◌++◌, length, map, replicate, Option, None, Some, slice_get, refl, sym, ap, subst, ◌∙◌, arith, append-nil, le-leb}
 use Rattle.std.proofs.lemmas.List.{map-append}
 use Rattle.std.proofs.lemmas.Bool.{and_left, and_right, lt-leb}
-use Rattle.norec_world.proofs.Common.{AreOfActors, AreOpaque, AreTied, AreUnfinished, Attempt, Between, Call, EndsAs, IsAlone, IsBeforeTry, IsRunOf, MAX_OPEN_BLOCKS, Obeys, Outcome, Row, Rules, StandsIn, State, Step, World, active_of, after, alone, answers, answers_within, attempts_of, begin_code, begin_of, begin_within, both_ways, bytes_at, committed_at, cond-false, cond-true, current_of, ending_at, ending_of, observed, first_of, in_transaction, is_open, of_thread, opened, option_and_then, pair_of, player_then, reply, run_after, same_Some, stands_for, state_then, takes_clock, CommitsInOrder, HasRow, is_committed}
+use Rattle.norec_world.proofs.Common.{AreOfActors, AreOpaque, AreTied, AreUnfinished, Attempt, Between, Call, EndsAs, IsAlone, IsBeforeTry, IsRunOf, MAX_OPEN_BLOCKS, Obeys, Outcome, Row, Rules, StandsIn, State, Step, World, active_of, after, alone, answers, attempts_of, begin_code, begin_of, begin_within, both_ways, bytes_at, committed_at, cond-false, cond-true, current_of, ending_at, ending_of, observed, first_of, in_transaction, is_open, of_thread, opened, option_and_then, pair_of, player_then, reply, run_after, same_Some, stands_for, state_then, takes_clock, CommitsInOrder, HasRow, is_committed}
+use Rattle.itm_model.specs.Runs.{gets_through, unbroken}
 use Rattle.norec_world.specs.declared.actor.Actor.{Actor}
 use Rattle.tx_runs.specs.declared.ending.End.{End}
 use Rattle.tx_runs.specs.declared.ending.End.TheVariants.{Finished, GaveUp, NoMemory}
 use Rattle.world_laws.specs.Sole.{AreSole, EndsWith, IsFirstTry, IsOnWay, IsSole, StandsSole}
 use Rattle.world_laws.specs.Solo.{one_if, row_of, solo_within, stopped, with_all, with_first, without_room}
 use Rattle.world_laws.specs.ShownAlone.{ShowsAlone}
+use Rattle.tx_runs.specs.Unbroken.{AreUnbroken}
 use Rattle.norec_world.proofs.Runs.Begins.{led_before}
 use Rattle.itm_types.specs.declared.call.Reply.{Reply}
 use Rattle.tx_attempts.specs.declared.attempt.Outcome.TheVariants as outcomes
 use Rattle.world_laws.specs.SoFar.{IsBegun, IsSoFar, IsAll}
 use Rattle.world_laws.specs.ShownAlone.{DoneBy}
 use Rattle.norec_world.specs.World.{memory_of}
-use Rattle.tx_attempts.proofs.AloneCalls.{begins_alone, gets_none}
+use Rattle.tx_attempts.proofs.AloneCalls.{begins_alone, breaks_after, gets_none}
 use Rattle.world_laws.proofs.Solos.Players.{full_block, kept_out, open_block, no_block}
 use Rattle.norec_world.proofs.Commits.Memories.{bytes_still}
 use Rattle.tx_runs.proofs.RunLists.{run_still}
@@ -101,7 +103,7 @@ module _ {P : Type 0} (rules : Rules P) (laws : Obeys rules) (w : World P) (comm
       arrives rules laws w.max_commits w.base (attempts_of w) (w.cells.clock / 2) (record { player = p; arena = replicate w.arena 0; memory = w.base; commits = 0 }) sole.past tail (w.cells.clock / 2) refl
       (λ j l. ap (λ (xs : List Attempt). committed_at xs j) is)
       (subst (IsRunOf rules MAX_OPEN_BLOCKS (w.cells.clock / 2) (bytes_at w.base (attempts_of w)) (Some (first_of p w.arena))) (of_thread_all (attempts_of w) all_mine ∙ is) (opaque.runs 0 p player_here))
-      sole.commit (let few = commits.few in omega arith)
+      sole.commit (let few = commits.few in omega arith) (subst AreUnbroken is opaque.unbroken)
 
   so_far : (tail : List Attempt) (x : Arrived tail) (outcome : Outcome) → (attempts_of w ≡ sole.past) ⊎ IsBegun rules w.max_commits 0 x.before sole.past outcome (attempts_of w) → So (w.cells.clock / 2) x.before.memory outcome
   so_far tail x outcome rows = record { before = x.before; past = sole.past; whole = x.whole; commits_are = sym x.commits; memory_is = refl; left = x.memory ∙ ap (bytes_at w.base (attempts_of w)) x.commits; rows_are = rows }
@@ -149,7 +151,7 @@ module _ {P : Type 0} (rules : Rules P) (laws : Obeys rules) (w : World P) (comm
 
   module _ (row : Attempt) (is : attempts_of w ≡ sole.past ++ row ∷ []) (first : IsFirstTry (w.cells.clock / 2) row) (x : Arrived (row ∷ [])) where
     y : IsNext rules laws w.max_commits w.base (attempts_of w) (w.cells.clock / 2) x.before row
-    y = is_next rules laws w.max_commits w.base (attempts_of w) (w.cells.clock / 2) x.before row [] x.run
+    y = is_next rules laws w.max_commits w.base (attempts_of w) (w.cells.clock / 2) x.before row [] x.run x.restarts.0
 
     first_here : IsFirstTry x.before.commits row
     first_here = subst (λ (n : ℕ). IsFirstTry n row) (sym x.commits) first
@@ -163,10 +165,10 @@ module _ {P : Type 0} (rules : Rules P) (laws : Obeys rules) (w : World P) (comm
     abbrev from : State
     from = opened x.before.memory y.start.arena y.start.props
 
-    alone_here : IsAlone rules MAX_OPEN_BLOCKS begun from row.calls.list
+    alone_here : IsAlone rules MAX_OPEN_BLOCKS unbroken begun from row.calls.list
     alone_here = made_alone rules laws w.max_commits w.base (attempts_of w) (w.cells.clock / 2) x.before row y x.memory first_here at_here
 
-    state_here : alone MAX_OPEN_BLOCKS (bytes_at w.base (attempts_of w) row.at) row ≡ state_then MAX_OPEN_BLOCKS from row.calls.list
+    state_here : alone MAX_OPEN_BLOCKS (bytes_at w.base (attempts_of w) row.at) row ≡ state_then MAX_OPEN_BLOCKS unbroken from row.calls.list
     state_here = same_state rules laws w.max_commits w.base (attempts_of w) (w.cells.clock / 2) x.before row y x.memory first_here at_here
 
     row_here : (outcome : Outcome) → outcome ≡ row.outcome → row_of MAX_OPEN_BLOCKS 0 x.before y.start row.calls outcome ≡ row
@@ -179,15 +181,15 @@ module _ {P : Type 0} (rules : Rules P) (laws : Obeys rules) (w : World P) (comm
     begun_so outcome o spent = record { start = y.start; calls = row.calls; rows_are = is ∙ ap (λ (r : Attempt). sole.past ++ r ∷ []) (sym (row_here outcome (sym o))); begins = y.comes; alone = alone_here; spent = spent }
 
     -- its player makes no more calls
-    rests_open : row.outcome ≡ outcomes.Unfinished → rules.next_call (player_then rules.answered begun row.calls.list) ≡ None → ((state_then MAX_OPEN_BLOCKS from row.calls.list).irrevocable && nat_le w.max_commits x.before.commits) ≡ false
-        → memory_of w ≡ (if (state_then MAX_OPEN_BLOCKS from row.calls.list).irrevocable then (state_then MAX_OPEN_BLOCKS from row.calls.list).memory else x.before.memory) → (w.cells.clock % 2 == 1) ≡ (state_then MAX_OPEN_BLOCKS from row.calls.list).irrevocable → All Finished
+    rests_open : row.outcome ≡ outcomes.Unfinished → rules.next_call (player_then rules.answered begun row.calls.list) ≡ None → ((state_then MAX_OPEN_BLOCKS unbroken from row.calls.list).irrevocable && nat_le w.max_commits x.before.commits) ≡ false
+        → memory_of w ≡ (if (state_then MAX_OPEN_BLOCKS unbroken from row.calls.list).irrevocable then (state_then MAX_OPEN_BLOCKS unbroken from row.calls.list).memory else x.before.memory) → (w.cells.clock % 2 == 1) ≡ (state_then MAX_OPEN_BLOCKS unbroken from row.calls.list).irrevocable → All Finished
     rests_open o none free left odd =
-        let t : State = state_then MAX_OPEN_BLOCKS from row.calls.list in
+        let t : State = state_then MAX_OPEN_BLOCKS unbroken from row.calls.list in
         let q : P = player_then rules.answered begun row.calls.list in
         let gets : answers rules.next_call rules.answered rules.calls_left MAX_OPEN_BLOCKS begun x.before.memory y.start.arena y.start.props ≡ map pair_of row.calls.list =
-        begins_alone rules laws MAX_OPEN_BLOCKS (rules.calls_left begun) begun from row.calls.list (let l : rules.calls_left begun ≤ rules.calls_left begun = omega arith in l) alone_here
-        ∙ (ap (λ (k : Option Call). map pair_of row.calls.list ++ answers_within rules.next_call rules.answered rules.calls_left MAX_OPEN_BLOCKS (rules.calls_left begun) q t k) (no_turn (is_open t) (rules.next_call q) none)
-        ∙ (ap (λ (l : List (Call × Reply)). map pair_of row.calls.list ++ l) (gets_none rules laws MAX_OPEN_BLOCKS (rules.calls_left begun) q t) ∙ append-nil (map pair_of row.calls.list))) in
+        begins_alone rules laws MAX_OPEN_BLOCKS (rules.calls_left begun) unbroken begun from row.calls.list (let l : rules.calls_left begun ≤ rules.calls_left begun = omega arith in l) alone_here
+        ∙ (ap (λ (k : Option Call). map pair_of row.calls.list ++ gets_through rules.next_call rules.answered rules.calls_left MAX_OPEN_BLOCKS (rules.calls_left begun) (breaks_after unbroken row.calls.list) q t k) (no_turn (is_open t) (rules.next_call q) none)
+        ∙ (ap (λ (l : List (Call × Reply)). map pair_of row.calls.list ++ l) (gets_none rules laws MAX_OPEN_BLOCKS (rules.calls_left begun) (breaks_after unbroken row.calls.list) q t) ∙ append-nil (map pair_of row.calls.list))) in
         let open_then : is_open t ≡ true = ap is_open (sym state_here) ∙ subst (λ (k : Outcome). EndsAs k (alone MAX_OPEN_BLOCKS (bytes_at w.base (attempts_of w) row.at) row)) o y.opaque.ends in
         stops (row ∷ []) x Finished (if t.irrevocable then t.memory else x.before.memory) t.irrevocable
         (open_block rules laws MAX_OPEN_BLOCKS w.max_commits 0 x.before y.start y.comes row.calls.list gets alone_here open_then free
@@ -222,11 +224,11 @@ module _ {P : Type 0} (rules : Rules P) (laws : Obeys rules) (w : World P) (comm
       read_at = tied.reads 0 a row here placed
 
       -- it is not irrevocable where its engine is not
-      revocable_here : a.engine.irrevocable ≡ false → (state_then MAX_OPEN_BLOCKS from row.calls.list).irrevocable ≡ false
+      revocable_here : a.engine.irrevocable ≡ false → (state_then MAX_OPEN_BLOCKS unbroken from row.calls.list).irrevocable ≡ false
       revocable_here e = ap (λ (s : State). s.irrevocable) (sym state_here) ∙ (tied.modes 0 a row here placed ∙ e)
 
       -- and where it is, it is what the words hold
-      held_here : IsIdle a.engine → a.engine.irrevocable ≡ true → stands_for a.engine w.cells.words ≡ state_then MAX_OPEN_BLOCKS from row.calls.list
+      held_here : IsIdle a.engine → a.engine.irrevocable ≡ true → stands_for a.engine w.cells.words ≡ state_then MAX_OPEN_BLOCKS unbroken from row.calls.list
       held_here idle e =
           let n : w.cells.clock / 2 ≡ row.at = sym (at_here ∙ x.commits) in
           subst (λ (o : Option Step). StandsIn o a.engine.doing a.engine w.cells.words (alone MAX_OPEN_BLOCKS (bytes_at w.base (attempts_of w) (w.cells.clock / 2)) row)) idle.0 (tied.stored 0 a row here placed e)
@@ -241,14 +243,14 @@ module _ {P : Type 0} (rules : Rules P) (laws : Obeys rules) (w : World P) (comm
         where
           by_mode : (b : Bool) → a.engine.irrevocable ≡ b → All Finished
           by_mode true e =
-              let t : State = state_then MAX_OPEN_BLOCKS from row.calls.list in
+              let t : State = state_then MAX_OPEN_BLOCKS unbroken from row.calls.list in
               let stands = held_here idle e in
               let odd = odd_where e in
               let mode : t.irrevocable ≡ true = ap (λ (s : State). s.irrevocable) (sym stands) ∙ (mode_in a.engine.irrevocable a.engine.writes a.engine.blocks a.engine.arena a.engine.actions w.cells.words ∙ e) in
               let left : memory_of w ≡ t.memory = sym (ap (λ (b : Bool). (state_in b a.engine.writes a.engine.blocks a.engine.arena a.engine.actions w.cells.words).memory) e) ∙ ap (λ (s : State). s.memory) stands in
               rests_open o none (and_right t.irrevocable (nat_le w.max_commits x.before.commits) (few_here e)) (left ∙ sym (cond-true t.irrevocable t.memory x.before.memory mode)) (ap (λ (n : ℕ). n == 1) odd ∙ sym mode)
           by_mode false e =
-              let t : State = state_then MAX_OPEN_BLOCKS from row.calls.list in
+              let t : State = state_then MAX_OPEN_BLOCKS unbroken from row.calls.list in
               let even = even_free w commits one a here (idle.1 ∙ e) in
               let mode = revocable_here e in
               rests_open o none (and_left t.irrevocable (nat_le w.max_commits x.before.commits) mode) (left_by (row ∷ []) x even ∙ sym (cond-false t.irrevocable t.memory x.before.memory mode)) (ap (λ (n : ℕ). n == 1) even ∙ sym mode)

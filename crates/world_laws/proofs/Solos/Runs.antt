@@ -5,6 +5,10 @@ use Rattle.std.proofs.Math.Nat.{add-zero}
 use Rattle.std.proofs.lemmas.Bool.{or_parts}
 use Rattle.std.proofs.lemmas.List.{append-nil, take-append-drop}
 use Rattle.norec_world.proofs.Common.{Attempt, Begin, Beginning, Between, Block, Call, ClosedBy, Commit, EndsAs, CallRecord, IsAlone, IsOpaque, IsRunOf, MAX_OPEN_BLOCKS, Obeys, Outcome, Refusal, Rules, State, Write, after, after_try, after_unless, alone, answered_all, answers, answers_within, begin_code, begin_of, bytes_at, committed_at, false_from_ne_true, follows, is_at, is_committed, is_done, is_open, memory_left, opened, outside, pair_of, player_then, Props, refusal, reply, run_after, state_then, turn}
+use Rattle.itm_model.specs.Runs.{answers_through, unbroken}
+use Rattle.tx_attempts.specs.Opacity.{answers_on}
+use Rattle.tx_attempts.specs.Restarts.{breaks_of}
+use Rattle.tx_runs.specs.Unbroken.{AreUnbroken}
 use Rattle.world_laws.specs.Sole.{AreSole, IsFirstTry}
 use Rattle.world_laws.specs.Solo.{Progress, Solo, ended_as, one_if, row_of, solo_within, with_all, with_first}
 use Rattle.itm_types.specs.declared.call.Reply.{Reply}
@@ -37,7 +41,7 @@ with_slice-nil m place = (λ i. append-nil (take place m) i ++ drop (add-zero pl
 module _ {P : Type 0} (rules : Rules P) (deepest : ℕ) where
   -- a beginning of what a player gets was made alone
   pub alone_of : (n : ℕ) (p : P) (s : State) (o : Option Call) (xs : List CallRecord) (rest : List (Call × Reply)) → turn rules.next_call rules.answered rules.calls_left p s ≡ o → map pair_of xs ++ rest ≡ answers_within rules.next_call rules.answered rules.calls_left deepest n p s o
-      → IsAlone rules deepest p s xs
+      → IsAlone rules deepest unbroken p s xs
   alone_of n p s o [] rest t e = tt
   alone_of (suc n) p s (Some c) (x ∷ xs) rest t e =
       let q : P = rules.answered p (reply deepest s c) in
@@ -46,8 +50,8 @@ module _ {P : Type 0} (rules : Rules P) (deepest : ℕ) where
       let replied : x.reply ≡ reply deepest s c = ap (λ (y : Call × Reply). y.1) parts.0 in (
         t ∙ ap Some (sym call),
         replied ∙ ap (reply deepest s) (sym call),
-        subst (λ (r : Reply). IsAlone rules deepest (rules.answered p r) (after deepest s x.call) xs) (sym replied)
-            (subst (λ (k : Call). IsAlone rules deepest q (after deepest s k) xs) (sym call) (alone_of n q (after deepest s c) (turn rules.next_call rules.answered rules.calls_left q (after deepest s c)) xs rest refl parts.1)),
+        subst (λ (r : Reply). IsAlone rules deepest unbroken (rules.answered p r) (after deepest s x.call) xs) (sym replied)
+            (subst (λ (k : Call). IsAlone rules deepest unbroken q (after deepest s k) xs) (sym call) (alone_of n q (after deepest s c) (turn rules.next_call rules.answered rules.calls_left q (after deepest s c)) xs rest refl parts.1)),
       )
   alone_of n p s o (x ∷ xs) rest t e = absurd (cc)
 
@@ -164,7 +168,7 @@ module _ {P : Type 0} (rules : Rules P) (deepest : ℕ) where
     unwritten_call s c None o h = unwritten_effect s c o h
     unwritten_call s c (Some r) o h = h
 
-    pub unwritten : (p : P) (s : State) (xs : List CallRecord) → IsAlone rules deepest p s xs → IsUnwritten s → IsUnwritten (state_then deepest s xs)
+    pub unwritten : (p : P) (s : State) (xs : List CallRecord) → IsAlone rules deepest unbroken p s xs → IsUnwritten s → IsUnwritten (state_then deepest unbroken s xs)
     unwritten p s [] a h = h
     unwritten p s (x ∷ xs) a h = unwritten (rules.answered p x.reply) (after deepest s x.call) xs a.2 (unwritten_call s x.call (refusal deepest s x.call) (in_open (is_open s) (rules.next_call p) x.call a.0) h)
 
@@ -194,13 +198,14 @@ module _ {P : Type 0} (rules : Rules P) (laws : Obeys rules) (max_commits : ℕ)
     pub arena : a.arena ≡ start.arena
     pub props : a.props ≡ start.props
     pub opaque : IsOpaque rules MAX_OPEN_BLOCKS (rules.answered start.player (begin_code false)) a total (bytes_at base all a.at)
+    pub restarts : a.restarts ≡ []
     pub leads : after_try rules MAX_OPEN_BLOCKS (bytes_at base all) (between b) (begin_of rules MAX_OPEN_BLOCKS b.player b.arena) a
         ≡ follows rules MAX_OPEN_BLOCKS a.outcome (rules.answered start.player (begin_code false)) a (alone MAX_OPEN_BLOCKS (bytes_at base all a.at) a)
 
-  pub is_next : (b : Progress P) (a : Attempt) (rest : List Attempt) → IsRunOf rules MAX_OPEN_BLOCKS total (bytes_at base all) (Some (between b)) (a ∷ rest) → IsNext b a
-  is_next b a rest r =
+  pub is_next : (b : Progress P) (a : Attempt) (rest : List Attempt) → IsRunOf rules MAX_OPEN_BLOCKS total (bytes_at base all) (Some (between b)) (a ∷ rest) → a.restarts ≡ [] → IsNext b a
+  is_next b a rest r none =
       let t = try_begun rules total (bytes_at base all) (between b) a (begin_of rules MAX_OPEN_BLOCKS b.player b.arena) r.0 in
-      record { start = t.0; comes = t.1; arena = t.2.0; props = t.2.1; opaque = t.2.3; leads = ap (λ (o : Option (Beginning P)). after_try rules MAX_OPEN_BLOCKS (bytes_at base all) (between b) o a) t.1 }
+      record { start = t.0; comes = t.1; arena = t.2.0; props = t.2.1; opaque = t.2.3; restarts = none; leads = ap (λ (o : Option (Beginning P)). after_try rules MAX_OPEN_BLOCKS (bytes_at base all) (between b) o a) t.1 }
 
   -- such an attempt, which reads where all before it had committed
   module _ (b : Progress P) (a : Attempt) (x : IsNext b a) (now : b.memory ≡ bytes_at base all b.commits) (first : IsFirstTry b.commits a) (at : a.at ≡ b.commits) where
@@ -210,11 +215,11 @@ module _ {P : Type 0} (rules : Rules P) (laws : Obeys rules) (max_commits : ℕ)
     bytes : bytes_at base all a.at ≡ b.memory
     bytes = ap (bytes_at base all) at ∙ sym now
 
-    pub same_state : alone MAX_OPEN_BLOCKS (bytes_at base all a.at) a ≡ state_then MAX_OPEN_BLOCKS (opened b.memory x.start.arena x.start.props) a.calls.list
-    same_state = λ i. state_then MAX_OPEN_BLOCKS (opened (bytes i) (x.arena i) (x.props i)) a.calls.list
+    pub same_state : alone MAX_OPEN_BLOCKS (bytes_at base all a.at) a ≡ state_then MAX_OPEN_BLOCKS unbroken (opened b.memory x.start.arena x.start.props) a.calls.list
+    same_state = λ i. state_then MAX_OPEN_BLOCKS (breaks_of (x.restarts i)) (opened (bytes i) (x.arena i) (x.props i)) a.calls.list
 
-    pub same_answers : answers rules.next_call rules.answered rules.calls_left MAX_OPEN_BLOCKS (rules.answered x.start.player (begin_code false)) (bytes_at base all a.at) a.arena a.props ≡ answers rules.next_call rules.answered rules.calls_left MAX_OPEN_BLOCKS (rules.answered x.start.player (begin_code false)) b.memory x.start.arena x.start.props
-    same_answers = λ i. answers rules.next_call rules.answered rules.calls_left MAX_OPEN_BLOCKS begun (bytes i) (x.arena i) (x.props i)
+    pub same_answers : answers_on rules MAX_OPEN_BLOCKS (rules.answered x.start.player (begin_code false)) a (bytes_at base all a.at) ≡ answers rules.next_call rules.answered rules.calls_left MAX_OPEN_BLOCKS (rules.answered x.start.player (begin_code false)) b.memory x.start.arena x.start.props
+    same_answers = λ i. answers_through rules.next_call rules.answered rules.calls_left MAX_OPEN_BLOCKS (breaks_of (x.restarts i)) begun (bytes i) (x.arena i) (x.props i)
 
     pub same_row : (outcome : Outcome) (room : ℕ) → outcome ≡ a.outcome → room ≡ a.calls.room → row_of MAX_OPEN_BLOCKS 0 b x.start (record { list = a.calls.list; room = room }) outcome ≡ a
     same_row outcome room o z = λ i. record {
@@ -225,11 +230,12 @@ module _ {P : Type 0} (rules : Rules P) (laws : Obeys rules) (max_commits : ℕ)
       props = sym x.props i;
       arena = sym x.arena i;
       calls = record { list = a.calls.list; room = z i };
-      ran = (ap (λ (k : Outcome). ran_of k (state_then MAX_OPEN_BLOCKS (opened b.memory x.start.arena x.start.props) a.calls.list)) o ∙ (ap (ran_of a.outcome) (sym same_state) ∙ sym x.opaque.ran)) i;
+      restarts = sym x.restarts i;
+      ran = (ap (λ (k : Outcome). ran_of k (state_then MAX_OPEN_BLOCKS unbroken (opened b.memory x.start.arena x.start.props) a.calls.list)) o ∙ (ap (ran_of a.outcome) (sym same_state) ∙ sym x.opaque.ran)) i;
       outcome = o i;
     }
 
-    pub made_alone : IsAlone rules MAX_OPEN_BLOCKS (rules.answered x.start.player (begin_code false)) (opened b.memory x.start.arena x.start.props) a.calls.list
+    pub made_alone : IsAlone rules MAX_OPEN_BLOCKS unbroken (rules.answered x.start.player (begin_code false)) (opened b.memory x.start.arena x.start.props) a.calls.list
     made_alone =
         let s : State = opened b.memory x.start.arena x.start.props in
         alone_of rules MAX_OPEN_BLOCKS (rules.calls_left begun) begun s (turn rules.next_call rules.answered rules.calls_left begun s) a.calls.list x.opaque.beginning.0 refl (x.opaque.beginning.1 ∙ same_answers)
@@ -260,14 +266,14 @@ module _ {P : Type 0} (rules : Rules P) (laws : Obeys rules) (max_commits : ℕ)
       over : IsOver a.outcome
       over = over_as a.outcome done x.opaque.ends x.opaque.closed
 
-      wrote_then : (state_then MAX_OPEN_BLOCKS (opened b.memory x.start.arena x.start.props) a.calls.list).wrote ≡ is_committed a.outcome
+      wrote_then : (state_then MAX_OPEN_BLOCKS unbroken (opened b.memory x.start.arena x.start.props) a.calls.list).wrote ≡ is_committed a.outcome
       wrote_then = ap (λ (s : State). s.wrote) (sym same_state) ∙ over.wrote
 
       pub goes_past : a.calls.room ≡ 0 → (is_committed a.outcome ≡ true → b.commits < max_commits) → goes (rules.calls_left b.player) b ≡ with_first a (goes (rules.calls_left after_it.player) after_it)
       goes_past spent few =
           ended_block rules laws MAX_OPEN_BLOCKS max_commits 0 b x.start x.comes a.calls.list (sym same_answers ∙ sym (x.opaque.whole over.shut)) made_alone
           (ap is_open (sym same_state) ∙ over.shut) (not_full _ b.commits max_commits (λ w. few (sym wrote_then ∙ w)))
-          ∙ (λ i. with_first (same_row (ended_as (aborts (map pair_of a.calls.list)) ((state_then MAX_OPEN_BLOCKS (opened b.memory x.start.arena x.start.props) a.calls.list).wrote)) 0 (ap (ended_as (aborts (map pair_of a.calls.list))) wrote_then ∙ over.named) (sym spent) i)
+          ∙ (λ i. with_first (same_row (ended_as (aborts (map pair_of a.calls.list)) ((state_then MAX_OPEN_BLOCKS unbroken (opened b.memory x.start.arena x.start.props) a.calls.list).wrote)) 0 (ap (ended_as (aborts (map pair_of a.calls.list))) wrote_then ∙ over.named) (sym spent) i)
           (goes (rules.calls_left after_it.player) (record { player = after_it.player; arena = (sym same_state i).arena; memory = (sym same_state i).memory; commits = b.commits + one_if (wrote_then i) })))
 
       pub leads_past : after_try rules MAX_OPEN_BLOCKS (bytes_at base all) (between b) (begin_of rules MAX_OPEN_BLOCKS b.player b.arena) a ≡ Some (between after_it)
@@ -302,22 +308,24 @@ module _ {P : Type 0} (rules : Rules P) (laws : Obeys rules) (max_commits : ℕ)
     pub memory : before.memory ≡ bytes_at base all before.commits
     pub run : IsRunOf rules MAX_OPEN_BLOCKS total (bytes_at base all) (Some (between before)) tail
     pub led : run_after rules (bytes_at base all) (Some (between b)) past ≡ Some (between before)
+    pub restarts : AreUnbroken tail
 
   pub arrives : (b : Progress P) (past tail : List Attempt) (k : ℕ) → b.memory ≡ bytes_at base all b.commits → ((j : ℕ) → b.commits ≤ j → committed_at all j ≡ committed_at (past ++ tail) j)
-      → IsRunOf rules MAX_OPEN_BLOCKS total (bytes_at base all) (Some (between b)) (past ++ tail) → AreSole b.commits past k → k ≤ max_commits → Arrives b past tail k
-  arrives b [] tail k now found r sole few = record { before = b; whole = refl; commits = sole; memory = now; run = r; led = refl }
-  arrives b (a ∷ past) tail k now found r sole few =
-      let x = is_next b a (past ++ tail) r in
+      → IsRunOf rules MAX_OPEN_BLOCKS total (bytes_at base all) (Some (between b)) (past ++ tail) → AreSole b.commits past k → k ≤ max_commits → AreUnbroken (past ++ tail) → Arrives b past tail k
+  arrives b [] tail k now found r sole few none = record { before = b; whole = refl; commits = sole; memory = now; run = r; led = refl; restarts = none }
+  arrives b (a ∷ past) tail k now found r sole few none =
+      let x = is_next b a (past ++ tail) r none.0 in
       let q : Progress P = after_it b a x now sole.0 sole.1 sole.2 in
       let led = leads_past b a x now sole.0 sole.1 sole.2 in
       let up = sole_up q.commits past k sole.4 in
       let rest = arrives q past tail k (memory_past b a x now sole.0 sole.1 sole.2 (past ++ tail) found) (found_past b a x now sole.0 sole.1 sole.2 (past ++ tail) found)
-      (subst (λ (o : Option (Between P)). IsRunOf rules MAX_OPEN_BLOCKS total (bytes_at base all) o (past ++ tail)) led r.1) sole.4 few in
+      (subst (λ (o : Option (Between P)). IsRunOf rules MAX_OPEN_BLOCKS total (bytes_at base all) o (past ++ tail)) led r.1) sole.4 few none.1 in
       record {
         before = rest.before;
         whole = goes_past b a x now sole.0 sole.1 sole.2 sole.3 (λ w. (let one = ap one_if w in omega arith)) ∙ ap (with_first a) rest.whole;
         commits = rest.commits;
         memory = rest.memory;
         run = rest.run;
+        restarts = rest.restarts;
         led = ap (λ (o : Option (Between P)). run_after rules (bytes_at base all) o past) led ∙ rest.led;
       }

@@ -3,6 +3,7 @@ use Rattle.std.proofs.Common.{◌≡◌, ℕ, ◌%◌, Bool, true, false, not, �
 use Rattle.std.proofs.lemmas.Bool.{or_left, or_parts}
 use Rattle.std.specs.Option.{option_map}
 use Rattle.norec_world.proofs.Common.{Begin, Block, Call, Commit, CallRecord, IsAlone, Props, Refusal, Rules, State, after, after_unless, append-nil, false_from_ne_true, is_open, opened, outside, pair_of, refusal, state_then, takes_clock}
+use Rattle.itm_model.specs.Runs.{unbroken}
 use Rattle.itm_types.specs.declared.call.Reply.{Reply}
 use Rattle.itm_types.specs.declared.call.Refusal.TheVariants.{IsIrrevocable, NoAbort}
 use Rattle.itm_types.specs.declared.call.Call.TheVariants.{Abort, Copy, Fill, Mode, UndoAction, Write}
@@ -187,8 +188,8 @@ mapped_twice x xs (Some ys) = refl
 
 -- where the state after them takes no clock, neither do those before
 module _ {P : Type 0} (rules : Rules P) (deepest : ℕ) where
-  pub untaken : (p : P) (s : State) (xs : List CallRecord) (rest : List (Call × Reply)) → IsAlone rules deepest p s xs → IsMarked s → takes_clock (state_then deepest s xs) ≡ false
-      → (s.irrevocable ≡ false) × (before_taking deepest s (map pair_of xs ++ rest) ≡ option_map (λ (ys : List (Call × Reply)). map pair_of xs ++ ys) (before_taking deepest (state_then deepest s xs) rest))
+  pub untaken : (p : P) (s : State) (xs : List CallRecord) (rest : List (Call × Reply)) → IsAlone rules deepest unbroken p s xs → IsMarked s → takes_clock (state_then deepest unbroken s xs) ≡ false
+      → (s.irrevocable ≡ false) × (before_taking deepest s (map pair_of xs ++ rest) ≡ option_map (λ (ys : List (Call × Reply)). map pair_of xs ++ ys) (before_taking deepest (state_then deepest unbroken s xs) rest))
   untaken p s [] rest a h e = (revocable_of s e, sym (mapped_same (before_taking deepest s rest)))
   untaken p s (x ∷ xs) rest a h e =
       let t : State = after deepest s x.call in
@@ -197,30 +198,30 @@ module _ {P : Type 0} (rules : Rules P) (deepest : ℕ) where
       let free : takes_clock t ≡ false = by_rest xs a.2 e more.0 in (
         false_from_ne_true s.irrevocable (λ k. (let taken = keeps_clock deepest s x.call o k (h k) in let both = sym taken ∙ free in cc)),
         ap (λ (b : Bool). if b then Some [] else option_map (λ (before : List (Call × Reply)). pair_of x ∷ before) (before_taking deepest t (map pair_of xs ++ rest))) free
-            ∙ (ap (option_map (λ (before : List (Call × Reply)). pair_of x ∷ before)) more.1 ∙ mapped_twice (pair_of x) (map pair_of xs) (before_taking deepest (state_then deepest t xs) rest)),
+            ∙ (ap (option_map (λ (before : List (Call × Reply)). pair_of x ∷ before)) more.1 ∙ mapped_twice (pair_of x) (map pair_of xs) (before_taking deepest (state_then deepest unbroken t xs) rest)),
       )
     where
-      by_rest : (ys : List CallRecord) → IsAlone rules deepest (rules.answered p x.reply) (after deepest s x.call) ys → takes_clock (state_then deepest (after deepest s x.call) ys) ≡ false
+      by_rest : (ys : List CallRecord) → IsAlone rules deepest unbroken (rules.answered p x.reply) (after deepest s x.call) ys → takes_clock (state_then deepest unbroken (after deepest s x.call) ys) ≡ false
           → (after deepest s x.call).irrevocable ≡ false → takes_clock (after deepest s x.call) ≡ false
       by_rest [] b f r = f
       by_rest (y ∷ ys) b f r = not_taking (after deepest s x.call) r (in_open (is_open (after deepest s x.call)) (rules.next_call (rules.answered p x.reply)) y.call b.0)
 
-  pub marked_then : (p : P) (s : State) (xs : List CallRecord) → IsAlone rules deepest p s xs → IsMarked s → IsMarked (state_then deepest s xs)
+  pub marked_then : (p : P) (s : State) (xs : List CallRecord) → IsAlone rules deepest unbroken p s xs → IsMarked s → IsMarked (state_then deepest unbroken s xs)
   marked_then p s [] a h = h
   marked_then p s (x ∷ xs) a h = marked_then (rules.answered p x.reply) (after deepest s x.call) xs a.2 (marked_after deepest s x.call (in_open (is_open s) (rules.next_call p) x.call a.0) h)
 
   -- all of them come before the clock is taken
-  pub none_takes : (p : P) (s : State) (xs : List CallRecord) → IsAlone rules deepest p s xs → IsMarked s → takes_clock (state_then deepest s xs) ≡ false → (s.irrevocable ≡ false) × (before_taking deepest s (map pair_of xs) ≡ None)
+  pub none_takes : (p : P) (s : State) (xs : List CallRecord) → IsAlone rules deepest unbroken p s xs → IsMarked s → takes_clock (state_then deepest unbroken s xs) ≡ false → (s.irrevocable ≡ false) × (before_taking deepest s (map pair_of xs) ≡ None)
   none_takes p s xs a h e =
       let all = untaken p s xs [] a h e in
       (all.0, ap (before_taking deepest s) (sym (append-nil (map pair_of xs))) ∙ all.1)
 
   -- the next one takes it
-  pub next_takes : (p : P) (s : State) (xs : List CallRecord) (c : Call) (r : Reply) (rest : List (Call × Reply)) → IsAlone rules deepest p s xs → IsMarked s → is_open (state_then deepest s xs) ≡ true
-      → (state_then deepest s xs).irrevocable ≡ false → takes_clock (after deepest (state_then deepest s xs) c) ≡ true
+  pub next_takes : (p : P) (s : State) (xs : List CallRecord) (c : Call) (r : Reply) (rest : List (Call × Reply)) → IsAlone rules deepest unbroken p s xs → IsMarked s → is_open (state_then deepest unbroken s xs) ≡ true
+      → (state_then deepest unbroken s xs).irrevocable ≡ false → takes_clock (after deepest (state_then deepest unbroken s xs) c) ≡ true
       → (s.irrevocable ≡ false) × (before_taking deepest s (map pair_of xs ++ (c, r) ∷ rest) ≡ Some (map pair_of xs))
   next_takes p s xs c r rest a h o e takes =
-      let t : State = state_then deepest s xs in
+      let t : State = state_then deepest unbroken s xs in
       let all = untaken p s xs ((c, r) ∷ rest) a h (not_taking t e o) in (
         all.0,
         all.1

@@ -1,23 +1,25 @@
-use Rattle.std.proofs.Common.{◌≡◌, ◌≤◌, ℕ, List, [], None, Some, length, get_or, ap, sym, subst, ◌∙◌, arith}
+use Rattle.std.proofs.Common.{◌≡◌, ◌≤◌, List, [], None, Some, length, get_or, ap, sym, subst, ◌∙◌, arith}
 use Rattle.std.proofs.lemmas.List.Elements.{All-get_or}
-use Rattle.itm_types.specs.declared.limits.TheConstants.{MAX_ARENA, MAX_OPEN_BLOCKS}
+use Rattle.itm_types.specs.declared.limits.TheConstants.{MAX_ARENA}
 use Rattle.tx_attempts.specs.declared.attempt.Attempt.{Attempt}
 use Rattle.tx_attempts.specs.Attempts.{alone, committed_at, is_committed, memory_left}
 use Rattle.tx_history.specs.Legal.{memory_at}
+use Rattle.tx_history.specs.Versions.{depth_of}
 use Rattle.history_checker.specs.Replays.{fault_in}
 use Rattle.history_checker.specs.Verdicts.{at_place}
 use Rattle.history_checker.proofs.Steps.Walks.{found_in, found_none, found_there, place_none}
 use Rattle.history_checker.proofs.walk.walk_committed.Goals as goal
 
 pub returns-in_default-clause-fault : goal.returns-in_default-clause-fault
-returns-in_default-clause-fault c = sym (found_none (memory_at c.args.history.now c.args.position) c.args.position c.args.history.now.attempts (sym c.requires.slot ∙ c.in_default.is)).1
+returns-in_default-clause-fault c = sym (found_none (depth_of c.args.history.now.version) (memory_at c.args.history.now c.args.position) c.args.position c.args.history.now.attempts (sym c.requires.slot ∙ c.in_default.is)).1
 
 pub returns-in_default-clause-rest : goal.returns-in_default-clause-rest
 returns-in_default-clause-rest c = λ none.
     let m = memory_at c.args.history.now c.args.position in
-    let left : m ≡ memory_left MAX_OPEN_BLOCKS m (committed_at c.args.history.now.attempts c.args.position) =
-    ap (memory_left MAX_OPEN_BLOCKS m) (sym (found_none m c.args.position c.args.history.now.attempts (sym c.requires.slot ∙ c.in_default.is)).0) in
-    record { machine = c.requires.rest.machine ∙ left; base = c.requires.rest.base ∙ left }
+    let deepest = depth_of c.args.history.now.version in
+    let left : m ≡ memory_left deepest m (committed_at c.args.history.now.attempts c.args.position) =
+    ap (memory_left deepest m) (sym (found_none deepest m c.args.position c.args.history.now.attempts (sym c.requires.slot ∙ c.in_default.is)).0) in
+    record { memory = c.requires.rest.memory ∙ left; base = c.requires.rest.base ∙ left; depth = c.requires.rest.depth }
 
 pub attempt_at-attempt-requires : goal.attempt_at-attempt-requires
 attempt_at-attempt-requires c =
@@ -40,7 +42,7 @@ replay_committed-requires-clause-committed c =
     let i = c.in-Some.i in
     let a = c.attempt_at-attempt.result.now in
     let is : a ≡ get_or ts i a = c.attempt_at-attempt.ensures ∙ ap (λ (xs : List Attempt). get_or xs i a) c.as_slice.ensures in
-    ap (λ (x : Attempt). is_committed x.outcome) is ∙ (found_there [] c.args.position ts i a (sym c.requires.slot ∙ c.in-Some.is)).1
+    ap (λ (x : Attempt). is_committed x.outcome) is ∙ (found_there 0 [] c.args.position ts i a (sym c.requires.slot ∙ c.in-Some.is)).1
 
 pub returns-clause-fault : goal.returns-clause-fault
 returns-clause-fault c =
@@ -49,8 +51,10 @@ returns-clause-fault c =
     let a = c.attempt_at-attempt.result.now in
     let m = memory_at c.args.history.now c.args.position in
     let is : a ≡ get_or ts i a = c.attempt_at-attempt.ensures ∙ ap (λ (xs : List Attempt). get_or xs i a) c.as_slice.ensures in
-    let fault : c.in_ok-fault.fault ≡ fault_in m (get_or ts i a) = c.in_ok-fault.ensures.fault ∙ (ap (λ (t : List ℕ). fault_in t a) c.requires.rest.machine ∙ ap (fault_in m) is) in
-    c.at_place.ensures ∙ (ap (at_place i) fault ∙ sym (found_there m c.args.position ts i a (sym c.requires.slot ∙ c.in-Some.is)).3)
+    let deepest = depth_of c.args.history.now.version in
+    let there : c.in_ok-fault.fault ≡ fault_in deepest m a = c.in_ok-fault.ensures.fault ∙ (λ t. fault_in (c.requires.rest.depth t) (c.requires.rest.memory t) a) in
+    let fault : c.in_ok-fault.fault ≡ fault_in deepest m (get_or ts i a) = there ∙ ap (fault_in deepest m) is in
+    c.at_place.ensures ∙ (ap (at_place i) fault ∙ sym (found_there deepest m c.args.position ts i a (sym c.requires.slot ∙ c.in-Some.is)).3)
 
 pub returns-clause-rest : goal.returns-clause-rest
 returns-clause-rest c = λ none.
@@ -59,8 +63,9 @@ returns-clause-rest c = λ none.
     let a = c.attempt_at-attempt.result.now in
     let m = memory_at c.args.history.now c.args.position in
     let is : a ≡ get_or ts i a = c.attempt_at-attempt.ensures ∙ ap (λ (xs : List Attempt). get_or xs i a) c.as_slice.ensures in
+    let deepest = depth_of c.args.history.now.version in
     let no : c.in_ok-fault.fault ≡ None = place_none i c.in_ok-fault.fault (sym c.at_place.ensures ∙ none) in
-    let there : committed_at ts c.args.position ≡ Some a = (found_there m c.args.position ts i a (sym c.requires.slot ∙ c.in-Some.is)).2 ∙ ap (λ (x : Attempt). Some x) (sym is) in
-    let left : c.replay_committed.new.plain.state.memory ≡ memory_left MAX_OPEN_BLOCKS m (committed_at ts c.args.position) =
-    c.in_ok-fault.ensures.memory no ∙ (ap (λ (t : List ℕ). (alone MAX_OPEN_BLOCKS t a).memory) c.requires.rest.machine ∙ ap (memory_left MAX_OPEN_BLOCKS m) (sym there)) in
-    record { machine = left; base = c.in_ok-fault.ensures.base no ∙ left }
+    let there : committed_at ts c.args.position ≡ Some a = (found_there deepest m c.args.position ts i a (sym c.requires.slot ∙ c.in-Some.is)).2 ∙ ap (λ (x : Attempt). Some x) (sym is) in
+    let left : c.replay_committed.new.plain.state.memory ≡ memory_left deepest m (committed_at ts c.args.position) =
+    c.in_ok-fault.ensures.memory no ∙ ((λ t. (alone (c.requires.rest.depth t) (c.requires.rest.memory t) a).memory) ∙ ap (memory_left deepest m) (sym there)) in
+    record { memory = left; base = c.in_ok-fault.ensures.base no ∙ left; depth = c.replay_committed.ensures.deepest ∙ c.requires.rest.depth }

@@ -4,6 +4,7 @@ use Rattle.std.proofs.lemmas.List.Elements.{All-get_or}
 use Rattle.itm_types.specs.declared.limits.TheConstants.{MAX_ARENA}
 use Rattle.tx_attempts.specs.declared.attempt.Attempt.{Attempt}
 use Rattle.tx_history.specs.Legal.{memory_at}
+use Rattle.tx_history.specs.Versions.{depth_of}
 use Rattle.history_checker.specs.declared.replays.Told.{Told}
 use Rattle.history_checker.specs.Tables.{last_other, told_on}
 use Rattle.history_checker.proofs.Steps.Walks.{IsNext, next_in, next_is, next_then, next_none, fewer_left, left_of}
@@ -73,10 +74,13 @@ loop-next-preserved c =
     let old = c.loop-next.walk.told.items in
     let is : a ≡ get_or h.attempts i a = c.attempt_at-attempt.ensures ∙ ap (λ (xs : List Attempt). get_or xs i a) c.as_slice-attempts.ensures in
     let next = subst (IsNext h c.args.position old) c.in-Some.is c.loop-next.invariant.next in
-    let new : c.in_ok-told.told ≡ told_on m (get_or h.attempts i a) = c.in_ok-told.ensures.told ∙ (ap (λ (t : List ℕ). told_on t a) c.loop-next.invariant.rest.machine ∙ ap (told_on m) is) in
-    let put : c.put.new.told.items ≡ set old i (told_on m (get_or h.attempts i a)) = c.put.ensures ∙ ap (set old i) new in
+    let rest = c.loop-next.invariant.rest in
+    let deepest = depth_of h.version in
+    let here : c.in_ok-told.told ≡ told_on deepest m a = c.in_ok-told.ensures.told ∙ (λ t. told_on (rest.depth t) (rest.memory t) a) in
+    let new : c.in_ok-told.told ≡ told_on deepest m (get_or h.attempts i a) = here ∙ ap (told_on deepest m) is in
+    let put : c.put.new.told.items ≡ set old i (told_on deepest m (get_or h.attempts i a)) = c.put.ensures ∙ ap (set old i) new in
     record {
-      rest = record { machine = c.in_ok-told.ensures.memory ∙ c.loop-next.invariant.rest.machine; base = c.loop-next.invariant.rest.base };
+      rest = record { memory = c.in_ok-told.ensures.memory ∙ rest.memory; base = rest.base; depth = c.replay_other.ensures.deepest ∙ rest.depth };
       next = subst (λ (xs : List Told). IsNext h c.args.position xs c.lookup-next-in-Some.result) (sym put) (next_then h c.args.position old i a c.lookup-next-in-Some.result next (then_older c));
     }
 

@@ -1,11 +1,10 @@
-use Rattle.tx_history.specs.Legal.{memory_at}
 use Rattle.history_checker.specs.Tables.{IsRest}
 use Rattle.history_checker.proofs.Steps.Walks.{IsNext, left_of}
 use Rattle.history_checker.proofs.walk.walk_others.Given as goal
 
 abbrev pub invariant-loop-next : goal.invariant-loop-next
 invariant-loop-next l = record {
-  rest : IsRest (memory_at l.history l.position) l.walk.plain.state.memory l.walk.base.items;
+  rest : IsRest l.history l.position l.walk.plain l.walk.base.items;
   next : IsNext l.history l.position l.walk.told.items l.next;
 }
 

@@ -3,7 +3,7 @@ use Rattle.itm_types.specs.Access.{size_of}
 use Rattle.itm_types.specs.declared.datum.Datum.{Datum}
 use Rattle.script_fields.specs.declared.fault.AsmKind.{AsmKind}
 use Rattle.script_fields.specs.Operands.{◌>>=◌}
-use Rattle.history_reader.specs.Digits.{low, datum, datum_of}
+use Rattle.history_reader.specs.Digits.{datum, datum_of}
 use Rattle.history_reader.proofs.Values.{same_datum, low_is}
 use Rattle.history_reader.proofs.digits.datum.Goals as goal
 

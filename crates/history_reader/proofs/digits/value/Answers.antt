@@ -1,4 +1,4 @@
-use Rattle.std.proofs.Common.{Ok, List, ℕ, ap, ◌∙◌, sym, ◌≡◌, ◌/◌, ◌++◌, length, arith}
+use Rattle.std.proofs.Common.{Ok, List, ℕ, ap, ◌∙◌, sym, ◌≡◌, ◌/◌, ◌++◌, length}
 use Rattle.itm_types.specs.Access.{size_of}
 use Rattle.script_fields.specs.Operands.{decoded}
 use Rattle.history_reader.specs.Digits.{sized}

@@ -20,5 +20,5 @@ returns-in-false g c =
 pub returns-in_default : goal.returns-in_default
 unfolding props_end
 returns-in_default g c =
-    let props = rw c.props_text.ensures at rw c.as_bytes.ensures.value at c.text-in_default-2.ensures in
-    carries_then (carries_then c.text-in_default.ensures props) c.text-in_default-3.ensures
+    let props = rw c.props_text.ensures at rw c.as_bytes.ensures.value at c.bytes.ensures in
+    carries_then (carries_then c.text-in_default.ensures props) c.text-in_default-2.ensures

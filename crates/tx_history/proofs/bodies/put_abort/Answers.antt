@@ -3,5 +3,5 @@ use Rattle.tx_history.proofs.bodies.put_abort.Goals as goal
 
 pub returns : goal.returns
 returns g c =
-    let scope = rw c.scope_text.ensures at rw c.as_bytes.ensures.value at c.text-2.ensures in
+    let scope = rw c.scope_text.ensures at rw c.as_bytes.ensures.value at c.bytes.ensures in
     carries_then c.text.ensures scope

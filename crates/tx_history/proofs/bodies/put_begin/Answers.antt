@@ -3,5 +3,5 @@ use Rattle.tx_history.proofs.bodies.put_begin.Goals as goal
 
 pub returns : goal.returns
 returns g c =
-    let props = rw c.props_text.ensures at rw c.as_bytes.ensures.value at c.text-2.ensures in
+    let props = rw c.props_text.ensures at rw c.as_bytes.ensures.value at c.bytes.ensures in
     carries_then c.text.ensures props

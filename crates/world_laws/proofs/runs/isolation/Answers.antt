@@ -1,7 +1,8 @@
 use Rattle.std.proofs.Common.{◌≡◌, ◌⊎◌, inl, inr, List, [], ◌∷◌, ◌++◌, refl, sym, ◌∙◌}
-use Rattle.itm_types.specs.declared.limits.TheConstants.{MAX_OPEN_BLOCKS}
-use Rattle.itm_model.specs.Runs.{answers}
+use Rattle.itm_model.specs.Runs.{answers_through}
 use Rattle.tx_attempts.specs.Beginnings.{IsBeginningOf}
+use Rattle.tx_attempts.specs.Opacity.{answers_on}
+use Rattle.tx_attempts.specs.Restarts.{breaks_of}
 use Rattle.world_laws.proofs.runs.isolation.Goals as goal
 
 -- of two beginnings of one list the one is a beginning of the other
@@ -19,6 +20,6 @@ beginnings (x ∷ xs) (y ∷ ys) (z ∷ all) p q =
     ]
 
 pub returns : goal.returns
-returns g c p a b n m memory x y arena props =
-    beginnings _ _ (answers g.P.Player.next_call g.P.Player.answered g.P.Player.calls_left MAX_OPEN_BLOCKS p memory a.arena a.props) x.beginning
-    (y.beginning.0, y.beginning.1 ∙ (λ i. answers g.P.Player.next_call g.P.Player.answered g.P.Player.calls_left MAX_OPEN_BLOCKS p memory (sym arena i) (sym props i)))
+returns g c p a b deepest n m memory x y arena props restarts =
+    beginnings _ _ (answers_on g.P.Player deepest p a memory) x.beginning
+    (y.beginning.0, y.beginning.1 ∙ (λ i. answers_through g.P.Player.next_call g.P.Player.answered g.P.Player.calls_left deepest (breaks_of (sym restarts i)) p memory (sym arena i) (sym props i)))

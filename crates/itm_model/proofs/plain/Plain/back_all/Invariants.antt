@@ -6,6 +6,7 @@ abbrev pub invariant-loop-self : goal.invariant-loop-self
 invariant-loop-self l = record {
   undone : undone l.self.state ≡ undone l.fn.self.state;
   before : l.self.before ≡ l.fn.self.before;
+  deepest : l.self.deepest ≡ l.fn.self.deepest;
   revocable : l.self.state.irrevocable ≡ false;
 }
 

@@ -1,11 +1,49 @@
 use Rattle.norec_world.proofs.Attempts.OthersAttempts.{others_stopped, retried_counts, retried_is}
 use Rattle.tx_runs.specs.Nesting.{IsDeep}
-use Rattle.std.proofs.Common.{rules, ◌≡◌, ◌/◌, length, ap, ◌∙◌, refl, sym, subst, Bool, true, false, None, [], is_some}
-use Rattle.norec_world.proofs.Common.{Actor, AnswerFits, Attempt, Busy, Conflict, Ended, Full, GaveUp, HasRow, IsSettledBy, Records, StopsIf, in_transaction, whole}
+use Rattle.std.proofs.Common.{rules, ◌≡◌, ◌+◌, ◌/◌, length, ap, ◌∙◌, refl, sym, subst, Bool, true, false, nat_lt, None, Some, [], is_some}
+use Rattle.norec_world.proofs.Common.{Actor, AnswerFits, Attempt, Busy, Conflict, Ended, Full, GaveUp, HasRow, IsAnswered, IsSettledBy, Ready, Records, Rows, StopsIf, active_of, cond_both, in_transaction, retried, whole}
+use Rattle.norec_world.specs.ActionRoom.{AsksAs, IsActing, IsEmpty, NoCancel, StartsEmpty, is_held}
+use Rattle.norec_world.proofs.Rooms.ActionRoom.{none_acting}
 use Rattle.tx_attempts.specs.declared.attempt.Outcome.TheVariants as outcomes
 use Rattle.norec_world.proofs.Engines.PlayerLaws.{after_try, ends_inside, ends_outside, settled_as}
 use Rattle.norec_world.proofs.actor.Actor.settle.Goals.{then-is_none, else-is_none, then-is_none-2, else-is_none-2}
 use Rattle.norec_world.proofs.actor.Actor.settle.Goals as goal
+
+-- with no attempt, and nothing to come, an actor that counts a try acts on
+retried_acting : {P : Type 0} (r : Rows) (a : Actor P) → active_of a.thread r.active ≡ None → IsEmpty a → a.pending ≡ None → a.status ≡ Ready → is_held a.engine ≡ false → IsActing r (retried a)
+retried_acting r a none empty nothing ready free =
+    let unopened : StartsEmpty a = λ row e. absurd (let both : None ≡ Some row = sym nothing ∙ e in cc) in
+    let parts : IsEmpty a = empty in
+    cond_both (nat_lt a.retries a.nth) (record a { status = Ended GaveUp }) (record a { nth = a.nth + 1 }) (IsActing r)
+    (λ e. none_acting r (record a { status = Ended GaveUp }) none (record { end_room = parts.end_room; cancel_room = parts.cancel_room }) unopened tt free tt)
+    (λ e. none_acting r (record a { nth = a.nth + 1 }) none (record { end_room = parts.end_room; cancel_room = parts.cancel_room }) unopened (subst NoCancel (sym ready) tt) free (subst (AsksAs (record a { nth = a.nth + 1 })) (sym ready) tt))
+
+pub returns-after-is_none-clause-acts : goal.returns-after-is_none-clause-acts
+returns-after-is_none-clause-acts g c =
+    let a = c.args.self.now in
+    let r = c.args.recorded.now in
+    let was : Bool = c.requires.answered.0 in
+    let d : IsAnswered g.P.Player was r a c.args.call c.args.answer = c.requires.answered.1 in
+    let fits : AnswerFits was (g.P.Player.depth a.player) (in_transaction a.engine) (length a.engine.blocks) c.args.call (Conflict c.in-Conflict.clock c.in-Conflict.word) = subst (AnswerFits was (g.P.Player.depth a.player) (in_transaction a.engine) (length a.engine.blocks) c.args.call) c.in-Conflict.is d.fits in
+    let free : is_held a.engine ≡ false = c.requires.acts.over fits.1 in
+    subst (IsActing c.if-is_none.recorded) (sym c.retry.ensures)
+    (elim c.if-is_none.branch [
+      | then-is_none w ↦ retried_acting c.if-is_none.recorded c.if-is_none.self
+          ((λ i. active_of (w.self-is i).thread (w.recorded-is i).active) ∙ w.stop.ensures.gone)
+          (record { end_room = ap (λ (x : Actor g.row.P.Denot). x.end_room.items) w.self-is ∙ w.stop.ensures.empty; cancel_room = ap (λ (x : Actor g.row.P.Denot). x.cancel_room.items) w.self-is ∙ c.requires.acts.empty.cancel_room })
+          (ap (λ (x : Actor g.row.P.Denot). x.pending) w.self-is ∙ c.take.ensures.after)
+          (ap (λ (x : Actor g.row.P.Denot). x.status) w.self-is ∙ d.status)
+          (ap (λ (x : Actor g.row.P.Denot). is_held x.engine) w.self-is ∙ free)
+      | else-is_none w ↦
+          (let some : is_some a.pending ≡ true = sym (ap (is_some {T = Attempt}) c.take.ensures.value) ∙ w.if-is_none.ensures in
+          let shut : was ≡ false = ends_outside was a.pending d.in_call.inside some in
+          retried_acting c.if-is_none.recorded c.if-is_none.self
+          ((λ i. active_of (w.self-is i).thread (w.recorded-is i).active) ∙ subst (λ (b : Bool). HasRow b r a.thread) shut d.kept.row)
+          (record { end_room = ap (λ (x : Actor g.row.P.Denot). x.end_room.items) w.self-is ∙ c.requires.acts.empty.end_room; cancel_room = ap (λ (x : Actor g.row.P.Denot). x.cancel_room.items) w.self-is ∙ c.requires.acts.empty.cancel_room })
+          (ap (λ (x : Actor g.row.P.Denot). x.pending) w.self-is ∙ c.take.ensures.after)
+          (ap (λ (x : Actor g.row.P.Denot). x.status) w.self-is ∙ d.status)
+          (ap (λ (x : Actor g.row.P.Denot). is_held x.engine) w.self-is ∙ free))
+    ])
 
 pub returns-after-is_none-clause-recorded : goal.returns-after-is_none-clause-recorded
 returns-after-is_none-clause-recorded g c was d =

@@ -1,6 +1,6 @@
 use Rattle.std.proofs.Common.{rules, arith}
 use Rattle.tx_history.proofs.PagedTexts.{grows_then, held}
-use Rattle.tx_history.proofs.page.Page.text_on_next.Goals as goal
+use Rattle.tx_history.proofs.page.Page.bytes_on_next.Goals as goal
 
 pub returns-in-Ok : goal.returns-in-Ok
 returns-in-Ok g c = record { same = search rules; grows = grind (arith, held, grows_then) }

@@ -1,0 +1,13 @@
+use Rattle.std.proofs.Common.{◌≡◌, suc, List, [], drop, sum_by, ap, arith}
+use Rattle.std.proofs.lemmas.Grind.{common_steps}
+use Rattle.tx_attempts.specs.declared.attempt.Again.{Again}
+use Rattle.tx_attempts.specs.Restarts.{before}
+use Rattle.history_checker.specs.Verdicts.{again_count}
+use Rattle.history_checker.proofs.rows.after_earlier.Goals as goal
+
+pub returns : goal.returns
+returns c =
+    let i = c.loop-again.invariant in
+    let past : drop c.loop-again.again-index c.args.restarts.now ≡ [] = grind (arith, common_steps) in
+    let none : sum_by again_count (before (suc c.args.place) (drop c.loop-again.again-index c.args.restarts.now)) ≡ 0 = ap (λ (rs : List Again). sum_by again_count (before (suc c.args.place) rs)) past in
+    omega (arith, i.told, i.most, none)

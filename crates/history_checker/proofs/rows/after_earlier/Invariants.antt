@@ -1,0 +1,10 @@
+use Rattle.std.proofs.Common.{◌≡◌, suc, ◌+◌, ◌≤◌, ◌-◌, ◌^◌, drop, sum_by}
+use Rattle.tx_attempts.specs.Restarts.{before}
+use Rattle.history_checker.specs.Verdicts.{again_count, told_row}
+use Rattle.history_checker.proofs.rows.after_earlier.Given as goal
+
+abbrev pub invariant-loop-again : goal.invariant-loop-again
+invariant-loop-again l = record {
+  told : told_row (l.row + sum_by again_count (before (suc l.place) (drop l.again-index l.restarts))) ≡ told_row (l.from + sum_by again_count (before (suc l.place) l.restarts));
+  most : l.row ≤ 2 ^ 64 - 1;
+}

@@ -1,0 +1,336 @@
+-- The lines of attempts are read as these attempts.
+use Rattle.std.proofs.Common.{◌≡◌, ℕ, zero, suc, ◌+◌, ◌-◌, List, [], ◌∷◌, ◌++◌, length, take, drop, Option, None, Some, Ok, refl, sym, ap, subst, ◌∙◌, arith, append_assoc, append-nil, lit<, length-append, zero-add}
+use Rattle.std.specs.Prelude.{codes, decimal, flat_map}
+use Rattle.std.specs.List.{AllByRecursion, slice_get}
+use Rattle.std.proofs.lemmas.List.{length-take-le, take-append-drop}
+use Rattle.std.proofs.lemmas.List.Elements.{recursion_from_All}
+use Rattle.std.proofs.lemmas.Option.{slice_get_within}
+use Rattle.itm_types.specs.declared.call.Ran.{Ran}
+use Rattle.script_fields.specs.Properties.{props_text}
+use Rattle.script_fields.specs.Text.{joined}
+use Rattle.tx_attempts.specs.Restarts.{AreAgain, IsAgain, IsInnerBegin}
+use Rattle.tx_attempts.specs.declared.attempt.Again.{Again}
+use Rattle.tx_attempts.specs.declared.attempt.Attempt.{Attempt}
+use Rattle.tx_attempts.specs.declared.attempt.CallRecord.{CallRecord}
+use Rattle.tx_history.specs.declared.history.Version.{Version}
+use Rattle.tx_history.specs.declared.history.Version.TheVariants.{One, Two, Three}
+use Rattle.tx_history.specs.Histories.{head_line, arena_line, again_lines, call_line, call_lines, restart_line, undone_line, ran_line, attempt_lines, kind_text, outcome_name}
+use Rattle.tx_history.specs.Versions.{MayTell}
+use Rattle.history_reader.specs.declared.state.Behind.{Behind}
+use Rattle.history_reader.specs.declared.state.Behind.TheVariants as behinds
+use Rattle.history_reader.specs.declared.state.Head.{Head}
+use Rattle.history_reader.specs.declared.state.Place.{Place}
+use Rattle.history_reader.specs.declared.state.Place.TheVariants as places
+use Rattle.history_reader.specs.declared.state.State.{State}
+use Rattle.history_reader.specs.Lines.{behind_call, meaning, fields_line}
+use Rattle.history_reader.specs.Replies.{is_five}
+use Rattle.history_reader.specs.Tellable.{IsEntry, IsRan, IsUndone, IsTold, IsAttempt}
+use Rattle.history_reader.specs.LineFields.{verb_text, verb_in, rest_of, arena_text, call_fields, ran_fields, restart_fields, undone_fields, head_fields, arena_fields}
+use Rattle.history_reader.proofs.BlocksAgain.{undone_is}
+use Rattle.history_reader.proofs.RoundTrips.Leading.{Leads, leads_on, line_leads, stays}
+use Rattle.history_reader.proofs.RoundTrips.Spellings.{AreFields, call_are, ran_are, restart_are, undone_are, head_are, arena_are}
+use Rattle.history_reader.proofs.Exactness.Lines.{call_joined, ran_joined, restart_joined, undone_joined, head_joined, arena_joined}
+use Rattle.history_reader.proofs.RoundTrips.Lines.{says_again, head_in, head_says, arena_says, call_says, restart_says, undone_says, late, ran_says, end_says}
+
+-- what stays of a state within an attempt: its version, its memory, the attempts that have ended, and the arena of this one
+pub record Frame : Type 0 where
+  pub version : Version
+  pub memory : List ℕ
+  pub attempts : List Attempt
+  pub arena : List ℕ
+
+-- the state within an attempt
+abbrev pub within : Place → Frame → List CallRecord → List Again → List Ran → State
+within place f calls restarts ran =
+    record { place = place; version = f.version; memory = f.memory; attempts = f.attempts; arena = f.arena; calls = calls; restarts = restarts; ran = ran; bytes = [] }
+
+-- the state between attempts
+abbrev pub between : Version → List ℕ → List Attempt → State
+between version memory attempts = within places.Between (record { version = version; memory = memory; attempts = attempts; arena = [] }) [] [] []
+
+-- the text of what one element says, and of what the others say
+one_more : {A : Type 0} (spell : A → List ℕ) (x : A) (xs : List A) (s t u : State) (rest : List ℕ) → Leads s t (spell x ++ (flat_map spell xs ++ rest)) (flat_map spell xs ++ rest)
+    → Leads t u (flat_map spell xs ++ rest) rest → Leads s u (flat_map spell (x ∷ xs) ++ rest) rest
+one_more spell x xs s t u rest first others =
+    subst (λ (text : List ℕ). Leads s u text rest) (sym (append_assoc (spell x) (flat_map spell xs) rest))
+    (leads_on s t u (spell x ++ (flat_map spell xs ++ rest)) (flat_map spell xs ++ rest) rest first others)
+
+-- a line within an attempt is told by its fields
+at_end : (o : Option Behind) (head : Head) (f : Frame) (es : List CallRecord) (agains : List Again) (rs : List Ran) (line : List ℕ)
+    → meaning (within (late o head) f es agains rs) line ≡ fields_line (within (late o head) f es agains rs) line
+unfolding meaning
+at_end (Some b) head f es agains rs line = refl
+at_end None head f es agains rs line = refl
+
+-- ### Calls
+
+-- what stands behind calls
+abbrev behind_calls : Version → Behind → List CallRecord → Behind
+behind_calls version b [] = b
+behind_calls version b (e ∷ es) = behind_calls version (behind_call version e) es
+
+-- the lines of calls leave the calls
+calls_lead : (head : Head) (f : Frame) (b : Behind) (before es : List CallRecord) (agains : List Again) (rest : List ℕ) → AllByRecursion IsEntry es
+    → Leads (within (places.InCalls head b) f before agains []) (within (places.InCalls head (behind_calls f.version b es)) f (before ++ es) agains []) (flat_map call_line es ++ rest) rest
+calls_lead head f b before [] agains rest h =
+    stays (within (places.InCalls head b) f before agains []) (within (places.InCalls head b) f (before ++ []) agains []) rest
+    (ap (λ (es : List CallRecord). within (places.InCalls head b) f es agains []) (sym (append-nil before)))
+calls_lead head f b before (e ∷ es) agains rest h =
+    let c = behind_call f.version e in
+    let s : State = within (places.InCalls head b) f before agains [] in
+    let t : State = within (places.InCalls head c) f (before ++ e ∷ []) agains [] in
+    let last : Place = places.InCalls head (behind_calls f.version c es) in
+    let says : meaning s (joined (call_fields e)) ≡ Ok t =
+    says_again s t (codes "call") (verb_text (verb_in e.call) ∷ rest_of e) (at_end (Some b) head f before agains [] (joined (call_fields e))) (call_are e h.0) (call_says s head b e h.0) in
+    let more : Leads t (within last f (before ++ e ∷ [] ++ es) agains []) (flat_map call_line es ++ rest) rest = calls_lead head f c (before ++ e ∷ []) es agains rest h.1 in
+    subst (λ (all : List CallRecord). Leads s (within last f all agains []) (flat_map call_line (e ∷ es) ++ rest) rest) (append_assoc before (e ∷ []) es)
+    (one_more call_line e es s t (within last f (before ++ e ∷ [] ++ es) agains []) rest
+    (line_leads s t (call_fields e) (call_line e) (flat_map call_line es ++ rest) (call_joined e) (call_are e h.0) says) more)
+
+-- ### Blocks that ran again
+
+-- such a block, with these actions
+abbrev ran_again : ℕ → List ℕ → List Ran → Again
+ran_again kept arena undone = record { kept = kept; arena = arena; undone = undone }
+
+-- the lines of actions that had run in it before leave the actions
+undone_lead : (head : Head) (f : Frame) (es : List CallRecord) (agains : List Again) (kept : ℕ) (arena : List ℕ) (before us : List Ran) (rest : List ℕ) → AllByRecursion IsUndone us
+    → Leads (within (places.InCalls head behinds.Restart) f es (agains ++ ran_again kept arena before ∷ []) []) (within (places.InCalls head behinds.Restart) f es (agains ++ ran_again kept arena (before ++ us) ∷ []) [])
+    (flat_map undone_line us ++ rest) rest
+undone_lead head f es agains kept arena before [] rest h =
+    stays _ _ rest (ap (λ (us : List Ran). within (places.InCalls head behinds.Restart) f es (agains ++ ran_again kept arena us ∷ []) []) (sym (append-nil before)))
+undone_lead head f es agains kept arena before (r ∷ us) rest h =
+    let place : Place = places.InCalls head behinds.Restart in
+    let s : State = within place f es (agains ++ ran_again kept arena before ∷ []) [] in
+    let t : State = within place f es (agains ++ ran_again kept arena (before ++ r ∷ []) ∷ []) [] in
+    let one = undone_says s head r h.0 ∙ ap (λ (l : List Again). Ok (within place f es l [])) (undone_is agains (ran_again kept arena before) r) in
+    let says : meaning s (joined (undone_fields r)) ≡ Ok t =
+    says_again s t (codes "undone") (decimal r.action.fun ∷ decimal r.action.arg ∷ []) (at_end (Some behinds.Restart) head f es s.restarts [] (joined (undone_fields r))) (undone_are r h.0) one in
+    let more : Leads t (within place f es (agains ++ ran_again kept arena (before ++ r ∷ [] ++ us) ∷ []) []) (flat_map undone_line us ++ rest) rest =
+    undone_lead head f es agains kept arena (before ++ r ∷ []) us rest h.1 in
+    subst (λ (all : List Ran). Leads s (within place f es (agains ++ ran_again kept arena all ∷ []) []) (flat_map undone_line (r ∷ us) ++ rest) rest) (append_assoc before (r ∷ []) us)
+    (one_more undone_line r us s t (within place f es (agains ++ ran_again kept arena (before ++ r ∷ [] ++ us) ∷ []) []) rest
+    (line_leads s t (undone_fields r) (undone_line r) (flat_map undone_line us ++ rest) (undone_joined r) (undone_are r h.0) says) more)
+
+-- the lines of a block that ran again, right behind its begin, leave it
+again_leads : (head : Head) (f : Frame) (es : List CallRecord) (agains : List Again) (a : Again) (rest : List ℕ) → length es ≡ a.kept → length a.arena ≡ length f.arena → IsTold a
+    → Leads (within (places.InCalls head behinds.Begin) f es agains []) (within (places.InCalls head behinds.Restart) f es (agains ++ a ∷ []) []) (again_lines a ++ rest) rest
+unfolding again_lines
+again_leads head f es agains a rest kept size h =
+    let s : State = within (places.InCalls head behinds.Begin) f es agains [] in
+    let t : State = within (places.InCalls head behinds.Restart) f es (agains ++ ran_again a.kept a.arena [] ∷ []) [] in
+    let u : State = within (places.InCalls head behinds.Restart) f es (agains ++ a ∷ []) [] in
+    let later : List ℕ = flat_map undone_line a.undone ++ rest in
+    let says : meaning s (joined (restart_fields a.arena)) ≡ Ok t =
+    says_again s t (codes "restart") (arena_text a.arena ∷ []) (at_end (Some behinds.Begin) head f es agains [] (joined (restart_fields a.arena))) (restart_are a.arena h.0)
+    (restart_says s head a.arena h.0 size ∙ ap (λ (k : ℕ). Ok (within (places.InCalls head behinds.Restart) f es (agains ++ ran_again k a.arena [] ∷ []) [])) kept) in
+    let first : Leads s t (restart_line a.arena ++ later) later = line_leads s t (restart_fields a.arena) (restart_line a.arena) later (restart_joined a.arena) (restart_are a.arena h.0) says in
+    subst (λ (text : List ℕ). Leads s u text rest) (sym (append_assoc (restart_line a.arena) (flat_map undone_line a.undone) rest))
+    (leads_on s t u (restart_line a.arena ++ later) later rest first (undone_lead head f es agains a.kept a.arena [] a.undone rest (recursion_from_All IsUndone a.undone h.1)))
+
+-- ### Calls with the blocks that ran again
+
+-- the last of these calls is one that such a line may stand behind
+last_begins : (es : List CallRecord) (j : ℕ) (o : Option CallRecord) → slice_get es j ≡ o → IsInnerBegin o → (e : CallRecord) × (take (suc j) es ≡ take j es ++ e ∷ []) × IsInnerBegin (Some e)
+last_begins es j None g b = absurd b
+last_begins [] j (Some x) g b = absurd cc
+last_begins (e ∷ es) zero (Some x) g b = (e, refl, subst IsInnerBegin (sym g) b)
+last_begins (e ∷ es) (suc j) (Some x) g b =
+    let m = last_begins es j (Some x) g b in
+    (m.0, ap (λ (l : List CallRecord). e ∷ l) m.1, m.2)
+
+there_is : (es : List CallRecord) (j : ℕ) (o : Option CallRecord) → slice_get es j ≡ o → IsInnerBegin o → length (take j es) ≡ j
+there_is es j None g b = absurd b
+there_is es j (Some x) g b = (let l = slice_get_within es j x g in length-take-le j es (omega (arith, l)))
+
+got_past : (xs ys : List CallRecord) (j : ℕ) → slice_get (xs ++ ys) (length xs + j) ≡ slice_get ys j
+got_past [] ys j = ap (slice_get ys) (zero-add j)
+got_past (x ∷ xs) ys j =
+    let n : suc (length xs) + j ≡ suc (length xs + j) = omega arith in
+    ap (slice_get (x ∷ xs ++ ys)) n ∙ got_past xs ys j
+
+behind_last : (version : Version) (b : Behind) (es : List CallRecord) (e : CallRecord) → behind_calls version b (es ++ e ∷ []) ≡ behind_call version e
+behind_last version b [] e = refl
+behind_last version b (x ∷ es) e = behind_last version (behind_call version x) es e
+
+begins_there : (version : Version) (e : CallRecord) (a : Again) (more : List Again) → MayTell version (a ∷ more) → IsInnerBegin (Some e) → behind_call version e ≡ behinds.Begin
+begins_there One e a more m i = absurd cc
+begins_there Two e a more m i = rw (i.0, ap is_five i.1) refl
+begins_there (Three depth) e a more m i = rw (i.0, ap is_five i.1) refl
+
+may_later : (version : Version) (a : Again) (more : List Again) → MayTell version (a ∷ more) → MayTell version more
+may_later One a more m = absurd cc
+may_later Two a more m = tt
+may_later (Three depth) a more m = tt
+
+-- some place within the calls
+abbrev LeadsIn : Head → Frame → State → List CallRecord → List Again → List ℕ → List ℕ → Type 0
+LeadsIn head f s es agains text rest = (b : Behind) × Leads s (within (places.InCalls head b) f es agains []) text rest
+
+parts_three : (a b c rest : List ℕ) → (a ++ b ++ c) ++ rest ≡ a ++ (b ++ (c ++ rest))
+parts_three a b c rest = simp append_assoc
+
+all_taken : {A : Type 0} (P : A → Type 0) (m : ℕ) (xs : List A) → AllByRecursion P xs → AllByRecursion P (take m xs) × AllByRecursion P (drop m xs)
+all_taken P zero xs h = (tt, h)
+all_taken P (suc m) [] h = (tt, tt)
+all_taken P (suc m) (x ∷ xs) h = (let r = all_taken P m xs h.1 in ((h.0, r.0), r.1))
+
+-- the lines of calls, and within them those of the blocks that ran again, leave both
+body_leads : (head : Head) (f : Frame) (b : Behind) (before es : List CallRecord) (agains more : List Again) (rest : List ℕ) → AllByRecursion IsEntry es → AllByRecursion IsTold more → MayTell f.version more
+    → AreAgain (length f.arena) (length before) (before ++ es) more
+    → LeadsIn head f (within (places.InCalls head b) f before agains []) (before ++ es) (agains ++ more) (call_lines (length before) es more ++ rest) rest
+body_leads head f b before es agains [] rest h t m g = (
+  behind_calls f.version b es,
+  subst (λ (all : List Again). Leads (within (places.InCalls head b) f before agains []) (within (places.InCalls head (behind_calls f.version b es)) f (before ++ es) all []) (flat_map call_line es ++ rest) rest) (sym (append-nil agains))
+      (calls_lead head f b before es agains rest h),
+)
+body_leads head f b before es agains (a ∷ more) rest h t m g =
+    let i : IsAgain (length f.arena) (before ++ es) a = g.0 in
+    let n = length before in
+    let j = i.place - n in
+    let count : a.kept - n ≡ suc j = omega (arith, i.kept, g.1) in
+    let there : n + j ≡ i.place = omega (arith, i.kept, g.1) in
+    let got : slice_get es j ≡ slice_get (before ++ es) i.place = sym (got_past before es j) ∙ ap (slice_get (before ++ es)) there in
+    let l = last_begins es j (slice_get (before ++ es) i.place) got i.begins in
+    let first : List CallRecord = take (suc j) es in
+    let later : List CallRecord = drop (suc j) es in
+    let parts = all_taken IsEntry (suc j) es h in
+    let whole : (before ++ first) ++ later ≡ before ++ es = append_assoc before first later ∙ ap (λ (x : List CallRecord). before ++ x) (take-append-drop (suc j) es) in
+    let size : length (before ++ first) ≡ a.kept = omega (arith, length-append before first, ap (length {A = CallRecord}) l.1, length-append (take j es) (l.0 ∷ []), there_is es j (slice_get (before ++ es) i.place) got i.begins, i.kept, g.1) in
+    let begun : behind_calls f.version b first ≡ behinds.Begin = ap (behind_calls f.version b) l.1 ∙ behind_last f.version b (take j es) l.0 ∙ begins_there f.version l.0 a more m l.2 in
+    let s : State = within (places.InCalls head b) f before agains [] in
+    let u : State = within (places.InCalls head behinds.Begin) f (before ++ first) agains [] in
+    let v : State = within (places.InCalls head behinds.Restart) f (before ++ first) (agains ++ a ∷ []) [] in
+    let third : List ℕ = call_lines a.kept later more ++ rest in
+    let second : List ℕ = again_lines a ++ third in
+    let one : Leads s u (flat_map call_line first ++ second) second =
+    subst (λ (c : Behind). Leads s (within (places.InCalls head c) f (before ++ first) agains []) (flat_map call_line first ++ second) second) begun (calls_lead head f b before first agains second parts.0) in
+    let two : Leads u v second third = again_leads head f (before ++ first) agains a third size i.arena t.0 in
+    let again : AreAgain (length f.arena) (length (before ++ first)) ((before ++ first) ++ later) more =
+    subst (λ (k : ℕ). AreAgain (length f.arena) k ((before ++ first) ++ later) more) (sym size) (subst (λ (all : List CallRecord). AreAgain (length f.arena) a.kept all more) (sym whole) g.2) in
+    let next = body_leads head f behinds.Restart (before ++ first) later (agains ++ a ∷ []) more rest parts.1 t.1 (may_later f.version a more m) again in
+    let w : State = within (places.InCalls head next.0) f (before ++ es) (agains ++ a ∷ more) [] in
+    let three : Leads v w third rest =
+    subst (λ (k : ℕ). Leads v w (call_lines k later more ++ rest) rest) size
+    (subst (λ (all : List CallRecord). Leads v (within (places.InCalls head next.0) f all (agains ++ a ∷ more) []) (call_lines (length (before ++ first)) later more ++ rest) rest) whole
+    (subst (λ (all : List Again). Leads v (within (places.InCalls head next.0) f ((before ++ first) ++ later) all []) (call_lines (length (before ++ first)) later more ++ rest) rest) (append_assoc agains (a ∷ []) more) next.1)) in
+    let text : call_lines n es (a ∷ more) ++ rest ≡ flat_map call_line first ++ second =
+    ap (λ (k : ℕ). (flat_map call_line (take k es) ++ again_lines a ++ call_lines a.kept (drop k es) more) ++ rest) count
+    ∙ parts_three (flat_map call_line first) (again_lines a) (call_lines a.kept later more) rest in
+    (next.0, subst (λ (x : List ℕ). Leads s w x rest) (sym text) (leads_on s u w (flat_map call_line first ++ second) second rest one (leads_on u v w second third rest two three)))
+
+-- ### Actions that ran, and the end
+
+-- the attempt that these lines tell
+abbrev told_by : Head → List ℕ → List CallRecord → List Again → List Ran → Attempt
+told_by head arena calls restarts ran =
+    record { thread = head.thread; nth = head.nth; began = 0; at = head.at; props = head.props; arena = arena; calls = record { list = calls; room = 0 }; restarts = restarts; ran = ran; outcome = head.outcome }
+
+-- the last line of an attempt is of one field
+end_field : AreFields (codes "end" ∷ [])
+end_field = ((lit< tt, refl), tt)
+
+-- the last line of an attempt leaves the attempt
+end_leads : (o : Option Behind) (head : Head) (f : Frame) (calls : List CallRecord) (agains : List Again) (ran : List Ran) (rest : List ℕ)
+    → Leads (within (late o head) f calls agains ran) (between f.version f.memory (f.attempts ++ told_by head f.arena calls agains ran ∷ [])) (codes "end\n" ++ rest) rest
+end_leads o head f calls agains ran rest =
+    let s : State = within (late o head) f calls agains ran in
+    let t : State = between f.version f.memory (f.attempts ++ told_by head f.arena calls agains ran ∷ []) in
+    line_leads s t (codes "end" ∷ []) (codes "end\n") rest refl end_field
+    (says_again s t (codes "end") [] (at_end o head f calls agains ran (codes "end")) end_field (end_says o s head))
+
+-- the lines of actions that ran, and the last line, leave the attempt
+ran_lead : (o : Option Behind) (head : Head) (f : Frame) (calls : List CallRecord) (agains : List Again) (before rs : List Ran) (rest : List ℕ) → AllByRecursion IsRan rs
+    → Leads (within (late o head) f calls agains before) (between f.version f.memory (f.attempts ++ told_by head f.arena calls agains (before ++ rs) ∷ [])) (flat_map ran_line rs ++ (codes "end\n" ++ rest)) rest
+ran_lead o head f calls agains before [] rest h =
+    subst (λ (all : List Ran). Leads (within (late o head) f calls agains before) (between f.version f.memory (f.attempts ++ told_by head f.arena calls agains all ∷ [])) (codes "end\n" ++ rest) rest)
+    (sym (append-nil before)) (end_leads o head f calls agains before rest)
+ran_lead o head f calls agains before (r ∷ rs) rest h =
+    let s : State = within (late o head) f calls agains before in
+    let t : State = within (places.InRan head) f calls agains (before ++ r ∷ []) in
+    let after : List ℕ = flat_map ran_line rs ++ (codes "end\n" ++ rest) in
+    let whole : List Ran → State = λ all. between f.version f.memory (f.attempts ++ told_by head f.arena calls agains all ∷ []) in
+    let says : meaning s (joined (ran_fields r)) ≡ Ok t =
+    says_again s t (codes "ran") (kind_text r.kind ∷ decimal r.action.fun ∷ decimal r.action.arg ∷ []) (at_end o head f calls agains before (joined (ran_fields r))) (ran_are r h.0)
+    (ran_says o s head r h.0) in
+    let first : Leads s t (ran_line r ++ after) after = line_leads s t (ran_fields r) (ran_line r) after (ran_joined r) (ran_are r h.0) says in
+    let more : Leads t (whole (before ++ r ∷ [] ++ rs)) after rest = ran_lead None head f calls agains (before ++ r ∷ []) rs rest h.1 in
+    subst (λ (all : List Ran). Leads s (whole all) (flat_map ran_line (r ∷ rs) ++ (codes "end\n" ++ rest)) rest) (append_assoc before (r ∷ []) rs)
+    (subst (λ (text : List ℕ). Leads s (whole (before ++ r ∷ [] ++ rs)) text rest) (sym (append_assoc (ran_line r) (flat_map ran_line rs) (codes "end\n" ++ rest)))
+    (leads_on s t (whole (before ++ r ∷ [] ++ rs)) (ran_line r ++ after) after rest first more))
+
+-- ### Whole attempts
+
+-- a line between attempts is told by its fields
+pub between_lines : (version : Version) (memory : List ℕ) (attempts : List Attempt) (line : List ℕ) → meaning (between version memory attempts) line ≡ fields_line (between version memory attempts) line
+unfolding meaning
+between_lines version memory attempts line = refl
+
+-- and so is one behind the first line of an attempt
+at_arena : (head : Head) (f : Frame) (line : List ℕ) → meaning (within (places.AtArena head) f [] [] []) line ≡ fields_line (within (places.AtArena head) f [] [] []) line
+unfolding meaning
+at_arena head f line = refl
+
+-- when its begin was called is not told
+told_again : (version : Version) (a : Attempt) → IsAttempt version a → told_by (head_in a) a.arena a.calls.list a.restarts a.ran ≡ a
+told_again version a h = λ i. record {
+  thread = a.thread;
+  nth = a.nth;
+  began = sym h.began i;
+  at = a.at;
+  props = a.props;
+  arena = a.arena;
+  calls = record { list = a.calls.list; room = sym h.room i };
+  restarts = a.restarts;
+  ran = a.ran;
+  outcome = a.outcome;
+}
+
+-- parts in a row, each with all that stands behind it
+parts_apart : (a b c d e rest : List ℕ) → a ++ b ++ c ++ d ++ e ++ rest ≡ a ++ (b ++ (c ++ (d ++ (e ++ rest))))
+parts_apart a b c d e rest = simp append_assoc
+
+-- the lines of an attempt in a row
+attempt_parts : (a : Attempt) (rest : List ℕ)
+    → attempt_lines a ++ rest ≡ head_line a ++ (arena_line a.arena ++ (call_lines 0 a.calls.list a.restarts ++ (flat_map ran_line a.ran ++ (codes "end\n" ++ rest))))
+unfolding attempt_lines
+attempt_parts a rest = parts_apart (head_line a) (arena_line a.arena) (call_lines 0 a.calls.list a.restarts) (flat_map ran_line a.ran) (codes "end\n") rest
+
+-- the lines of an attempt leave the attempt
+attempt_leads : (version : Version) (memory : List ℕ) (attempts : List Attempt) (a : Attempt) (rest : List ℕ) → IsAttempt version a
+    → Leads (between version memory attempts) (between version memory (attempts ++ a ∷ [])) (attempt_lines a ++ rest) rest
+attempt_leads version memory attempts a rest h =
+    let head : Head = head_in a in
+    let f : Frame = record { version = version; memory = memory; attempts = attempts; arena = a.arena } in
+    let s : State = between version memory attempts in
+    let t : State = within (places.AtArena head) (record f { arena = [] }) [] [] [] in
+    let u : State = within (places.InCalls head behinds.Call) f [] [] [] in
+    let w : State = between version memory (attempts ++ told_by head a.arena a.calls.list a.restarts a.ran ∷ []) in
+    let last : List ℕ = flat_map ran_line a.ran ++ (codes "end\n" ++ rest) in
+    let later : List ℕ = call_lines 0 a.calls.list a.restarts ++ last in
+    let heads : AreFields (head_fields a) = head_are version a h in
+    let arenas : AreFields (arena_fields a.arena) = arena_are a.arena h.arena.0 in
+    let one : Leads s t (head_line a ++ (arena_line a.arena ++ later)) (arena_line a.arena ++ later) =
+    line_leads s t (head_fields a) (head_line a) (arena_line a.arena ++ later) (head_joined a) heads
+    (says_again s t (codes "attempt") (decimal a.thread ∷ decimal a.nth ∷ decimal a.at ∷ outcome_name a.outcome ∷ props_text a.props ∷ []) (between_lines version memory attempts (joined (head_fields a))) heads
+    (head_says s a h)) in
+    let two : Leads t u (arena_line a.arena ++ later) later =
+    line_leads t u (arena_fields a.arena) (arena_line a.arena) later (arena_joined a.arena) arenas
+    (says_again t u (codes "arena") (arena_text a.arena ∷ []) (at_arena head (record f { arena = [] }) (joined (arena_fields a.arena))) arenas (arena_says t head a.arena h.arena.0 h.arena.1)) in
+    let body = body_leads head f behinds.Call [] a.calls.list [] a.restarts last (recursion_from_All IsEntry a.calls.list h.calls) (recursion_from_All IsTold a.restarts h.restarts) h.may h.again in
+    let v : State = within (places.InCalls head body.0) f a.calls.list a.restarts [] in
+    let four : Leads v w last rest = ran_lead (Some body.0) head f a.calls.list a.restarts [] a.ran rest (recursion_from_All IsRan a.ran h.ran) in
+    let all : Leads s w (head_line a ++ (arena_line a.arena ++ later)) rest =
+    leads_on s t w (head_line a ++ (arena_line a.arena ++ later)) (arena_line a.arena ++ later) rest one
+    (leads_on t u w (arena_line a.arena ++ later) later rest two (leads_on u v w later last rest body.1 four)) in
+    subst (λ (b : Attempt). Leads s (between version memory (attempts ++ b ∷ [])) (attempt_lines a ++ rest) rest) (told_again version a h)
+    (subst (λ (text : List ℕ). Leads s w text rest) (sym (attempt_parts a rest)) all)
+
+-- the lines of attempts leave the attempts
+pub attempts_lead : (version : Version) (memory : List ℕ) (before more : List Attempt) (rest : List ℕ) → AllByRecursion (IsAttempt version) more
+    → Leads (between version memory before) (between version memory (before ++ more)) (flat_map attempt_lines more ++ rest) rest
+attempts_lead version memory before [] rest h = stays (between version memory before) (between version memory (before ++ [])) rest (ap (between version memory) (sym (append-nil before)))
+attempts_lead version memory before (a ∷ more) rest h =
+    subst (λ (all : List Attempt). Leads (between version memory before) (between version memory all) (flat_map attempt_lines (a ∷ more) ++ rest) rest) (append_assoc before (a ∷ []) more)
+    (one_more attempt_lines a more (between version memory before) (between version memory (before ++ a ∷ [])) (between version memory (before ++ a ∷ [] ++ more)) rest
+    (attempt_leads version memory before a (flat_map attempt_lines more ++ rest) h.0) (attempts_lead version memory (before ++ a ∷ []) more rest h.1))

@@ -1,0 +1,33 @@
+-- The lines of a text that lead from one state to another.
+use Rattle.std.proofs.Common.{◌≡◌, ℕ, ◌+◌, List, ◌∷◌, ◌++◌, [], Ok, refl, sym, ap, ◌∙◌, append_assoc}
+use Rattle.std.specs.List.{slice_split}
+use Rattle.std.proofs.lemmas.List.Splits.{slice_split_at}
+use Rattle.script_fields.specs.Text.{is_feed, joined}
+use Rattle.script_fields.proofs.SpelledFields.{joined_line}
+use Rattle.history_reader.specs.declared.state.State.{State}
+use Rattle.history_reader.specs.Lines.{meaning}
+use Rattle.history_reader.specs.Reading.{parts_say}
+use Rattle.history_reader.proofs.RoundTrips.ReadLines.{ahead_on}
+use Rattle.history_reader.proofs.RoundTrips.Spellings.{AreFields}
+
+-- what a text says from one state on, its rest says from the other on
+abbrev pub Leads : State → State → List ℕ → List ℕ → Type 0
+Leads s t text rest = (n : ℕ) → (m : ℕ) × (parts_say s n (slice_split is_feed text) ≡ parts_say t m (slice_split is_feed rest))
+
+-- the same text leads to the same state
+pub stays : (s t : State) (text : List ℕ) → s ≡ t → Leads s t text text
+stays s t text e = λ n. (n, ap (λ (u : State). parts_say u n (slice_split is_feed text)) e)
+
+-- one text leads to a state, and from there its rest leads on
+pub leads_on : (s t u : State) (text more rest : List ℕ) → Leads s t text more → Leads t u more rest → Leads s u text rest
+leads_on s t u text more rest p q = λ n. (
+  (q (p n).0).0,
+  (p n).1 ∙ (q (p n).0).1,
+)
+
+-- a line that is spelled as fields leads to what it says
+pub line_leads : (s t : State) (fs : List (List ℕ)) (line rest : List ℕ) → line ≡ joined fs ++ 10 ∷ [] → AreFields fs → meaning s (joined fs) ≡ Ok t → Leads s t (line ++ rest) rest
+line_leads s t fs line rest e h m =
+    let text : line ++ rest ≡ joined fs ++ 10 ∷ rest = ap (λ (x : List ℕ). x ++ rest) e ∙ append_assoc (joined fs) (10 ∷ []) rest in
+    let parts : slice_split is_feed (line ++ rest) ≡ joined fs ∷ slice_split is_feed rest = ap (slice_split is_feed) text ∙ slice_split_at is_feed (joined fs) 10 rest (joined_line fs h).0 refl in
+    λ n. (n + 1, sym (ahead_on s t n (line ++ rest) rest (joined fs) (parts_say s n (slice_split is_feed (line ++ rest))) refl parts m))

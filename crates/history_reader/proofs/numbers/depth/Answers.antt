@@ -1,0 +1,19 @@
+use Rattle.std.proofs.Common.{◌≡◌, ℕ, ◌≤◌, Result, Ok, ap, sym, ◌∙◌, arith}
+use Rattle.itm_types.specs.declared.limits.Depth.{Depth}
+use Rattle.itm_types.specs.declared.limits.TheConstants.{MAX_DEPTH}
+use Rattle.script_fields.specs.declared.fault.AsmKind.{AsmKind}
+use Rattle.script_fields.specs.Operands.{◌>>=◌}
+use Rattle.history_reader.specs.Numbers.{depth, depth_from, ranged}
+use Rattle.history_reader.proofs.Values.{near_is, same_depth}
+use Rattle.history_reader.proofs.numbers.depth.Goals as goal
+
+pub returns : goal.returns
+unfolding depth
+returns c =
+    let n = c.in_ok-blocks.field-0 in
+    let limit : c.from.result ≡ MAX_DEPTH = c.from.ensures in
+    let low : 1 ≤ n = c.in_ok-blocks.ensures.low in
+    let few : n ≤ MAX_DEPTH = omega (arith, limit, c.in_ok-blocks.ensures.high) in
+    let read = c.in_ok-blocks.ensures.value ∙ ap (λ (k : ℕ). ranged 1 k c.args.field.now) limit in
+    let same : c.in-Some.depth ≡ depth_from n = same_depth c.in-Some.depth (depth_from n) (c.in-Some.ensures.value ∙ sym (near_is n low few)) in
+    ap (λ (d : Depth). Ok d) same ∙ ap (λ (r : Result ℕ AsmKind). r >>= λ k. Ok (depth_from k)) read

@@ -1,0 +1,13 @@
+use Rattle.tx_history.specs.Bounds.{RanFits}
+use Rattle.tx_history.specs.Histories.{undone_line}
+use Rattle.tx_history.proofs.AppendedTexts.{spells_all, spells_next, spells_none}
+use Rattle.tx_history.proofs.attempts.put_all_undone.Goals as goal
+
+pub loop-ran-init : goal.loop-ran-init
+loop-ran-init g c = spells_none undone_line RanFits _ c.args.all.now
+
+pub loop-ran-preserved : goal.loop-ran-preserved
+loop-ran-preserved g c = spells_next undone_line RanFits _ _ _ c.args.all.now c.loop-ran.ran-index _ c.loop-ran-test.true c.loop-ran.invariant c.put_undone.ensures
+
+pub returns : goal.returns
+returns g c = spells_all undone_line RanFits _ _ c.args.all.now c.loop-ran.ran-index c.loop-ran.invariant c.loop-ran-test.false
