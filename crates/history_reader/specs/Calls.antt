@@ -1,16 +1,16 @@
 -- The line of a call: an entry point or an access of the arena, its operands, and its reply.
 use Rattle.std.specs.Prelude.{ℕ, Bool, List, [], ◌∷◌, Option, Some, None, Result, Ok, codes}
-use Rattle.itm_types.specs.Entries.{entry_of}
+use Rattle.itm_entries.specs.Entries.{entry_of}
 use Rattle.itm_types.specs.declared.access.Width.{Width}
 use Rattle.itm_types.specs.declared.access.Width.TheVariants.{U1, U2, U4, U8}
 use Rattle.itm_types.specs.declared.call.Call.TheVariants as calls
 use Rattle.itm_types.specs.declared.call.Props.{Props}
 use Rattle.itm_types.specs.declared.call.Reply.{Reply}
 use Rattle.itm_types.specs.declared.datum.Datum.{Datum}
-use Rattle.itm_types.specs.declared.entry.Control.{Control}
-use Rattle.itm_types.specs.declared.entry.Control.TheVariants as controls
-use Rattle.itm_types.specs.declared.entry.Entry.{Entry as Point}
-use Rattle.itm_types.specs.declared.entry.Entry.TheVariants as points
+use Rattle.itm_entries.specs.declared.entry.Control.{Control}
+use Rattle.itm_entries.specs.declared.entry.Control.TheVariants as controls
+use Rattle.itm_entries.specs.declared.entry.Entry.{Entry as Point}
+use Rattle.itm_entries.specs.declared.entry.Entry.TheVariants as points
 use Rattle.script_fields.specs.declared.fault.AsmKind.{AsmKind}
 use Rattle.script_fields.specs.Names.{lookup}
 use Rattle.script_fields.specs.Operands.{◌>>=◌, both, or_operand, number, function, scope, mode, no_transaction}

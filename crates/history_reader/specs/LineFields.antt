@@ -2,15 +2,15 @@
 use Rattle.std.specs.Prelude.{ℕ, ◌==◌, ◌%◌, List, [], ◌∷◌, ◌++◌, length, decimal, codes, if◌then◌else◌}
 use Rattle.hex.specs.Hex.{encode_lower}
 use Rattle.itm_types.specs.Access.{size_of}
-use Rattle.itm_types.specs.Names.{name_of}
+use Rattle.itm_entries.specs.Names.{name_of}
 use Rattle.itm_types.specs.Refusals.{number_of}
 use Rattle.itm_types.specs.declared.call.Call.{Call}
 use Rattle.itm_types.specs.declared.call.Call.TheVariants as calls
 use Rattle.itm_types.specs.declared.call.Ran.{Ran}
 use Rattle.itm_types.specs.declared.call.Reply.{Reply}
 use Rattle.itm_types.specs.declared.call.Reply.TheVariants as replies
-use Rattle.itm_types.specs.declared.entry.Control.TheVariants as controls
-use Rattle.itm_types.specs.declared.entry.Entry.TheVariants as points
+use Rattle.itm_entries.specs.declared.entry.Control.TheVariants as controls
+use Rattle.itm_entries.specs.declared.entry.Entry.TheVariants as points
 use Rattle.script_fields.specs.Properties.{props_text}
 use Rattle.script_fields.specs.Spelling.{scope_text, mode_text, no_transaction_text}
 use Rattle.tx_attempts.specs.declared.attempt.Attempt.{Attempt}

@@ -11,7 +11,8 @@ use crate::operands::{
 };
 use crate::reply::ReplyKind;
 use crate::verb::{Verb, verb_of};
-use itm_types::{Action, Call, Control, Copying, Entry as Point};
+use itm_entries::{Control, Entry as Point};
+use itm_types::{Action, Call, Copying};
 use script_fields::AsmKind;
 use tx_attempts::CallRecord;
 

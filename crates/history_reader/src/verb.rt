@@ -3,7 +3,8 @@
 ghost use Rattle.std.specs.Prelude.{◌≡◌};
 ghost use Rattle.history_reader.specs.Calls.{verb_of};
 
-use itm_types::{Entry, Width, entry_of};
+use itm_entries::{Entry, entry_of};
+use itm_types::Width;
 use script_fields::lookup;
 
 /// What is called.

@@ -1,6 +1,6 @@
 -- What a worked case unfolds to compute.
 use Rattle.std.specs.Prelude.{⊤}
-use Rattle.itm_types.specs.Entries.{entry_of}
+use Rattle.itm_entries.specs.Entries.{entry_of}
 use Rattle.script_fields.proofs.OnLiterals.{fields_on_literals}
 use Rattle.script_program.specs.Listing.{bytes_of, codes_of}
 use Rattle.script_program.specs.Sections.{thread_total, instruction_total, expanded, counted_again}

@@ -5,10 +5,10 @@ use Rattle.std.proofs.lemmas.Slice.Eq.{bytes_eq-Decides}
 use Rattle.itm_types.specs.declared.access.Width.TheVariants as width
 use Rattle.itm_types.specs.declared.access.ReadHint.TheVariants as read
 use Rattle.itm_types.specs.declared.access.WriteHint.TheVariants as write
-use Rattle.itm_types.specs.declared.entry.Control.TheVariants as control
-use Rattle.itm_types.specs.declared.entry.Entry.{Entry}
-use Rattle.itm_types.specs.declared.entry.Entry.TheVariants as entry
-use Rattle.itm_types.specs.Entries.{entry_of}
+use Rattle.itm_entries.specs.declared.entry.Control.TheVariants as control
+use Rattle.itm_entries.specs.declared.entry.Entry.{Entry}
+use Rattle.itm_entries.specs.declared.entry.Entry.TheVariants as entry
+use Rattle.itm_entries.specs.Entries.{entry_of}
 use Rattle.script_asm.specs.declared.words.Word.TheVariants as words
 use Rattle.script_asm.specs.declared.words.Mnemonic.TheVariants as mnemonics
 use Rattle.script_asm.specs.Words.{word_of}

@@ -1,9 +1,9 @@
 -- The operands of a line of a thread's code.
 use Rattle.std.specs.Prelude.{ℕ, List, Result, Ok}
-use Rattle.itm_types.specs.declared.entry.Control.{Control}
-use Rattle.itm_types.specs.declared.entry.Control.TheVariants as controls
-use Rattle.itm_types.specs.declared.entry.Entry.{Entry}
-use Rattle.itm_types.specs.declared.entry.Entry.TheVariants as entries
+use Rattle.itm_entries.specs.declared.entry.Control.{Control}
+use Rattle.itm_entries.specs.declared.entry.Control.TheVariants as controls
+use Rattle.itm_entries.specs.declared.entry.Entry.{Entry}
+use Rattle.itm_entries.specs.declared.entry.Entry.TheVariants as entries
 use Rattle.script_fields.specs.declared.fault.AsmKind.{AsmKind}
 use Rattle.script_fields.specs.Operands.{◌>>=◌}
 use Rattle.script_fields.specs.Shapes.{none, one_register, two_registers, three_registers, register_number, register_literal, register_props, register_place, place_register, one_place, two_places, three_places, abort_scope, only_mode, commit_action, undo_action}

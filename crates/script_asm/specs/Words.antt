@@ -1,7 +1,7 @@
 -- What a first field is: a word of the table, or the name of an entry point.
 use Rattle.std.specs.Prelude.{ℕ, List, [], ◌∷◌, Option, Some, None, codes}
-use Rattle.itm_types.specs.declared.entry.Entry.{Entry}
-use Rattle.itm_types.specs.Entries.{entry_of}
+use Rattle.itm_entries.specs.declared.entry.Entry.{Entry}
+use Rattle.itm_entries.specs.Entries.{entry_of}
 use Rattle.script_fields.specs.Names.{lookup}
 use Rattle.script_program.specs.declared.instruction.Operation.TheVariants as operations
 use Rattle.script_program.specs.declared.instruction.ArenaWidth.TheVariants as widths

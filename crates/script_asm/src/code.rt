@@ -7,7 +7,7 @@ ghost use Rattle.script_fields.specs.Operands.{Sees};
 ghost use Rattle.script_asm.specs.Code.{control_code, entry_code, instruction_of};
 
 use crate::words::Mnemonic;
-use itm_types::{Control, Entry};
+use itm_entries::{Control, Entry};
 use script_fields::{
     AsmKind, abort_scope, commit_action, no_field, one_place, one_register, only_mode,
     place_register, register_literal, register_number, register_place, register_props,

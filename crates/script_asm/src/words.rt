@@ -5,7 +5,8 @@ ghost use Rattle.script_asm.specs.declared.words.Word.TheVariants as words;
 ghost use Rattle.script_asm.specs.declared.words.Mnemonic.TheVariants as mnemonics;
 ghost use Rattle.script_asm.specs.Words.{word_of};
 
-use itm_types::{Control, Entry, ReadHint, Width, WriteHint, entry_of};
+use itm_entries::{Control, Entry, entry_of};
+use itm_types::{ReadHint, Width, WriteHint};
 use script_fields::lookup;
 use script_program::{ArenaWidth, Operation};
 

@@ -2,9 +2,9 @@
 use Rattle.std.specs.Prelude.{◌≡◌, ℕ, ◌==◌, ◌≤◌, List, [], ◌∷◌, ◌++◌, length, map, Ok, if◌then◌else◌, codes, decimal}
 use Rattle.std.specs.List.{flat_map}
 use Rattle.hex.specs.Hex.{encode_lower}
-use Rattle.itm_types.specs.declared.entry.Control.TheVariants as controls
-use Rattle.itm_types.specs.declared.entry.Entry.TheVariants as entries
-use Rattle.itm_types.specs.Names.{name_of}
+use Rattle.itm_entries.specs.declared.entry.Control.TheVariants as controls
+use Rattle.itm_entries.specs.declared.entry.Entry.TheVariants as entries
+use Rattle.itm_entries.specs.Names.{name_of}
 use Rattle.script_fields.specs.Text.{joined, ended}
 use Rattle.script_fields.specs.Registers.{register_name}
 use Rattle.script_fields.specs.Properties.{props_text}

@@ -6,7 +6,7 @@ ghost use Rattle.script_print.specs.Printing.{instruction_fields, load_name, ope
 
 use crate::field::Field;
 use crate::line::put_line;
-use itm_types::{Control, Entry, name_of};
+use itm_entries::{Control, Entry, name_of};
 use script_fields::{props_text, scope_text};
 use script_program::{ArenaWidth, Instruction, Operation};
 use std::alloc::AllocError;

@@ -2,7 +2,7 @@
 use Rattle.std.specs.Prelude.{ℕ, ◌-◌, List, [], ◌∷◌, ◌++◌, length, take, drop, flat_map, decimal, codes, if◌then◌else◌, ◌==◌, ◌%◌}
 use Rattle.hex.specs.Hex.{encode_lower}
 use Rattle.itm_types.specs.Access.{size_of}
-use Rattle.itm_types.specs.Names.{name_of}
+use Rattle.itm_entries.specs.Names.{name_of}
 use Rattle.itm_types.specs.Refusals.{number_of}
 use Rattle.itm_types.specs.declared.access.WriteHint.{WriteHint}
 use Rattle.itm_types.specs.declared.call.Action.{Action}
@@ -17,7 +17,7 @@ use Rattle.itm_types.specs.declared.call.Call.TheVariants as calls
 use Rattle.itm_types.specs.declared.call.Ran.{Ran}
 use Rattle.itm_types.specs.declared.call.Reply.{Reply}
 use Rattle.itm_types.specs.declared.call.Reply.TheVariants as replies
-use Rattle.itm_types.specs.declared.entry.Entry.TheVariants as entry
+use Rattle.itm_entries.specs.declared.entry.Entry.TheVariants as entry
 use Rattle.tx_attempts.specs.declared.attempt.Outcome.{Outcome}
 use Rattle.tx_attempts.specs.declared.attempt.Outcome.TheVariants as outcomes
 use Rattle.tx_attempts.specs.declared.attempt.CallRecord.{CallRecord}

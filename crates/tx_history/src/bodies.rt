@@ -3,21 +3,19 @@
 ghost use Rattle.std.specs.Prelude.{◌≡◌, ◌≤◌, ◌++◌, codes, decimal};
 ghost use Rattle.hex.specs.Hex.{encode_lower};
 ghost use Rattle.itm_types.specs.Access.{size_of};
-ghost use Rattle.itm_types.specs.Names.{name_of};
+ghost use Rattle.itm_entries.specs.Names.{name_of};
 ghost use Rattle.itm_types.specs.Refusals.{number_of};
 ghost use Rattle.script_fields.specs.Properties.{props_text};
 ghost use Rattle.script_fields.specs.Spelling.{scope_text};
-ghost use Rattle.itm_types.specs.declared.entry.Entry.{Entry};
+ghost use Rattle.itm_entries.specs.declared.entry.Entry.{Entry};
 ghost use Rattle.tx_history.specs.Bounds.{CallFits, IsAction, IsCopying, IsDatum, IsWord, ReplyFits};
 ghost use Rattle.tx_history.specs.Pages.{Carries, Spells};
 ghost use Rattle.tx_history.specs.Histories.{copy_text, fill_text, commit_action_text, undo_action_text, body_text, reply_text};
 
 use crate::page::Page;
 use crate::pieces::Piece;
-use itm_types::{
-    Action, Call, Copying, Datum, Entry as Function, Props, Refusal, Reply, Width, WriteHint,
-    name_of,
-};
+use itm_entries::{Entry as Function, name_of};
+use itm_types::{Action, Call, Copying, Datum, Props, Refusal, Reply, Width, WriteHint};
 use script_fields::{props_text, scope_text};
 use std::io::Write;
 

@@ -3,15 +3,15 @@ use Rattle.std.proofs.Common.{◌≡◌, ℕ, ◌%◌, ◌<◌, ◌≤◌, List,
 use Rattle.std.specs.Prelude.{decimal, bytes_eq, codes}
 use Rattle.std.proofs.lemmas.Fmt.{decimal_digit}
 use Rattle.hex.specs.Hex.{encode_lower}
-use Rattle.itm_types.specs.Entries.{entry_of}
-use Rattle.itm_types.proofs.UniqueNames.{entry_of-exact}
+use Rattle.itm_entries.specs.Entries.{entry_of}
+use Rattle.itm_entries.proofs.UniqueNames.{entry_of-exact}
 use Rattle.itm_types.specs.declared.access.Width.{Width}
 use Rattle.itm_types.specs.declared.call.Call.TheVariants as calls
 use Rattle.itm_types.specs.declared.datum.Datum.{Datum}
-use Rattle.itm_types.specs.declared.entry.Control.{Control}
-use Rattle.itm_types.specs.declared.entry.Control.TheVariants as controls
-use Rattle.itm_types.specs.declared.entry.Entry.{Entry as Point}
-use Rattle.itm_types.specs.declared.entry.Entry.TheVariants as points
+use Rattle.itm_entries.specs.declared.entry.Control.{Control}
+use Rattle.itm_entries.specs.declared.entry.Control.TheVariants as controls
+use Rattle.itm_entries.specs.declared.entry.Entry.{Entry as Point}
+use Rattle.itm_entries.specs.declared.entry.Entry.TheVariants as points
 use Rattle.script_fields.specs.Properties.{props_text}
 use Rattle.script_fields.specs.Spelling.{scope_text, mode_text, no_transaction_text}
 use Rattle.script_fields.specs.Names.{lookup}

@@ -3,13 +3,13 @@ use Rattle.std.proofs.Common.{◌≡◌, ℕ, ◌%◌, Bool, true, false, cond, 
 use Rattle.std.specs.Prelude.{decimal, codes}
 use Rattle.hex.specs.Hex.{encode_lower}
 use Rattle.itm_types.specs.Access.{size_of}
-use Rattle.itm_types.specs.Names.{name_of}
+use Rattle.itm_entries.specs.Names.{name_of}
 use Rattle.itm_types.specs.declared.call.Call.{Call}
 use Rattle.itm_types.specs.declared.call.Call.TheVariants as calls
 use Rattle.itm_types.specs.declared.call.Ran.{Ran}
 use Rattle.itm_types.specs.declared.call.Reply.{Reply}
 use Rattle.itm_types.specs.declared.call.Reply.TheVariants as replies
-use Rattle.itm_types.specs.declared.entry.Entry.TheVariants as points
+use Rattle.itm_entries.specs.declared.entry.Entry.TheVariants as points
 use Rattle.itm_types.specs.declared.limits.Depth.{Depth}
 use Rattle.script_fields.specs.Properties.{props_text}
 use Rattle.script_fields.specs.Text.{joined}

@@ -10,9 +10,9 @@ use Rattle.std.proofs.lemmas.Slice.Eq.{bytes_eq-Decides}
 use Rattle.hex.specs.Hex.{IsBytes, encode_lower, encode_with, lower_digits}
 use Rattle.hex.proofs.HexLemmas.{decode_of-encode_lower, length-encode_with}
 use Rattle.itm_types.specs.Access.{size_of}
-use Rattle.itm_types.specs.Names.{name_of}
+use Rattle.itm_entries.specs.Names.{name_of}
 use Rattle.itm_types.specs.Refusals.{number_of}
-use Rattle.itm_types.proofs.UniqueNames.{entry_of-exact}
+use Rattle.itm_entries.proofs.UniqueNames.{entry_of-exact}
 use Rattle.itm_types.specs.declared.access.Width.{Width}
 use Rattle.itm_types.specs.declared.access.Width.TheVariants.{U1, U2, U4, U8, F, D, M64, M128, M256, CF, CD}
 use Rattle.itm_types.specs.declared.call.ActionKind.{ActionKind}
@@ -21,7 +21,7 @@ use Rattle.itm_types.specs.declared.call.Props.{Props}
 use Rattle.itm_types.specs.declared.call.Refusal.{Refusal}
 use Rattle.itm_types.specs.declared.call.Refusal.TheVariants as refusals
 use Rattle.itm_types.specs.declared.datum.Datum.{Datum}
-use Rattle.itm_types.specs.declared.entry.Entry.{Entry as Point}
+use Rattle.itm_entries.specs.declared.entry.Entry.{Entry as Point}
 use Rattle.itm_types.specs.declared.limits.Depth.{Depth}
 use Rattle.itm_types.specs.declared.limits.TheConstants.{MAX_ARENA, MAX_DEPTH}
 use Rattle.script_fields.specs.declared.fault.AsmKind.{AsmKind}

@@ -8,10 +8,10 @@ use Rattle.std.proofs.lemmas.List.Splits.{slice_split_at, slice_split_none}
 use Rattle.std.proofs.lemmas.List.Sums.{AllPass-from_list_all}
 use Rattle.hex.specs.Hex.{IsBytes, encode_lower}
 use Rattle.itm_types.specs.Access.{size_of}
-use Rattle.itm_types.specs.Entries.{entries}
-use Rattle.itm_types.specs.Names.{name_of}
+use Rattle.itm_entries.specs.Entries.{entries}
+use Rattle.itm_entries.specs.Names.{name_of}
 use Rattle.itm_types.specs.Refusals.{number_of}
-use Rattle.itm_types.proofs.AllEntries.{listed}
+use Rattle.itm_entries.proofs.AllEntries.{listed}
 use Rattle.itm_types.specs.declared.call.ActionKind.{ActionKind}
 use Rattle.itm_types.specs.declared.call.ActionKind.TheVariants as when
 use Rattle.itm_types.specs.declared.call.Call.{Call}
@@ -19,7 +19,7 @@ use Rattle.itm_types.specs.declared.call.Call.TheVariants as calls
 use Rattle.itm_types.specs.declared.call.Ran.{Ran}
 use Rattle.itm_types.specs.declared.call.Reply.{Reply}
 use Rattle.itm_types.specs.declared.call.Reply.TheVariants as replies
-use Rattle.itm_types.specs.declared.entry.Entry.{Entry as Point}
+use Rattle.itm_entries.specs.declared.entry.Entry.{Entry as Point}
 use Rattle.script_fields.specs.Text.{IsField, is_field_byte, joined}
 use Rattle.script_fields.proofs.SpelledNumbers.{decimal_field}
 use Rattle.script_fields.proofs.SpelledOperands.{hex_field, props_field, scope_field, mode_field, no_transaction_field}

@@ -7,10 +7,10 @@ use Rattle.std.proofs.lemmas.List.Concat.{flat_map-cons}
 use Rattle.std.proofs.lemmas.List.Sums.{sum_by-cons}
 use Rattle.itm_types.specs.Limits.{AreWithin}
 use Rattle.itm_types.specs.declared.limits.TheConstants.{MAX_MEMORY, MAX_ARENA, MAX_ACTORS}
-use Rattle.itm_types.specs.declared.entry.Control.{Control}
-use Rattle.itm_types.specs.declared.entry.Control.TheVariants as controls
-use Rattle.itm_types.specs.declared.entry.Entry.TheVariants as entries
-use Rattle.itm_types.specs.Names.{name_of}
+use Rattle.itm_entries.specs.declared.entry.Control.{Control}
+use Rattle.itm_entries.specs.declared.entry.Control.TheVariants as controls
+use Rattle.itm_entries.specs.declared.entry.Entry.TheVariants as entries
+use Rattle.itm_entries.specs.Names.{name_of}
 use Rattle.script_fields.specs.Text.{IsField}
 use Rattle.script_fields.proofs.SpelledNumbers.{decimal_field}
 use Rattle.script_fields.proofs.SpelledOperands.{register_field, place_field, hex_field, literal_field, props_field, scope_field, mode_field, no_transaction_field}

@@ -1,8 +1,8 @@
 -- The line of an instruction says the instruction.
 use Rattle.std.proofs.Common.{◌≡◌, ℕ, cond, List, [], ◌∷◌, Some, None, Result, Ok, refl, sym, ◌∙◌}
 use Rattle.std.specs.Prelude.{if◌then◌else◌}
-use Rattle.itm_types.specs.declared.entry.Control.TheVariants as controls
-use Rattle.itm_types.specs.declared.entry.Entry.TheVariants as entries
+use Rattle.itm_entries.specs.declared.entry.Control.TheVariants as controls
+use Rattle.itm_entries.specs.declared.entry.Entry.TheVariants as entries
 use Rattle.script_fields.specs.declared.fault.AsmFault.{AsmFault}
 use Rattle.script_fields.specs.declared.fault.AsmKind.TheVariants as kinds
 use Rattle.script_fields.proofs.SpelledShapes.{none_again, one_register_again, two_registers_again, three_registers_again, register_number_again, register_literal_again, register_props_again, register_place_again, place_register_again, one_place_again, two_places_again, three_places_again, abort_scope_again, only_mode_again, commit_action_again, undo_action_again}

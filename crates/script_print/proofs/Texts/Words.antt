@@ -4,11 +4,11 @@ use Rattle.std.specs.Prelude.{codes}
 use Rattle.std.specs.List.{list_all}
 use Rattle.std.proofs.lemmas.List.Elements.{All-contains}
 use Rattle.std.proofs.lemmas.List.Sums.{AllPass-from_list_all}
-use Rattle.itm_types.specs.declared.entry.Entry.{Entry}
-use Rattle.itm_types.specs.Names.{name_of}
-use Rattle.itm_types.specs.Entries.{entries, entry_of}
-use Rattle.itm_types.proofs.AllEntries.{listed}
-use Rattle.itm_types.proofs.UniqueNames.{entry_of-exact}
+use Rattle.itm_entries.specs.declared.entry.Entry.{Entry}
+use Rattle.itm_entries.specs.Names.{name_of}
+use Rattle.itm_entries.specs.Entries.{entries, entry_of}
+use Rattle.itm_entries.proofs.AllEntries.{listed}
+use Rattle.itm_entries.proofs.UniqueNames.{entry_of-exact}
 use Rattle.script_fields.specs.Text.{IsField, is_field_byte}
 use Rattle.script_program.specs.declared.instruction.Operation.{Operation}
 use Rattle.script_program.specs.declared.instruction.Operation.TheVariants as operations

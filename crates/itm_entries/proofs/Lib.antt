@@ -1,0 +1,5 @@
+pub mod Members
+pub mod AllEntries
+pub mod UniqueNames
+pub mod Lookup
+pub mod Examples

@@ -1,0 +1,10 @@
+//! The entry points that a compiled program calls, and their names.
+#![tactic(auto)]
+
+mod entries;
+mod entry;
+mod names;
+
+pub use entries::all_entries;
+pub use entry::{Control, Entry};
+pub use names::{entry_of, name_of};
