@@ -328,6 +328,7 @@ check 'a history in which an update is lost' 3
 . "$root/tests/judging.sh"
 . "$root/tests/histories.sh"
 . "$root/tests/versions.sh"
+. "$root/tests/largest.sh"
 . "$root/tests/restarts.sh"
 . "$root/tests/scripts.sh"
 . "$root/tests/threads.sh"

@@ -9,7 +9,8 @@ line 1: wrong operand|.memory +8
 line 1: wrong operand|.memory 08
 line 1: out of range|.memory 0\n.thread
 line 1: out of range|.memory 12\n.thread
-line 1: out of range|.memory 65544\n.thread
+line 1: out of range|.memory 1048584\n.thread
+line 1: out of range|.memory 1048577\n.thread
 line 1: out of range|.memory 18446744073709551624\n.thread
 line 2: misplaced|.memory 8\n.memory 9
 line 3: misplaced|.memory 8\n.thread\n.memory 8
@@ -46,6 +47,18 @@ line 1: out of range|.commits 0
 line 1: out of range|.commits 4611686018427387904
 line 2: misplaced|.commits 1\n.commits 0
 line 3: misplaced|.memory 8\n.thread\n.commits 1
+line 1: wrong operand|.depth
+line 1: wrong operand|.depth 1 2
+line 1: wrong operand|.depth r1
+line 1: wrong operand|.depth -1
+line 1: wrong operand|.depth 016
+line 1: out of range|.depth 0
+line 1: out of range|.depth 65
+line 1: out of range|.depth 18446744073709551616
+line 1: unknown name|.Depth 16
+line 2: misplaced|.depth 5\n.depth
+line 2: misplaced|.depth 16\n.depth 16
+line 3: misplaced|.memory 8\n.thread\n.depth 1
 line 1: wrong operand|.schedule
 line 1: wrong operand|.schedule 0
 line 1: wrong operand|.schedule x1
@@ -63,6 +76,7 @@ line 1: out of range|.schedule 18446744073709551616!
 line 3: misplaced|.memory 8\n.thread\n.schedule 0!
 line 1: out of range|.schedule 0! 1!\n.schedule 2!\n.memory 8\n.thread
 line 2: out of range|.schedule 0!\n.schedule 31x5 32x5\n.memory 8\n.thread 32
+line 1: out of range|.schedule 63x5 64x5\n.memory 8\n.thread 64
 line 1: out of range|.schedule 256!\n.memory 8\n.thread 32
 line 1: out of range|.schedule 18446744073709551615x1\n.memory 8\n.thread
 line 0: misplaced|.schedule 300!\n.memory 8
@@ -72,8 +86,9 @@ line 2: wrong operand|.memory 8\n.thread 1 1
 line 2: out of range|.memory 8\n.thread 0
 line 2: out of range|.memory 8\n.thread 18446744073709551616
 line 2: too long|.memory 8\n.thread 18446744073709551615
-line 2: too long|.memory 8\n.thread 33
-line 4: too long|.memory 8\n.thread 31\n.thread 1\n.thread
+line 2: too long|.memory 8\n.thread 65
+line 3: too long|.memory 8\n.thread 64\n.thread
+line 4: too long|.memory 8\n.thread 63\n.thread 1\n.thread
 line 1: misplaced|.thread
 line 1: misplaced|set r16 1
 line 1: misplaced|_ITM_commitTransaction
@@ -142,7 +157,7 @@ line 8: misplaced|ifnz r1\nelse\nifnz r2\nelse\nendif\nelse
 line 4: misplaced|_ITM_beginTransaction r0 -\n.schedule 0!
 line 3: unbalanced|.rept 2\nset r1 1
 line 3: unbalanced|ifnz r1\nset r1 1\nelse
-line 3: unbalanced|ifnz r1\n.thread 33
+line 3: unbalanced|ifnz r1\n.thread 65
 line 3: unbalanced|_ITM_beginTransaction r0 -\nifnz r1\nendif\n.thread
 END
 
@@ -267,6 +282,7 @@ line 3: misplaced|.arena x
 line 3: misplaced|.patience 0
 line 3: misplaced|.retries
 line 3: misplaced|.commits 0
+line 3: misplaced|.depth x
 END
 
 # sections count once, and an end without its beginning goes before their number
@@ -321,13 +337,14 @@ refused 'one item more, and one of no events' 'line 1: out of range'
 
 # the largest and the least that a script may say
 cat >"$work/input" <<'END'
-.memory 65536
+.memory 1048576
 .arena 4096
 .patience 1000
 .retries 10000
 .commits 4611686018427387903
-.schedule 31x1000000
-.thread 32
+.depth 64
+.schedule 63x1000000
+.thread 64
 END
 cp "$work/input" "$work/want_output"
 printed 'the largest of each number'
@@ -337,8 +354,25 @@ cat >"$work/want_output" <<'END'
 .patience 1
 .retries 0
 .commits 1
+.depth 1
 .schedule 0x1
 .thread
 END
 sed 's/^\.thread$/.thread 1/' "$work/want_output" >"$work/input"
 printed 'the least of each number'
+
+# the depth is printed where it is not 16, whichever limit a script says first, and where it says it
+for depth in 15 17; do
+    printf '.depth %s\n.memory 8\n.thread\n' $depth >"$work/input"
+    {
+        canonical 8
+        printf '.depth %s\n.thread\n' $depth
+    } >"$work/want_output"
+    printed "a depth of $depth"
+done
+printf '.memory 8\n.depth 16 ; as where it is not said\n.thread\n' >"$work/input"
+{
+    canonical 8
+    printf '.thread\n'
+} >"$work/want_output"
+printed 'a depth of 16'

@@ -251,12 +251,30 @@ printed 'as many digits as may be'
     echo
 } >"$work/want_output"
 run sched -
-check 'each byte of the largest memory' 0
+check 'each byte of as many digits' 0
 {
     cat "$work/digits"
     printf 00
 } >"$work/input"
 refused 'two digits more' 'line 2: out of range'
+{
+    printf '.memory 1048576\n'
+    sed 1d "$work/digits"
+    printf 00
+} >"$work/input"
+refused 'two digits more, in a larger memory' 'line 2: out of range'
+{
+    printf '.memory 1048576\n.init 983040 '
+    repeated 65536 Fe
+    printf '\n.init 1048575 00\n.thread 64'
+} >"$work/input"
+{
+    canonical 1048576
+    printf '.init 983040 '
+    repeated 65536 fe
+    printf '\n.init 1048575 00\n.thread 64\n'
+} >"$work/want_output"
+printed 'as many digits at the end of the largest memory'
 {
     cat "$work/digits"
     printf 0

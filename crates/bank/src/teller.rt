@@ -7,7 +7,7 @@ ghost use Rattle.bank.specs.Tellers.{HaveServed, IsReady, ended};
 use crate::fault::Fault;
 use crate::transfer::{Outcome, RECEIPT, Transfer, make};
 use itm_runtime::Thread;
-use itm_types::{Limits, MAX_COMMITS, Ran};
+use itm_types::{Limits, MAX_COMMITS, Ran, USUAL_DEPTH};
 use shared_words::{Pass, Words};
 use std::alloc::Global;
 use undo_log::Arena;
@@ -25,6 +25,7 @@ const LIMITS: Limits = Limits {
     patience: 8,
     retries: 0,
     max_commits: MAX_COMMITS,
+    depth: USUAL_DEPTH,
 };
 
 /// A pass that has come back, and what was done with it.
@@ -102,7 +103,7 @@ pub fn serve(alloc: Global, words: &Words, pass: Pass) -> Served
     ensures { IfOk result (HaveServed words.now 1) }
 {
     let arena = Arena::new(alloc, 0)?;
-    let mut thread = Thread::new(alloc, words, pass, arena, LIMITS);
+    let mut thread = Thread::new(alloc, words, pass, arena, LIMITS)?;
     let tally = make_all(words, &mut thread)?;
     match thread.into_parts() {
         Ok((pass, _arena)) => Ok((pass, tally)),

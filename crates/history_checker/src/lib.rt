@@ -2,7 +2,6 @@
 //! attempt alone on what so many first ones leave. An inner block that ran again goes on from the arena that is told.
 #![tactic(auto)]
 
-mod depths;
 mod endings;
 mod matches;
 mod replays;

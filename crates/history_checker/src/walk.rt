@@ -7,12 +7,11 @@ ghost use Rattle.tx_history.specs.Versions.{depth_of};
 ghost use Rattle.history_checker.specs.Verdicts.{committed_fault, fault_at};
 ghost use Rattle.history_checker.specs.Tables.{AreLinks, AreSlots, AreTold, IsRest, first_at};
 
-use crate::depths::depth_of;
 use crate::replays::{Told, replay_committed, replay_other};
 use crate::tables::{Links, attempt_at, lookup};
 use crate::verdict::{Spot, at_place};
 use itm_model::{Plain, WORD};
-use itm_types::{MAX_ARENA, MAX_TOLD_MEMORY, Props};
+use itm_types::{MAX_ARENA, MAX_MEMORY, Props};
 use std::alloc::{AllocError, Global};
 use tx_history::History;
 
@@ -96,7 +95,7 @@ pub(crate) fn walk_all(
     links: &Links,
 ) -> Result<Walked, AllocError>
     requires some { WORD ≤ length history.now.memory }
-    requires room { length history.now.memory ≤ MAX_TOLD_MEMORY }
+    requires room { length history.now.memory ≤ MAX_MEMORY }
     requires words { length history.now.memory % WORD ≡ 0 }
     requires arenas { All (λ a. length a.arena ≤ MAX_ARENA) history.now.attempts }
     requires slots { AreSlots (count_committed history.now.attempts) history.now.attempts slots.now }
@@ -130,13 +129,13 @@ fn put(told: &mut Vec<Told>, i: usize, new: Told)
 /// The machine before the first commit, with nothing told.
 fn start(alloc: Global, history: &History) -> Result<Walk, AllocError>
     requires some { WORD ≤ length history.now.memory }
-    requires room { length history.now.memory ≤ MAX_TOLD_MEMORY }
+    requires room { length history.now.memory ≤ MAX_MEMORY }
     requires words { length history.now.memory % WORD ≡ 0 }
     ensures rest { IfOk result (λ w. IsRest history.now 0 w.plain w.base.items) }
     ensures told { IfOk result (λ w. AreTold history.now 0 (length history.now.attempts) w.told.items) }
 {
     let memory = history.memory.as_slice();
-    let deepest = depth_of(history.version);
+    let deepest = history.version.depth();
     let plain = Plain::new(alloc, memory, &[], deepest, Props::default())?;
     let base = memory.to_vec(alloc)?;
     let mut told = Vec::new(alloc);

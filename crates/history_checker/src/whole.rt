@@ -11,7 +11,7 @@ use crate::tables::{beyond, count, link, place};
 use crate::verdict::Verdict;
 use crate::walk::walk_all;
 use itm_model::WORD;
-use itm_types::{MAX_ARENA, MAX_TOLD_MEMORY};
+use itm_types::{MAX_ARENA, MAX_MEMORY};
 use std::alloc::{AllocError, Global};
 use tx_history::History;
 
@@ -19,7 +19,7 @@ use tx_history::History;
 /// its calls touch; beside two copies of the memory it keeps what the calls of one attempt overwrite, each time anew.
 pub fn check(alloc: Global, history: &History) -> Result<Verdict, AllocError>
     requires some { WORD ≤ length history.now.memory }
-    requires room { length history.now.memory ≤ MAX_TOLD_MEMORY }
+    requires room { length history.now.memory ≤ MAX_MEMORY }
     requires words { length history.now.memory % WORD ≡ 0 }
     requires arenas { All (λ a. length a.arena ≤ MAX_ARENA) history.now.attempts }
     ensures verdict { IfOk result (λ v. v ≡ verdict_of history.now) }

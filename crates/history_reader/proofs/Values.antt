@@ -1,23 +1,19 @@
--- Digits as bytes, values of a width, and depths.
+-- Digits as bytes, and values of a width.
 use Rattle.std.proofs.Common.{◌≡◌, ℕ, ◌*◌, ◌<◌, ◌/◌, ◌%◌, ◌≤◌, true, eqb, not, ◌&&◌, leb, List, length, take, replicate, Result, Ok, Err, refl, ◌∙◌, arith, inl, inr}
 use Rattle.std.specs.List.{list_all}
 use Rattle.std.proofs.lemmas.Bool.{and_parts, eqb-false, not-true, or_cases, leb-true, le-leb, lt-leb}
 use Rattle.std.proofs.lemmas.List.{take-append-le}
 use Rattle.std.proofs.lemmas.Grind.{common_steps}
-use denote.Struct.Props.{props}
 use mathlib.Core.HLevel.{is_prop→PathP}
 use native.Mathlib.Nat.{ℕ_set}
 use Rattle.std.specs.Prelude.{MatchResult}
 use Rattle.hex.specs.declared.error.FromHexError.{FromHexError}
 use Rattle.hex.specs.Hex.{is_hex_digit, decode_sized}
 use Rattle.itm_types.specs.declared.datum.Datum.{Datum}
-use Rattle.itm_types.specs.declared.limits.Depth.{Depth}
-use Rattle.itm_types.specs.declared.limits.TheConstants.{MAX_DEPTH}
 use Rattle.itm_types.specs.Access.{size_of}
 use Rattle.script_fields.specs.Operands.{decoded, is_hex}
 use Rattle.script_fields.proofs.HexDigits.{decode_of-hex, decoded_into}
 use Rattle.script_fields.proofs.SpelledNumbers.{list_all-weaker}
-use Rattle.history_reader.specs.Numbers.{near}
 use Rattle.history_reader.specs.Digits.{is_lower_digit, is_lower_hex, low}
 
 -- values of one type that have the same bytes are the same
@@ -69,17 +65,3 @@ some_said f h =
     let some = eqb-false (length f) 0 (not-true _ a.0) in
     let twice = length-said f h in
     omega arith
-
--- ## Depths
-
--- depths of as many blocks are the same
-pub same_depth : (d e : Depth) → d.blocks ≡ e.blocks → d ≡ e
-same_depth d e b = λ i. record {
-  blocks = b i;
-  some = is_prop→PathP (λ j. 0 < b j) (λ j. hlevel props) d.some e.some i;
-  few = is_prop→PathP (λ j. b j ≤ MAX_DEPTH) (λ j. hlevel props) d.few e.few i;
-}
-
--- a number from 1 to 64 is the nearest of these
-pub near_is : (n : ℕ) → 1 ≤ n → n ≤ MAX_DEPTH → near n ≡ n
-near_is n l h = omega arith

@@ -63,10 +63,12 @@ impl ItemList<Again> {
     pub fn undo(&mut self, ran: Ran) -> Result<(), AllocError>
         ensures added { OnOk result (self.new ≡ with_undone self.old ran) }
         ensures short { OnErr result (0 < length (with_undone self.old ran)) }
+        ensures err { OnErr result (self.new ≡ self.old) }
     {
         if let Some(mut last) = self.items.pop() {
-            last.undone.push(ran)?;
-            self.items.push(last)?;
+            let pushed = last.undone.push(ran);
+            self.items.push_reserved(last);
+            pushed?;
         }
         Ok(())
     }

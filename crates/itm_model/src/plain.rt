@@ -10,7 +10,7 @@ use crate::journal::{Mark, Old, keep, unwind};
 use crate::limits::WORD;
 use crate::pieces::{forget, hand_on, innermost_at, keep_pieces};
 use itm_types::{
-    ActionKind, CANCELLED, Call, Datum, Depth, ENTERED, MAX_ARENA, MAX_TOLD_MEMORY, Props, Refusal,
+    ActionKind, CANCELLED, Call, Datum, Depth, ENTERED, MAX_ARENA, MAX_MEMORY, Props, Refusal,
     Reply, Width,
 };
 use std::alloc::{AllocError, Global};
@@ -75,7 +75,7 @@ impl Plain {
         props: Props,
     ) -> Result<Plain, AllocError>
         requires some { WORD ≤ length bytes.now }
-        requires room { length bytes.now ≤ MAX_TOLD_MEMORY }
+        requires room { length bytes.now ≤ MAX_MEMORY }
         requires words { length bytes.now % WORD ≡ 0 }
         requires arena { length arena.now ≤ MAX_ARENA }
         requires props { (props.goes_irrevocable && props.no_irrevocable) ≡ false }
@@ -198,43 +198,6 @@ impl Plain {
             self.go_irrevocable();
         }
         Ok(())
-    }
-
-    /// The arena becomes these bytes, and nothing else changes: what is kept of it for the open blocks stays. Takes no
-    /// memory.
-    pub fn set_arena(&mut self, arena: &[u8])
-        requires { length arena.now ≡ length self.old.state.arena }
-        ensures { self.new ≡ record self.old { state = record self.old.state { arena = arena.now } } }
-    {
-        self.arena.copy_from_slice(arena);
-    }
-
-    /// The shared memory.
-    pub fn memory(&self) -> &[u8]
-        ensures { result.now ≡ self.now.state.memory }
-    {
-        self.memory.as_slice()
-    }
-
-    /// The thread's own bytes.
-    pub fn arena(&self) -> &[u8]
-        ensures { result.now ≡ self.now.state.arena }
-    {
-        self.arena.as_slice()
-    }
-
-    /// How many blocks are open.
-    pub fn depth(&self) -> usize
-        ensures { result ≡ length self.now.state.blocks }
-    {
-        self.marks.len()
-    }
-
-    /// Whether a shared byte was written and not rolled back, or the transaction is irrevocable.
-    pub fn wrote(&self) -> bool
-        ensures { result ≡ self.now.state.wrote }
-    {
-        self.wrote
     }
 
     /// The effect and the answer of a call that is not refused.
@@ -417,3 +380,4 @@ mod copies;
 mod irrevocable;
 mod kept;
 mod refusals;
+mod seen;

@@ -1,6 +1,5 @@
 -- A call in progress.
 use Rattle.std.specs.Prelude.{◌≡◌, ◌⊎◌, ℕ, suc, ◌+◌, ◌-◌, ◌<◌, ◌≤◌, true, false, List, [], ◌∷◌, ◌++◌, length, Some, slice_get}
-use Rattle.itm_types.specs.declared.limits.TheConstants.{MAX_OPEN_BLOCKS}
 use Rattle.itm_types.specs.declared.row.LogRow.{LogRow}
 use Rattle.itm_types.specs.declared.step.Step.{Step}
 use Rattle.itm_types.specs.declared.step.Step.TheVariants.{Store}
@@ -33,8 +32,8 @@ pub record Grew (s : Start) (v : View) (e : Core) : Type 0 where
 
 -- in an irrevocable transaction, what the call will come to over the words that are held
 pub record HeldOn (s : Start) (v : View) (e : Core) : Type 0 where
-  pub leaves_it : leaves e (held v) ≡ after MAX_OPEN_BLOCKS (stands_for s.engine (held s.view)) s.call
-  pub answers_it : answers e (held v) ≡ reply MAX_OPEN_BLOCKS (stands_for s.engine (held s.view)) s.call
+  pub leaves_it : leaves e (held v) ≡ after s.engine.depth (stands_for s.engine (held s.view)) s.call
+  pub answers_it : answers e (held v) ≡ reply s.engine.depth (stands_for s.engine (held s.view)) s.call
   pub got : (word value : ℕ) → e.waits ≡ Some (Store (suc word) value) → Got e.got (slice_get (held v) word)
 
 -- what an engine is outside a transaction

@@ -5,7 +5,6 @@ use Rattle.itm_types.specs.declared.call.Call.TheVariants.{Begin, Commit}
 use Rattle.itm_types.specs.declared.call.Reply.{Reply as Replied}
 use Rattle.itm_types.specs.declared.row.LogRow.{LogRow}
 use Rattle.itm_types.specs.Memory.{bytes_of, IsMemory, Agrees}
-use Rattle.itm_types.specs.declared.limits.TheConstants.{MAX_OPEN_BLOCKS}
 use Rattle.itm_types.specs.Calls.{is_abort}
 use Rattle.itm_model.specs.Machine.{after, reply, undone}
 use Rattle.norec_core.specs.declared.answer.Answer.{Answer}
@@ -62,8 +61,8 @@ mine_after mine (Full at) = mine
 
 -- from the one memory to the other, the engine and the reply are the plain machine's
 pub record Meets (s : Start) (r : Replied) (e : Core) (m left : List ℕ) : Type 0 where
-  pub state : stands_for e left ≡ after MAX_OPEN_BLOCKS (stands_for s.engine m) s.call
-  pub reply_is : r ≡ recoded s.call (s.again && not (in_transaction s.engine)) (reply MAX_OPEN_BLOCKS (stands_for s.engine m) s.call)
+  pub state : stands_for e left ≡ after s.engine.depth (stands_for s.engine m) s.call
+  pub reply_is : r ≡ recoded s.call (s.again && not (in_transaction s.engine)) (reply s.engine.depth (stands_for s.engine m) s.call)
 
 -- so it is over the memory of the position at which the call left the snapshot, or over the words that are held; and where the transaction is not irrevocable, over each memory that agrees with the log
 pub record Replies (s : Start) (r : Replied) (v : View) (e : Core) : Type 0 where
@@ -91,10 +90,10 @@ pub record Commits (s : Start) (at : ℕ) (wrote : Bool) (v : View) (e : Core) :
   pub was_open : in_transaction s.engine ≡ true
   pub outermost : length s.engine.blocks ≡ 1
   pub call : s.call ≡ Commit
-  pub wrote_is : wrote ≡ (after MAX_OPEN_BLOCKS (stands_for s.engine (came_over s v e)) Commit).wrote
-  pub next : wrote ≡ true → (at < length v.seen) × (bytes_of (memory_of v (suc at)) ≡ (after MAX_OPEN_BLOCKS (stands_for s.engine (came_over s v e)) Commit).memory)
-  pub arena_is : e.arena ≡ (after MAX_OPEN_BLOCKS (stands_for s.engine (came_over s v e)) Commit).arena
-  pub actions_is : e.actions ≡ (after MAX_OPEN_BLOCKS (stands_for s.engine (came_over s v e)) Commit).actions
+  pub wrote_is : wrote ≡ (after s.engine.depth (stands_for s.engine (came_over s v e)) Commit).wrote
+  pub next : wrote ≡ true → (at < length v.seen) × (bytes_of (memory_of v (suc at)) ≡ (after s.engine.depth (stands_for s.engine (came_over s v e)) Commit).memory)
+  pub arena_is : e.arena ≡ (after s.engine.depth (stands_for s.engine (came_over s v e)) Commit).arena
+  pub actions_is : e.actions ≡ (after s.engine.depth (stands_for s.engine (came_over s v e)) Commit).actions
 
 -- the last load of a word found this
 abbrev pub LoadedLast : View → ℕ → ℕ → Type 0
@@ -174,4 +173,4 @@ pub record Served (s : Start) (a : Answer) (v : View) (e : Core) : Type 0 where
   pub fixed : s.engine.irrevocable ≡ true → e.snapshot ≡ s.engine.snapshot  -- no other commits before one that is irrevocable
   pub within : e.spent ≤ most (came s.engine s.call s.again) (Some s.call)
   pub words : e.words ≡ s.engine.words
-  pub limits : (e.max_commits ≡ s.engine.max_commits) × (e.patience ≡ s.engine.patience)
+  pub limits : (e.max_commits ≡ s.engine.max_commits) × (e.patience ≡ s.engine.patience) × (e.depth ≡ s.engine.depth)

@@ -12,7 +12,8 @@ ghost use Rattle.itm_runtime.specs.Standing.{start_of};
 
 use crate::drive::{finish, finish_commit, finish_fast, finish_read};
 use itm_types::{
-    Call, Datum, Limits, MAX_COMMITS, MAX_PATIENCE, Props, Ran, ReadHint, Reply, Width, WriteHint,
+    Call, Datum, Limits, MAX_COMMITS, MAX_PATIENCE, Props, Ran, ReadHint, Reply, USUAL_DEPTH,
+    Width, WriteHint,
 };
 use norec_core::{Answer, Undone};
 use norec_engine::{Engine, FastStep};
@@ -45,19 +46,29 @@ impl Model for Thread {
 }
 
 impl Thread {
-    /// A thread outside a transaction, with its arena, over the words that own the pass.
-    pub fn new(alloc: Global, words: &Words, pass: Pass, arena: Arena, limits: Limits) -> Thread
+    /// A thread outside a transaction, with its arena, over the words that own the pass. Takes no memory where no more blocks
+    /// may be open than usual.
+    pub fn new(
+        alloc: Global,
+        words: &Words,
+        pass: Pass,
+        arena: Arena,
+        limits: Limits,
+    ) -> Result<Thread, AllocError>
         requires own { Owns words.now pass }
         requires idle { (view_of pass).holds ≡ false }
         requires patience { (0 < limits.patience) × (limits.patience ≤ MAX_PATIENCE) }
         requires commits { (0 < limits.max_commits) × (limits.max_commits ≤ MAX_COMMITS) }
-        ensures pass { result.pass ≡ pass }
-        ensures engine { result.engine ≡ opening (cells_of words.now - 1) arena limits.patience limits.max_commits }
-        ensures stands { Stands (view_of result.pass) result.engine }
+        requires depth { 0 < limits.depth }
+        ensures pass { IfOk result (λ t. t.pass ≡ pass) }
+        ensures engine { IfOk result (λ t. t.engine
+            ≡ opening (cells_of words.now - 1) arena limits.patience limits.max_commits limits.depth) }
+        ensures stands { IfOk result (λ t. Stands (view_of t.pass) t.engine) }
+        ensures few { limits.depth ≤ USUAL_DEPTH → IsOk result }
     {
         let count = (words.size() / 8) as u32;
-        let engine = Engine::new(alloc, count, arena, limits);
-        Thread { pass, engine }
+        let engine = Engine::new(alloc, count, arena, limits)?;
+        Ok(Thread { pass, engine })
     }
 
     /// An outermost block begins, `again` where an earlier try of it got past its begin; inside a transaction this is

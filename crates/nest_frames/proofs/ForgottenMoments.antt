@@ -8,11 +8,7 @@ use Rattle.nest_frames.specs.declared.moment.Moment.{Moment}
 use Rattle.nest_frames.specs.Nest.{Frame, Nest, made_irrevocable}
 use Rattle.write_set.specs.Marks.{Written}
 use Rattle.undo_log.specs.Rollback.{Old, Undo}
-use Rattle.nest_frames.specs.Moments.{at_start, frames_from, frames_of, AreUnder, BeginEmpty, IsSound}
-
--- a block's begin at which there was nothing
-abbrev pub forgotten : Moment → Moment
-forgotten m = at_start m.props
+use Rattle.nest_frames.specs.Moments.{forgotten, frames_from, frames_of, AreUnder, BeginEmpty, IsSound}
 
 -- the first ones are forgotten, and now the next one
 pub next_forgotten : {A : Type 0} (f : A → A) (xs : List A) (i : ℕ) (none : A) → i < length xs
@@ -55,8 +51,8 @@ sound_forgotten w os a ms s = record {
 }
 
 -- the same of fields that are so
-module _ (w w' : Written) (os : List Old) (u : Undo) (l l' : ActionList) (ms ms' : List Moment) (size : ℕ)
-    (written : w' ≡ unwritten) (logged : u ≡ record { size = size; olds = [] }) (registered : l' ≡ record l { actions = record l.actions { undos = [] } }) (moments : ms' ≡ map forgotten ms) where
+module _ (w w' : Written) (os : List Old) (u : Undo) (l l' : ActionList) (ms ms' : List Moment) (size depth depth' : ℕ)
+    (written : w' ≡ unwritten) (logged : u ≡ record { size = size; olds = [] }) (registered : l' ≡ record l { actions = record l.actions { undos = [] } }) (moments : ms' ≡ map forgotten ms) (deep : depth' ≡ depth) where
   pub sound_so : IsSound w os l.actions ms → IsSound w' u.olds l'.actions ms'
   sound_so s =
       let acts : IsSound unwritten [] l'.actions (map forgotten ms) = subst (λ (k : ActionList). IsSound unwritten [] k.actions (map forgotten ms)) (sym registered) (sound_forgotten w os l.actions ms s) in
@@ -65,9 +61,9 @@ module _ (w w' : Written) (os : List Old) (u : Undo) (l l' : ActionList) (ms ms'
       subst (λ t. IsSound w' u.olds l'.actions t) (sym moments) ws
 
   abbrev nest_of : List Frame → Nest
-  nest_of blocks = record { writes = unwritten; size = size; blocks = blocks; actions = record l.actions { undos = [] }; room = l.room }
+  nest_of blocks = record { writes = unwritten; size = size; depth = depth; blocks = blocks; actions = record l.actions { undos = [] }; room = l.room }
 
-  pub nest_so : ◌≡◌ {A = Nest} (record { writes = w'; size = u.size; blocks = frames_of w' u.olds ms'; actions = l'.actions; room = l'.room })
-      (record { writes = unwritten; size = size; blocks = map made_irrevocable (frames_of w os ms); actions = record l.actions { undos = [] }; room = l.room })
-  nest_so = (λ i. record { writes = written i; size = (logged i).size; blocks = frames_of (written i) ((logged i).olds) (moments i); actions = (registered i).actions; room = (registered i).room })
+  pub nest_so : ◌≡◌ {A = Nest} (record { writes = w'; size = u.size; depth = depth'; blocks = frames_of w' u.olds ms'; actions = l'.actions; room = l'.room })
+      (record { writes = unwritten; size = size; depth = depth; blocks = map made_irrevocable (frames_of w os ms); actions = record l.actions { undos = [] }; room = l.room })
+  nest_so = (λ i. record { writes = written i; size = (logged i).size; depth = deep i; blocks = frames_of (written i) ((logged i).olds) (moments i); actions = (registered i).actions; room = (registered i).room })
       ∙ ap (λ (bs : List Frame). nest_of bs) (frames_of_forgotten w os ms)

@@ -60,9 +60,9 @@ pub IsSound-written : (w w' : Written) (os : List Old) (a : Actions) (ms : List 
 IsSound-written w w' os a [] s e h = absurd (omega (arith, h))
 IsSound-written w w' os a (m ∷ ms) s e h = record { under = subst (λ (p : Place). AreUnder p (length os) (reverse (m ∷ ms))) (sym e) s.under; empty = s.empty }
 
-pub nest_written : (w w' v : Written) (os : List Old) (size room : ℕ) (a : Actions) (ms : List Moment) → IsSound w os a ms → KeepsMarks w w' → w' ≡ v
-    → ◌≡◌ {A = Nest} (record { writes = w'; size = size; blocks = frames_of w' os ms; actions = a; room = room }) (record { writes = v; size = size; blocks = frames_of w os ms; actions = a; room = room })
-nest_written w w' v os size room a ms s k e = (λ i. record { writes = e i; size = size; blocks = frames_written w w' os a ms s k i; actions = a; room = room })
+pub nest_written : (w w' v : Written) (os : List Old) (size depth room : ℕ) (a : Actions) (ms : List Moment) → IsSound w os a ms → KeepsMarks w w' → w' ≡ v
+    → ◌≡◌ {A = Nest} (record { writes = w'; size = size; depth = depth; blocks = frames_of w' os ms; actions = a; room = room }) (record { writes = v; size = size; depth = depth; blocks = frames_of w os ms; actions = a; room = room })
+nest_written w w' v os size depth room a ms s k e = (λ i. record { writes = e i; size = size; depth = depth; blocks = frames_written w w' os a ms s k i; actions = a; room = room })
 
 -- these were logged
 logged_from : (w : Written) (os new : List Old) (top : Place) (ms : List Moment) → AreUnder top (length os) ms → frames_from w (os ++ new) ms ≡ logged (frames_from w os ms) new

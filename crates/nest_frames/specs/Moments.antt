@@ -8,9 +8,23 @@ use Rattle.write_set.specs.Marks.{Written, IsBy, rows_at, start, unwritten}
 use Rattle.nest_frames.specs.declared.moment.Moment.{Moment}
 use Rattle.nest_frames.specs.Nest.{Frame}
 
+-- the moments at which the open blocks began, the innermost last
+pub record Begins : Type 0 where
+  pub items : List Moment
+  pub most : ℕ  -- how many there may be
+
+-- there are no more than there may be, and a place for each
+pub record HasPlaces (moments most places : ℕ) : Type 0 where
+  pub few : moments ≤ most
+  pub room : most ≤ places
+
 -- a moment at which there was nothing
 abbrev pub at_start : Props → Moment
 at_start props = record { props = props; rows = record { here = start; outer = start }; log = 0; actions = record { commits = 0; undos = 0 } }
+
+-- a block's begin at which there was nothing
+abbrev pub forgotten : Moment → Moment
+forgotten m = at_start m.props
 
 -- the blocks of these moments, the innermost first
 abbrev pub frames_from : Written → List Old → List Moment → List Frame

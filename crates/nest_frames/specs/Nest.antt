@@ -19,6 +19,7 @@ pub record Frame : Type 0 where
 pub record Nest : Type 0 where
   pub writes : Written
   pub size : ℕ  -- how many bytes the arena has
+  pub depth : ℕ  -- how many blocks may be open at once
   pub blocks : List Frame  -- the innermost first
   pub actions : Actions  -- those that are registered, and those that have come to run
   pub room : ℕ  -- how many more commit actions are registered with no memory

@@ -1,6 +1,6 @@
 //! The open blocks.
 
-ghost use Rattle.std.specs.Prelude.{◌≡◌, ◌+◌, ◌<◌, ◌≤◌, ℕ, List, [], ◌∷◌, IsOk, IsSome, OnOk, OnErr, None, Some, length, map, take, drop, option_map, slice_get};
+ghost use Rattle.std.specs.Prelude.{◌≡◌, ◌+◌, ◌<◌, ◌≤◌, ℕ, List, [], ◌∷◌, IfOk, IsOk, IsSome, OnOk, OnErr, None, Some, length, map, take, drop, option_map, slice_get};
 ghost use Rattle.itm_types.specs.KeptBytes.{also_kept, merged, restored};
 ghost use Rattle.itm_types.specs.Memory.{AllFit};
 ghost use Rattle.word_pieces.specs.Masks.{merged_at};
@@ -11,8 +11,8 @@ ghost use Rattle.user_actions.specs.Actions.{no_actions, registered};
 ghost use Rattle.nest_frames.specs.Nest.{begun, log_of, rows_of, logged, closed, is_kept, arena_back, arena_restored, stays_revocable, actions_closed, actions_cancelled, actions_back, made_irrevocable};
 
 use crate::moment::Moment;
-use arrayvec::ArrayVec;
-use itm_types::{MAX_OPEN_BLOCKS, Props};
+use crate::moments::Moments;
+use itm_types::{Props, USUAL_DEPTH};
 use std::alloc::{AllocError, Global};
 use std::marker::Model;
 use undo_log::{Arena, UndoLog};
@@ -25,8 +25,7 @@ pub struct Frames {
     writes: WriteSet,
     undo: UndoLog,
     pub(crate) actions: UserActions,
-    /// Of each open block where it began, the innermost last.
-    moments: ArrayVec<Moment, MAX_OPEN_BLOCKS>,
+    moments: Moments,
 }
 
 impl Model for Frames {
@@ -39,6 +38,7 @@ impl Model for Frames {
     ghost view = { λ f. record {
       writes = f.writes;
       size = f.undo.size;
+      depth = f.moments.most;
       blocks = frames_of f.writes f.undo.olds f.moments.items;
       actions = f.actions.actions;
       room = f.actions.room;
@@ -48,16 +48,25 @@ impl Model for Frames {
 }
 
 impl Frames {
-    /// No block is open, over an arena of this size. Takes no memory.
-    pub fn new(alloc: Global, size: usize) -> Frames
-        ensures { result ≡ record { writes = unwritten; size = size; blocks = []; actions = no_actions; room = 0 } }
+    /// No block is open, over an arena of this size, and so many may be. Takes no memory where they are no more than usual.
+    pub fn new(alloc: Global, size: usize, depth: u8) -> Result<Frames, AllocError>
+        ensures ok { IfOk result (λ frames. frames ≡ record {
+          writes = unwritten;
+          size = size;
+          depth = depth;
+          blocks = [];
+          actions = no_actions;
+          room = 0;
+        }) }
+        ensures few { depth ≤ USUAL_DEPTH → IsOk result }
     {
-        Frames {
+        let moments = Moments::new(alloc, depth)?;
+        Ok(Frames {
             writes: WriteSet::new(alloc),
             undo: UndoLog::new(alloc, size),
             actions: UserActions::new(alloc),
-            moments: ArrayVec::new(),
-        }
+            moments,
+        })
     }
 
     /// How many blocks are open.
@@ -65,13 +74,20 @@ impl Frames {
         ensures depth { result ≡ length self.now.blocks }
 
         // So many may be open.
-        ensures few { length self.now.blocks ≤ MAX_OPEN_BLOCKS }
+        ensures few { length self.now.blocks ≤ self.now.depth }
 
         // Where none is, nothing is written, and no action is registered.
         ensures none { self.now.blocks ≡ [] → (self.now.writes ≡ unwritten)
             × (self.now.actions.commits ≡ []) × (self.now.actions.undos ≡ []) }
     {
         self.moments.len()
+    }
+
+    /// How many blocks may be open at once.
+    pub fn deepest(&self) -> usize
+        ensures { result ≡ self.now.depth }
+    {
+        self.moments.most()
     }
 
     /// How many bytes the arena has.
@@ -116,7 +132,7 @@ impl Frames {
     pub fn innermost(&self) -> Option<Props>
         ensures { result ≡ option_map (λ b. b.props) (slice_get self.now.blocks 0) }
     {
-        let moment = self.moments.last()?;
+        let moment = self.moments.as_slice().last()?;
         Some(moment.props)
     }
 
@@ -135,7 +151,10 @@ impl Frames {
         ensures { result ≡ is_kept self.now.blocks outer }
     {
         if outer {
-            self.moments.iter().any(|moment| moment.props.no_abort)
+            self.moments
+                .as_slice()
+                .iter()
+                .any(|moment| moment.props.no_abort)
         } else {
             self.innermost().is_some_and(|props| props.no_abort)
         }
@@ -147,16 +166,18 @@ impl Frames {
         ensures { result ≡ stays_revocable self.now.blocks }
     {
         self.moments
+            .as_slice()
             .iter()
             .any(|moment| moment.props.no_irrevocable)
     }
 
     /// A block begins within those that are open. Takes no memory.
     pub fn enter(&mut self, props: Props)
-        requires { length self.old.blocks < MAX_OPEN_BLOCKS }
+        requires { length self.old.blocks < self.old.depth }
         ensures blocks { self.new.blocks ≡ begun props self.old.writes.rows self.old.actions ∷ self.old.blocks }
         ensures writes { self.new.writes ≡ record self.old.writes { inner = place_of self.old.writes } }
         ensures size { self.new.size ≡ self.old.size }
+        ensures depth { self.new.depth ≡ self.old.depth }
         ensures actions { self.new.actions ≡ self.old.actions }
         ensures room { self.new.room ≡ self.old.room }
     {
@@ -182,6 +203,7 @@ impl Frames {
         requires { 0 < length self.old.blocks }
         ensures blocks { self.new.blocks ≡ closed self.old.blocks }
         ensures size { self.new.size ≡ self.old.size }
+        ensures depth { self.new.depth ≡ self.old.depth }
         ensures rows { 1 < length self.old.blocks → self.new.writes.rows ≡ self.old.writes.rows }
         ensures writes { 1 < length self.old.blocks →
             self.new.writes ≡ record self.old.writes { inner = self.new.writes.inner } }
@@ -215,6 +237,7 @@ impl Frames {
         requires arena { length arena.old ≡ self.old.size }
         ensures blocks { self.new.blocks ≡ drop 1 self.old.blocks }
         ensures size { self.new.size ≡ self.old.size }
+        ensures depth { self.new.depth ≡ self.old.depth }
         ensures rows { self.new.writes.rows ≡ rows_of self.old.blocks }
         ensures saves { self.new.writes.saves ≡ take self.old.writes.inner.saves self.old.writes.saves }
         ensures actions { self.new.actions ≡ actions_cancelled self.old.blocks self.old.actions }
@@ -237,6 +260,7 @@ impl Frames {
         ensures none { self.new ≡ record {
           writes = unwritten;
           size = self.old.size;
+          depth = self.old.depth;
           blocks = [];
           actions = actions_back self.old.blocks self.old.actions;
           room = self.old.room;
@@ -338,6 +362,7 @@ impl Frames {
         ensures { self.new ≡ record {
           writes = unwritten;
           size = self.old.size;
+          depth = self.old.depth;
           blocks = map made_irrevocable self.old.blocks;
           actions = record self.old.actions { undos = [] };
           room = self.old.room;
@@ -346,8 +371,6 @@ impl Frames {
         self.writes.clear();
         self.undo.clear();
         self.actions.forget_undos();
-        for moment in self.moments.as_mut_slice().iter_mut() {
-            *moment = Moment::at_start(moment.props);
-        }
+        self.moments.forget();
     }
 }

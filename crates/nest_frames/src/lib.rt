@@ -4,5 +4,6 @@
 mod actions;
 mod frames;
 mod moment;
+mod moments;
 
 pub use frames::Frames;

@@ -1,6 +1,5 @@
 -- What an engine is to its callers.
 use Rattle.std.specs.Prelude.{ℕ, ◌+◌, ◌==◌, ◌&&◌, ◌||◌, not, nat_lt, if◌then◌else◌, zero, suc, Bool, false, true, List, [], ◌∷◌, ◌++◌, Option, None, Some, unwrap_or, length}
-use Rattle.itm_types.specs.declared.limits.TheConstants.{MAX_OPEN_BLOCKS}
 use Rattle.itm_types.specs.declared.call.Props.{Props}
 use Rattle.itm_types.specs.declared.call.Call.TheVariants as calls
 use Rattle.itm_types.specs.declared.row.LogRow.{LogRow}
@@ -18,6 +17,7 @@ pub record Core : Type 0 where
   pub words : ℕ  -- of the shared memory
   pub patience : ℕ
   pub max_commits : ℕ
+  pub depth : ℕ  -- how many blocks may be open at once
   pub arena : List ℕ
   pub snapshot : ℕ
   pub clock : ℕ  -- the last clock value handed in
@@ -41,11 +41,12 @@ pub record Core : Type 0 where
   pub tries : ℕ  -- validation rounds that the call in progress has started, or clock loads of a begin
   pub entry : ℕ  -- how many rows were logged as the call came
 
-abbrev pub opening : ℕ → List ℕ → ℕ → ℕ → Core
-opening words arena patience max_commits = record {
+abbrev pub opening : ℕ → List ℕ → ℕ → ℕ → ℕ → Core
+opening words arena patience max_commits depth = record {
   words = words;
   patience = patience;
   max_commits = max_commits;
+  depth = depth;
   arena = arena;
   snapshot = 0;
   clock = 0;
@@ -90,7 +91,7 @@ may_go blocks props = not (props.goes_irrevocable && (props.no_irrevocable || st
 
 -- the call makes the transaction irrevocable, or begins one that is: with this room
 abbrev pub irrevocable_room : Core → Call → Option ℕ
-irrevocable_room c (calls.Begin props room) = if props.goes_irrevocable && may_go c.blocks props && nat_lt (length c.blocks) MAX_OPEN_BLOCKS && not c.irrevocable then Some room else None
+irrevocable_room c (calls.Begin props room) = if props.goes_irrevocable && may_go c.blocks props && nat_lt (length c.blocks) c.depth && not c.irrevocable then Some room else None
 irrevocable_room c (calls.Mode room) = if in_transaction c && not (stays_revocable c.blocks) && not c.irrevocable then Some room else None
 irrevocable_room c _ = None
 

@@ -8,6 +8,7 @@ pub record Keeps (old new : Core) : Type 0 where
   pub words : new.words ≡ old.words
   pub patience : new.patience ≡ old.patience
   pub max_commits : new.max_commits ≡ old.max_commits
+  pub depth : new.depth ≡ old.depth
   pub writes : new.writes ≡ old.writes
   pub blocks : new.blocks ≡ old.blocks
   pub actions : new.actions ≡ old.actions

@@ -1,6 +1,6 @@
 -- What an engine may do next. `mid` is the engine with a call that came, or with the value of the step that it waited for.
 use Rattle.std.specs.Prelude.{◌≡◌, ◌≢◌, ◌⊎◌, ℕ, zero, suc, ◌+◌, ◌*◌, ◌/◌, ◌%◌, ◌<◌, ◌≤◌, Bool, true, false, if◌then◌else◌, List, [], ◌∷◌, ◌++◌, map, Option, None, Some, IsSome, slice_get, slice_set, take, replicate, length}
-use Rattle.itm_types.specs.declared.limits.TheConstants.{MAX_OPEN_BLOCKS, MAX_COMMITS}
+use Rattle.itm_types.specs.declared.limits.TheConstants.{MAX_COMMITS}
 use Rattle.itm_types.specs.declared.row.LogRow.{LogRow}
 use Rattle.itm_types.specs.declared.call.Call.{Call}
 use Rattle.nest_frames.specs.Nest.{closed, logged, rows_of, made_irrevocable}
@@ -79,8 +79,8 @@ pub record AsksFor (mid : Core) (step : Step) (new : Core) : Type 0 where
 
 -- at a reply the engine is the plain machine's, over every memory that agrees with the log, and so is the reply
 pub record Replies (mid : Core) (call : Call) (r : Replied) (new : Core) : Type 0 where
-  pub meets : (m : List ℕ) → IsMemory mid.words m → Agrees m new.log → stands_for new m ≡ after MAX_OPEN_BLOCKS (stands_for mid m) call
-  pub reply_is : (m : List ℕ) → IsMemory mid.words m → Agrees m new.log → r ≡ recoded call mid.again (reply MAX_OPEN_BLOCKS (stands_for mid m) call)
+  pub meets : (m : List ℕ) → IsMemory mid.words m → Agrees m new.log → stands_for new m ≡ after mid.depth (stands_for mid m) call
+  pub reply_is : (m : List ℕ) → IsMemory mid.words m → Agrees m new.log → r ≡ recoded call mid.again (reply mid.depth (stands_for mid m) call)
   pub stays : new ≡ record mid {
     stage = new.stage;
     tries = new.tries;
@@ -113,8 +113,8 @@ pub record Enters (mid : Core) (call : Call) (r : Replied) (new : Core) : Type 0
   pub held : mid.holds ≡ true
   pub revocable : mid.irrevocable ≡ false
   pub goes : IsSome (irrevocable_room mid call)
-  pub meets : (m : List ℕ) → IsMemory mid.words m → Agrees m mid.log → stands_for new (backed mid m) ≡ after MAX_OPEN_BLOCKS (stands_for mid m) call
-  pub reply_is : (m : List ℕ) → r ≡ recoded call mid.again (reply MAX_OPEN_BLOCKS (stands_for mid m) call)
+  pub meets : (m : List ℕ) → IsMemory mid.words m → Agrees m mid.log → stands_for new (backed mid m) ≡ after mid.depth (stands_for mid m) call
+  pub reply_is : (m : List ℕ) → r ≡ recoded call mid.again (reply mid.depth (stands_for mid m) call)
   pub stored : mid.done ≡ length mid.writes
   pub unfreed : mid.freed ≡ false
   pub taken : (mid.clock ≡ mid.snapshot) × (mid.snapshot % 2 ≡ 0)
@@ -137,8 +137,8 @@ pub record Enters (mid : Core) (call : Call) (r : Replied) (new : Core) : Type 0
 
 -- what is replied in an irrevocable transaction: a read tells what it has gathered, and the memory decides no other reply
 abbrev pub reply_held : Core → Call → Replied
-reply_held c (Read hint width at) = reply_unless (refusal MAX_OPEN_BLOCKS (stands_for c (replicate c.words 0)) (Read hint width at)) (bytes_reply c.gathered)
-reply_held c call = reply MAX_OPEN_BLOCKS (stands_for c (replicate c.words 0)) call
+reply_held c (Read hint width at) = reply_unless (refusal c.depth (stands_for c (replicate c.words 0)) (Read hint width at)) (bytes_reply c.gathered)
+reply_held c call = reply c.depth (stands_for c (replicate c.words 0)) call
 
 -- a reply in an irrevocable transaction: that it is the plain machine's, with what it makes of the memory, is said in `Held.antt`
 pub record RepliesHeld (mid : Core) (call : Call) (r : Replied) (new : Core) : Type 0 where
@@ -169,10 +169,10 @@ pub record Commits (mid : Core) (at : ℕ) (wrote : Bool) (new : Core) : Type 0 
   pub is_open : in_transaction mid ≡ true
   pub outermost : length mid.blocks ≡ 1
   pub at_is : at ≡ mid.snapshot / 2
-  pub wrote_is : (m : List ℕ) → IsMemory mid.words m → Agrees m mid.log → wrote ≡ (after MAX_OPEN_BLOCKS (stands_for mid m) Commit).wrote
-  pub memory_is : (m : List ℕ) → IsMemory mid.words m → Agrees m mid.log → bytes_of (backed mid m) ≡ (after MAX_OPEN_BLOCKS (stands_for mid m) Commit).memory
-  pub arena_is : (m : List ℕ) → new.arena ≡ (after MAX_OPEN_BLOCKS (stands_for mid m) Commit).arena
-  pub actions_is : (m : List ℕ) → new.actions ≡ (after MAX_OPEN_BLOCKS (stands_for mid m) Commit).actions
+  pub wrote_is : (m : List ℕ) → IsMemory mid.words m → Agrees m mid.log → wrote ≡ (after mid.depth (stands_for mid m) Commit).wrote
+  pub memory_is : (m : List ℕ) → IsMemory mid.words m → Agrees m mid.log → bytes_of (backed mid m) ≡ (after mid.depth (stands_for mid m) Commit).memory
+  pub arena_is : (m : List ℕ) → new.arena ≡ (after mid.depth (stands_for mid m) Commit).arena
+  pub actions_is : (m : List ℕ) → new.actions ≡ (after mid.depth (stands_for mid m) Commit).actions
   pub free : mid.holds ≡ false
   pub freed : mid.freed ≡ wrote
   pub stays : new ≡ record (finished mid) { stage = new.stage; tries = new.tries }
@@ -364,4 +364,5 @@ pub record IsSettled (c : Core) : Type 0 where
   pub even : c.snapshot % 2 ≡ 0
   pub holder : c.holds ≡ true → (in_transaction c ≡ true) × (c.clock ≡ c.snapshot) × (c.snapshot / 2 < c.max_commits)
   pub limit : c.max_commits ≤ MAX_COMMITS
+  pub deep : 0 < c.depth
   pub irrevocable : c.irrevocable ≡ true → (c.holds ≡ true) × (c.writes ≡ []) × (c.log ≡ [])

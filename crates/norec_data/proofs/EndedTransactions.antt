@@ -12,6 +12,7 @@ core_ended old new arena actions e = λ i. record {
   words = e.words i;
   patience = (e.limits i).patience;
   max_commits = (e.limits i).max_commits;
+  depth = (e.frames i).depth;
   arena = e.arena i;
   snapshot = e.snapshot i;
   clock = e.clock i;

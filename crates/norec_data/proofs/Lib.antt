@@ -1,4 +1,5 @@
 pub mod EndedTransactions
 pub mod CallsInProgress
+pub mod KeptBounds
 mod OptionalRefusals
 pub mod RefusedAccesses

@@ -77,7 +77,7 @@ pub record Stays (old new : Data) : Type 0 where
 
 -- the transaction is over, with this arena and these actions, and all else as before
 pub record IsEnded (old : Data) (left : List ℕ) (actions : Actions) (new : Data) : Type 0 where
-  pub frames : new.frames ≡ record { writes = unwritten; size = old.frames.size; blocks = []; actions = actions; room = old.frames.room }
+  pub frames : new.frames ≡ record { writes = unwritten; size = old.frames.size; depth = old.frames.depth; blocks = []; actions = actions; room = old.frames.room }
   pub log : new.log.rows ≡ []
   pub words : new.words ≡ old.words
   pub limits : new.limits ≡ old.limits

@@ -10,7 +10,7 @@ ghost use Rattle.norec_data.specs.View.{in_block};
 
 use crate::copies::overlaps;
 use crate::data::Data;
-use itm_types::{CopyPair, Copying, MAX_OPEN_BLOCKS, MAX_WORDS, Props, Refusal};
+use itm_types::{CopyPair, Copying, MAX_WORDS, Props, Refusal};
 
 /// Why a read, a write or a fill of so many bytes from a place on is refused, if it is.
 pub fn access_refusal(state: &Data, at: u64, size: u64) -> Option<Refusal>
@@ -112,12 +112,12 @@ fn is_within(words: u32, at: u64, size: u64) -> bool
 
 /// Why a block of these properties does not begin, if it does not.
 pub fn begin_refusal(state: &Data, props: Props) -> Option<Refusal>
-    ensures refusal { result ≡ begin_refusal (may_go state.now.frames.blocks props) (nat_lt (length state.now.frames.blocks) MAX_OPEN_BLOCKS) }
-    ensures served { IfNone result ((may_go state.now.frames.blocks props ≡ true) × (length state.now.frames.blocks < MAX_OPEN_BLOCKS)) }
+    ensures refusal { result ≡ begin_refusal (may_go state.now.frames.blocks props) (nat_lt (length state.now.frames.blocks) state.now.frames.depth) }
+    ensures served { IfNone result ((may_go state.now.frames.blocks props ≡ true) × (length state.now.frames.blocks < state.now.frames.depth)) }
 {
     if props.goes_irrevocable && (props.no_irrevocable || state.frames.stays_revocable()) {
         Some(Refusal::NoIrrevocable)
-    } else if state.frames.depth() == MAX_OPEN_BLOCKS {
+    } else if state.frames.depth() == state.frames.deepest() {
         Some(Refusal::TooDeep)
     } else {
         None

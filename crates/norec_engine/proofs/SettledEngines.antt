@@ -81,6 +81,7 @@ settled d phase s = (let log = log_in d phase s.in_phase (in_block d) refl in re
   even = s.bounds.even;
   holder = λ h. holding d phase s.in_phase h;
   limit = s.bounds.commits;
+  deep = s.bounds.deep;
   irrevocable = λ i. absurd (cc);
 })
 
@@ -95,6 +96,7 @@ held_settled d phase s = (let h = s.held in let log = empty_log d.words d.log.ro
   even = h.bounds.even;
   holder = λ y. (h.is_open, h.settled, h.free);
   limit = h.bounds.commits;
+  deep = h.bounds.deep;
   irrevocable = λ i. (refl, h.writes, h.log);
 })
 

@@ -1,6 +1,6 @@
 //! One thread's transactions over shared cells that someone else steps on.
 
-ghost use Rattle.std.specs.Prelude.{◌≡◌, ◌^◌, ◌<◌, ◌≤◌, IsSome, true, IsTrue, ◌↔◌, is_some, false, []};
+ghost use Rattle.std.specs.Prelude.{◌≡◌, ◌^◌, ◌<◌, ◌≤◌, IsOk, IfOk, IsSome, true, IsTrue, ◌↔◌, is_some, false, []};
 ghost use Rattle.user_actions.specs.Actions.{total};
 ghost use Rattle.norec_core.specs.Core.{in_transaction, opening, irrevocable_room};
 ghost use Rattle.norec_core.specs.Proceeds.{IsUndone, Fits};
@@ -14,7 +14,7 @@ use crate::turns;
 use crate::turns::take;
 use itm_types::{
     Call, Datum, Limits, MAX_COMMITS, MAX_PATIENCE, MAX_WORDS, Props, Ran, ReadHint, Refusal, Step,
-    Value, Width, WriteHint,
+    USUAL_DEPTH, Value, Width, WriteHint,
 };
 use nest_frames::Frames;
 use norec_core::{Answer, Opening, Purpose, Reading, Taking, Target, Undone, Writing};
@@ -50,18 +50,22 @@ impl Model for Engine {
 }
 
 impl Engine {
-    /// An engine outside a transaction, over a memory of 1 to 8,192 words, with its thread's arena.
-    pub fn new(alloc: Global, words: u32, arena: Arena, limits: Limits) -> Self
+    /// An engine outside a transaction, over a memory of 1 to 131,072 words, with its thread's arena. Takes no memory where
+    /// no more blocks may be open than usual.
+    pub fn new(alloc: Global, words: u32, arena: Arena, limits: Limits) -> Result<Self, AllocError>
         requires words { (0 < words) × (words ≤ MAX_WORDS) }
         requires patience { (0 < limits.patience) × (limits.patience ≤ MAX_PATIENCE) }
         requires commits { (0 < limits.max_commits) × (limits.max_commits ≤ MAX_COMMITS) }
-        ensures { result ≡ opening words arena limits.patience limits.max_commits }
+        requires depth { 0 < limits.depth }
+        ensures ok { IfOk result (λ e. e ≡ opening words arena limits.patience limits.max_commits limits.depth) }
+        ensures few { limits.depth ≤ USUAL_DEPTH → IsOk result }
     {
-        Engine {
+        let frames = Frames::new(alloc, arena.size(), limits.depth)?;
+        Ok(Engine {
             state: Data {
                 words,
                 limits,
-                frames: Frames::new(alloc, arena.size()),
+                frames,
                 arena,
                 snapshot: 0,
                 clock: 0,
@@ -104,7 +108,7 @@ impl Engine {
             },
             pending: Pending::Idle,
             irrevocable: false,
-        }
+        })
     }
 
     /// An outermost block begins, `again` where an earlier try of it got past its begin; inside a transaction this is

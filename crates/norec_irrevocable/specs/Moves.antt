@@ -2,7 +2,6 @@
 use Rattle.std.specs.Prelude.{◌≡◌, ℕ, false, List, None, Result, MatchResult}
 use Rattle.itm_types.specs.declared.call.Call.{Call}
 use Rattle.itm_types.specs.declared.call.Reply.{Reply as Replied}
-use Rattle.itm_types.specs.declared.limits.TheConstants.{MAX_OPEN_BLOCKS}
 use Rattle.itm_model.specs.Machine.{after, reply}
 use Rattle.itm_model.specs.State.{State}
 use Rattle.norec_core.specs.Phases.{Phase}
@@ -45,7 +44,7 @@ pub record HeldStepTurns (old : Data) (phase : Phase) (seen : ℕ) (turn : Turn)
 pub record HeldCallTurns (old : Data) (call : Call) (turn : Turn) (new : Data) : Type 0 where
   pub sound : IsSoundAfter turn new
   pub proceeds : HeldTurns (came (core_held old) call false) turn new
-  pub comes : ComesBy old (λ m. after MAX_OPEN_BLOCKS (kept old m) call) (λ m. reply MAX_OPEN_BLOCKS (kept old m) call) turn new
+  pub comes : ComesBy old (λ m. after old.frames.depth (kept old m) call) (λ m. reply old.frames.depth (kept old m) call) turn new
   pub stays : Stays old new
   pub order : phase_after turn new ≡ stage_at (core_held old) call false
   pub ends : TurnEndsSo (ending_at (core_held old) call) turn new

@@ -1,6 +1,5 @@
 -- What is true of the fields in each phase.
 use Rattle.std.specs.Prelude.{◌≡◌, ◌≢◌, ℕ, ◌+◌, ◌-◌, ◌*◌, ◌/◌, ◌%◌, ◌<◌, ◌≤◌, true, false, List, [], ◌∷◌, length, take, replicate, slice_get, All, Option, None, Some}
-use Rattle.itm_types.specs.declared.limits.TheConstants.{MAX_OPEN_BLOCKS}
 use Rattle.itm_types.specs.declared.row.LogRow.{LogRow}
 use Rattle.write_set.specs.declared.row.Row.{Row}
 use Rattle.nest_frames.specs.Nest.{Frame, stays_revocable}
@@ -137,7 +136,7 @@ pub record MayRead (d : Data) (r : Reading) : Type 0 where
 abbrev pub Wants : Data → Taking → Type 0
 Wants d takings.Commit = (is_outermost d.frames.blocks ≡ true) × (d.frames.writes.rows ≢ [])
 Wants d (takings.Mode room) = (stays_revocable d.frames.blocks ≡ false) × (d.frames.room ≡ room)
-Wants d (takings.Begin props room) = (props.goes_irrevocable ≡ true) × (may_go d.frames.blocks props ≡ true) × (length d.frames.blocks < MAX_OPEN_BLOCKS) × (d.frames.room ≡ room)
+Wants d (takings.Begin props room) = (props.goes_irrevocable ≡ true) × (may_go d.frames.blocks props ≡ true) × (length d.frames.blocks < d.frames.depth) × (d.frames.room ≡ room)
 
 pub record MayTake (d : Data) (taking : Taking) : Type 0 where
   pub wants : Wants d taking
@@ -185,7 +184,7 @@ InPhase d (at.Fetch w) = ⊥
 InPhase d (at.Place w got) = ⊥
 
 pub record IsSound (d : Data) (phase : Phase) : Type 0 where
-  pub bounds : IsBounded d.words d.limits d.snapshot d.frames.size d.arena
+  pub bounds : IsBounded d.words d.limits d.snapshot d.frames.size d.frames.depth d.arena
   pub reached : d.snapshot ≤ d.clock
   pub in_phase : InPhase d phase
 

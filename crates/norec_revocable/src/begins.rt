@@ -107,11 +107,13 @@ pub(crate) fn begin_taken(state: &mut Data, seen: u64) -> Turn
 #[inline(always)]
 fn open(state: &mut Data, opening: Opening) -> CallEnd
     requires outside { IsOutside state.old }
+    requires deep { 0 < state.old.frames.depth }
     ensures reply { (d : Data) → answer_of d result ≡ Answer.Reply (Reply.Code (if opening.again then 9 else 5)) }
     ensures blocks { state.new.frames.blocks ≡ begun opening.props [] no_actions ∷ [] }
     ensures actions { state.new.frames.actions ≡ no_actions }
     ensures rows { state.new.frames.writes.rows ≡ [] }
     ensures frames { (state.new.frames.size ≡ state.old.frames.size) × (state.new.frames.room ≡ state.old.frames.room) }
+    ensures depth { state.new.frames.depth ≡ state.old.frames.depth }
     ensures others { state.new ≡ record state.old { frames = state.new.frames } }
 {
     state.frames.clear_due();

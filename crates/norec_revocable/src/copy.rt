@@ -63,6 +63,7 @@ fn reserve(state: &mut Data, copying: Copying) -> Result<(), AllocError>
     ensures log { state.new.log.rows ≡ state.old.log.rows }
     ensures blocks { state.new.frames.blocks ≡ state.old.frames.blocks }
     ensures size { state.new.frames.size ≡ state.old.frames.size }
+    ensures depth { state.new.frames.depth ≡ state.old.frames.depth }
     ensures actions { state.new.frames.actions ≡ state.old.frames.actions }
     ensures room_left { state.new.frames.room ≡ state.old.frames.room }
     ensures buffer { OnOk result (state.new.buffer.items ≡ replicate copying.size 0) }
@@ -106,6 +107,7 @@ fn reserve_target(frames: &mut Frames, copying: Copying) -> Result<(), AllocErro
     ensures err { OnErr result (frames.new.writes.rows ≡ frames.old.writes.rows) }
     ensures blocks { frames.new.blocks ≡ frames.old.blocks }
     ensures size { frames.new.size ≡ frames.old.size }
+    ensures depth { frames.new.depth ≡ frames.old.depth }
     ensures actions { frames.new.actions ≡ frames.old.actions }
     ensures room { frames.new.room ≡ frames.old.room }
 {
@@ -181,6 +183,7 @@ fn deliver(state: &mut Data, copying: Copying)
     ensures arena { state.new.arena ≡ arena_copied state.old.arena copying copying.pair state.old.buffer.items }
     ensures blocks { state.new.frames.blocks ≡ state.old.frames.blocks }
     ensures size { state.new.frames.size ≡ state.old.frames.size }
+    ensures depth { state.new.frames.depth ≡ state.old.frames.depth }
     ensures actions { state.new.frames.actions ≡ state.old.frames.actions }
     ensures room_left { state.new.frames.room ≡ state.old.frames.room }
     ensures bytes { AreBytes state.old.buffer.items }

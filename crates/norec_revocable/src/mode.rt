@@ -13,7 +13,7 @@ ghost use Rattle.norec_revocable.specs.Between.{blocks_with, entry_end};
 ghost use Rattle.norec_revocable.specs.Moves.{CallComes};
 
 use crate::commits::exchange;
-use itm_types::{Call, MAX_OPEN_BLOCKS, Props};
+use itm_types::{Call, Props};
 use norec_core::Taking;
 use norec_data::{CallEnd, Data, Turn, begin_refusal, mode_refusal};
 use std::alloc::AllocError;
@@ -60,11 +60,12 @@ pub fn irrevocable_room(state: &Data, call: &Call) -> Option<u32>
 /// The write set is stored: the transaction is irrevocable, and where a block of these properties goes irrevocable, it
 /// begins.
 pub(crate) fn go_irrevocable(state: &mut Data, props: Option<Props>) -> CallEnd
-    requires few { IfSome props (λ _. length state.old.frames.blocks < MAX_OPEN_BLOCKS) }
+    requires few { IfSome props (λ _. length state.old.frames.blocks < state.old.frames.depth) }
     ensures end { result ≡ entry_end props }
     ensures frames { state.new.frames ≡ record {
       writes = unwritten;
       size = state.old.frames.size;
+      depth = state.old.frames.depth;
       blocks = map made_irrevocable (blocks_with props state.old.frames);
       actions = record state.old.frames.actions { undos = [] };
       room = state.old.frames.room;

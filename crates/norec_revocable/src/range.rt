@@ -23,6 +23,7 @@ pub(crate) fn reserve_range(frames: &mut Frames, to: u64, chunks: Chunks) -> Res
     ensures err { OnErr result (frames.new.writes.rows ≡ frames.old.writes.rows) }
     ensures blocks { frames.new.blocks ≡ frames.old.blocks }
     ensures size { frames.new.size ≡ frames.old.size }
+    ensures depth { frames.new.depth ≡ frames.old.depth }
     ensures actions { frames.new.actions ≡ frames.old.actions }
     ensures room { frames.new.room ≡ frames.old.room }
 {
@@ -49,6 +50,7 @@ pub(crate) fn put_range(frames: &mut Frames, to: u64, direction: Direction, byte
         ≡ put_chunks frames.old.writes.rows to (chunks_of direction (length bytes.now)) bytes.now }
     ensures blocks { frames.new.blocks ≡ frames.old.blocks }
     ensures size { frames.new.size ≡ frames.old.size }
+    ensures depth { frames.new.depth ≡ frames.old.depth }
     ensures actions { frames.new.actions ≡ frames.old.actions }
     ensures room { frames.new.room ≡ frames.old.room }
     ensures bytes { AreBytes bytes.now }

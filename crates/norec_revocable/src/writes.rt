@@ -43,6 +43,7 @@ fn put_value(frames: &mut Frames, at: u64, size: u8, bytes: &[u8]) -> Result<(),
     ensures err { OnErr result (frames.new.writes.rows ≡ frames.old.writes.rows) }
     ensures blocks { frames.new.blocks ≡ frames.old.blocks }
     ensures size { frames.new.size ≡ frames.old.size }
+    ensures depth { frames.new.depth ≡ frames.old.depth }
     ensures actions { frames.new.actions ≡ frames.old.actions }
     ensures room { frames.new.room ≡ frames.old.room }
     ensures grows { OnErr result (AreRoomy frames.old.writes.rows (rows_of frames.old.blocks) (pieces_of at size) → ⊥) }
@@ -65,6 +66,7 @@ fn put_piece(frames: &mut Frames, piece: Piece, bytes: &[u8]) -> Result<(), Allo
     ensures err { OnErr result (frames.new.writes.rows ≡ frames.old.writes.rows) }
     ensures blocks { frames.new.blocks ≡ frames.old.blocks }
     ensures size { frames.new.size ≡ frames.old.size }
+    ensures depth { frames.new.depth ≡ frames.old.depth }
     ensures actions { frames.new.actions ≡ frames.old.actions }
     ensures room { frames.new.room ≡ frames.old.room }
     ensures grows { OnErr result (AreRoomy frames.old.writes.rows (rows_of frames.old.blocks) (piece ∷ []) → ⊥) }
@@ -87,6 +89,7 @@ fn put_pieces(frames: &mut Frames, at: u64, size: u8, bytes: &[u8]) -> Result<()
     ensures err { OnErr result (frames.new.writes.rows ≡ frames.old.writes.rows) }
     ensures blocks { frames.new.blocks ≡ frames.old.blocks }
     ensures size { frames.new.size ≡ frames.old.size }
+    ensures depth { frames.new.depth ≡ frames.old.depth }
     ensures actions { frames.new.actions ≡ frames.old.actions }
     ensures room { frames.new.room ≡ frames.old.room }
     ensures grows { OnErr result (AreRoomy frames.old.writes.rows (rows_of frames.old.blocks) (pieces_of at size) → ⊥) }
@@ -106,6 +109,7 @@ pub(crate) fn reserve_all(frames: &mut Frames, pieces: &[Piece]) -> Result<(), A
     ensures err { OnErr result (frames.new.writes.rows ≡ frames.old.writes.rows) }
     ensures blocks { frames.new.blocks ≡ frames.old.blocks }
     ensures size { frames.new.size ≡ frames.old.size }
+    ensures depth { frames.new.depth ≡ frames.old.depth }
     ensures actions { frames.new.actions ≡ frames.old.actions }
     ensures room { frames.new.room ≡ frames.old.room }
     ensures inner { frames.new.writes.inner ≡ frames.old.writes.inner }
@@ -131,6 +135,7 @@ pub(crate) fn put_all(frames: &mut Frames, pieces: &[Piece], bytes: &[u8])
     ensures rows { frames.new.writes.rows ≡ put_all frames.old.writes.rows pieces.now bytes.now }
     ensures blocks { frames.new.blocks ≡ frames.old.blocks }
     ensures size { frames.new.size ≡ frames.old.size }
+    ensures depth { frames.new.depth ≡ frames.old.depth }
     ensures actions { frames.new.actions ≡ frames.old.actions }
     ensures room { frames.new.room ≡ frames.old.room }
     ensures words { map (λ r. r.word) frames.new.writes.rows ≡ map (λ r. r.word) frames.old.writes.rows }

@@ -11,7 +11,7 @@ pub use Rattle.itm_types.specs.declared.call.Props.{Props}
 pub use Rattle.itm_types.specs.declared.call.Refusal.{Refusal}
 pub use Rattle.itm_types.specs.declared.call.Reply.TheVariants.{Code, Done, Refused}
 pub use Rattle.itm_types.specs.declared.call.Reply.{Reply as Replied}
-pub use Rattle.itm_types.specs.declared.limits.TheConstants.{MAX_OPEN_BLOCKS, MAX_ACTORS}
+pub use Rattle.itm_types.specs.declared.limits.TheConstants.{MAX_ACTORS}
 pub use Rattle.itm_types.specs.declared.step.Step.TheVariants.{Cas, Load, Store}
 pub use Rattle.itm_types.specs.declared.step.Step.{Step}
 pub use Rattle.norec_core.proofs.Replies.AnsweredEngines.{frees, replied_outside, rests}
@@ -51,7 +51,7 @@ pub use Rattle.norec_world.specs.OthersAttempts.{AllOf, ChangesOwn, KeepsOthers,
 pub use Rattle.norec_world.specs.Records.{CountsTry, IsTold, Opens, Records, RecordsReply, StopsAt, StopsIf, Tells, asked_pending, begins_again}
 pub use Rattle.norec_world.specs.Rows.{AreFrom, AreOpen, AreUnfinished, Rows, active_of, changed, is_of, with_changed, with_ended, with_opened, without}
 pub use Rattle.norec_world.specs.HeldAttempts.{IsHeld, StandsIn}
-pub use Rattle.norec_world.specs.Runs.{IsBeforeTry, IsInTry, IsRun, ReadsFrom, RunsFrom}
+pub use Rattle.norec_world.specs.Runs.{IsBeforeTry, IsInTry, IsRun, ReadsFrom, RunsFrom, StillRuns}
 pub use Rattle.tx_runs.specs.Nesting.{IsNested, whole}
 pub use Rattle.tx_runs.specs.Outcomes.{is_done}
 pub use Rattle.tx_runs.specs.Runs.{LeadsTo, begins_at, run_after}

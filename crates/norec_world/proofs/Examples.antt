@@ -240,15 +240,15 @@ abbrev pub block : Props → Frame
 block props = record { props = props; rows = []; log = []; commits = 0; undos = 0 }
 
 abbrev pub inside : Props → Core
-inside props = record (opening 1 [] 1 1) { blocks = block props ∷ []; actions = record { commits = record { fun = 1; arg = 2 } ∷ []; undos = []; ran = [] } }
+inside props = record (opening 1 [] 1 1 16) { blocks = block props ∷ []; actions = record { commits = record { fun = 1; arg = 2 } ∷ []; undos = []; ran = [] } }
 
 abbrev pub going : Props
 going = record plain { goes_irrevocable = true }
 
-outside_none : is_held (opening 1 [] 1 1) ≡ false
+outside_none : is_held (opening 1 [] 1 1 16) ≡ false
 outside_none = refl
 
-begin_goes : is_held (record (opening 1 [] 1 1) { doing = Some (Begin going 3) }) ≡ true
+begin_goes : is_held (record (opening 1 [] 1 1 16) { doing = Some (Begin going 3) }) ≡ true
 begin_goes = refl
 
 mode_goes : is_held (record (inside plain) { doing = Some (Mode 3) }) ≡ true
@@ -271,7 +271,7 @@ counts_none : counted (record (inside plain) { blocks = [] }) ≡ 0
 counts_none = refl
 
 -- the room that such a call wants, and what the list may promise: nothing before the transaction is irrevocable
-begin_wants : wanted (record (opening 1 [] 1 1) { doing = Some (Begin going 3) }) ≡ 3
+begin_wants : wanted (record (opening 1 [] 1 1 16) { doing = Some (Begin going 3) }) ≡ 3
 begin_wants = refl
 
 mode_wants : wanted (record (inside plain) { doing = Some (Mode 3) }) ≡ 3

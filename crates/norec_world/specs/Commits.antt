@@ -10,6 +10,7 @@ pub record HasLimits {P : Type 0} (w : World P) (a : Actor P) : Type 0 where
   pub retries : a.retries ≡ w.retries
   pub patience : a.engine.patience ≡ w.patience
   pub max_commits : a.engine.max_commits ≡ w.max_commits
+  pub depth : a.engine.depth ≡ w.depth
 
 -- the committed attempts, the clock and its holder go together
 pub record CommitsInOrder {P : Type 0} (w : World P) : Type 0 where

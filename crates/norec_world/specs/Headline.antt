@@ -1,6 +1,5 @@
 -- The headline, of what a world shows its user: each attempt saw what its player gets alone on the bytes that some first commits left, and the bytes are those that all commits left. No word of engines, steps or schedules.
 use Rattle.std.specs.Prelude.{◌≡◌, ℕ, ◌<◌, ◌/◌, ◌%◌, List, [], ◌∷◌, false, length, nat_lt, replicate, Some, slice_get}
-use Rattle.itm_types.specs.declared.limits.TheConstants.{MAX_OPEN_BLOCKS}
 use Rattle.tx_attempts.specs.declared.attempt.Attempt.{Attempt}
 use Rattle.tx_attempts.specs.Attempts.{memory_after, of_thread}
 use Rattle.tx_attempts.specs.Counts.{one_where, count_at, count_committed}
@@ -9,9 +8,9 @@ use Rattle.norec_world.specs.Dates.{AreDated}
 use Rattle.tx_attempts.specs.Opacity.{Between, IsRunOf}
 use Rattle.tx_runs.specs.Unbroken.{AreUnbroken}
 
--- the bytes that the first commits left, each run alone on those that the one before it left
-abbrev pub bytes_at : List ℕ → List Attempt → ℕ → List ℕ
-bytes_at base attempts k = memory_after MAX_OPEN_BLOCKS base attempts k
+-- the bytes that the first commits left, each run alone on those that the one before it left, where `deepest` blocks may be open at once
+abbrev pub bytes_at : ℕ → List ℕ → List Attempt → ℕ → List ℕ
+bytes_at deepest base attempts k = memory_after deepest base attempts k
 
 -- a player before its first try, with an arena of so many bytes
 abbrev pub first_of : {P : Type 0} → P → ℕ → Between P
@@ -33,6 +32,7 @@ pub record Observed (P : Type 0) : Type 0 where
   pub base : List ℕ  -- the memory as it was handed in
   pub arena : ℕ  -- the bytes of each player's arena
   pub retries : ℕ  -- how often a block may be tried again
+  pub depth : ℕ  -- how many blocks may be open at once
   pub attempts : List Attempt  -- those that have ended, in the order in which they did, and then the open ones, by actor
   pub clock : ℕ
   pub bytes : List ℕ  -- the memory
@@ -41,10 +41,10 @@ module _ {P : Type 0} (rules : Rules P) where
   pub record AreOpaque (o : Observed P) : Type 0 where
     -- each player's attempts are its run, in order, and each of them is opaque
     pub runs : (place : ℕ) (p : P) → slice_get o.players place ≡ Some p
-        → IsRunOf rules MAX_OPEN_BLOCKS (o.clock / 2) (bytes_at o.base o.attempts) (Some (first_of p o.arena)) (of_thread place o.attempts)
+        → IsRunOf rules o.depth (o.clock / 2) (bytes_at o.depth o.base o.attempts) (Some (first_of p o.arena)) (of_thread place o.attempts)
     pub threads : AreOfActors (length o.players) o.attempts  -- there are no others
     pub counted : AreCounted o.clock o.attempts  -- the clock counts the commits
     pub dated : AreDated o.retries [] o.attempts  -- the attempts tell which try each is, and when it began
     pub unbroken : AreUnbroken o.attempts  -- no inner block runs again alone
     pub size : length o.bytes ≡ length o.base
-    pub free : o.clock % 2 ≡ 0 → o.bytes ≡ bytes_at o.base o.attempts (o.clock / 2)  -- the bytes are those that all commits left, but while one of them is stored
+    pub free : o.clock % 2 ≡ 0 → o.bytes ≡ bytes_at o.depth o.base o.attempts (o.clock / 2)  -- the bytes are those that all commits left, but while one of them is stored

@@ -35,10 +35,10 @@ pub record IsDatedWorld {P : Type 0} (w : World P) : Type 0 where
 module _ {P : Type 0} (rules : Rules P) where
   -- the headline, with what the actors have not recorded yet
   pub record AreRunning (w : World P) : Type 0 where
-    pub laid : AreLaid w.base w.cells w.attempts
+    pub laid : AreLaid w.depth w.base w.cells w.attempts
     pub ordered : AreFrom 0 w.attempts.active
     pub threads : AreOfActors (length w.actors) w.attempts.ended
-    pub each : (place : ℕ) (p : P) (a : Actor P) → slice_get w.opening place ≡ Some p → slice_get w.actors place ≡ Some a → RunsFrom rules (first_of p w.arena) w.base w.cells w.attempts a
+    pub each : (place : ℕ) (p : P) (a : Actor P) → slice_get w.opening place ≡ Some p → slice_get w.actors place ≡ Some a → RunsFrom rules (first_of p w.arena) w.depth w.base w.cells w.attempts a
 
   pub record IsWorld (w : World P) : Type 0 where
     pub actors : AreActors rules w.cells w.attempts w.actors

@@ -21,7 +21,7 @@ pub record Sees (memory : ℕ → List ℕ) (cells : Cells) (e : Core) : Type 0 
   pub logged : in_transaction e ≡ true → Agrees (memory (e.snapshot / 2)) e.log
 
 -- the words are those that the commits left, where nobody holds the clock
-pub record AreLaid (base : List ℕ) (cells : Cells) (r : Rows) : Type 0 where
+pub record AreLaid (deepest : ℕ) (base : List ℕ) (cells : Cells) (r : Rows) : Type 0 where
   pub counted : AreCounted cells.clock r.ended
-  pub memories : AreMemories (length cells.words) base r.ended (cells.clock / 2)
-  pub free : cells.clock % 2 ≡ 0 → cells.words ≡ words_at base r.ended (cells.clock / 2)
+  pub memories : AreMemories (length cells.words) deepest base r.ended (cells.clock / 2)
+  pub free : cells.clock % 2 ≡ 0 → cells.words ≡ words_at deepest base r.ended (cells.clock / 2)

@@ -5,10 +5,10 @@ use Rattle.tx_attempts.specs.declared.attempt.Attempt.{Attempt}
 use Rattle.norec_world.specs.Headline.{bytes_at}
 
 -- the words of the bytes that the first commits left
-abbrev pub words_at : List ℕ → List Attempt → ℕ → List ℕ
-words_at base attempts k = words_of (bytes_at base attempts k)
+abbrev pub words_at : ℕ → List ℕ → List Attempt → ℕ → List ℕ
+words_at deepest base attempts k = words_of (bytes_at deepest base attempts k)
 
 -- each of them, up to the last one, is a memory of so many words
-pub record AreMemories (words : ℕ) (base : List ℕ) (attempts : List Attempt) (last : ℕ) : Type 0 where
-  pub fits : (k : ℕ) → k ≤ last → IsMemory words (words_at base attempts k)
-  pub same : (k : ℕ) → k ≤ last → bytes_of (words_at base attempts k) ≡ bytes_at base attempts k
+pub record AreMemories (words deepest : ℕ) (base : List ℕ) (attempts : List Attempt) (last : ℕ) : Type 0 where
+  pub fits : (k : ℕ) → k ≤ last → IsMemory words (words_at deepest base attempts k)
+  pub same : (k : ℕ) → k ≤ last → bytes_of (words_at deepest base attempts k) ≡ bytes_at deepest base attempts k

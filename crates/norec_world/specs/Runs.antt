@@ -2,7 +2,6 @@
 use Rattle.std.specs.Prelude.{◌≡◌, ℕ, ◌<◌, ◌≤◌, ◌/◌, Bool, true, false, List, [], Some}
 use Rattle.itm_types.specs.declared.row.LogRow.{LogRow}
 use Rattle.itm_types.specs.Memory.{bytes_of, IsMemory, Agrees}
-use Rattle.itm_types.specs.declared.limits.TheConstants.{MAX_OPEN_BLOCKS}
 use Rattle.itm_model.specs.Machine.{opened}
 use Rattle.norec_core.specs.Core.{Core, in_transaction, may_go}
 use Rattle.norec_core.specs.Stands.{stands_for}
@@ -32,9 +31,9 @@ ReadsFrom true position log m = m ≡ position
 
 module _ {P : Type 0} (rules : Rules P) where
   -- the open attempt: its calls are those of its player alone, over every memory that it may have read; the words of its position are these
-  pub record IsInTry (position : List ℕ) (b : Between P) (row : Attempt) (p : P) (e : Core) : Type 0 where
+  pub record IsInTry (deepest : ℕ) (position : List ℕ) (b : Between P) (row : Attempt) (p : P) (e : Core) : Type 0 where
     pub start : Beginning P
-    pub begins : begins_at rules b ≡ Some start
+    pub begins : begins_at rules deepest b ≡ Some start
     pub arena : row.arena ≡ start.arena
     pub props : row.props ≡ start.props
     pub tries : b.tries < row.nth
@@ -44,27 +43,27 @@ module _ {P : Type 0} (rules : Rules P) where
     pub ran : row.ran ≡ e.actions.ran
     pub player : p ≡ player_then rules.answered (rules.answered start.player (begin_code b.again)) row.calls.list
     pub alone : (m : List ℕ) → IsMemory e.words m → ReadsFrom e.irrevocable position e.log m
-        → IsAlone rules MAX_OPEN_BLOCKS (breaks_of row.restarts) (rules.answered start.player (begin_code b.again)) (opened (bytes_of m) start.arena start.props) row.calls.list
-    pub stands : e.irrevocable ≡ false → (m : List ℕ) → IsMemory e.words m → Agrees m e.log → stands_for e m ≡ state_then MAX_OPEN_BLOCKS (breaks_of row.restarts) (opened (bytes_of m) start.arena start.props) row.calls.list
+        → IsAlone rules deepest (breaks_of row.restarts) (rules.answered start.player (begin_code b.again)) (opened (bytes_of m) start.arena start.props) row.calls.list
+    pub stands : e.irrevocable ≡ false → (m : List ℕ) → IsMemory e.words m → Agrees m e.log → stands_for e m ≡ state_then deepest (breaks_of row.restarts) (opened (bytes_of m) start.arena start.props) row.calls.list
 
   -- before the next one, with so many commits done: the player has come as far as its calls outside a transaction led, and perhaps called its begin
-  pub record IsBeforeTry (n : ℕ) (b : Between P) (a : Actor P) : Type 0 where
+  pub record IsBeforeTry (deepest n : ℕ) (b : Between P) (a : Actor P) : Type 0 where
     pub calls : ℕ
-    pub leads : LeadsTo rules calls b.player b.arena a.player a.engine.arena
+    pub leads : LeadsTo rules deepest calls b.player b.arena a.player a.engine.arena
     pub again : a.again ≡ b.again
     pub tries : b.tries < a.nth
     pub pending : (row : Attempt) → a.pending ≡ Some row
         → (row.began ≤ n) × (row.arena ≡ a.engine.arena) × (row.calls.list ≡ []) × (row.ran ≡ [])
-        × (may_go [] row.props ≡ true → begins_at rules b ≡ Some (record { player = a.player; arena = a.engine.arena; props = row.props })) × (a.engine.again ≡ b.again)
+        × (may_go [] row.props ≡ true → begins_at rules deepest b ≡ Some (record { player = a.player; arena = a.engine.arena; props = row.props })) × (a.engine.again ≡ b.again)
         × (row.restarts ≡ [])
 
   -- the actor's attempts are its player's run from here, over the memories of so many commits, and each saw what its player gets alone
-  pub record IsRun (first : Between P) (base : List ℕ) (n : ℕ) (r : Rows) (a : Actor P) : Type 0 where
-    pub run : IsRunOf rules MAX_OPEN_BLOCKS n (bytes_at base r.ended) (Some first) (of_thread a.thread r.ended)
-    pub inside : in_transaction a.engine ≡ true → (b : Between P) × (row : Attempt) × (run_after rules (bytes_at base r.ended) (Some first) (of_thread a.thread r.ended) ≡ Some b) × (active_of a.thread r.active ≡ Some row)
-        × IsInTry (words_at base r.ended n) b row a.player a.engine × (a.again ≡ true) × (row.nth ≡ a.nth)
+  pub record IsRun (first : Between P) (deepest : ℕ) (base : List ℕ) (n : ℕ) (r : Rows) (a : Actor P) : Type 0 where
+    pub run : IsRunOf rules deepest n (bytes_at deepest base r.ended) (Some first) (of_thread a.thread r.ended)
+    pub inside : in_transaction a.engine ≡ true → (b : Between P) × (row : Attempt) × (run_after rules deepest (bytes_at deepest base r.ended) (Some first) (of_thread a.thread r.ended) ≡ Some b) × (active_of a.thread r.active ≡ Some row)
+        × IsInTry deepest (words_at deepest base r.ended n) b row a.player a.engine × (a.again ≡ true) × (row.nth ≡ a.nth)
     pub between : in_transaction a.engine ≡ false → (ending_of a.status ≡ Some GaveUp → ⊥) → (ending_of a.status ≡ Some NoMemory → ⊥)
-        → (b : Between P) × (run_after rules (bytes_at base r.ended) (Some first) (of_thread a.thread r.ended) ≡ Some b) × IsBeforeTry n b a
+        → (b : Between P) × (run_after rules deepest (bytes_at deepest base r.ended) (Some first) (of_thread a.thread r.ended) ≡ Some b) × IsBeforeTry deepest n b a
 
   -- the player has come from here; and if it tells its room truly, its irrevocable attempt has the room for all its calls that are still to come, and wants no memory
   pub record IsFed (p : P) (r : Rows) (a : Actor P) : Type 0 where
@@ -73,14 +72,15 @@ module _ {P : Type 0} (rules : Rules P) where
     pub within : a.engine.irrevocable ≡ true → (row : Attempt) → active_of a.thread r.active ≡ Some row → EndsWithin rules row.calls.room a.player
     pub fed : ending_of a.status ≡ Some NoMemory → a.engine.irrevocable ≡ false
 
-  pub record RunsFrom (first : Between P) (base : List ℕ) (cells : Cells) (r : Rows) (a : Actor P) : Type 0 where
-    pub runs : IsRun first base (cells.clock / 2) r a
-    pub sees : Sees (words_at base r.ended) cells a.engine
-    pub held : a.engine.irrevocable ≡ true → (row : Attempt) → active_of a.thread r.active ≡ Some row → IsHeld (bytes_at base r.ended (cells.clock / 2)) cells.words row a.engine
+  pub record RunsFrom (first : Between P) (deepest : ℕ) (base : List ℕ) (cells : Cells) (r : Rows) (a : Actor P) : Type 0 where
+    pub depth : a.engine.depth ≡ deepest
+    pub runs : IsRun first deepest base (cells.clock / 2) r a
+    pub sees : Sees (words_at deepest base r.ended) cells a.engine
+    pub held : a.engine.irrevocable ≡ true → (row : Attempt) → active_of a.thread r.active ≡ Some row → IsHeld deepest (bytes_at deepest base r.ended (cells.clock / 2)) cells.words row a.engine
     pub starved : ending_of a.status ≡ Some NoMemory → a.engine.irrevocable ≡ false → in_transaction a.engine ≡ false
     pub reads : ReadsAt r a
     pub fed : TellsRoom rules first.player → IsFed first.player r a
 
   -- where the words were those of the commits, and the actor's attempts its player's run, they still are
   abbrev pub StillRuns : Cells → Rows → Actor P → Cells → Rows → Actor P → Type 0
-  StillRuns cells r a cells' r' a' = (first : Between P) (base : List ℕ) → AreLaid base cells r → RunsFrom first base cells r a → AreLaid base cells' r' × RunsFrom first base cells' r' a'
+  StillRuns cells r a cells' r' a' = (first : Between P) (deepest : ℕ) (base : List ℕ) → AreLaid deepest base cells r → RunsFrom first deepest base cells r a → AreLaid deepest base cells' r' × RunsFrom first deepest base cells' r' a'

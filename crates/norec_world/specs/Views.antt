@@ -10,6 +10,7 @@ world_of w = record {
   patience = w.terms.limits.patience;
   max_commits = w.terms.limits.max_commits;
   retries = w.terms.limits.retries;
+  depth = w.terms.limits.depth;
   cells = w.memory;
   actors = w.actors.items;
   attempts = w.recorded;

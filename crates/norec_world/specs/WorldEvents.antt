@@ -20,14 +20,14 @@ use Rattle.norec_world.specs.World.{World, observed, SameOpening, ending_at, wai
 use Rattle.tx_player.specs.Rules.{Rules}
 
 -- what a transaction has read is of one memory, which the first commits left
-abbrev pub HasRead : {P : Type 0} → List ℕ → Rows → Actor P → Type 0
-HasRead base r a = in_transaction a.engine ≡ true → let memory = words_at base r.ended (a.engine.snapshot / 2) in IsMemory a.engine.words memory × Agrees memory a.engine.log
+abbrev pub HasRead : {P : Type 0} → ℕ → List ℕ → Rows → Actor P → Type 0
+HasRead deepest base r a = in_transaction a.engine ≡ true → let memory = words_at deepest base r.ended (a.engine.snapshot / 2) in IsMemory a.engine.words memory × Agrees memory a.engine.log
 
 module _ {P : Type 0} (rules : Rules P) where
   -- the actor has changed by an event, and no other one has
   abbrev pub ActorGoes : ℕ → World P → Actor P → World P → Type 0
   ActorGoes actor old a new = (a' : Actor P) × (new.actors ≡ slice_set old.actors actor a')
-      × (event : IsEvent rules old.cells old.attempts a new.cells new.attempts a') × (is_ready a'.status ≡ false) × HasRead old.base event.rows event.stepped
+      × (event : IsEvent rules old.cells old.attempts a new.cells new.attempts a') × (is_ready a'.status ≡ false) × HasRead old.depth old.base event.rows event.stepped
 
   -- the actor is asked for one event, and this comes of it
   pub record Goes (actor : ℕ) (old : World P) (result : Result (Unit {0}) WorldFault) (new : World P) : Type 0 where

@@ -36,6 +36,7 @@ pub(crate) struct Terms {
     ghost some: { 0 < limits.max_commits },
     ghost commits: { limits.max_commits ≤ MAX_COMMITS },
     ghost few: { limits.retries ≤ MAX_RETRIES },
+    ghost deep: { 0 < limits.depth },
 }
 
 /// An actor for each player, which has done its local work up to its first operation.
@@ -55,14 +56,15 @@ pub(crate) fn start_all<P: Player>(
     ensures count { IfOk result (λ actors. length actors.items ≡ length players.items) }
     ensures sound { IfOk result (λ actors. AreActors P.Player memory.now recorded.new actors.items) }
     ensures first { IfOk result (λ actors. (place : ℕ) (a : Actor P) → slice_get actors.items place ≡ Some a
-        → IsFirst memory.now.clock terms.limits.patience terms.limits.max_commits terms.limits.retries recorded.new a) }
+        → IsFirst memory.now.clock terms.limits.patience terms.limits.max_commits terms.limits.retries
+        terms.limits.depth recorded.new a) }
     ensures starts { IfOk result (λ actors. (place : ℕ) (p : P) (a : Actor P) → slice_get players.items place ≡ Some p
         → slice_get actors.items place ≡ Some a
         → HasStarted P.Player memory.now.clock (opening (length memory.now.words) (replicate terms.arena 0)
-        terms.limits.patience terms.limits.max_commits) terms.limits.retries place p a) }
+        terms.limits.patience terms.limits.max_commits terms.limits.depth) terms.limits.retries place p a) }
     ensures runs { IfOk result (λ actors. (place : ℕ) (p : P) (a : Actor P) → slice_get players.items place ≡ Some p
         → slice_get actors.items place ≡ Some a
-        → RunsFrom P.Player (first_of p terms.arena) (bytes_of memory.now.words) memory.now recorded.new a) }
+        → RunsFrom P.Player (first_of p terms.arena) terms.limits.depth (bytes_of memory.now.words) memory.now recorded.new a) }
     ensures none { IfOk result (λ actors. (recorded.new.ended ≡ []) × (recorded.new.active ≡ [])) }
     ensures fed { IfOk result (λ actors. (place : ℕ) → ending_in actors.items place ≡ Some End.NoMemory → ⊥) }
 {
@@ -95,20 +97,20 @@ fn start<P: Player>(
     ensures thread { IfOk result (λ a. a.thread ≡ thread) }
     ensures first { IfOk result
         (λ a. IsFirst memory.now.clock terms.limits.patience terms.limits.max_commits terms.limits.retries
-        recorded.new a) }
+        terms.limits.depth recorded.new a) }
     ensures starts { IfOk result
         (HasStarted P.Player memory.now.clock
         (opening (length memory.now.words) (replicate terms.arena 0) terms.limits.patience
-        terms.limits.max_commits) terms.limits.retries thread player) }
+        terms.limits.max_commits terms.limits.depth) terms.limits.retries thread player) }
     ensures ended { IfOk result (λ a. recorded.new.ended ≡ recorded.old.ended) }
     ensures runs { IfOk result (λ a. recorded.old.ended ≡ []
-        → RunsFrom P.Player (first_of player terms.arena) (bytes_of memory.now.words) memory.now recorded.new a) }
+        → RunsFrom P.Player (first_of player terms.arena) terms.limits.depth (bytes_of memory.now.words) memory.now recorded.new a) }
     ensures free { IfOk result (λ a. a.engine.holds ≡ false) }
     ensures others { IfOk result (λ a. (fresh : Actor P) × (fresh.thread ≡ thread) × (fresh.pending ≡ None)
         × KeepsOthers fresh recorded.old a recorded.new) }
 {
     let arena = Arena::new(alloc, terms.arena as usize)?;
-    let engine = Engine::new(alloc, memory.words(), arena, terms.limits);
+    let engine = Engine::new(alloc, memory.words(), arena, terms.limits)?;
     let mut actor = Actor::new(alloc, thread, terms.limits.retries, player, engine);
     actor.work(alloc, memory, recorded);
     match actor.ending() {

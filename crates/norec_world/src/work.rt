@@ -309,7 +309,8 @@ impl<P: Player> Actor<P> {
         ensures holds { self.new.engine.holds ≡ self.old.engine.holds }
         ensures same { (self.new.nth ≡ self.old.nth) × (self.new.retries ≡ self.old.retries) }
         ensures limit { (self.new.engine.max_commits ≡ self.old.engine.max_commits)
-            × (self.new.engine.patience ≡ self.old.engine.patience) }
+            × (self.new.engine.patience ≡ self.old.engine.patience)
+            × (self.new.engine.depth ≡ self.old.engine.depth) }
         ensures pending { self.new.pending ≡ self.old.pending }
         ensures again { self.new.again ≡ self.old.again }
         ensures row { in_transaction self.old.engine ≡ true → self.old.engine.irrevocable ≡ false

@@ -65,6 +65,7 @@ impl<P: Player> World<P> {
         requires patience { (0 < setup.limits.patience) × (setup.limits.patience ≤ MAX_PATIENCE) }
         requires commits { (0 < setup.limits.max_commits) × (setup.limits.max_commits ≤ MAX_COMMITS) }
         requires retries { setup.limits.retries ≤ MAX_RETRIES }
+        requires depth { 0 < setup.limits.depth }
         requires some { 0 < length players.items }
         requires few { length players.items ≤ MAX_ACTORS }
         requires outside { All (λ p. P.depth p ≡ 0) players.items }
@@ -75,6 +76,7 @@ impl<P: Player> World<P> {
         ensures patience { IfOk result (λ w. w.patience ≡ setup.limits.patience) }
         ensures limit { IfOk result (λ w. w.max_commits ≡ setup.limits.max_commits) }
         ensures retries { IfOk result (λ w. w.retries ≡ setup.limits.retries) }
+        ensures depth { IfOk result (λ w. w.depth ≡ setup.limits.depth) }
         ensures first { IfOk result (λ w. (place : ℕ) (a : Actor P) → slice_get w.actors place ≡ Some a
             → IsBetween 0 1 w.attempts a) }
         ensures commits { IfOk result (λ w. CommitsInOrder w) }

@@ -1,12 +1,12 @@
 -- What the writer has got of a world's history.
-use Rattle.std.proofs.Common.{inl, inr, ◌≡◌, ℕ, ◌≤◌, List, [], ◌∷◌, ◌++◌, length, take, drop, flat_map, Option, None, Some, IsSome, Result, Ok, Err, false, true≢false, refl, sym, ap, subst, ◌∙◌, append-nil, append_assoc, arith}
+use Rattle.std.proofs.Common.{inl, inr, ◌≡◌, ℕ, ◌≤◌, List, [], ◌∷◌, ◌++◌, length, take, drop, flat_map, Option, None, Some, IsSome, Result, Ok, Err, true≢false, refl, sym, ap, subst, ◌∙◌, append-nil, append_assoc, arith}
 use Rattle.std.proofs.KnownBytes.{Appends-kept, Appends-nil, Appends-trans}
 use Rattle.std.proofs.lemmas.Grind.{common_steps, flat_map-append}
 use Rattle.std.proofs.lemmas.List.{take-append-drop}
 use Rattle.std.proofs.lemmas.List.Elements.{All-append, All-nil}
 use Rattle.hex.specs.Hex.{IsBytes}
 use Rattle.std.specs.Io.KnownBytes.{Appends}
-use Rattle.std.specs.Prelude.{All, IsErr, OnErr, OnOk}
+use Rattle.std.specs.Prelude.{All, IfOk, IsErr, OnErr, OnOk}
 use Rattle.std.specs.Result.{result_err}
 use Rattle.std.specs.declared.io.Error.{Error}
 use Rattle.norec_world.specs.declared.actor.Actor.{Actor}
@@ -18,7 +18,7 @@ use Rattle.norec_world.proofs.Events.WorldEvents.{told_event}
 use Rattle.norec_world.proofs.Events.Worlds.{waits_there}
 use Rattle.tx_attempts.specs.declared.attempt.Attempt.{Attempt}
 use Rattle.tx_history.specs.Bounds.{AttemptFits, HistoryFits, IsWord}
-use Rattle.tx_history.specs.declared.history.Version.TheVariants.{One}
+use Rattle.tx_history.specs.declared.history.Version.{Version}
 use Rattle.tx_history.specs.Histories.{attempt_lines, last_line, history_text}
 use Rattle.tx_history.specs.Streams.{Adds, Leaves, Standing, fault_of, lines_so_far, standing}
 use Rattle.tx_history.specs.declared.page.Page.{Page}
@@ -57,6 +57,11 @@ none_ok F (Err e) h = record {}
 pub on_any : {T E F : Type 0} (r : Result T E) → F → OnOk r F
 on_any (Ok x) h = h
 on_any (Err e) h = record {}
+
+-- and of what is answered, whatever it is
+pub if_any : {T E F : Type 0} (r : Result T E) → F → IfOk r (λ x. F)
+if_any (Ok x) h = h
+if_any (Err e) h = record {}
 
 -- ## What an event ends
 
@@ -227,37 +232,37 @@ module _ {P : Type 0} (rules : Rules P) where
 
 -- ## A whole history
 
-so_far_more : (memory : List ℕ) (xs ys : List Attempt) → lines_so_far One memory (xs ++ ys) ≡ lines_so_far One memory xs ++ flat_map attempt_lines ys
-so_far_more memory xs ys = grind (arith, common_steps)
+so_far_more : (version : Version) (memory : List ℕ) (xs ys : List Attempt) → lines_so_far version memory (xs ++ ys) ≡ lines_so_far version memory xs ++ flat_map attempt_lines ys
+so_far_more version memory xs ys = grind (arith, common_steps)
 
-module _ {P : Type 0} where
+module _ {P : Type 0} (version : Version) where
   -- the lines so far, after some events
-  pub adds_lines : (a b : World P) (s t u : Standing) → Adds s t (lines_so_far One a.base a.attempts.ended) → AddsEnded a b t u → Adds s u (lines_so_far One b.base b.attempts.ended)
+  pub adds_lines : (a b : World P) (s t u : Standing) → Adds s t (lines_so_far version a.base a.attempts.ended) → AddsEnded a b t u → Adds s u (lines_so_far version b.base b.attempts.ended)
   adds_lines a b s t u p f =
       adds_as s u _ _ (adds_then s t u _ _ p f.adds)
-      (sym (so_far_more a.base a.attempts.ended f.more) ∙ (λ i. lines_so_far One (sym f.base i) (sym f.ended i)))
+      (sym (so_far_more version a.base a.attempts.ended f.more) ∙ (λ i. lines_so_far version (sym f.base i) (sym f.ended i)))
 
-  text_of : (w : World P) → history_text (told_of w) ≡ lines_so_far One w.base w.attempts.ended ++ (flat_map attempt_lines w.attempts.active ++ last_line w.cells.clock (told_of w).bytes)
+  text_of : (w : World P) → history_text (told_of version w) ≡ lines_so_far version w.base w.attempts.ended ++ (flat_map attempt_lines w.attempts.active ++ last_line w.cells.clock (told_of version w).bytes)
   unfolding history_text
   text_of w =
-      ap (λ (l : List ℕ). l ++ last_line w.cells.clock (told_of w).bytes) (so_far_more w.base w.attempts.ended w.attempts.active)
-      ∙ append_assoc (lines_so_far One w.base w.attempts.ended) (flat_map attempt_lines w.attempts.active) (last_line w.cells.clock (told_of w).bytes)
+      ap (λ (l : List ℕ). l ++ last_line w.cells.clock (told_of version w).bytes) (so_far_more version w.base w.attempts.ended w.attempts.active)
+      ∙ append_assoc (lines_so_far version w.base w.attempts.ended) (flat_map attempt_lines w.attempts.active) (last_line w.cells.clock (told_of version w).bytes)
 
-  pub adds_history : (w : World P) (s t u : Standing) → Adds s t (lines_so_far One w.base w.attempts.ended)
-      → Adds t u (flat_map attempt_lines w.attempts.active ++ last_line w.cells.clock (told_of w).bytes) → Adds s u (history_text (told_of w))
+  pub adds_history : (w : World P) (s t u : Standing) → Adds s t (lines_so_far version w.base w.attempts.ended)
+      → Adds t u (flat_map attempt_lines w.attempts.active ++ last_line w.cells.clock (told_of version w).bytes) → Adds s u (history_text (told_of version w))
   adds_history w s t u p q = adds_as s u _ _ (adds_then s t u _ _ p q) (sym (text_of w))
 
   -- a write failed before all of it was written
-  pub adds_cut : (w : World P) (s t : Standing) (e : Error) → Adds s t (lines_so_far One w.base w.attempts.ended) → t.fault ≡ Some e → Adds s t (history_text (told_of w))
+  pub adds_cut : (w : World P) (s t : Standing) (e : Error) → Adds s t (lines_so_far version w.base w.attempts.ended) → t.fault ≡ Some e → Adds s t (history_text (told_of version w))
   adds_cut w s t e p failed = adds_as s t _ _ (adds_failed s t e _ _ p failed) (sym (text_of w))
 
 take_all : (xs : List ℕ) → take (length xs) xs ≡ xs
 take_all xs = grind (arith, common_steps)
 
 -- the numbers of a whole history
-pub history_fits : {P : Type 0} (a b : World P) (s t : Standing) → IsBytes a.base × All AttemptFits a.attempts.ended → AddsEnded a b s t → t.fault ≡ None
-    → All AttemptFits b.attempts.active × IsWord b.cells.clock × IsBytes (told_of b).bytes → HistoryFits (told_of b)
-history_fits a b s t first f good last = record {
+pub history_fits : {P : Type 0} (version : Version) (a b : World P) (s t : Standing) → IsBytes a.base × All AttemptFits a.attempts.ended → AddsEnded a b s t → t.fault ≡ None
+    → All AttemptFits b.attempts.active × IsWord b.cells.clock × IsBytes (told_of version b).bytes → HistoryFits (told_of version b)
+history_fits version a b s t first f good last = record {
   memory = subst IsBytes (sym f.base) first.0;
   attempts = All-append AttemptFits b.attempts.ended b.attempts.active (subst (All AttemptFits) (sym f.ended) (All-append AttemptFits a.attempts.ended f.more first.1 (f.fits good))) last.0;
   clock = last.1;
@@ -283,22 +288,22 @@ adds_front : (s t : Standing) (e : Error) (x : List ℕ) → t.fault ≡ Some e 
 unfolding Adds
 adds_front s t e x failed p = leaves_front s.fault e s.written t.written x (subst (λ (g : Option Error). Leaves s.fault g s.written t.written x) failed p)
 
-module _ {P : Type 0} (rules : Rules P) (items : List Item) (a c : World P) where
+module _ {P : Type 0} (rules : Rules P) (version : Version) (items : List Item) (a c : World P) where
   -- after an event
-  pub cut_off : (s t u : Standing) (e : Error) → t.fault ≡ None → u.fault ≡ Some e → Adds s t (lines_so_far One a.base a.attempts.ended) → AddsEnded a c t u → Fails rules (ItemsBegin rules items) a c t u → IsCutOff rules items a c s.written u.written
+  pub cut_off : (s t u : Standing) (e : Error) → t.fault ≡ None → u.fault ≡ Some e → Adds s t (lines_so_far version a.base a.attempts.ended) → AddsEnded a c t u → Fails rules (ItemsBegin rules items) a c t u → IsCutOff rules version items a c s.written u.written
   cut_off s t u e good failed p ended f = record {
     begun = f.all;
-    got = inl (subst (λ (b : List ℕ). Front s.written u.written (lines_so_far One b c.attempts.ended)) ended.base (adds_front s u e _ failed (adds_lines a c s t u p ended)));
+    got = inl (subst (λ (b : List ℕ). Front s.written u.written (lines_so_far version b c.attempts.ended)) ended.base (adds_front s u e _ failed (adds_lines version a c s t u p ended)));
     told = inr (
       f.before,
       f.first,
       inr f.last,
-      subst (HasWhole s.written u.written) (sym (ap (lines_so_far One a.base) f.ended ∙ so_far_more a.base a.attempts.ended f.more)) (begins_after s t u.written _ _ (adds_fresh s t _ good p) good p f.told),
+      subst (HasWhole s.written u.written) (sym (ap (lines_so_far version a.base) f.ended ∙ so_far_more version a.base a.attempts.ended f.more)) (begins_after s t u.written _ _ (adds_fresh s t _ good p) good p f.told),
     );
   }
 
   -- after the last event
-  cut_last : (s t u : Standing) (e : Error) (y : List ℕ) → t.fault ≡ None → u.fault ≡ Some e → Adds s t (lines_so_far One c.base c.attempts.ended) → Adds t u y → Adds s u (history_text (told_of c)) → c.base ≡ a.base → ItemsLead rules items a c → IsCutOff rules items a c s.written u.written
+  cut_last : (s t u : Standing) (e : Error) (y : List ℕ) → t.fault ≡ None → u.fault ≡ Some e → Adds s t (lines_so_far version c.base c.attempts.ended) → Adds t u y → Adds s u (history_text (told_of version c)) → c.base ≡ a.base → ItemsLead rules items a c → IsCutOff rules version items a c s.written u.written
   cut_last s t u e y good failed p q whole base l = record {
     begun = items_whole rules a c items l;
     got = inr (l, adds_front s u e _ failed whole);
@@ -306,38 +311,38 @@ module _ {P : Type 0} (rules : Rules P) (items : List Item) (a c : World P) wher
       c,
       items_whole rules a c items l,
       inl refl,
-      subst (λ (b : List ℕ). HasWhole s.written u.written (lines_so_far One b c.attempts.ended)) base (begins_with s t u _ _ (adds_fresh s t _ good p) good p q),
+      subst (λ (b : List ℕ). HasWhole s.written u.written (lines_so_far version b c.attempts.ended)) base (begins_with s t u _ _ (adds_fresh s t _ good p) good p q),
     );
   }
 
-  pub stops_last : {A : Type 0} (s t u : Standing) (r : Result A Error) (y : List ℕ) → t.fault ≡ None → u.fault ≡ result_err r → Adds s t (lines_so_far One c.base c.attempts.ended) → Adds t u y → Adds s u (history_text (told_of c)) → c.base ≡ a.base → ItemsLead rules items a c → OnErr r (IsCutOff rules items a c s.written u.written)
+  pub stops_last : {A : Type 0} (s t u : Standing) (r : Result A Error) (y : List ℕ) → t.fault ≡ None → u.fault ≡ result_err r → Adds s t (lines_so_far version c.base c.attempts.ended) → Adds t u y → Adds s u (history_text (told_of version c)) → c.base ≡ a.base → ItemsLead rules items a c → OnErr r (IsCutOff rules version items a c s.written u.written)
   stops_last s t u (Ok x) y good told p q whole base l = record {}
   stops_last s t u (Err e) y good told p q whole base l = cut_last s t u e y good told p q whole base l
 
-  pub cut_as : (u v w t : Option (List ℕ)) → IsCutOff rules items a c u t → u ≡ w → v ≡ t → IsCutOff rules items a c w v
+  pub cut_as : (u v w t : Option (List ℕ)) → IsCutOff rules version items a c u t → u ≡ w → v ≡ t → IsCutOff rules version items a c w v
   cut_as u v w t p first last =
-      subst (λ (x : Option (List ℕ)). IsCutOff rules items a c x v) first (subst (λ (x : Option (List ℕ)). IsCutOff rules items a c u x) (sym last) p)
+      subst (λ (x : Option (List ℕ)). IsCutOff rules version items a c x v) first (subst (λ (x : Option (List ℕ)). IsCutOff rules version items a c u x) (sym last) p)
 
   -- before the first one
-  pub cut_first : (s t : Standing) (e : Error) → c ≡ a → t.fault ≡ Some e → Adds s t (lines_so_far One a.base a.attempts.ended) → IsCutOff rules items a c s.written t.written
+  pub cut_first : (s t : Standing) (e : Error) → c ≡ a → t.fault ≡ Some e → Adds s t (lines_so_far version a.base a.attempts.ended) → IsCutOff rules version items a c s.written t.written
   cut_first s t e same failed p = record {
     begun = subst (λ (w : World P). ItemsBegin rules items a w) (sym same) (items_unbegun rules a items);
-    got = inl (subst (λ (w : World P). Front s.written t.written (lines_so_far One a.base w.attempts.ended)) (sym same) (adds_front s t e _ failed p));
+    got = inl (subst (λ (w : World P). Front s.written t.written (lines_so_far version a.base w.attempts.ended)) (sym same) (adds_front s t e _ failed p));
     told = inl same;
   }
 
   -- all was written, and then it could not be handed on
-  pub cut_whole : (u v : Option (List ℕ)) → Appends u v (history_text (told_of c)) → c.base ≡ a.base → ItemsLead rules items a c → IsCutOff rules items a c u v
+  pub cut_whole : (u v : Option (List ℕ)) → Appends u v (history_text (told_of version c)) → c.base ≡ a.base → ItemsLead rules items a c → IsCutOff rules version items a c u v
   cut_whole u v p base l = record {
     begun = items_whole rules a c items l;
-    got = inr (l, (length (history_text (told_of c)), subst (Appends u v) (sym (take_all (history_text (told_of c)))) p));
+    got = inr (l, (length (history_text (told_of version c)), subst (Appends u v) (sym (take_all (history_text (told_of version c)))) p));
     told = inr (
       c,
       items_whole rules a c items l,
       inl refl,
       (
-        flat_map attempt_lines c.attempts.active ++ last_line c.cells.clock (told_of c).bytes,
-        subst (Appends u v) (text_of c ∙ ap (λ (b : List ℕ). lines_so_far One b c.attempts.ended ++ (flat_map attempt_lines c.attempts.active ++ last_line c.cells.clock (told_of c).bytes)) base) p,
+        flat_map attempt_lines c.attempts.active ++ last_line c.cells.clock (told_of version c).bytes,
+        subst (Appends u v) (text_of version c ∙ ap (λ (b : List ℕ). lines_so_far version b c.attempts.ended ++ (flat_map attempt_lines c.attempts.active ++ last_line c.cells.clock (told_of version c).bytes)) base) p,
       ),
     );
   }

@@ -2,7 +2,7 @@
 use Rattle.std.proofs.Common.{◌≡◌, inl, inr, ℕ, zero, suc, ◌+◌, ◌*◌, ◌/◌, ◌%◌, ◌<◌, ◌≤◌, ◌==◌, List, [], ◌∷◌, length, map, replicate, Option, None, Some, refl, sym, ap, subst, ◌∙◌, arith}
 use Rattle.std.specs.Prelude.{slice_index_or}
 use Rattle.std.proofs.lemmas.List.{length-map}
-use Rattle.itm_types.specs.declared.limits.TheConstants.{MAX_ACTORS, MAX_ARENA, MAX_OPEN_BLOCKS, MAX_RETRIES}
+use Rattle.itm_types.specs.declared.limits.TheConstants.{MAX_ARENA, MAX_RETRIES}
 use Rattle.tx_attempts.specs.declared.attempt.Attempt.{Attempt}
 use Rattle.tx_runs.specs.declared.ending.End.{End}
 use Rattle.tx_runs.specs.declared.ending.End.TheVariants.{Finished, GaveUp, NoMemory}
@@ -23,10 +23,11 @@ use Rattle.world_laws.specs.Told.{told_of}
 use Rattle.history_reader.proofs.Canon.LegalTexts.{legal_text}
 use Rattle.history_reader.specs.LegalTexts.{IsLegalText}
 use Rattle.tx_history.specs.Bounds.{HistoryFits, IsMemorySize}
-use Rattle.tx_history.specs.declared.history.Version.TheVariants.{One}
+use Rattle.tx_history.specs.Versions.{thread_limit}
 use Rattle.tx_history.specs.Histories.{history_text}
 use Rattle.tx_host.proofs.Histories.ScriptWidths.{script_widths}
 use Rattle.tx_host.specs.Limits.{IsLimitedListing}
+use Rattle.tx_host.specs.Versions.{version_of}
 use Rattle.world_laws.proofs.LegalHistories.LegalWorlds.{legal_world}
 use Rattle.world_laws.proofs.LegalHistories.LimitedWorlds.{limited_world}
 use Rattle.world_laws.specs.Limits.{IsLimitedWorld}
@@ -38,9 +39,9 @@ use Rattle.run_commands.proofs.FedRuns.{even_starved, fed, none_open}
 use Rattle.run_commands.proofs.RoomlessTexts.{roomless_text}
 use Rattle.run_commands.proofs.ScheduleItems.{items_keep, items_led}
 
-first_is : (threads : List (List Instruction)) (x : Thread) → map opening threads ≡ x ∷ [] → x ≡ opening (slice_index_or threads 0 [])
-first_is [] x e = absurd cc
-first_is (t ∷ threads) x e = cc
+first_is : (depth : ℕ) (threads : List (List Instruction)) (x : Thread) → map (opening depth) threads ≡ x ∷ [] → x ≡ opening depth (slice_index_or threads 0 [])
+first_is depth [] x e = absurd cc
+first_is depth (t ∷ threads) x e = cc
 
 parity : (k : ℕ) → k < 2 → one_if (k == 1) ≡ k
 parity zero l = refl
@@ -57,6 +58,7 @@ record BeganAs (p : Listing) (w : World Thread) : Type 0 where
   pub arena : w.arena ≡ p.arena
   pub limit : w.max_commits ≡ p.limits.max_commits
   pub retries : w.retries ≡ p.limits.retries
+  pub depth : w.depth ≡ p.limits.depth
 
 began_as : (p : Listing) (w : World Thread) → Leaves p w → BeganAs p w
 began_as p w (first, begins, leads) =
@@ -67,42 +69,44 @@ began_as p w (first, begins, leads) =
       arena = kept.opening.arena ∙ begins.arena;
       limit = kept.opening.max_commits ∙ begins.limit;
       retries = kept.opening.retries ∙ begins.retries;
+      depth = kept.opening.depth ∙ begins.depth;
     }
 
 -- a world of a program within the limits of a run is within them too
-limited_as : (p : Listing) (w : World Thread) → BeganAs p w → IsLimitedListing p → IsLimitedWorld w
+limited_as : (p : Listing) (w : World Thread) → BeganAs p w → IsLimitedListing p → IsLimitedWorld (version_of p) w
 limited_as p w began limits = record {
-  memory = subst (λ (bytes : List ℕ). IsMemorySize One (length bytes)) (sym began.base) limits.memory;
+  memory = subst (λ (bytes : List ℕ). IsMemorySize (version_of p) (length bytes)) (sym began.base) limits.memory;
   arena = subst (λ (n : ℕ). n ≤ MAX_ARENA) (sym began.arena) limits.arena;
   retries = subst (λ (n : ℕ). n ≤ MAX_RETRIES) (sym began.retries) limits.retries;
-  actors = subst (λ (n : ℕ). n ≤ MAX_ACTORS) (sym (ap (λ (l : List Thread). length l) began.players ∙ length-map (threads_of p) opening)) limits.threads;
+  actors = subst (λ (n : ℕ). n ≤ suc (thread_limit (version_of p))) (sym (ap (λ (l : List Thread). length l) began.players ∙ length-map (threads_of p) (opening p.limits.depth))) limits.threads;
 }
 
 -- its history's text is read as a legal one
-pub read_as_legal : (p : Listing) (w : World Thread) → IsWorldOf p w → IsLimitedListing p → HistoryFits (told_of w) → IsLegalText (history_text (told_of w))
+pub read_as_legal : (p : Listing) (w : World Thread) → IsWorldOf p w → IsLimitedListing p → HistoryFits (told_of (version_of p) w) → IsLegalText (history_text (told_of (version_of p) w))
 read_as_legal p w is limits fits =
-    legal_text (told_of w) is.legal fits (limited_world thread_rules script_widths w is.opaque (limited_as p w (began_as p w is.leaves) limits))
+    legal_text (told_of (version_of p) w) is.legal fits (limited_world thread_rules script_widths (version_of p) w is.opaque (limited_as p w (began_as p w is.leaves) limits))
 
 module _ (p : Listing) (w : World Thread) (began : BeganAs p w) (player : Thread) (player_is : player ≡ first_thread p) where
   -- what the player does alone is what the program's thread does
-  alone_is : solo thread_rules MAX_OPEN_BLOCKS w.max_commits 0 player w.base (replicate w.arena 0) ≡ solo_of p
+  alone_is : solo thread_rules w.depth w.max_commits 0 player w.base (replicate w.arena 0) ≡ solo_of p
   unfolding solo_of
-  alone_is = λ i. solo thread_rules MAX_OPEN_BLOCKS (began.limit i) 0 (player_is i) (began.base i) (replicate (began.arena i) 0)
+  alone_is = λ i. solo thread_rules (began.depth i) (began.limit i) 0 (player_is i) (began.base i) (replicate (began.arena i) 0)
 
   so_far : (commits : ℕ) (memory : List ℕ) (outcome : Outcome) (rows : List Attempt)
-      → IsSoFar thread_rules w.max_commits 0 player w.base (replicate w.arena 0) commits memory outcome rows
-      → IsSoFar thread_rules p.limits.max_commits 0 (first_thread p) (opening_of p) (replicate p.arena 0) commits memory outcome rows
+      → IsSoFar thread_rules w.depth w.max_commits 0 player w.base (replicate w.arena 0) commits memory outcome rows
+      → IsSoFar thread_rules p.limits.depth p.limits.max_commits 0 (first_thread p) (opening_of p) (replicate p.arena 0) commits memory outcome rows
   so_far commits memory outcome rows s =
-      subst (λ (n : ℕ). IsSoFar thread_rules p.limits.max_commits 0 (first_thread p) (opening_of p) (replicate n 0) commits memory outcome rows) began.arena
-      (subst (λ (base : List ℕ). IsSoFar thread_rules p.limits.max_commits 0 (first_thread p) base (replicate w.arena 0) commits memory outcome rows) began.base
-      (subst (λ (t : Thread). IsSoFar thread_rules p.limits.max_commits 0 t w.base (replicate w.arena 0) commits memory outcome rows) player_is
-      (subst (λ (n : ℕ). IsSoFar thread_rules n 0 player w.base (replicate w.arena 0) commits memory outcome rows) began.limit s)))
+      subst (λ (n : ℕ). IsSoFar thread_rules p.limits.depth p.limits.max_commits 0 (first_thread p) (opening_of p) (replicate n 0) commits memory outcome rows) began.arena
+      (subst (λ (base : List ℕ). IsSoFar thread_rules p.limits.depth p.limits.max_commits 0 (first_thread p) base (replicate w.arena 0) commits memory outcome rows) began.base
+      (subst (λ (t : Thread). IsSoFar thread_rules p.limits.depth p.limits.max_commits 0 t w.base (replicate w.arena 0) commits memory outcome rows) player_is
+      (subst (λ (n : ℕ). IsSoFar thread_rules p.limits.depth n 0 player w.base (replicate w.arena 0) commits memory outcome rows) began.limit
+      (subst (λ (n : ℕ). IsSoFar thread_rules n w.max_commits 0 player w.base (replicate w.arena 0) commits memory outcome rows) began.depth s))))
 
   is_page : (end : End) → solo_of p ≡ record { attempts = map without_room (attempts_of w); memory = memory_of w; commits = w.cells.clock / 2; held = w.cells.clock % 2 == 1; ending = end }
-      → roomless (told_of w) ≡ page p
+      → roomless (told_of (version_of p) w) ≡ page p
   unfolding page
   is_page end all = λ i. record {
-    version = One;
+    version = version_of p;
     memory = began.base i;
     attempts = (ap (λ (s : Solo). s.attempts) (sym all)) i;
     clock = (doubled w.cells.clock ∙ ap (λ (s : Solo). 2 * s.commits + one_if s.held) (sym all)) i;
@@ -110,18 +114,18 @@ module _ (p : Listing) (w : World Thread) (began : BeganAs p w) (player : Thread
   }
 
   shows : (end : End) → solo_of p ≡ record { attempts = map without_room (attempts_of w); memory = memory_of w; commits = w.cells.clock / 2; held = w.cells.clock % 2 == 1; ending = end }
-      → ((solo_of p).ending ≡ end) × (roomless (told_of w) ≡ page p) × (history_text (told_of w) ≡ history_text (page p))
-  shows end all = (let same = is_page end all in (ap (λ (s : Solo). s.ending) all, same, sym (roomless_text (told_of w)) ∙ ap history_text same))
+      → ((solo_of p).ending ≡ end) × (roomless (told_of (version_of p) w) ≡ page p) × (history_text (told_of (version_of p) w) ≡ history_text (page p))
+  shows end all = (let same = is_page end all in (ap (λ (s : Solo). s.ending) all, same, sym (roomless_text (told_of (version_of p) w)) ∙ ap history_text same))
 
-  of_ending : (ending : Option End) → (ending ≡ Some NoMemory → w.cells.clock % 2 ≡ 0) → DoneBy thread_rules w player ending → IsOf p ending (told_of w)
+  of_ending : (ending : Option End) → (ending ≡ Some NoMemory → w.cells.clock % 2 ≡ 0) → DoneBy thread_rules w player ending → IsOf p ending (told_of (version_of p) w)
   of_ending None even (memory, part, told) = (began.base, memory, so_far (w.cells.clock / 2) memory outcomes.Unfinished (attempts_of w) part, told)
   of_ending (Some Finished) even all = shows Finished (sym alone_is ∙ all)
   of_ending (Some GaveUp) even all = shows GaveUp (sym alone_is ∙ all)
   of_ending (Some NoMemory) even (inl part) = (began.base, part.0, so_far (w.cells.clock / 2) (memory_of w) outcomes.NoMemory (attempts_of w) part.1)
   of_ending (Some NoMemory) even (inr part) = absurd (let odd : w.cells.clock % 2 ≡ 1 = part.0 in let none : w.cells.clock % 2 ≡ 0 = even refl in omega arith)
 
-pub world_of_run : (p : Listing) (w : World Thread) → HasNestedCode p → Leaves p w → CommitsInOrder w → AreOpaque thread_rules (observed w) → AreTied thread_rules w → IsWorldOf p w
-world_of_run p w nested leaves commits opaque tied =
+pub world_of_run : (p : Listing) (w : World Thread) → HasNestedCode p → IsLimitedListing p → Leaves p w → CommitsInOrder w → AreOpaque thread_rules (observed w) → AreTied thread_rules w → IsWorldOf p w
+world_of_run p w nested limits leaves commits opaque tied =
     let led = items_led leaves.0 w (schedule_of p) leaves.2 in
     record {
       leaves = leaves;
@@ -131,11 +135,11 @@ world_of_run p w nested leaves commits opaque tied =
       tied = tied;
       fed = fed p nested leaves.0 w leaves.1 led.0 led.1 commits tied;
       none_open = none_open p nested leaves.0 w leaves.1 led.0 led.1 commits tied;
-      legal = legal_world thread_rules w commits opaque tied;
+      legal = legal_world thread_rules (version_of p) w (limits.depth ∙ sym (began_as p w leaves).depth) commits opaque tied;
       alone = λ one.
           let began = began_as p w leaves in
           let first = leaves.1 in
-          let single : (players : List Thread) → players ≡ players_of p → length players ≡ 1 = λ players is. ap (λ (l : List Thread). length l) is ∙ length-map (threads_of p) opening ∙ one in
+          let single : (players : List Thread) → players ≡ players_of p → length players ≡ 1 = λ players is. ap (λ (l : List Thread). length l) is ∙ length-map (threads_of p) (opening p.limits.depth) ∙ one in
           let a = led_alone thread_rules thread_laws led.0 led.1.0 leaves.0 w first.anew first.commits first.opaque first.tied led.1.1 (single leaves.0.opening first.players) (single w.opening began.players) in
-          of_ending p w began a.0 (first_is (threads_of p) a.0 (sym began.players ∙ a.1)) (ending_at w 0) (even_starved p nested leaves.0 w leaves.1 led.0 led.1 commits tied one) a.2;
+          of_ending p w began a.0 (first_is p.limits.depth (threads_of p) a.0 (sym began.players ∙ a.1)) (ending_at w 0) (even_starved p nested leaves.0 w leaves.1 led.0 led.1 commits tied one) a.2;
     }

@@ -62,6 +62,7 @@ keeps_same old new e = record {
     patience = ap (λ (w : World Thread). w.patience) e;
     max_commits = ap (λ (w : World Thread). w.max_commits) e;
     retries = ap (λ (w : World Thread). w.retries) e;
+    depth = ap (λ (w : World Thread). w.depth) e;
   };
   actors = ap (λ (w : World Thread). length w.actors) e;
 }
@@ -75,6 +76,7 @@ keeps_then a b c k l = record {
     patience = l.opening.patience ∙ k.opening.patience;
     max_commits = l.opening.max_commits ∙ k.opening.max_commits;
     retries = l.opening.retries ∙ k.opening.retries;
+    depth = l.opening.depth ∙ k.opening.depth;
   };
   actors = l.actors ∙ k.actors;
 }
@@ -108,6 +110,6 @@ endings_more w i endings ending e f = rw (e, f) (sym (map-range_with_len_more (e
 -- ## Its players
 
 -- no block of theirs is open
-pub outside : (threads : List (List Instruction)) → AllByRecursion (λ (t : Thread). depth_of t ≡ 0) (map opening threads)
-outside [] = tt
-outside (code ∷ threads) = (refl, outside threads)
+pub outside : (deepest : ℕ) (threads : List (List Instruction)) → AllByRecursion (λ (t : Thread). depth_of t ≡ 0) (map (opening deepest) threads)
+outside deepest [] = tt
+outside deepest (code ∷ threads) = (refl, outside deepest threads)

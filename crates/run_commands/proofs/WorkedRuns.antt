@@ -14,7 +14,7 @@ use Rattle.tx_history.proofs.WorkedLines.{line}
 
 -- ## Schedules
 
-two_players : players_of lost_update ≡ opening counter_code ∷ opening counter_code ∷ []
+two_players : players_of lost_update ≡ opening lost_update.limits.depth counter_code ∷ opening lost_update.limits.depth counter_code ∷ []
 unfolding codes_of
 two_players = refl
 

@@ -19,6 +19,7 @@ use Rattle.run_commands.specs.Pages.{IsWorldOf}
 use Rattle.world_laws.specs.Told.{told_of}
 use Rattle.run_commands.specs.Plays.{IsCutOff}
 use Rattle.tx_host.specs.Limits.{IsLimitedListing}
+use Rattle.tx_host.specs.Versions.{version_of}
 use Rattle.script_laws.specs.Assembled.{HasNestedCode}
 use Rattle.run_commands.proofs.FedRuns.{fed, none_open}
 use Rattle.run_commands.proofs.ProgramPages.{read_as_legal}
@@ -26,12 +27,12 @@ use Rattle.run_commands.proofs.ScheduleItems.{items_begun_led}
 use Rattle.run_commands.specs.Running.{IsRun, running}
 
 module _ (p : Listing) (w : World Thread) (o n : Option (List ℕ)) (is : IsWorldOf p w) where
-  run_of : HistoryFits (told_of w) → IsLimitedListing p → (endings : ArrayVec (Option End)) → endings.items ≡ endings_of (length (threads_of p)) w → IsRun p endings (history_text (told_of w))
+  run_of : HistoryFits (told_of (version_of p) w) → IsLimitedListing p → (endings : ArrayVec (Option End)) → endings.items ≡ endings_of (length (threads_of p)) w → IsRun p endings (history_text (told_of (version_of p) w))
   run_of fits limits endings stand = record { world = w; of_program = is; stand = stand; told = refl; read = read_as_legal p w is limits fits }
 
   -- the history
-  pub told : HistoryFits (told_of w) → IsLimitedListing p → (endings : ArrayVec (Option End)) → endings.items ≡ endings_of (length (threads_of p)) w → Appends o n (history_text (told_of w)) → Outputs running (Ok endings) (Ok p) o n
-  told fits limits endings stand grew = (p, history_text (told_of w), refl, run_of fits limits endings stand, grew)
+  pub told : HistoryFits (told_of (version_of p) w) → IsLimitedListing p → (endings : ArrayVec (Option End)) → endings.items ≡ endings_of (length (threads_of p)) w → Appends o n (history_text (told_of (version_of p) w)) → Outputs running (Ok endings) (Ok p) o n
+  told fits limits endings stand grew = (p, history_text (told_of (version_of p) w), refl, run_of fits limits endings stand, grew)
 
 -- where a write failed, a beginning of it
 pub cut_written : {X E : Type 0} (r : Result X E) (u v : Option (List ℕ)) (text : List ℕ) → Puts u v r text → Writes u v r text
@@ -40,7 +41,7 @@ cut_written (Err e) u v text p = (p.0, p.2)
 
 -- a beginning of it, where a write failed
 pub begun : (p : Listing) (first w : World Thread) (o n : Option (List ℕ)) → HasNestedCode p → Begins p first → CommitsInOrder w → AreOpaque thread_rules (observed w) → AreTied thread_rules w
-    → IsCutOff thread_rules (schedule_of p) first w o n → Outputs running (Err Writing) (Ok p) o n
+    → IsCutOff thread_rules (version_of p) (schedule_of p) first w o n → Outputs running (Err Writing) (Ok p) o n
 begun p first w o n nested begins commits opaque tied stops =
     let led = items_begun_led first w (schedule_of p) stops.begun in (
       p,

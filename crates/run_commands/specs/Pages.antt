@@ -1,6 +1,5 @@
 -- What is told of a run, and the page of a program: what its first thread does alone on the memory that the program begins with.
 use Rattle.std.specs.Prelude.{◌≡◌, ℕ, ◌+◌, ◌*◌, ◌/◌, ◌%◌, List, [], length, map, replicate, slice_index_or, Option, None, Some}
-use Rattle.itm_types.specs.declared.limits.TheConstants.{MAX_OPEN_BLOCKS}
 use Rattle.tx_runs.specs.declared.ending.End.{End}
 use Rattle.tx_runs.specs.declared.ending.End.TheVariants.{Finished, GaveUp, NoMemory}
 use Rattle.tx_attempts.specs.declared.attempt.Outcome.TheVariants as outcomes
@@ -13,23 +12,23 @@ use Rattle.norec_world.specs.World.{World, ending_at, observed}
 use Rattle.script_program.specs.Listing.{Listing, opening_of, threads_of}
 use Rattle.script_vm.specs.Threads.{Thread, opening, thread_rules}
 use Rattle.tx_history.specs.declared.history.History.{History}
-use Rattle.tx_history.specs.declared.history.Version.TheVariants.{One}
 use Rattle.tx_history.specs.Histories.{history_text}
 use Rattle.tx_history.specs.Legal.{IsLegal}
+use Rattle.tx_host.specs.Versions.{version_of}
 use Rattle.world_laws.specs.Starved.{IsFed, LeavesNoneOpen}
 use Rattle.world_laws.specs.Told.{told_of}
 use Rattle.run_commands.specs.Scheduled.{Leaves}
 
 abbrev pub first_thread : Listing → Thread
-first_thread p = opening (slice_index_or (threads_of p) 0 [])
+first_thread p = opening p.limits.depth (slice_index_or (threads_of p) 0 [])
 
 -- all that the first thread does alone
 unfoldable pub solo_of : Listing → Solo
-solo_of p = solo thread_rules MAX_OPEN_BLOCKS p.limits.max_commits 0 (first_thread p) (opening_of p) (replicate p.arena 0)
+solo_of p = solo thread_rules p.limits.depth p.limits.max_commits 0 (first_thread p) (opening_of p) (replicate p.arena 0)
 
 -- its history: the clock is odd where its last transaction is irrevocable and has not ended
 unfoldable pub page : Listing → History
-page p = record { version = One; memory = opening_of p; attempts = (solo_of p).attempts; clock = 2 * (solo_of p).commits + one_if (solo_of p).held; bytes = (solo_of p).memory }
+page p = record { version = version_of p; memory = opening_of p; attempts = (solo_of p).attempts; clock = 2 * (solo_of p).commits + one_if (solo_of p).held; bytes = (solo_of p).memory }
 
 -- the history, with no room in its attempts
 abbrev pub roomless : History → History
@@ -40,9 +39,9 @@ abbrev pub IsOf : Listing → Option End → History → Type 0
 IsOf p (Some Finished) h = ((solo_of p).ending ≡ Finished) × (roomless h ≡ page p) × (history_text h ≡ history_text (page p))
 IsOf p (Some GaveUp) h = ((solo_of p).ending ≡ GaveUp) × (roomless h ≡ page p) × (history_text h ≡ history_text (page p))
 IsOf p (Some NoMemory) h = (h.memory ≡ opening_of p) × (h.clock % 2 ≡ 0)
-    × IsSoFar thread_rules p.limits.max_commits 0 (first_thread p) (opening_of p) (replicate p.arena 0) (h.clock / 2) h.bytes outcomes.NoMemory h.attempts
+    × IsSoFar thread_rules p.limits.depth p.limits.max_commits 0 (first_thread p) (opening_of p) (replicate p.arena 0) (h.clock / 2) h.bytes outcomes.NoMemory h.attempts
 IsOf p None h = (h.memory ≡ opening_of p) × (memory : List ℕ)
-    × IsSoFar thread_rules p.limits.max_commits 0 (first_thread p) (opening_of p) (replicate p.arena 0) (h.clock / 2) memory outcomes.Unfinished h.attempts
+    × IsSoFar thread_rules p.limits.depth p.limits.max_commits 0 (first_thread p) (opening_of p) (replicate p.arena 0) (h.clock / 2) memory outcomes.Unfinished h.attempts
     × (h.clock % 2 ≡ 0 → h.bytes ≡ memory)
 
 -- ## The run of a program
@@ -56,5 +55,5 @@ pub record IsWorldOf (p : Listing) (w : World Thread) : Type 0 where
   pub tied : AreTied thread_rules w
   pub fed : IsFed w
   pub none_open : LeavesNoneOpen w
-  pub legal : IsLegal (told_of w)
-  pub alone : length (threads_of p) ≡ 1 → IsOf p (ending_at w 0) (told_of w)
+  pub legal : IsLegal (told_of (version_of p) w)
+  pub alone : length (threads_of p) ≡ 1 → IsOf p (ending_at w 0) (told_of (version_of p) w)

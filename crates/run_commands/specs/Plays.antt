@@ -12,7 +12,7 @@ use Rattle.norec_world.specs.WorldEvents.{Goes}
 use Rattle.script_program.specs.declared.schedule.Item.{Item}
 use Rattle.tx_attempts.specs.declared.attempt.Attempt.{Attempt}
 use Rattle.tx_history.specs.Bounds.{AttemptFits}
-use Rattle.tx_history.specs.declared.history.Version.TheVariants.{One}
+use Rattle.tx_history.specs.declared.history.Version.{Version}
 use Rattle.tx_history.specs.Histories.{attempt_lines, history_text}
 use Rattle.tx_history.specs.Streams.{Adds, Standing, fault_of, lent, lines_so_far, standing}
 use Rattle.tx_history.specs.declared.page.Page.{Page}
@@ -65,15 +65,15 @@ module _ {P : Type 0} (rules : Rules P) where
     pub actors : length new.actors ≡ length old.actors
 
   -- A write failed, or the handing on of what was written. Some first events of that were taken, and no other. What came to the writer is a beginning of the history: of its lines so far, or, after the last event, of all of it. And if an event was taken, then the lines of all attempts that had ended before the last one came to the writer whole.
-  pub record IsCutOff (items : List Item) (first new : World P) (u v : Option (List ℕ)) : Type 0 where
+  pub record IsCutOff (version : Version) (items : List Item) (first new : World P) (u v : Option (List ℕ)) : Type 0 where
     pub begun : ItemsBegin rules items first new
-    pub got : Front u v (lines_so_far One first.base new.attempts.ended) ⊎ (ItemsLead rules items first new × Front u v (history_text (told_of new)))
-    pub told : (new ≡ first) ⊎ ((before : World P) × ItemsBegin rules items first before × ((before ≡ new) ⊎ IsNext before new) × HasWhole u v (lines_so_far One first.base before.attempts.ended))
+    pub got : Front u v (lines_so_far version first.base new.attempts.ended) ⊎ (ItemsLead rules items first new × Front u v (history_text (told_of version new)))
+    pub told : (new ≡ first) ⊎ ((before : World P) × ItemsBegin rules items first before × ((before ≡ new) ⊎ IsNext before new) × HasWhole u v (lines_so_far version first.base before.attempts.ended))
 
-  -- Items were played, and their history written: all of them, or, where that failed, the first events of them. What holds of every world holds of the one that they left.
-  pub record IsPlayed {A E : Type 0} (items : List Item) (old new : World P) (u v : Option (List ℕ)) (result : Result A E) : Type 0 where
+  -- Items were played, and their history written, in this version: all of them, or, where that failed, the first events of them. What holds of every world holds of the one that they left.
+  pub record IsPlayed {A E : Type 0} (version : Version) (items : List Item) (old new : World P) (u v : Option (List ℕ)) (result : Result A E) : Type 0 where
     pub leads : OnOk result (ItemsLead rules items old new)
-    pub stops : OnErr result (IsCutOff items old new u v)
+    pub stops : OnErr result (IsCutOff version items old new u v)
     pub commits : CommitsInOrder new
     pub opaque : AreOpaque rules (observed new)
     pub tied : AreTied rules new

@@ -13,6 +13,7 @@ use Rattle.script_vm.specs.Threads.{Thread, thread_rules}
 use Rattle.text_commands.specs.Answers.{Command}
 use Rattle.text_commands.specs.Lines.{script_line}
 use Rattle.tx_history.specs.Histories.{history_text}
+use Rattle.tx_host.specs.Versions.{version_of}
 use Rattle.run_commands.specs.Endings.{ending_lines, endings_status}
 use Rattle.world_laws.specs.Starved.{IsFed, LeavesNoneOpen}
 use Rattle.world_laws.specs.Told.{told_of}
@@ -25,7 +26,7 @@ pub record IsRun (p : Listing) (endings : ArrayVec (Option End)) (text : List �
   pub world : World Thread
   pub of_program : IsWorldOf p world
   pub stand : endings.items ≡ endings_of (length (threads_of p)) world
-  pub told : text ≡ history_text (told_of world)
+  pub told : text ≡ history_text (told_of (version_of p) world)
   pub read : IsLegalText text  -- so who checks it finds it legal
 
 -- A write failed, or the handing on of what was written: some first events of the program's schedule were taken, or all, and a beginning of the history was written, with all attempts that had ended before the last event. In the world that they lead to no thread that found no memory has an irrevocable attempt, nor one that has not ended.
@@ -33,7 +34,7 @@ pub record IsCutRun (p : Listing) (old new : Option (List ℕ)) : Type 0 where
   pub first : World Thread
   pub begins : Begins p first
   pub world : World Thread
-  pub stops : IsCutOff thread_rules (schedule_of p) first world old new
+  pub stops : IsCutOff thread_rules (version_of p) (schedule_of p) first world old new
   pub commits : CommitsInOrder world
   pub opaque : AreOpaque thread_rules (observed world)
   pub tied : AreTied thread_rules world

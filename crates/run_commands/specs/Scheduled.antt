@@ -17,7 +17,7 @@ use Rattle.run_commands.specs.Items.{ItemsLead}
 
 -- the players of its threads, by number
 abbrev pub players_of : Listing → List Thread
-players_of p = map opening (threads_of p)
+players_of p = map (opening p.limits.depth) (threads_of p)
 
 -- the world has these players and just began
 pub record Begins (p : Listing) (w : World Thread) : Type 0 where
@@ -28,6 +28,7 @@ pub record Begins (p : Listing) (w : World Thread) : Type 0 where
   pub patience : w.patience ≡ p.limits.patience
   pub limit : w.max_commits ≡ p.limits.max_commits
   pub retries : w.retries ≡ p.limits.retries
+  pub depth : w.depth ≡ p.limits.depth
   pub anew : IsNew thread_rules w  -- before its first event, each thread having done its local work up to its first step
   pub first : (place : ℕ) (a : Actor Thread) → slice_get w.actors place ≡ Some a → IsBetween 0 1 w.attempts a  -- each is before its first try
   pub commits : CommitsInOrder w

@@ -28,23 +28,25 @@ use std::alloc::Global;
 use std::io;
 use std::io::{Read, Write};
 use text_commands::{Failure, read_program};
-use tx_history::Stream;
+use tx_history::{Stream, Version};
+use tx_host::version_of;
 
 /// Takes the events of the items, writes the history as they are taken, and hands on what the writer holds back.
 fn put_run<W: Write>(
     alloc: Global,
     world: &mut World<Script<'_>>,
     items: &[Item],
+    version: Version,
     writer: &mut W,
 ) -> io::Result<()>
     requires { All (λ i. thread_of i < length world.old.actors) items.now }
-    ensures text { Writes (W.contents writer.old) (W.contents writer.new) result (history_text (told_of world.new)) }
-    ensures fits { OnOk result (HistoryFits (told_of world.new)) }
-    ensures played { IsPlayed thread_rules items.now
+    ensures text { Writes (W.contents writer.old) (W.contents writer.new) result (history_text (told_of version world.new)) }
+    ensures fits { OnOk result (HistoryFits (told_of version world.new)) }
+    ensures played { IsPlayed thread_rules version items.now
         world.old world.new (W.contents writer.old) (W.contents writer.new) result }
 {
     let mut stream = Stream::new(writer);
-    play(alloc, world, items, &mut stream)?;
+    play(alloc, world, items, version, &mut stream)?;
     writer.flush()
 }
 
@@ -53,16 +55,17 @@ fn write_run<W: Write>(
     alloc: Global,
     world: &mut World<Script<'_>>,
     items: &[Item],
+    version: Version,
     writer: &mut W,
 ) -> Result<(), Failure<AsmFault>>
     requires { All (λ i. thread_of i < length world.old.actors) items.now }
-    ensures text { Writes (W.contents writer.old) (W.contents writer.new) result (history_text (told_of world.new)) }
+    ensures text { Writes (W.contents writer.old) (W.contents writer.new) result (history_text (told_of version world.new)) }
     ensures failure { IfErr result (λ failure. failure ≡ Writing) }
-    ensures fits { OnOk result (HistoryFits (told_of world.new)) }
-    ensures played { IsPlayed thread_rules items.now
+    ensures fits { OnOk result (HistoryFits (told_of version world.new)) }
+    ensures played { IsPlayed thread_rules version items.now
         world.old world.new (W.contents writer.old) (W.contents writer.new) result }
 {
-    put_run(alloc, world, items, writer).map_err(|_| Failure::Writing)
+    put_run(alloc, world, items, version, writer).map_err(|_| Failure::Writing)
 }
 
 /// Runs a program by these items, which are its schedule, and writes its history.
@@ -80,7 +83,8 @@ fn run_items<W: Write>(
     requires there { All (λ i. thread_of i < length (threads_of program.now)) items.now }
     ensures { Outputs running result (Ok program.now) (W.contents writer.old) (W.contents writer.new) }
 {
-    write_run(alloc, &mut world, items, writer)?;
+    let version = version_of(program);
+    write_run(alloc, &mut world, items, version, writer)?;
     Ok(endings(&world, program.threads()))
 }
 

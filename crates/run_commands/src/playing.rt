@@ -19,7 +19,7 @@ use script_program::Item;
 use std::alloc::Global;
 use std::io;
 use std::io::Write;
-use tx_history::Stream;
+use tx_history::{Stream, Version};
 use tx_player::Player;
 
 /// One event of the thread, and the lines of what it ended; tells whether the same call goes on. Where a write fails,
@@ -149,23 +149,24 @@ fn take_items<P: Player, W: Write>(
 /// What the items of a schedule ask for, one after the other, and the history of the world as it goes: the lines before the
 /// first event, with those of attempts that have ended already; those of each attempt right after the event that ended it;
 /// and at the end those of the open ones and the last one. Each item is of a thread that there is. Where a write fails, or
-/// had failed before, no further event is taken, and its error is answered.
+/// had failed before, no further event is taken, and its error is answered. The history is told in this version.
 pub fn play<P: Player, W: Write>(
     alloc: Global,
     world: &mut World<P>,
     items: &[Item],
+    version: Version,
     stream: &mut Stream<'_, W>,
 ) -> io::Result<()>
     requires { All (λ i. thread_of i < length world.old.actors) items.now }
-    ensures sends { Sends W.contents stream.old stream.new (history_text (told_of world.new))
-        (HistoryFits (told_of world.new)) result }
-    ensures played { IsPlayed P.Player items.now
+    ensures sends { Sends W.contents stream.old stream.new (history_text (told_of version world.new))
+        (HistoryFits (told_of version world.new)) result }
+    ensures played { IsPlayed P.Player version items.now
         world.old world.new (standing W.contents stream.old).written (standing W.contents stream.new).written result }
     ensures base { world.new.base ≡ world.old.base }
 {
     // (what holds of every world: the last fields of `played`)
     let _events = world.events();
-    open_history(world, stream)?;
+    open_history(world, version, stream)?;
     let taken = take_items(alloc, world, items, stream);
     let _events_taken = world.events();
     taken?;

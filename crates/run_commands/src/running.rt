@@ -1,6 +1,6 @@
 //! Programs that are run: a world of their threads, and the schedule.
 
-ghost use Rattle.std.specs.Prelude.{◌≡◌, ◌≤◌, IfOk, vec_len};
+ghost use Rattle.std.specs.Prelude.{◌≡◌, ◌≤◌, IfOk, length};
 ghost use Rattle.script_program.specs.Sizes.{IsSize};
 ghost use Rattle.script_program.specs.Listing.{opening_of};
 ghost use Rattle.tx_host.specs.Limits.{IsLimitedListing};
@@ -16,7 +16,8 @@ use std::alloc::{AllocError, Global};
 /// The memory that a program begins with.
 fn opening(alloc: Global, program: &Program) -> Result<Vec<u8>, AllocError>
     ensures bytes { IfOk result (λ bytes. bytes.items ≡ opening_of program.now) }
-    ensures sized { IfOk result (λ bytes. IsSize (vec_len bytes)) }
+    ensures sized { IfOk result (λ bytes. IsSize (length bytes.items)) }
+    ensures size { IfOk result (λ bytes. length bytes.items ≡ program.now.memory.size) }
 {
     let mut bytes = vec![in alloc; 0; program.size()]?;
     program.opening(&mut bytes);
@@ -26,8 +27,8 @@ fn opening(alloc: Global, program: &Program) -> Result<Vec<u8>, AllocError>
 /// The players of a program's threads, by number.
 fn players<'p>(alloc: Global, program: &'p Program) -> Result<Vec<Script<'p>>, AllocError>
     ensures players { IfOk result (λ players. players.items ≡ players_of program.now) }
-    ensures some { IfOk result (λ players. 1 ≤ vec_len players) }
-    ensures few { IfOk result (λ players. vec_len players ≤ MAX_ACTORS) }
+    ensures some { IfOk result (λ players. 1 ≤ length players.items) }
+    ensures few { IfOk result (λ players. length players.items ≤ MAX_ACTORS) }
 {
     let mut players = Vec::new(alloc);
     for thread in 0..program.threads() {

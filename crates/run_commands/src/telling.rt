@@ -4,7 +4,6 @@ ghost use Rattle.std.specs.Prelude.{◌≡◌, ◌≤◌, ◌++◌, All, None, d
 ghost use Rattle.hex.specs.Hex.{IsBytes};
 ghost use Rattle.norec_world.specs.World.{memory_of};
 ghost use Rattle.tx_history.specs.Bounds.{AttemptFits, IsWord};
-ghost use Rattle.tx_history.specs.declared.history.Version.TheVariants.{One};
 ghost use Rattle.tx_history.specs.Histories.{attempt_lines, last_line};
 ghost use Rattle.tx_history.specs.Streams.{Sends, fault_of, lines_so_far};
 
@@ -46,12 +45,13 @@ pub(crate) fn put_ended<P: Player, W: Write>(
 /// Writes the lines before the first event: those before the first attempt, and those of attempts that have ended already.
 pub(crate) fn open_history<P: Player, W: Write>(
     world: &World<P>,
+    version: Version,
     stream: &mut Stream<'_, W>,
 ) -> io::Result<()>
-    ensures { Sends W.contents stream.old stream.new (lines_so_far One world.now.base world.now.attempts.ended)
+    ensures { Sends W.contents stream.old stream.new (lines_so_far version world.now.base world.now.attempts.ended)
         (IsBytes world.now.base × All AttemptFits world.now.attempts.ended) result }
 {
-    stream.open(Version::One, world.base())?;
+    stream.open(version, world.base())?;
     put_ended(world, stream, 0)
 }
 

@@ -5,8 +5,7 @@ ghost use Rattle.std.specs.Prelude.{◌≡◌, ◌<◌, ◌≤◌, IfOk};
 use crate::fault::Fault;
 use crate::measure::{Outcome, is_right, measure};
 use crate::worker::Task;
-use crate::workload::{WORKLOADS, name_of, named};
-use itm_types::MAX_WORDS;
+use crate::workload::{WORDS, WORKLOADS, name_of, named};
 use std::env;
 use std::num::nearest_u64_to_f64;
 use std::rt::{Clock, Env};
@@ -33,7 +32,7 @@ fn order_of(words: &[String]) -> Result<Order, Fault> {
     let threads: u8 = threads.parse()?;
     let size: u64 = size.parse()?;
     let milliseconds = milliseconds.parse()?;
-    if threads == 0 || threads > 8 || size == 0 || size > MAX_WORDS as u64 {
+    if threads == 0 || threads > 8 || size == 0 || size > WORDS as u64 {
         return Err(Fault::Usage);
     }
     let task = Task {

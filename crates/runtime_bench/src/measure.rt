@@ -6,8 +6,7 @@ ghost use Rattle.shared_words.specs.Passes.{Owns, view_of, cells_of};
 use crate::crowd::serve_for;
 use crate::fault::Fault;
 use crate::worker::{Tally, Task};
-use crate::workload::{Workload, word_of};
-use itm_types::MAX_MEMORY;
+use crate::workload::{WORDS, Workload, word_of};
 use shared_words::{Pass, Words};
 use std::rt::Clock;
 use std::thread::Threads;
@@ -86,7 +85,7 @@ fn measure_in<R: Threads + Clock + AllocGlobal + Sync>(
     Ok(close(words, pass, memory, tally, took))
 }
 
-/// The same, over the largest memory that there is.
+/// The same, over as many words as the workloads are about.
 pub fn measure<R: Threads + Clock + AllocGlobal + Sync>(
     rt: &R,
     threads: u8,
@@ -96,7 +95,7 @@ pub fn measure<R: Threads + Clock + AllocGlobal + Sync>(
     requires { (0 < threads) × (threads ≤ 8) }
 {
     let alloc = rt.alloc();
-    let mut memory = vec![in alloc; 0u8; MAX_MEMORY]?;
+    let mut memory = vec![in alloc; 0u8; 8 * WORDS]?;
     measure_in(rt, memory.as_mut_slice(), threads, task, milliseconds)
 }
 

@@ -4,9 +4,9 @@ ghost use Rattle.std.specs.Prelude.{◌≡◌, ◌<◌, false, IfOk};
 ghost use Rattle.shared_words.specs.Passes.{Owns, view_of};
 
 use crate::fault::Fault;
-use crate::workload::{Block, Workload, work};
+use crate::workload::{Block, WORDS, Workload, work};
 use itm_runtime::Thread;
-use itm_types::{Limits, MAX_COMMITS, MAX_WORDS, Props};
+use itm_types::{Limits, MAX_COMMITS, Props, USUAL_DEPTH};
 use norec_core::Answer;
 use shared_words::{Pass, Words};
 use std::alloc::{AllocError, Global};
@@ -18,6 +18,7 @@ const LIMITS: Limits = Limits {
     patience: 8,
     retries: 0,
     max_commits: MAX_COMMITS,
+    depth: USUAL_DEPTH,
 };
 
 /// What all threads do.
@@ -83,11 +84,11 @@ fn next(number: u64) -> u64 {
 
 /// The transaction that comes after so many, and the random number after those that it took.
 fn draw(task: &Task, random: u64, done: u64) -> (Block, u64) {
-    let size = task.size.min(MAX_WORDS as u64);
+    let size = task.size.min(WORDS as u64);
     let (first, second, random) = match task.workload {
         Workload::Counter | Workload::Writes => (0, 0, random),
         Workload::Transfer => draw_two(random, size.max(1)),
-        Workload::ReadOnly => draw_two(random, MAX_WORDS as u64 - size + 1),
+        Workload::ReadOnly => draw_two(random, WORDS as u64 - size + 1),
     };
     let block = Block {
         workload: task.workload,
@@ -162,7 +163,7 @@ pub fn serve(
     ensures idle { IfOk result (λ r. (view_of r.0).holds ≡ false) }
 {
     let arena = Arena::new(alloc, 0)?;
-    let mut thread = Thread::new(alloc, words, pass, arena, LIMITS);
+    let mut thread = Thread::new(alloc, words, pass, arena, LIMITS)?;
     let tally = run(words, &mut thread, task, seed, stop)?;
     match thread.into_parts() {
         Ok((pass, _)) => Ok((pass, tally)),

@@ -4,10 +4,13 @@ ghost use Rattle.std.specs.Prelude.{◌≡◌};
 ghost use Rattle.shared_words.specs.Passes.{Owns};
 
 use itm_runtime::Thread;
-use itm_types::{Datum, MAX_WORDS, ReadHint, Reply, Width, WriteHint};
+use itm_types::{Datum, ReadHint, Reply, Width, WriteHint};
 use norec_core::Answer;
 use shared_words::Words;
 use std::alloc::AllocError;
+
+/// How many words the shared memory has.
+pub const WORDS: usize = 8_192;
 
 /// What each transaction does.
 #[derive(Clone, Copy, Debug, PartialEq, Eq)]
@@ -66,7 +69,7 @@ pub struct Block {
 
 /// The place of a word.
 fn place_of(word: u64) -> u64 {
-    8 * (word % MAX_WORDS as u64)
+    8 * (word % WORDS as u64)
 }
 
 /// The word of these bytes, the low one first.

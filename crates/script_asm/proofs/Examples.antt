@@ -25,7 +25,7 @@ abbrev listing : ℕ → List Part → Listing
 listing memory parts = record {
   memory = record { size = memory; inits = [] };
   arena = 0;
-  limits = record { patience = 8; retries = 100; max_commits = MAX_COMMITS };
+  limits = record { patience = 8; retries = 100; max_commits = MAX_COMMITS; depth = 16 };
   schedule = [];
   parts = parts;
 }
@@ -90,8 +90,8 @@ laid_bytes : opening_of overlapping ≡ 17 ∷ 34 ∷ 170 ∷ 187 ∷ 204 ∷ 0 
 unfolding on_literals
 laid_bytes = refl
 
-limits : program_of (line (codes ".patience 1000") ++ line (codes ".arena 4096") ++ line (codes ".retries 0") ++ line (codes ".commits 1") ++ line (codes ".memory 8") ++ codes ".thread")
-    ≡ Ok (record (listing 8 (part 1 [] ∷ [])) { arena = 4096; limits = record { patience = 1000; retries = 0; max_commits = 1 } })
+limits : program_of (line (codes ".patience 1000") ++ line (codes ".arena 4096") ++ line (codes ".retries 0") ++ line (codes ".commits 1") ++ line (codes ".depth 64") ++ line (codes ".memory 8") ++ codes ".thread")
+    ≡ Ok (record (listing 8 (part 1 [] ∷ [])) { arena = 4096; limits = record { patience = 1000; retries = 0; max_commits = 1; depth = 64 } })
 unfolding on_literals
 limits = refl
 

@@ -27,9 +27,31 @@ unfolding on_literals
 form_first = refl
 
 -- a number beyond its limit goes before too many threads
-no_thread_after_all : program_of (line (codes ".memory 8") ++ line (codes ".thread 32") ++ codes ".thread 0") ≡ fault 3 kinds.Range
+no_thread_after_all : program_of (line (codes ".memory 8") ++ line (codes ".thread 64") ++ codes ".thread 0") ≡ fault 3 kinds.Range
 unfolding on_literals
 no_thread_after_all = refl
+
+-- one thread more than there may be
+thread_too_many : program_of (line (codes ".memory 8") ++ codes ".thread 65") ≡ fault 2 kinds.TooLong
+unfolding on_literals
+thread_too_many = refl
+
+-- a depth of 1 to 64 is said once, before the first thread, where no operand is looked at otherwise
+depth_beyond : program_of (codes ".depth 65") ≡ fault 1 kinds.Range
+unfolding on_literals
+depth_beyond = refl
+
+no_depth : program_of (codes ".depth 0") ≡ fault 1 kinds.Range
+unfolding on_literals
+no_depth = refl
+
+depth_again : program_of (line (codes ".depth 16") ++ codes ".depth x") ≡ fault 2 kinds.Misplaced
+unfolding on_literals
+depth_again = refl
+
+depth_of_a_thread : program_of (script (codes ".depth 16")) ≡ fault 3 kinds.Misplaced
+unfolding on_literals
+depth_of_a_thread = refl
 
 -- ## Blocks and groups
 

@@ -26,7 +26,7 @@ scheduled s n items =
     then fault n kinds.TooLong
     else Ok (record s { schedule = planned s.schedule n items })
 
--- at most 32 threads, and nothing that is open goes from one section into the next
+-- at most 64 threads, and nothing that is open goes from one section into the next
 unfoldable pub threaded : State → ℕ → ℕ → Option ℕ → Result State AsmFault
 threaded s n count (Some line) = fault line kinds.Unbalanced
 threaded s n count None =

@@ -7,14 +7,15 @@
 //!
 //! | Line | Meaning | Where |
 //! |---|---|---|
-//! | `.memory N` | shared memory has N bytes, 8 to 65,536 in whole words of 8 | once, before `.init` and `.thread` |
+//! | `.memory N` | shared memory has N bytes, 8 to 1,048,576 in whole words of 8 | once, before `.init` and `.thread` |
 //! | `.init N HEX` | the bytes that the digits say stand from byte N on, at most 131,072 digits; the last line to write a byte wins | before the first `.thread` |
 //! | `.arena N` | each thread's arena has N bytes: 0 to 4,096, else 0 | at most once, before the first `.thread` |
 //! | `.patience N` | rounds of validation that a call may start: 1 to 1,000, else 8 | at most once, before the first `.thread` |
 //! | `.retries N` | how often a block is tried again: 0 to 10,000, else 100 | at most once, before the first `.thread` |
 //! | `.commits N` | commits that the memory takes: 1 to 2^62 - 1, else that | at most once, before the first `.thread` |
+//! | `.depth N` | how many blocks may be open at once: 1 to 64, else 16 | at most once, before the first `.thread` |
 //! | `.schedule ITEM ..` | who takes the next events: `TxK` is K events of thread T, 1 to 1,000,000, and `T!` those up to its end | before the first `.thread`; at most 65,536 items |
-//! | `.thread`, `.thread N` | the code that follows is that of one thread, or of N threads, numbered on from 0 | at most 32 threads |
+//! | `.thread`, `.thread N` | the code that follows is that of one thread, or of N threads, numbered on from 0 | at most 64 threads |
 //! | `.rept N`, `.endr` | the lines between stand N times, 0 to 65,536 | in a thread's code |
 //! | `set REG N`, `bytes REG HEX`, `mov REG REG` | a number, at most 32 bytes, or what stands in another register, into a register | in a thread's code |
 //! | `add`, `sub`, `and`, `ltu`, each with `REG REG REG` | what is worked out from the second and the third register, into the first | in a thread's code |

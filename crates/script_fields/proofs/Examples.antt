@@ -182,7 +182,7 @@ undo_form = refl
 
 -- ## Directives
 
-size : size_of (codes "65536" ∷ []) ≡ Ok 65536
+size : size_of (codes "1048576" ∷ []) ≡ Ok 1048576
 unfolding fields_on_literals
 size = refl
 
@@ -190,7 +190,7 @@ half_word : size_of (codes "12" ∷ []) ≡ Err kinds.Range
 unfolding fields_on_literals
 half_word = refl
 
-too_large : size_of (codes "65544" ∷ []) ≡ Err kinds.Range
+too_large : size_of (codes "1048584" ∷ []) ≡ Err kinds.Range
 unfolding fields_on_literals
 too_large = refl
 

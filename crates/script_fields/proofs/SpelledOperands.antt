@@ -11,7 +11,7 @@ use Rattle.std.proofs.Math.Seq.{take-append_seam}
 use Rattle.hex.specs.Hex.{IsBytes, encode_lower, encode_with, lower_digits, is_hex_digit}
 use Rattle.hex.proofs.HexLemmas.{decode_of-encode_lower, length-encode_with}
 use Rattle.itm_types.specs.declared.call.Props.{Props}
-use Rattle.itm_types.specs.declared.limits.TheConstants.{MAX_MEMORY}
+use Rattle.script_fields.specs.declared.hex_digits.TheConstants.{MAX_INIT_DIGITS}
 use Rattle.script_fields.specs.declared.fault.AsmKind.{AsmKind}
 use Rattle.script_fields.specs.declared.fault.AsmKind.TheVariants as kinds
 use Rattle.script_fields.specs.declared.literal.Literal.{Literal}
@@ -122,9 +122,9 @@ digits_to_again most bytes h some few =
     rw (hex, fits) (ap (λ (bs : List ℕ). Ok bs) (decoded_is _ _ (decode_of-encode_lower bytes h)))
 
 -- bytes for the memory that are written are read as they were
-pub digits_again_hex : (bytes : List ℕ) → IsBytes bytes → 1 ≤ length bytes → length bytes ≤ MAX_MEMORY → digits (encode_lower bytes) ≡ Ok bytes
+pub digits_again_hex : (bytes : List ℕ) → IsBytes bytes → 1 ≤ length bytes → 2 * length bytes ≤ MAX_INIT_DIGITS → digits (encode_lower bytes) ≡ Ok bytes
 unfolding digits
-digits_again_hex bytes h some few = digits_to_again (2 * MAX_MEMORY) bytes h some (omega arith)
+digits_again_hex bytes h some few = digits_to_again MAX_INIT_DIGITS bytes h some few
 
 abbrev made : List ℕ → ℕ → Literal
 made bytes count = record { bytes = bytes; count = count }

@@ -1,10 +1,11 @@
 -- The operands of a line that are written are read as they were.
-use Rattle.std.proofs.Common.{◌≡◌, ℕ, ◌%◌, ◌^◌, ◌<◌, ◌≤◌, Bool, List, [], ◌∷◌, length, Ok, refl, arith}
+use Rattle.std.proofs.Common.{◌≡◌, ℕ, ◌*◌, ◌%◌, ◌^◌, ◌<◌, ◌≤◌, Bool, List, [], ◌∷◌, length, Ok, refl, arith}
 use Rattle.std.specs.Prelude.{decimal}
 use Rattle.std.proofs.lemmas.Bool.{le-leb, ne_eqb, eq-eqb}
 use Rattle.hex.specs.Hex.{IsBytes, encode_lower}
 use Rattle.itm_types.specs.declared.call.Props.{Props}
 use Rattle.itm_types.specs.declared.limits.TheConstants.{MAX_MEMORY}
+use Rattle.script_fields.specs.declared.hex_digits.TheConstants.{MAX_INIT_DIGITS}
 use Rattle.script_fields.specs.declared.literal.Literal.{Literal}
 use Rattle.script_fields.specs.declared.place.Place.{Place}
 use Rattle.script_fields.specs.declared.register.Register.{Register}
@@ -95,7 +96,7 @@ pub limit_of_again : (low high n : ℕ) → low ≤ n → n ≤ high → n < 2 ^
 unfolding limit_of one
 limit_of_again low high n l h small = rw (number_again n small) (within_again low high n l h)
 
-pub init_of_again : (at : ℕ) (bytes : List ℕ) → at < 2 ^ 64 → IsBytes bytes → 1 ≤ length bytes → length bytes ≤ MAX_MEMORY → init_of (decimal at ∷ encode_lower bytes ∷ []) ≡ Ok (at, bytes)
+pub init_of_again : (at : ℕ) (bytes : List ℕ) → at < 2 ^ 64 → IsBytes bytes → 1 ≤ length bytes → 2 * length bytes ≤ MAX_INIT_DIGITS → init_of (decimal at ∷ encode_lower bytes ∷ []) ≡ Ok (at, bytes)
 unfolding init_of two
 init_of_again at bytes small h some few = rw (number_again at small, digits_again_hex bytes h some few) refl
 

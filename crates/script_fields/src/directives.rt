@@ -27,7 +27,7 @@ fn memory_size(n: u64) -> Result<usize, AsmKind>
     }
 }
 
-/// The size of a memory: whole words, from one to 8,192.
+/// The size of a memory: whole words, from one to 131,072.
 #[tactic(auto, unfolding(crate::specs::Shapes::size_of))]
 pub fn size_of(rest: &[u8]) -> Result<usize, AsmKind>
     ensures value { result ≡ size_of (fields rest.now) }

@@ -8,7 +8,14 @@ ghost use Rattle.script_fields.specs.Operands.{Sees, is_hex, decoded, digits_to,
 use crate::fault::AsmKind;
 use crate::literal::Literal;
 use hex::decode_to_slice;
-use itm_types::MAX_MEMORY;
+
+/// How many digits the bytes of one line of a script have at most.
+pub const MAX_INIT_DIGITS: usize = 131_072;
+
+/// What the limit of digits is, as a number. Does nothing.
+pub fn most_digits()
+    ensures { MAX_INIT_DIGITS ≡ 131072 }
+{}
 
 fn has_hex_digits(field: &[u8]) -> bool
     ensures { result ≡ list_all is_hex_digit field.now }
@@ -43,7 +50,7 @@ pub fn digits(field: &[u8]) -> Result<&[u8], AsmKind>
     ensures value { Sees (λ x. decoded x.now) result (digits field.now) }
     ensures hex { IfOk result (λ x. is_hex x.now ≡ true) }
 {
-    digits_to(2 * MAX_MEMORY, field)
+    digits_to(MAX_INIT_DIGITS, field)
 }
 
 fn literal_of(digits: &[u8]) -> Literal

@@ -32,6 +32,7 @@ mod words;
 pub use directives::{count_of, init_of, limit_of, size_of};
 pub use fault::{AsmFault, AsmKind};
 pub use fields::no_field;
+pub use hex_digits::{MAX_INIT_DIGITS, most_digits};
 pub use literal::Literal;
 pub use names::lookup;
 pub use numbers::{function, number, within};

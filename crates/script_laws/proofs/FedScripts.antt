@@ -28,9 +28,9 @@ goes_nested : (p q : Thread) → IsNested p → GoesTo thread_rules p q → IsNe
 goes_nested p q nested (inl g) = subst IsNested (sym g.4) (plays p g.0 g.1 nested g.2 g.3).nested
 goes_nested p q nested (inr g) = subst IsNested (sym g.1) (back_nested p nested)
 
-comes_nested : (n : ℕ) (code : List Instruction) (q : Thread) → Nests code [] → ComesTo thread_rules n (opening code) q → IsNested q
-comes_nested zero code q x comes = subst IsNested (sym comes) (opening_nested code x)
-comes_nested (suc n) code q x comes = goes_nested comes.0 q (comes_nested n code comes.0 x comes.1) comes.2
+comes_nested : (deepest n : ℕ) (code : List Instruction) (q : Thread) → Nests code [] → ComesTo thread_rules n (opening deepest code) q → IsNested q
+comes_nested deepest zero code q x comes = subst IsNested (sym comes) (opening_nested deepest code x)
+comes_nested deepest (suc n) code q x comes = goes_nested comes.0 q (comes_nested deepest n code comes.0 x comes.1) comes.2
 
 ends_within : (n : ℕ) (t : Thread) → IsNested t → left t ≤ n → EndsWithin thread_rules n t
 ends_within zero t nested few = λ call next. by_depth call next (depth_of t) refl
@@ -44,21 +44,21 @@ ends_within (suc n) t nested few = λ some call reply next may.
     ends_within n (answered t reply) x.nested (omega arith))
 
 pub tell_room : TellRoom
-tell_room code x n u call reply room comes next may told =
-    let p = plays u call reply (comes_nested n code u x comes) next may in
+tell_room deepest code x n u call reply room comes next may told =
+    let p = plays u call reply (comes_nested deepest n code u x comes) next may in
     ends_within room (answered u reply) p.nested (p.told room told)
 
 tells_room : (t : Thread) → TellsEachRoom t → TellsRoom thread_rules t
 tells_room t each n u call reply room comes next may told = each n u call reply room comes next may (going_told call room told)
 
 -- a player of each place is that of the thread
-opened_at : (codes : List (List Instruction)) (place : ℕ) (t : Thread) → slice_get (map opening codes) place ≡ Some t → (code : List Instruction) × (slice_get codes place ≡ Some code) × (t ≡ opening code)
-opened_at [] place t e = absurd (cc)
-opened_at (x ∷ codes) zero t e = (x, refl, (let same : opening x ≡ t = cc in sym same))
-opened_at (x ∷ codes) (suc n) t e = opened_at codes n t e
+opened_at : (deepest : ℕ) (codes : List (List Instruction)) (place : ℕ) (t : Thread) → slice_get (map (opening deepest) codes) place ≡ Some t → (code : List Instruction) × (slice_get codes place ≡ Some code) × (t ≡ opening deepest code)
+opened_at deepest [] place t e = absurd (cc)
+opened_at deepest (x ∷ codes) zero t e = (x, refl, (let same : opening deepest x ≡ t = cc in sym same))
+opened_at deepest (x ∷ codes) (suc n) t e = opened_at deepest codes n t e
 
 pub are_fed : AreFed
 are_fed p w nested players tied place a is starved =
     let here = there_is w.opening place (let l = slice_get_within w.actors place a is in let long = tied.each in omega arith) in
-    let thread = opened_at (threads_of p) place here.0 (ap (λ (l : List Thread). slice_get l place) (sym players) ∙ here.1) in
-    tied.fed place here.0 a here.1 is (subst (TellsRoom thread_rules) (sym thread.2) (tells_room (opening thread.0) (tell_room thread.0 (nested place thread.0 thread.1)))) starved
+    let thread = opened_at p.limits.depth (threads_of p) place here.0 (ap (λ (l : List Thread). slice_get l place) (sym players) ∙ here.1) in
+    tied.fed place here.0 a here.1 is (subst (TellsRoom thread_rules) (sym thread.2) (tells_room (opening p.limits.depth thread.0) (tell_room p.limits.depth thread.0 (nested place thread.0 thread.1)))) starved

@@ -20,8 +20,8 @@ TellsEachRoom t = (n : ℕ) (u : Thread) (call : Call) (reply : Reply) (room : �
 
 -- each thread of nested code tells it truly
 abbrev pub TellRoom : Type 0
-TellRoom = (code : List Instruction) → Nests code [] → TellsEachRoom (opening code)
+TellRoom = (deepest : ℕ) (code : List Instruction) → Nests code [] → TellsEachRoom (opening deepest code)
 
 -- in a world that began with a program's threads, whose code is nested, at every moment: no actor that ended for want of memory has an irrevocable attempt
 abbrev pub AreFed : Type 0
-AreFed = (p : Listing) (w : World Thread) → HasNestedCode p → w.opening ≡ map opening (threads_of p) → AreTied thread_rules w → IsFed w
+AreFed = (p : Listing) (w : World Thread) → HasNestedCode p → w.opening ≡ map (opening p.limits.depth) (threads_of p) → AreTied thread_rules w → IsFed w

@@ -1,9 +1,10 @@
 -- Programs that a text can say: what each of their parts keeps.
-use Rattle.std.specs.Prelude.{◌≡◌, ℕ, ◌+◌, ◌^◌, ◌<◌, ◌≤◌, nat_lt, ⊤, List, [], ◌∷◌, length, Option, Some, None, if◌then◌else◌}
+use Rattle.std.specs.Prelude.{◌≡◌, ℕ, ◌+◌, ◌*◌, ◌^◌, ◌<◌, ◌≤◌, nat_lt, ⊤, List, [], ◌∷◌, length, Option, Some, None, if◌then◌else◌}
 use Rattle.std.specs.List.{AllByRecursion, sum_by}
 use Rattle.hex.specs.Hex.{IsBytes}
 use Rattle.itm_types.specs.Limits.{AreWithin}
 use Rattle.itm_types.specs.declared.limits.TheConstants.{MAX_ACTORS, MAX_ARENA}
+use Rattle.script_fields.specs.declared.hex_digits.TheConstants.{MAX_INIT_DIGITS}
 use Rattle.script_fields.specs.Spelling.{IsPlace, IsLiteral}
 use Rattle.script_asm.specs.declared.groups.Group.{Group}
 use Rattle.script_asm.specs.declared.groups.Group.TheVariants as groups
@@ -72,9 +73,9 @@ open_after_all gs (i ∷ is) = then_after (open_after gs i) (λ hs. open_after_a
 
 -- ## Programs
 
--- bytes that lie within the memory
+-- bytes of one line that lie within the memory
 abbrev pub IsInit : ℕ → Placed → Type 0
-IsInit size i = IsBytes i.bytes × ((1 ≤ length i.bytes) × (i.at + length i.bytes ≤ size))
+IsInit size i = IsBytes i.bytes × (1 ≤ length i.bytes) × (2 * length i.bytes ≤ MAX_INIT_DIGITS) × (i.at + length i.bytes ≤ size)
 
 -- an item of one of so many threads
 abbrev pub IsItem : ℕ → Item → Type 0

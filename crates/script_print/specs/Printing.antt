@@ -4,6 +4,7 @@ use Rattle.std.specs.List.{flat_map}
 use Rattle.hex.specs.Hex.{encode_lower}
 use Rattle.itm_entries.specs.declared.entry.Control.TheVariants as controls
 use Rattle.itm_entries.specs.declared.entry.Entry.TheVariants as entries
+use Rattle.itm_types.specs.declared.limits.TheConstants.{USUAL_DEPTH}
 use Rattle.itm_entries.specs.Names.{name_of}
 use Rattle.script_fields.specs.Text.{joined, ended}
 use Rattle.script_fields.specs.Registers.{register_name}
@@ -73,7 +74,11 @@ instruction_fields (code.Fill hint to byte size) = name_of (entries.Fill hint) �
 abbrev pub number_fields : List ℕ → ℕ → List (List ℕ)
 number_fields word n = word ∷ decimal n ∷ []
 
--- the sizes and the limits, those too that are what they are where a script says none
+-- how many blocks may be open at once, where it is not what it is where a script says none
+abbrev pub depth_lines : ℕ → List (List (List ℕ))
+depth_lines depth = if depth == USUAL_DEPTH then [] else number_fields (codes ".depth") depth ∷ []
+
+-- the sizes and the limits, but for the depth those too that are what they are where a script says none
 abbrev pub limit_lines : Listing → List (List (List ℕ))
 limit_lines p =
     number_fields (codes ".memory") p.memory.size
@@ -81,7 +86,7 @@ limit_lines p =
     ∷ number_fields (codes ".patience") p.limits.patience
     ∷ number_fields (codes ".retries") p.limits.retries
     ∷ number_fields (codes ".commits") p.limits.max_commits
-    ∷ []
+    ∷ depth_lines p.limits.depth
 
 abbrev pub init_fields : Placed → List (List ℕ)
 init_fields i = codes ".init" ∷ decimal i.at ∷ encode_lower i.bytes ∷ []

@@ -3,11 +3,12 @@
 ghost use Rattle.std.specs.Prelude.{◌≡◌, [], ◌∷◌, ◌++◌, IfOk, OnOk, map};
 ghost use Rattle.std.specs.List.{flat_map};
 ghost use Rattle.script_print.specs.Fields.{lines_text};
-ghost use Rattle.script_print.specs.Printing.{init_fields, item_fields, limit_lines, number_fields, part_lines, printed, SaysAgain};
+ghost use Rattle.script_print.specs.Printing.{depth_lines, init_fields, item_fields, limit_lines, number_fields, part_lines, printed, SaysAgain};
 
 use crate::field::Field;
 use crate::line::put_line;
 use crate::section::put_section;
+use itm_types::USUAL_DEPTH;
 use script_program::{Init, Item, Program};
 use std::alloc::{AllocError, Global};
 
@@ -15,6 +16,16 @@ fn put_number(text: &mut Vec<u8>, word: &str, number: u64) -> Result<(), AllocEr
     ensures { OnOk result (text.new.items ≡ text.old.items ++ lines_text (number_fields word.now number ∷ [])) }
 {
     put_line(text, word, &[Field::Number(number)])
+}
+
+#[tactic(auto, using(crate::proofs::Texts::LineTexts::none_put))]
+fn put_depth(text: &mut Vec<u8>, depth: u8) -> Result<(), AllocError>
+    ensures { OnOk result (text.new.items ≡ text.old.items ++ lines_text (depth_lines depth)) }
+{
+    if depth == USUAL_DEPTH {
+        return Ok(());
+    }
+    put_number(text, ".depth", u64::from(depth))
 }
 
 fn put_limits(text: &mut Vec<u8>, program: &Program) -> Result<(), AllocError>
@@ -25,7 +36,8 @@ fn put_limits(text: &mut Vec<u8>, program: &Program) -> Result<(), AllocError>
     put_number(text, ".arena", program.arena() as u64)?;
     put_number(text, ".patience", u64::from(limits.patience))?;
     put_number(text, ".retries", u64::from(limits.retries))?;
-    put_number(text, ".commits", limits.max_commits)
+    put_number(text, ".commits", limits.max_commits)?;
+    put_depth(text, limits.depth)
 }
 
 fn put_init(text: &mut Vec<u8>, init: &Init) -> Result<(), AllocError>

@@ -2,7 +2,7 @@
 use Rattle.std.specs.Prelude.{ℕ, ◌+◌, ◌≤◌, List, ◌++◌, length, take, drop, replicate, fold, All, Option, unwrap_or}
 use Rattle.std.specs.List.{flat_map}
 use Rattle.itm_types.specs.declared.limits.Limits.{Limits}
-use Rattle.itm_types.specs.declared.limits.TheConstants.{MAX_COMMITS}
+use Rattle.itm_types.specs.declared.limits.TheConstants.{MAX_COMMITS, USUAL_DEPTH}
 use Rattle.script_program.specs.declared.instruction.Instruction.{Instruction}
 use Rattle.script_program.specs.declared.schedule.Item.{Item}
 use Rattle.script_program.specs.declared.schedule.Item.TheVariants.{Take, Out}
@@ -39,6 +39,7 @@ pub record Bounds : Type 0 where
   pub patience : Option ℕ
   pub retries : Option ℕ
   pub commits : Option ℕ
+  pub depth : Option ℕ
 
 -- how many bytes each thread's arena has: none, where it is not said
 abbrev pub arena_of : Bounds → ℕ
@@ -46,7 +47,7 @@ arena_of b = unwrap_or b.arena 0
 
 -- those of the run: of each that is not said, what it is else
 abbrev pub limits_of : Bounds → Limits
-limits_of b = record { patience = unwrap_or b.patience 8; retries = unwrap_or b.retries 100; max_commits = unwrap_or b.commits MAX_COMMITS }
+limits_of b = record { patience = unwrap_or b.patience 8; retries = unwrap_or b.retries 100; max_commits = unwrap_or b.commits MAX_COMMITS; depth = unwrap_or b.depth USUAL_DEPTH }
 
 -- ## The schedule
 

@@ -6,7 +6,7 @@
 //! of a program.
 //!
 //! The parts are put together here too, line by line (`Opening`, `SaidLimits`, `Plan`, `Threads`), each within its
-//! limits: at most 65,536 items, 65,536 instructions and 32 threads.
+//! limits: at most 65,536 items, 65,536 instructions and 64 threads.
 #![tactic(auto)]
 
 mod instruction;

@@ -2,10 +2,10 @@
 
 ghost use Rattle.std.specs.Prelude.{◌≡◌, ◌≤◌, None, Some, is_some};
 ghost use Rattle.itm_types.specs.Limits.{AreWithin};
-ghost use Rattle.itm_types.specs.declared.limits.TheConstants.{MAX_ARENA, MAX_COMMITS, MAX_PATIENCE, MAX_RETRIES};
+ghost use Rattle.itm_types.specs.declared.limits.TheConstants.{MAX_ARENA, MAX_COMMITS, MAX_DEPTH, MAX_PATIENCE, MAX_RETRIES};
 ghost use Rattle.script_program.specs.Listing.{arena_of, limits_of};
 
-use itm_types::{Limits, MAX_COMMITS};
+use itm_types::{Limits, MAX_COMMITS, USUAL_DEPTH};
 use std::marker::Model;
 
 /// How many bytes a script has at most.
@@ -43,32 +43,34 @@ pub struct SaidLimits {
     patience: Option<u32>,
     retries: Option<u32>,
     commits: Option<u64>,
+    depth: Option<u8>,
 }
 
 impl Model for SaidLimits {
     ghost use Rattle.std.specs.Prelude.{◌≤◌};
     ghost use Rattle.std.specs.Option.{ForSome};
-    ghost use Rattle.itm_types.specs.declared.limits.TheConstants.{MAX_ARENA, MAX_COMMITS, MAX_PATIENCE, MAX_RETRIES};
+    ghost use Rattle.itm_types.specs.declared.limits.TheConstants.{MAX_ARENA, MAX_COMMITS, MAX_DEPTH, MAX_PATIENCE, MAX_RETRIES};
     ghost use Rattle.script_program.specs.Listing.{Bounds};
 
     ghost Value = { Bounds };
 
-    ghost view = { λ l. record { arena = l.arena; patience = l.patience; retries = l.retries; commits = l.commits } };
+    ghost view = { λ l. record { arena = l.arena; patience = l.patience; retries = l.retries; commits = l.commits; depth = l.depth } };
 
     ghost invariant = { λ l. ForSome l.arena (λ n. n ≤ MAX_ARENA) × ForSome l.patience (λ n. (1 ≤ n) × (n ≤ MAX_PATIENCE)) × ForSome l.retries (λ n. n ≤ MAX_RETRIES)
-        × ForSome l.commits (λ n. (1 ≤ n) × (n ≤ MAX_COMMITS)) };
+        × ForSome l.commits (λ n. (1 ≤ n) × (n ≤ MAX_COMMITS)) × ForSome l.depth (λ n. (1 ≤ n) × (n ≤ MAX_DEPTH)) };
 }
 
 impl SaidLimits {
     /// No limit is said yet.
     pub fn new() -> Self
-        ensures { result ≡ record { arena = None; patience = None; retries = None; commits = None } }
+        ensures { result ≡ record { arena = None; patience = None; retries = None; commits = None; depth = None } }
     {
         SaidLimits {
             arena: None,
             patience: None,
             retries: None,
             commits: None,
+            depth: None,
         }
     }
 
@@ -98,6 +100,13 @@ impl SaidLimits {
         ensures { result ≡ is_some self.now.commits }
     {
         self.commits.is_some()
+    }
+
+    /// Whether the depth is said.
+    pub fn has_depth(&self) -> bool
+        ensures { result ≡ is_some self.now.depth }
+    {
+        self.depth.is_some()
     }
 
     /// Says the size of the arenas.
@@ -134,6 +143,15 @@ impl SaidLimits {
         self.commits = Some(commits);
     }
 
+    /// Says how many blocks may be open at once.
+    pub fn set_depth(&mut self, depth: u8)
+        requires low { 1 ≤ depth }
+        requires high { depth ≤ MAX_DEPTH }
+        ensures { self.new ≡ record self.old { depth = Some depth } }
+    {
+        self.depth = Some(depth);
+    }
+
     /// How many bytes each thread's arena has: what was said, and else none.
     pub fn arena(&self) -> usize
         ensures value { result ≡ arena_of self.now }
@@ -142,7 +160,8 @@ impl SaidLimits {
         self.arena.unwrap_or(0) as usize
     }
 
-    /// The limits of the run: those that were said, and else 8 rounds, 100 retries and as many commits as may be.
+    /// The limits of the run: those that were said, and else 8 rounds, 100 retries, as many commits as may be and 16 blocks
+    /// open at once.
     pub fn limits(&self) -> Limits
         ensures value { result ≡ limits_of self.now }
         ensures within { AreWithin result }
@@ -151,6 +170,7 @@ impl SaidLimits {
             patience: self.patience.unwrap_or(8),
             retries: self.retries.unwrap_or(100),
             max_commits: self.commits.unwrap_or(MAX_COMMITS),
+            depth: self.depth.unwrap_or(USUAL_DEPTH),
         }
     }
 }

@@ -7,7 +7,7 @@ ghost use Rattle.script_program.specs.Listing.{bytes_of};
 use std::alloc::{AllocError, Global};
 use std::marker::Model;
 
-/// A size of shared memory: whole words of 8 bytes, from 1 to 8,192 of them.
+/// A size of shared memory: whole words of 8 bytes, from 1 to 131,072 of them.
 #[derive(Clone, Copy, Debug, PartialEq, Eq)]
 pub struct Size {
     bytes: usize,

@@ -12,7 +12,7 @@ use Rattle.script_program.specs.declared.instruction.Instruction.{Instruction}
 use Rattle.script_program.specs.declared.instruction.Instruction.TheVariants as code
 use Rattle.script_vm.specs.Registers.{datum}
 use Rattle.script_vm.specs.Threads.{Thread, opening, next_call, depth_of}
-use Rattle.script_vm.proofs.Examples.{plain, played, value_of}
+use Rattle.script_vm.proofs.Examples.{plain, played, played_within, value_of}
 
 abbrev log : Instruction
 log = code.Log width.U1 (place.Number 0)
@@ -80,7 +80,7 @@ after_the_refused : (played (cancels (last_of log)) (Code 5 ∷ Refused TooDeep 
 after_the_refused = refl
 
 -- the room of a begin is that up to the end of the outermost block
-room_of_the_outer : next_call (opening (cancels (last_of code.Mode))) ≡ Some (calls.Begin plain 10)
+room_of_the_outer : next_call (opening 16 (cancels (last_of code.Mode))) ≡ Some (calls.Begin plain 10)
 room_of_the_outer = refl
 
 room_of_the_inner : next_call (played (cancels (last_of code.Mode)) (Code 5 ∷ [])) ≡ Some (calls.Begin plain 8)
@@ -93,16 +93,27 @@ room_of_the_innermost : next_call (entered code.Mode (Done ∷ [])) ≡ Some (ca
 room_of_the_innermost = refl
 
 -- a register's low bytes, as many as the width has, are written
-writes_low_bytes : (datum (opening (code.Set R1 258 ∷ [])).registers width.U1 R1).bytes.items ≡ 2 ∷ []
+writes_low_bytes : (datum (opening 16 (code.Set R1 258 ∷ [])).registers width.U1 R1).bytes.items ≡ 2 ∷ []
 unfolding datum
 writes_low_bytes = refl
 
--- a seventeenth block, which no runtime opens, shares what the sixteenth keeps
+-- a block beyond those that a runtime of 16 opens shares what the sixteenth keeps; where 17 may be open, it has its own
 abbrev deep : List Instruction
 deep = flat_map (λ n. code.Set R1 n ∷ code.Begin plain R0 ∷ []) (1 ∷ 2 ∷ 3 ∷ 4 ∷ 5 ∷ 6 ∷ 7 ∷ 8 ∷ 9 ∷ 10 ∷ 11 ∷ 12 ∷ 13 ∷ 14 ∷ 15 ∷ 16 ∷ 17 ∷ [])
+
+-- what the begin of the seventeenth block found, once that one is cancelled
+abbrev before_seventeenth : ℕ → ℕ
+before_seventeenth deepest = value_of (played_within deepest (deep ++ code.Abort false ∷ []) (replicate 17 (Code 5) ++ Code 24 ∷ [])) R1
 
 seventeen_deep : depth_of (played deep (replicate 17 (Code 5))) ≡ 17
 seventeen_deep = refl
 
-cancels_the_seventeenth : value_of (played (deep ++ code.Abort false ∷ []) (replicate 17 (Code 5) ++ Code 24 ∷ [])) R1 ≡ 16
-cancels_the_seventeenth = refl
+shares_the_sixteenth : before_seventeenth 16 ≡ 16
+shares_the_sixteenth = refl
+
+has_its_own : before_seventeenth 17 ≡ 17
+has_its_own = refl
+
+-- where one may be open, each within it shares what the outermost keeps
+shares_the_outermost : before_seventeenth 1 ≡ 1
+shares_the_outermost = refl

@@ -254,9 +254,9 @@ same_call c d e = cc
 none_is_no_call : (c : Call) → None ≡ Some c → ⊥
 none_is_no_call c e = cc
 
-module _ (registers : List (List ℕ)) (rest : List Instruction) (blocks : List Block) (start : HasNestedStart blocks) where
+module _ (deepest : ℕ) (registers : List (List ℕ)) (rest : List Instruction) (blocks : List Block) (start : HasNestedStart blocks) where
   abbrev at_blocks : Thread
-  at_blocks = record { rest = rest; registers = registers; blocks = blocks }
+  at_blocks = record { rest = rest; registers = registers; blocks = blocks; deepest = deepest }
 
   module _ (more : List Instruction) (levels : List Level) (same : blocks_in levels ≡ length blocks) where
     plain : (i : Instruction) → (regs : List (List ℕ)) → Nests more levels → open_past i (length blocks) ≡ length blocks → StaysNested i (length blocks) more (goes_on at_blocks regs more)
@@ -274,7 +274,7 @@ module _ (registers : List (List ℕ)) (rest : List Instruction) (blocks : List 
     told_goes i x (Bytes v) n e = plain i _ n e
     told_goes i x (Refused f) n e = plain i _ n e
 
-    deeper_start : (b : Block) → Nests b.rest levels → (all : List Block) → all ≡ blocks → HasNestedStart (deeper all b)
+    deeper_start : (b : Block) → Nests b.rest levels → (all : List Block) → all ≡ blocks → HasNestedStart (deeper deepest all b)
     deeper_start b n [] e = (levels, n, same ∙ ap length (sym e))
     deeper_start b n (outer ∷ inner) e = subst HasNestedStart (sym e) start
 
@@ -301,43 +301,43 @@ module _ (registers : List (List ℕ)) (rest : List Instruction) (blocks : List 
             let depth : length (b ∷ inner) + 0 ≡ length blocks = (let all = ap length e in omega arith) in
             goes_past (code.Abort true) (length blocks) (length (b ∷ inner)) more _ (past_one (with_number b.registers b.code n) t (length (b ∷ inner)) x depth tt) depth
 
-answered_goes : (registers : List (List ℕ)) (i : Instruction) (more : List Instruction) (blocks : List Block) (start : HasNestedStart blocks) (levels : List Level) → Nests (i ∷ more) levels → blocks_in levels ≡ length blocks → (c : Call) (r : Reply)
-    → call_at registers (length blocks) (i ∷ more) ≡ Some c → MayReply (length blocks) c r → StaysNested i (length blocks) more (answered_at (at_blocks registers (i ∷ more) blocks start) (i ∷ more) r)
-answered_goes registers (code.Set to n) more blocks start levels x same c r e may = absurd (none_is_no_call c e)
-answered_goes registers (code.Bytes to literal) more blocks start levels x same c r e may = absurd (none_is_no_call c e)
-answered_goes registers (code.Move to from) more blocks start levels x same c r e may = absurd (none_is_no_call c e)
-answered_goes registers (code.Compute operation to y z) more blocks start levels x same c r e may = absurd (none_is_no_call c e)
-answered_goes registers (code.IfNotZero y) more blocks start levels x same c r e may = absurd (none_is_no_call c e)
-answered_goes registers code.Else more blocks start levels x same c r e may = absurd (none_is_no_call c e)
-answered_goes registers code.EndIf more blocks start levels x same c r e may = absurd (none_is_no_call c e)
-answered_goes registers (code.Load width to at) more blocks start levels x same c r e may = took_goes registers (code.Load width to at ∷ more) blocks start more levels same (code.Load width to at) to r x refl
-answered_goes registers (code.Read hint width to at) more blocks start levels x same c r e may = took_goes registers (code.Read hint width to at ∷ more) blocks start more levels same (code.Read hint width to at) to r x refl
-answered_goes registers (code.InTransaction to) more blocks start levels x same c r e may = told_goes registers (code.InTransaction to ∷ more) blocks start more levels same (code.InTransaction to) to r x refl
-answered_goes registers (code.Abort outer) more blocks start levels x same c r e may = cancelled_goes registers (code.Abort outer ∷ more) blocks start more levels same outer r x
-answered_goes registers (code.Begin props to) more blocks start levels x same c r e may = by_reply r (subst (λ (y : Call). MayReply (length blocks) y r) (sym (same_call _ c e)) may)
+answered_goes : (deepest : ℕ) (registers : List (List ℕ)) (i : Instruction) (more : List Instruction) (blocks : List Block) (start : HasNestedStart blocks) (levels : List Level) → Nests (i ∷ more) levels → blocks_in levels ≡ length blocks → (c : Call) (r : Reply)
+    → call_at registers (length blocks) (i ∷ more) ≡ Some c → MayReply (length blocks) c r → StaysNested i (length blocks) more (answered_at (at_blocks deepest registers (i ∷ more) blocks start) (i ∷ more) r)
+answered_goes deepest registers (code.Set to n) more blocks start levels x same c r e may = absurd (none_is_no_call c e)
+answered_goes deepest registers (code.Bytes to literal) more blocks start levels x same c r e may = absurd (none_is_no_call c e)
+answered_goes deepest registers (code.Move to from) more blocks start levels x same c r e may = absurd (none_is_no_call c e)
+answered_goes deepest registers (code.Compute operation to y z) more blocks start levels x same c r e may = absurd (none_is_no_call c e)
+answered_goes deepest registers (code.IfNotZero y) more blocks start levels x same c r e may = absurd (none_is_no_call c e)
+answered_goes deepest registers code.Else more blocks start levels x same c r e may = absurd (none_is_no_call c e)
+answered_goes deepest registers code.EndIf more blocks start levels x same c r e may = absurd (none_is_no_call c e)
+answered_goes deepest registers (code.Load width to at) more blocks start levels x same c r e may = took_goes deepest registers (code.Load width to at ∷ more) blocks start more levels same (code.Load width to at) to r x refl
+answered_goes deepest registers (code.Read hint width to at) more blocks start levels x same c r e may = took_goes deepest registers (code.Read hint width to at ∷ more) blocks start more levels same (code.Read hint width to at) to r x refl
+answered_goes deepest registers (code.InTransaction to) more blocks start levels x same c r e may = told_goes deepest registers (code.InTransaction to ∷ more) blocks start more levels same (code.InTransaction to) to r x refl
+answered_goes deepest registers (code.Abort outer) more blocks start levels x same c r e may = cancelled_goes deepest registers (code.Abort outer ∷ more) blocks start more levels same outer r x
+answered_goes deepest registers (code.Begin props to) more blocks start levels x same c r e may = by_reply r (subst (λ (y : Call). MayReply (length blocks) y r) (sym (same_call _ c e)) may)
   where
     t : Thread
-    t = record { rest = code.Begin props to ∷ more; registers = registers; blocks = blocks }
+    t = record { rest = code.Begin props to ∷ more; registers = registers; blocks = blocks; deepest = deepest }
 
     by_reply : (r : Reply) → MayReply (length blocks) (calls.Begin props (room (suc (length blocks)) more)) r → StaysNested (code.Begin props to) (length blocks) more (begun t to more r)
     by_reply (Code n) may =
         let b : Block = record { rest = code.Begin props to ∷ more; registers = registers; code = to } in
-        let deep = length-deeper blocks b in
+        let deep = length-deeper deepest blocks b in
         goes_as (code.Begin props to) (length blocks) more _
-        (goes_nested (record t { blocks = deeper blocks b }) (with_number registers to n) more (block ∷ levels) x (ap suc same ∙ sym deep) (deeper_start registers (code.Begin props to ∷ more) blocks start more levels same b x blocks refl)) deep
+        (goes_nested (record t { blocks = deeper deepest blocks b }) (with_number registers to n) more (block ∷ levels) x (ap suc same ∙ sym deep) (deeper_start deepest registers (code.Begin props to ∷ more) blocks start more levels same b x blocks refl)) deep
     by_reply (Refused why) may =
         let p = past_nests 1 more (block ∷ levels) (omega arith) x in
         goes_past (code.Begin props to) (length blocks) 1 more _ (goes_nested t registers (past_block 1 more) p.0 p.1 (let all = p.2 in omega arith) start) (omega arith)
     by_reply Done may = absurd may
     by_reply (Bytes v) may = absurd may
-answered_goes registers code.Commit more blocks start levels x same c r e may =
+answered_goes deepest registers code.Commit more blocks start levels x same c r e may =
     let some : 0 < length blocks = (let one = ap blocks_in x.1 in omega arith) in
     let done : r ≡ Done = (subst (λ (y : Call). MayReply (length blocks) y r) (sym (same_call _ c e)) may) some in
-    let t : Thread = record { rest = code.Commit ∷ more; registers = registers; blocks = blocks } in
+    let t : Thread = record { rest = code.Commit ∷ more; registers = registers; blocks = blocks; deepest = deepest } in
     subst (λ (y : Reply). StaysNested code.Commit (length blocks) more (ended t more y)) (sym done)
     (goes_as code.Commit (length blocks) more _
     (goes_nested (record t { blocks = closed blocks }) registers more x.0 x.2 (let one = ap blocks_in x.1 in let fewer = length-closed blocks in omega arith) (closed_start blocks start)) (length-closed blocks))
-answered_goes registers call more blocks start levels x same c r e may = plain registers (call ∷ more) blocks start more levels same call registers x refl
+answered_goes deepest registers call more blocks start levels x same c r e may = plain deepest registers (call ∷ more) blocks start more levels same call registers x refl
 
 -- the room that it tells is what is left of its blocks
 told_left : (registers : List (List ℕ)) (i : Instruction) (more : List Instruction) (d : ℕ) (c : Call) (n : ℕ) → call_at registers d (i ∷ more) ≡ Some c → carried_room c ≡ Some n → room (open_past i d) more ≡ n
@@ -364,7 +364,7 @@ plays t c r nested e may = by_code t.rest nested.nests e
     by_code : (rest : List Instruction) → Nests rest nested.levels → call_at t.registers (depth_of t) rest ≡ Some c → Plays (record t { rest = rest }) (answered_at (record t { rest = rest }) rest r) c
     by_code [] x e = absurd (none_is_no_call c e)
     by_code (i ∷ more) x e =
-        let g = answered_goes t.registers i more t.blocks nested.start nested.levels x nested.blocks c r e may in
+        let g = answered_goes t.deepest t.registers i more t.blocks nested.start nested.levels x nested.blocks c r e may in
         record {
           nested = g.nested;
           falls = λ some. (let less = g.fewer in let step = room_step (depth_of t) i more some in omega arith);
@@ -388,5 +388,5 @@ back_nested t nested = by_blocks t.blocks refl nested.start
     by_blocks (b ∷ inner) e start = record { levels = start.0; nests = start.1; blocks = start.2; start = tt }
 
 -- before its first call
-pub opening_nested : (rest : List Instruction) → Nests rest [] → IsNested (opening rest)
-opening_nested rest x = (goes_nested (record { rest = rest; registers = zeros; blocks = [] }) zeros rest [] x refl tt).nested
+pub opening_nested : (deepest : ℕ) (rest : List Instruction) → Nests rest [] → IsNested (opening deepest rest)
+opening_nested deepest rest x = (goes_nested (record { rest = rest; registers = zeros; blocks = []; deepest = deepest }) zeros rest [] x refl tt).nested

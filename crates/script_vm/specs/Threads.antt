@@ -1,6 +1,5 @@
 -- A thread of a program as one who makes calls: what it calls next, and what a reply leaves.
 use Rattle.std.specs.Prelude.{ℕ, zero, suc, ◌-◌, nat_lt, if◌then◌else◌, Bool, true, false, List, [], ◌∷◌, ◌++◌, length, drop, replicate, slice_index_or, Option, None, Some}
-use Rattle.itm_types.specs.declared.limits.TheConstants.{MAX_OPEN_BLOCKS}
 use Rattle.itm_types.specs.declared.call.Call.{Call}
 use Rattle.itm_types.specs.declared.call.Call.TheVariants as calls
 use Rattle.itm_types.specs.declared.call.Reply.{Reply}
@@ -20,11 +19,18 @@ pub record Block : Type 0 where
   pub registers : List (List ℕ)
   pub code : Register
 
--- a thread: its code from the next call on, its registers, and its open blocks, the outermost first
+-- open blocks, the outermost first, and of how many of them a start is kept
+pub record Opened : Type 0 where
+  pub deepest : ℕ
+  pub blocks : List Block
+
+-- a thread: its code from the next call on, its registers, its open blocks, the outermost first, and how many may be open
+-- at once
 pub record Thread : Type 0 where
   pub rest : List Instruction
   pub registers : List (List ℕ)
   pub blocks : List Block
+  pub deepest : ℕ
 
 abbrev pub depth_of : Thread → ℕ
 depth_of t = length t.blocks
@@ -107,10 +113,11 @@ next_call t = call_at t.registers (depth_of t) t.rest
 abbrev pub no_block : Block
 no_block = record { rest = []; registers = zeros; code = R0 }
 
--- one more block is open. A thread keeps 16 blocks, as many as a runtime opens: each beyond them would share what the
--- sixteenth keeps
-abbrev pub deeper : List Block → Block → List Block
-deeper blocks new = blocks ++ (if nat_lt (length blocks) MAX_OPEN_BLOCKS then new else slice_index_or blocks (MAX_OPEN_BLOCKS - 1) no_block) ∷ []
+-- one more block is open. A thread keeps as many blocks as its runtime opens, the outermost always: each beyond them would
+-- share what the last of these keeps
+abbrev pub deeper : ℕ → List Block → Block → List Block
+deeper deepest [] new = new ∷ []
+deeper deepest (outer ∷ inner) new = outer ∷ inner ++ (if nat_lt (length (outer ∷ inner)) deepest then new else slice_index_or (outer ∷ inner) (deepest - 1) no_block) ∷ []
 
 -- the innermost is closed
 abbrev pub closed : List Block → List Block
@@ -131,15 +138,15 @@ abbrev pub outermost_of : List Block → Option Block
 outermost_of [] = None
 outermost_of (outer ∷ inner) = Some outer
 
--- those of which something is kept of their own, and so many beyond them
-abbrev pub all_blocks : List Block → ℕ → List Block
-all_blocks kept beyond = kept ++ replicate beyond (slice_index_or kept (MAX_OPEN_BLOCKS - 1) no_block)
+-- those of which something is kept of their own, at most so many, and so many beyond them
+abbrev pub all_blocks : ℕ → List Block → ℕ → List Block
+all_blocks deepest kept beyond = kept ++ replicate beyond (slice_index_or kept (deepest - 1) no_block)
 
 -- ## Replies
 
 -- a begin's reply: its code in the register, or, where it is refused, the block is passed over
 abbrev pub begun : Thread → Register → List Instruction → Reply → Thread
-begun t r more (Code n) = goes_on (record t { blocks = deeper t.blocks (record { rest = t.rest; registers = t.registers; code = r }) }) (with_number t.registers r n) more
+begun t r more (Code n) = goes_on (record t { blocks = deeper t.deepest t.blocks (record { rest = t.rest; registers = t.registers; code = r }) }) (with_number t.registers r n) more
 begun t r more (Refused refusal) = goes_on t t.registers (past_block 1 more)
 begun t r more reply = goes_on t t.registers more
 
@@ -193,7 +200,7 @@ answered t reply = answered_at t t.rest reply
 -- back to the begin of the outermost open block
 abbrev pub back_to : Thread → List Block → Thread
 back_to t [] = t
-back_to t (b ∷ inner) = record { rest = b.rest; registers = b.registers; blocks = [] }
+back_to t (b ∷ inner) = record t { rest = b.rest; registers = b.registers; blocks = [] }
 
 abbrev pub restarted : Thread → Thread
 restarted t = back_to t t.blocks
@@ -204,9 +211,9 @@ calls_left t = length t.rest
 
 -- ## The whole thread
 
--- before its first call
-abbrev pub opening : List Instruction → Thread
-opening rest = goes_on (record { rest = rest; registers = zeros; blocks = [] }) zeros rest
+-- before its first call, where so many blocks may be open at once
+abbrev pub opening : ℕ → List Instruction → Thread
+opening deepest rest = goes_on (record { rest = rest; registers = zeros; blocks = []; deepest = deepest }) zeros rest
 
 abbrev pub thread_rules : Rules Thread
 thread_rules = record { next_call = next_call; answered = answered; restarted = restarted; calls_left = calls_left; depth = depth_of }

@@ -4,46 +4,47 @@ ghost use Rattle.std.specs.Prelude.{◌≡◌, ◌+◌, ◌<◌, ◌≤◌, ◌^
 ghost use Rattle.script_vm.specs.Threads.{deeper, closed, innermost_of, outermost_of};
 
 use crate::start::Start;
-use itm_types::MAX_OPEN_BLOCKS;
 use std::alloc::{AllocError, Global};
 use std::marker::Model;
 
-/// Open blocks, the outermost first. Of 16 their starts are kept, and of those beyond only how many there are: a runtime
-/// opens no more than 16.
+/// Open blocks, the outermost first. Of as many as a runtime opens their starts are kept, and of those beyond only how many
+/// there are.
 #[derive(Drop)]
 pub struct OpenBlocks<'p> {
     starts: Vec<Start<'p>>,
     beyond: usize,
+    deepest: usize,
 }
 
 impl<'p> Model for OpenBlocks<'p> {
-    ghost use Rattle.std.specs.Prelude.{◌≡◌, ◌<◌, ◌≤◌, List, vec_len, vec_capacity};
-    ghost use Rattle.itm_types.specs.declared.limits.TheConstants.{MAX_OPEN_BLOCKS};
-    ghost use Rattle.script_vm.specs.Threads.{Block, all_blocks};
+    ghost use Rattle.std.specs.Prelude.{◌≡◌, ◌<◌, ◌≤◌, vec_len, vec_capacity};
+    ghost use Rattle.script_vm.specs.Threads.{Opened, all_blocks};
 
-    ghost Value = { List Block };
+    ghost Value = { Opened };
 
-    ghost view = { λ b. all_blocks b.starts.items b.beyond };
+    ghost view = { λ b. record { deepest = b.deepest; blocks = all_blocks b.deepest b.starts.items b.beyond } };
 
-    ghost invariant = { λ b. (vec_len b.starts ≤ MAX_OPEN_BLOCKS) × (MAX_OPEN_BLOCKS ≤ vec_capacity b.starts)
-        × (0 < b.beyond → vec_len b.starts ≡ MAX_OPEN_BLOCKS) };
+    ghost invariant = { λ b. (0 < b.deepest) × (vec_len b.starts ≤ b.deepest) × (b.deepest ≤ vec_capacity b.starts)
+        × (0 < b.beyond → vec_len b.starts ≡ b.deepest) };
 }
 
 impl<'p> OpenBlocks<'p> {
-    /// None, with room for the starts of 16.
-    pub fn new(alloc: Global) -> Result<Self, AllocError>
-        ensures { IfOk result (λ b. b ≡ []) }
+    /// None, with room for the starts of so many.
+    pub fn new(alloc: Global, deepest: usize) -> Result<Self, AllocError>
+        requires { 0 < deepest }
+        ensures { IfOk result (λ b. b ≡ record { deepest = deepest; blocks = [] }) }
     {
         Ok(OpenBlocks {
-            starts: Vec::with_capacity(alloc, MAX_OPEN_BLOCKS)?,
+            starts: Vec::with_capacity(alloc, deepest)?,
             beyond: 0,
+            deepest,
         })
     }
 
     /// How many there are.
     pub fn len(&self) -> usize
-        requires { length self.now < 2 ^ 32 }
-        ensures { result ≡ length self.now }
+        requires { length self.now.blocks < 2 ^ 32 }
+        ensures { result ≡ length self.now.blocks }
     {
         self.starts.len() + self.beyond
     }
@@ -51,11 +52,11 @@ impl<'p> OpenBlocks<'p> {
     /// One more is open. Takes no memory.
     #[tactic(auto, using(crate::proofs::KeptBlocks::opened_kept, crate::proofs::KeptBlocks::opened_beyond, crate::proofs::KeptBlocks::length_opened))]
     pub fn open(&mut self, start: Start<'p>)
-        requires { length self.old < 2 ^ 32 }
-        ensures value { self.new ≡ deeper self.old start.entry }
-        ensures more { length self.new ≡ length self.old + 1 }
+        requires { length self.old.blocks < 2 ^ 32 }
+        ensures value { self.new ≡ record self.old { blocks = deeper self.old.deepest self.old.blocks start.entry } }
+        ensures more { length self.new.blocks ≡ length self.old.blocks + 1 }
     {
-        if self.starts.len() < MAX_OPEN_BLOCKS {
+        if self.starts.len() < self.deepest {
             self.starts.push_reserved(start);
         } else {
             self.beyond += 1;
@@ -65,8 +66,8 @@ impl<'p> OpenBlocks<'p> {
     /// The innermost is closed.
     #[tactic(auto, using(crate::proofs::KeptBlocks::closed_kept, crate::proofs::KeptBlocks::closed_beyond, crate::proofs::KeptBlocks::length_closed))]
     pub fn close(&mut self)
-        ensures value { self.new ≡ closed self.old }
-        ensures fewer { length self.new ≤ length self.old }
+        ensures value { self.new ≡ record self.old { blocks = closed self.old.blocks } }
+        ensures fewer { length self.new.blocks ≤ length self.old.blocks }
     {
         if self.beyond > 0 {
             self.beyond -= 1;
@@ -77,7 +78,7 @@ impl<'p> OpenBlocks<'p> {
 
     /// All are closed.
     pub fn close_all(&mut self)
-        ensures { self.new ≡ [] }
+        ensures { self.new ≡ record self.old { blocks = [] } }
     {
         self.starts.clear();
         self.beyond = 0;
@@ -86,32 +87,33 @@ impl<'p> OpenBlocks<'p> {
     /// The start of the innermost.
     #[tactic(auto, using(crate::proofs::KeptBlocks::innermost_kept))]
     pub fn innermost(&self) -> Option<&Start<'p>>
-        ensures none { IfNone result (self.now ≡ []) }
-        ensures some { IfSome result (λ start. innermost_of self.now ≡ Some start.now) }
+        ensures none { IfNone result (self.now.blocks ≡ []) }
+        ensures some { IfSome result (λ start. innermost_of self.now.blocks ≡ Some start.now) }
     {
         self.starts.last()
     }
 
     /// The start of the outermost.
     pub fn outermost(&self) -> Option<&Start<'p>>
-        ensures none { IfNone result (self.now ≡ []) }
-        ensures some { IfSome result (λ start. outermost_of self.now ≡ Some start.now) }
+        ensures none { IfNone result (self.now.blocks ≡ []) }
+        ensures some { IfSome result (λ start. outermost_of self.now.blocks ≡ Some start.now) }
     {
         self.starts.first()
     }
 
-    /// Equal ones, with room for the starts of 16.
+    /// Equal ones, with room for the starts of as many.
     pub fn copy(&self) -> Result<Self, AllocError>
         ensures { IfOk result (λ b. b ≡ self.now) }
     {
         let alloc = *self.starts.allocator();
-        let mut starts = Vec::with_capacity(alloc, MAX_OPEN_BLOCKS)?;
+        let mut starts = Vec::with_capacity(alloc, self.deepest)?;
         for start in &self.starts {
             starts.push_reserved(start.copy());
         }
         Ok(OpenBlocks {
             starts,
             beyond: self.beyond,
+            deepest: self.deepest,
         })
     }
 }

@@ -30,9 +30,9 @@ impl<'p> Model for Script<'p> {
 
     ghost Value = { Thread };
 
-    ghost view = { λ s. record { rest = s.rest.now; registers = s.registers; blocks = s.blocks } };
+    ghost view = { λ s. record { rest = s.rest.now; registers = s.registers; blocks = s.blocks.blocks; deepest = s.blocks.deepest } };
 
-    ghost invariant = { λ s. length s.blocks + length s.rest.now ≤ MAX_INSTRUCTIONS };
+    ghost invariant = { λ s. length s.blocks.blocks + length s.rest.now ≤ MAX_INSTRUCTIONS };
 }
 
 impl<'p> Script<'p> {
@@ -40,20 +40,27 @@ impl<'p> Script<'p> {
     ghost use Rattle.script_program.specs.Listing.{threads_of};
     ghost use Rattle.script_vm.specs.Threads.{opening, goes_on, begun, ended, cancelled, took, told};
 
-    /// A thread of the program before its first call. No method takes memory after this.
+    /// A thread of the program before its first call, with room for what it keeps of as many open blocks as the program's
+    /// limits allow. No method takes memory after this.
     pub fn new(alloc: Global, program: &'p Program, thread: usize) -> Result<Self, AllocError>
         requires { thread < length (threads_of program.now) }
-        ensures { IfOk result (λ s. s ≡ opening (slice_index_or (threads_of program.now) thread [])) }
+        ensures { IfOk result (λ s. s ≡ opening program.now.limits.depth (slice_index_or (threads_of program.now) thread [])) }
     {
-        Script::of_code(alloc, program.code(thread))
+        let deepest = usize::from(program.limits().depth);
+        Script::of_code(alloc, deepest, program.code(thread))
     }
 
-    /// The thread of this code before its first call.
-    pub(crate) fn of_code(alloc: Global, code: &'p [Instruction]) -> Result<Self, AllocError>
-        requires { length code.now ≤ MAX_INSTRUCTIONS }
-        ensures { IfOk result (λ s. s ≡ opening code.now) }
+    /// The thread of this code before its first call, where so many blocks may be open at once.
+    pub(crate) fn of_code(
+        alloc: Global,
+        deepest: usize,
+        code: &'p [Instruction],
+    ) -> Result<Self, AllocError>
+        requires some { 0 < deepest }
+        requires few { length code.now ≤ MAX_INSTRUCTIONS }
+        ensures { IfOk result (λ s. s ≡ opening deepest code.now) }
     {
-        let blocks = OpenBlocks::new(alloc)?;
+        let blocks = OpenBlocks::new(alloc, deepest)?;
         let mut registers = Registers::new();
         let rest = settle(code, &mut registers);
         Ok(Script {

@@ -25,4 +25,4 @@ pub record Owns (w : Words) (p : Pass) : Type 0 where
   pub over : IsOver (cells_of w) (view_of p)
 
 abbrev pub IsWrongSize : ℕ → Type 0
-IsWrongSize n = (n ≡ 0) ⊎ (n % 8 ≢ 0) ⊎ (65536 < n)
+IsWrongSize n = (n ≡ 0) ⊎ (n % 8 ≢ 0) ⊎ (1048576 < n)

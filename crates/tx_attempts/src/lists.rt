@@ -225,7 +225,8 @@ impl RanActions {
 
     /// One more.
     pub fn push(&mut self, ran: Ran) -> Result<(), AllocError>
-        ensures { OnOk result (self.new ≡ self.old ++ ran ∷ []) }
+        ensures added { OnOk result (self.new ≡ self.old ++ ran ∷ []) }
+        ensures err { OnErr result (self.new ≡ self.old) }
     {
         self.items.push(ran)?;
         Ok(())

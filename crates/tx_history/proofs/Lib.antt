@@ -1,3 +1,4 @@
+pub mod SameDepths
 pub mod TextPieces
 pub mod PagedTexts
 pub mod AppendedTexts

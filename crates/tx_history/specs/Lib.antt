@@ -1,4 +1,5 @@
 pub mod Versions
+pub mod Depths
 pub mod Spelling
 pub mod Pages
 pub mod Histories

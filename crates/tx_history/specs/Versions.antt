@@ -1,27 +1,28 @@
 -- What each version of a history's text allows.
 use Rattle.std.specs.Prelude.{◌≡◌, ℕ, ◌-◌, List, []}
-use Rattle.itm_types.specs.declared.limits.TheConstants.{MAX_ACTORS, MAX_MEMORY, MAX_OPEN_BLOCKS, MAX_TOLD_MEMORY}
+use Rattle.itm_types.specs.declared.limits.TheConstants.{MAX_ACTORS, MAX_MEMORY, USUAL_DEPTH}
 use Rattle.tx_attempts.specs.declared.attempt.Again.{Again}
+use Rattle.tx_history.specs.declared.history.TheConstants.{EARLY_ACTORS, EARLY_MEMORY}
 use Rattle.tx_history.specs.declared.history.Version.{Version}
 use Rattle.tx_history.specs.declared.history.Version.TheVariants.{One, Two, Three}
 
 -- how many blocks may be open at once
 abbrev pub depth_of : Version → ℕ
-depth_of One = MAX_OPEN_BLOCKS
-depth_of Two = MAX_OPEN_BLOCKS
+depth_of One = USUAL_DEPTH
+depth_of Two = USUAL_DEPTH
 depth_of (Three depth) = depth.blocks
 
 -- how many bytes the largest memory has
 abbrev pub memory_limit : Version → ℕ
-memory_limit One = MAX_MEMORY
-memory_limit Two = MAX_MEMORY
-memory_limit (Three depth) = MAX_TOLD_MEMORY
+memory_limit One = EARLY_MEMORY
+memory_limit Two = EARLY_MEMORY
+memory_limit (Three depth) = MAX_MEMORY
 
 -- the last thread
 abbrev pub thread_limit : Version → ℕ
-thread_limit One = MAX_ACTORS - 1
-thread_limit Two = MAX_ACTORS - 1
-thread_limit (Three depth) = 63
+thread_limit One = EARLY_ACTORS - 1
+thread_limit Two = EARLY_ACTORS - 1
+thread_limit (Three depth) = MAX_ACTORS - 1
 
 -- the first version tells of no block that ran again
 abbrev pub MayTell : Version → List Again → Type 0

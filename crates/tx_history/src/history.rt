@@ -9,10 +9,22 @@ ghost use Rattle.tx_history.specs.Spelling.{Puts};
 use crate::attempts::put_attempts;
 use crate::page::Page;
 use crate::rows::{put_first, put_last};
-use itm_types::{Depth, MAX_ACTORS, MAX_MEMORY, MAX_TOLD_MEMORY};
+use itm_types::{Depth, MAX_ACTORS, MAX_MEMORY, USUAL_DEPTH};
 use std::io;
 use std::io::Write;
 use tx_attempts::{Attempt, Attempts, Bytes};
+
+/// How many bytes the largest memory has that the first two versions tell of.
+pub const EARLY_MEMORY: usize = 65_536;
+
+/// How many threads there are at most in a history of the first two versions.
+pub const EARLY_ACTORS: usize = 32;
+
+/// What the limits of the first two versions are, as numbers. Does nothing.
+pub fn largest_early()
+    ensures memory { EARLY_MEMORY ≡ 65536 }
+    ensures actors { EARLY_ACTORS ≡ 32 }
+{}
 
 /// Which lines the text of a history may have, and how much of everything it may tell of.
 #[derive(Clone, Copy, Debug, PartialEq, Eq)]
@@ -27,17 +39,27 @@ pub enum Version {
 
 impl Version {
     ghost use Rattle.std.specs.Prelude.{◌≤◌};
-    ghost use Rattle.itm_types.specs.declared.limits.TheConstants.{MAX_TOLD_MEMORY};
-    ghost use Rattle.tx_history.specs.Versions.{memory_limit, thread_limit};
+    ghost use Rattle.itm_types.specs.declared.limits.TheConstants.{MAX_MEMORY};
+    ghost use Rattle.tx_history.specs.Versions.{depth_of, memory_limit, thread_limit};
+
+    /// How many blocks may be open at once.
+    pub fn depth(self) -> Depth
+        ensures { result.blocks ≡ depth_of self }
+    {
+        match self {
+            Version::One | Version::Two => Depth::new(USUAL_DEPTH).unwrap(),
+            Version::Three(depth) => depth,
+        }
+    }
 
     /// How many bytes the largest memory has.
     pub fn memory_limit(self) -> usize
         ensures value { result ≡ memory_limit self }
-        ensures few { result ≤ MAX_TOLD_MEMORY }
+        ensures few { result ≤ MAX_MEMORY }
     {
         match self {
-            Version::One | Version::Two => MAX_MEMORY,
-            Version::Three(_) => MAX_TOLD_MEMORY,
+            Version::One | Version::Two => EARLY_MEMORY,
+            Version::Three(_) => MAX_MEMORY,
         }
     }
 
@@ -46,8 +68,8 @@ impl Version {
         ensures { result ≡ thread_limit self }
     {
         match self {
-            Version::One | Version::Two => (MAX_ACTORS - 1) as u8,
-            Version::Three(_) => 63,
+            Version::One | Version::Two => (EARLY_ACTORS - 1) as u8,
+            Version::Three(_) => (MAX_ACTORS - 1) as u8,
         }
     }
 }

@@ -9,6 +9,6 @@ mod pieces;
 mod rows;
 mod stream;
 
-pub use history::{History, Version, write_history};
+pub use history::{EARLY_ACTORS, EARLY_MEMORY, History, Version, largest_early, write_history};
 pub use page::Page as Stream;
 pub use pieces::{Piece, put_pieces};

@@ -1,14 +1,18 @@
--- Worked cases: attempts by thread, the lists of two workers, and how threads with no call end.
+-- Worked cases: attempts by thread, the lists of two workers, how threads with no call end, and which version tells of a run.
 use Rattle.std.proofs.Common.{◌≡◌, ℕ, false, List, [], ◌∷◌, refl, inl}
-use Rattle.itm_types.specs.declared.call.Props.{Props}
 use Rattle.tx_attempts.specs.declared.attempt.Attempt.{Attempt}
 use Rattle.tx_attempts.specs.declared.attempt.Outcome.TheVariants.{Conflict, ReadOnly}
 use Rattle.tx_runs.specs.declared.ending.End.TheVariants.{Finished, GaveUp}
+use Rattle.script_program.specs.Listing.{Listing, codes_of}
+use Rattle.tx_history.specs.declared.history.Version.TheVariants.{One, Three}
+use Rattle.tx_history.specs.Depths.{depth_from}
+use Rattle.tx_history.specs.Versions.{depth_of}
 use Rattle.tx_host.specs.declared.join.Done.{Done}
 use Rattle.tx_host.specs.Courses.{EndsBy, first_of}
 use Rattle.tx_host.specs.Joins.{attempts_in, ends_in}
 use Rattle.tx_host.specs.Numbers.{Numbered}
 use Rattle.tx_host.specs.Reports.{by_number}
+use Rattle.tx_host.specs.Versions.{version_of}
 
 -- the second try of a thread's block
 abbrev pub row : ℕ → Attempt
@@ -44,8 +48,40 @@ all_ends = refl
 three_numbers : Numbered (λ n x. x ≡ n) 4 (4 ∷ 5 ∷ 6 ∷ [])
 three_numbers = (refl, (refl, (refl, tt)))
 
--- ## A thread with no code
+-- ## A program
 
--- it is over at once, whatever the memories
-nothing_to_do : (memory : ℕ → List ℕ) → EndsBy memory (first_of 4 []) Finished []
-nothing_to_do memory = inl (record { between = first_of 4 []; now_is = refl; none = refl })
+-- of so many bytes and so many threads with no code, with this depth
+abbrev pub program : ℕ → ℕ → ℕ → Listing
+program memory threads depth = record {
+  memory = record { size = memory; inits = [] };
+  arena = 4;
+  limits = record { patience = 8; retries = 100; max_commits = 1; depth = depth };
+  schedule = [];
+  parts = record { count = threads; code = [] } ∷ [];
+}
+
+-- a thread of it is over at once, whatever the memories
+nothing_to_do : (memory : ℕ → List ℕ) → EndsBy 16 memory (first_of (program 8 1 16) []) Finished []
+nothing_to_do memory = inl (record { between = first_of (program 8 1 16) []; now_is = refl; none = refl })
+
+-- the first version tells of the largest run that it may tell of
+largest_early : version_of (program 65536 32 16) ≡ One
+unfolding codes_of
+largest_early = refl
+
+-- and the third one of one with a larger memory, with a thread more, or with another depth, each alone
+larger_memory : version_of (program 65544 1 16) ≡ Three (depth_from 16)
+unfolding codes_of
+larger_memory = refl
+
+thread_more : version_of (program 8 33 16) ≡ Three (depth_from 16)
+unfolding codes_of
+thread_more = refl
+
+less_deep : version_of (program 8 1 15) ≡ Three (depth_from 15)
+unfolding codes_of
+less_deep = refl
+
+deeper : depth_of (version_of (program 8 1 64)) ≡ 64
+unfolding codes_of
+deeper = refl

@@ -6,3 +6,4 @@ pub mod LegalRuns
 pub mod WholeRuns
 pub mod ScriptWidths
 pub mod LimitedReports
+pub mod ToldLimits

@@ -1,6 +1,5 @@
 -- What a thread of a program did, by its code, its attempts and the bytes that the commits left.
 use Rattle.std.specs.Prelude.{◌≡◌, ◌⊎◌, ℕ, ◌+◌, false, List, [], ◌∷◌, ◌++◌, replicate, None, Some}
-use Rattle.itm_types.specs.declared.limits.TheConstants.{MAX_OPEN_BLOCKS}
 use Rattle.script_program.specs.declared.instruction.Instruction.{Instruction}
 use Rattle.script_program.specs.Listing.{Listing}
 use Rattle.script_vm.specs.Threads.{Thread, opening, thread_rules}
@@ -14,17 +13,17 @@ use Rattle.tx_runs.specs.Runs.{begins_at, run_after}
 use Rattle.tx_runs.specs.Unbroken.{AreUnbroken}
 use Rattle.tx_worker.specs.Positions.{AreOwn, AreSince}
 
--- a thread of this code before its first try, with an arena of so many zeros
-abbrev pub first_of : ℕ → List Instruction → Between Thread
-first_of arena code = record { player = opening code; arena = replicate arena 0; again = false; tries = 0 }
+-- a thread of the program, with this code, before its first try, with an arena of zeros
+abbrev pub first_of : Listing → List Instruction → Between Thread
+first_of p code = record { player = opening p.limits.depth code; arena = replicate p.arena 0; again = false; tries = 0 }
 
--- where `memory` gives the bytes after so many first commits
-module _ (memory : ℕ → List ℕ) (first : Between Thread) where
+-- where `deepest` blocks may be open at once, and `memory` gives the bytes after so many first commits
+module _ (deepest : ℕ) (memory : ℕ → List ℕ) (first : Between Thread) where
   -- the run is over, and its player comes to no further block
   pub record IsOver (attempts : List Attempt) : Type 0 where
     pub between : Between Thread
-    pub now_is : run_after thread_rules memory (Some first) attempts ≡ Some between
-    pub none : begins_at thread_rules between ≡ None
+    pub now_is : run_after thread_rules deepest memory (Some first) attempts ≡ Some between
+    pub none : begins_at thread_rules deepest between ≡ None
 
   -- or its player has no call left in the last attempt, whose block has not ended
   pub record IsOverWithin (attempts : List Attempt) : Type 0 where
@@ -33,9 +32,9 @@ module _ (memory : ℕ → List ℕ) (first : Between Thread) where
     pub attempts_are : attempts ≡ before ++ last ∷ []
     pub unfinished : last.outcome ≡ Unfinished
     pub between : Between Thread
-    pub now_is : run_after thread_rules memory (Some first) before ≡ Some between
+    pub now_is : run_after thread_rules deepest memory (Some first) before ≡ Some between
     pub start : Beginning Thread
-    pub begins : begins_at thread_rules between ≡ Some start
+    pub begins : begins_at thread_rules deepest between ≡ Some start
     pub none : thread_rules.next_call (player_then thread_rules.answered (thread_rules.answered start.player (begin_code between.again)) last.calls.list) ≡ None
 
   -- a thread that finished had no more calls. One that gave up was stopped by its gate, found as many commits as may be, or had looked at the clock as often as it has tries: which of these, no attempt tells
@@ -46,8 +45,8 @@ module _ (memory : ℕ → List ℕ) (first : Between Thread) where
 
 -- the attempts of a thread of this program, with this number and code, where there were n commits
 pub record IsCourse (p : Listing) (n : ℕ) (memory : ℕ → List ℕ) (number : ℕ) (code : List Instruction) (end : End) (attempts : List Attempt) : Type 0 where
-  pub run : IsRunOf thread_rules MAX_OPEN_BLOCKS n memory (Some (first_of p.arena code)) attempts  -- its code's run, in order, each of them opaque
+  pub run : IsRunOf thread_rules p.limits.depth n memory (Some (first_of p code)) attempts  -- its code's run, in order, each of them opaque
   pub since : AreSince 0 attempts  -- each began with the commits that the one before it told of
   pub own : AreOwn number (p.limits.retries + 1) attempts  -- none is of another thread, or of more tries than there may be
   pub unbroken : AreUnbroken attempts  -- no inner block of any runs again alone
-  pub ends : EndsBy memory (first_of p.arena code) end attempts
+  pub ends : EndsBy p.limits.depth memory (first_of p code) end attempts

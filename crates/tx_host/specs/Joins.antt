@@ -24,8 +24,8 @@ ends_in (d ∷ ds) = d.end ∷ ends_in ds
 -- what the worker with this number did, by the commits that this view has seen; none of its attempts holds the clock
 pub record Did (p : Listing) (v : View) (number : ℕ) (d : Done) : Type 0 where
   pub course : IsCourse p (length v.seen) (bytes_at v) number (code_of p number) d.end d.attempts
-  pub left : AreLeft v d.attempts
-  pub held : AreHeld v false d.attempts
+  pub left : AreLeft p.limits.depth v d.attempts
+  pub held : AreHeld p.limits.depth v false d.attempts
 
 -- n workers' passes were joined to a pass with the view `start`, and are in `now`
 pub record Joins (start : View) (p : Listing) (n : ℕ) (now : View) (all : List Done) : Type 0 where

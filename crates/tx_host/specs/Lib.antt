@@ -1,4 +1,5 @@
 pub mod Numbers
+pub mod Versions
 pub mod Courses
 pub mod Starts
 pub mod Joins

@@ -5,11 +5,11 @@ use Rattle.script_program.specs.Listing.{Listing, opening_of, threads_of}
 use Rattle.tx_attempts.specs.declared.attempt.Attempt.{Attempt}
 use Rattle.tx_attempts.specs.Attempts.{of_thread}
 use Rattle.tx_attempts.specs.Counts.{count_at, count_committed, one_where}
-use Rattle.tx_history.specs.declared.history.Version.TheVariants.{One}
 use Rattle.tx_history.specs.Legal.{IsLegal, memory_at}
 use Rattle.tx_runs.specs.declared.ending.End.{End}
 use Rattle.tx_host.specs.declared.report.Report.{Report}
 use Rattle.tx_host.specs.Courses.{IsCourse}
+use Rattle.tx_host.specs.Versions.{version_of}
 
 -- the attempts of thread k, then those of k + 1, and so on, of n threads
 abbrev pub by_number : ℕ → ℕ → List Attempt → List Attempt
@@ -21,7 +21,7 @@ commits_of r = count_committed r.history.attempts
 
 -- of each thread of the program its run, by the bytes that the first commits left, each run alone on those that the one before it left
 pub record Ran (p : Listing) (r : Report) : Type 0 where
-  pub version : r.history.version ≡ One
+  pub version : r.history.version ≡ version_of p
   pub memory : r.history.memory ≡ opening_of p
   pub count : length r.ends.items ≡ length (threads_of p)
   pub threads : (number : ℕ) (code : List Instruction) (end : End) → slice_get (threads_of p) number ≡ Some code → slice_get r.ends.items number ≡ Some end

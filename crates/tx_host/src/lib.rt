@@ -6,7 +6,9 @@ mod join;
 mod report;
 mod start;
 mod threads;
+mod versions;
 mod workers;
 
 pub use report::{HostFault, Report};
 pub use threads::run_threads;
+pub use versions::version_of;

@@ -106,7 +106,7 @@ pub(crate) fn prepare<'p>(
         let arena = Arena::new(alloc, program.arena())?;
         let player = Script::new(alloc, program, number)?;
         let theirs = words.split(pass);
-        let thread = Thread::new(alloc, words, theirs, arena, program.limits());
+        let thread = Thread::new(alloc, words, theirs, arena, program.limits())?;
         all.push_reserved(Ready {
             number: number as u8,
             thread,

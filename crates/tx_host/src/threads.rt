@@ -10,6 +10,7 @@ ghost use Rattle.tx_host.specs.Reports.{Ran};
 
 use crate::gather::gather_all;
 use crate::report::{HostFault, Report};
+use crate::versions::version_of;
 use crate::workers::run_all;
 use script_program::Program;
 use shared_words::{Pass, Words};
@@ -17,7 +18,7 @@ use std::alloc::{AllocError, Global};
 use std::sync::Wait;
 use std::thread::Threads;
 use tx_attempts::Bytes;
-use tx_history::{History, Version};
+use tx_history::History;
 use tx_worker::{ActionSink, Gate};
 
 /// The memory before the run, and as many bytes for the memory after it.
@@ -73,7 +74,7 @@ pub fn run_threads<R: Threads + Wait, G: Gate + Sync, A: ActionSink + Sync>(
         return Err(HostFault::NoMemory);
     };
     let history = History {
-        version: Version::One,
+        version: version_of(program),
         memory: Bytes::new(before),
         attempts,
         clock,

@@ -1,6 +1,5 @@
 -- Attempts in which no block ran again: their runs are never broken off.
 use Rattle.std.proofs.Common.{◌≡◌, ℕ, List, [], ◌∷◌, ◌++◌, length, sym, subst}
-use Rattle.itm_types.specs.declared.limits.TheConstants.{MAX_OPEN_BLOCKS}
 use Rattle.itm_model.specs.Machine.{after}
 use Rattle.itm_model.specs.State.{State}
 use Rattle.tx_attempts.specs.declared.attempt.Again.{Again}
@@ -13,16 +12,16 @@ use Rattle.tx_attempts.proofs.RunsAgain.{state_more}
 use Rattle.tx_runs.specs.Unbroken.{AreUnbroken}
 
 -- what is told of no block is told rightly
-pub none_again : (row : Attempt) (memory : List ℕ) → row.restarts ≡ [] → AreRestarts MAX_OPEN_BLOCKS row memory
-none_again row memory none = record {
+pub none_again : (deepest : ℕ) (row : Attempt) (memory : List ℕ) → row.restarts ≡ [] → AreRestarts deepest row memory
+none_again deepest row memory none = record {
   stand = subst (AreAgain (length row.arena) 0 row.calls.list) (sym none) tt;
-  revocable = subst (AtEach (StaysRevocable MAX_OPEN_BLOCKS memory row) row.calls.list) (sym none) tt;
+  revocable = subst (AtEach (StaysRevocable deepest memory row) row.calls.list) (sym none) tt;
 }
 
 -- one call more leads on from where the calls led
-pub state_whole : (rs : List Again) (s : State) (xs : List CallRecord) (x : CallRecord) → rs ≡ []
-    → state_then MAX_OPEN_BLOCKS (breaks_of rs) s (xs ++ x ∷ []) ≡ after MAX_OPEN_BLOCKS (state_then MAX_OPEN_BLOCKS (breaks_of rs) s xs) x.call
-state_whole rs s xs x none = state_more 0 MAX_OPEN_BLOCKS rs s xs x (subst (AreAgain 0 0 xs) (sym none) tt)
+pub state_whole : (deepest : ℕ) (rs : List Again) (s : State) (xs : List CallRecord) (x : CallRecord) → rs ≡ []
+    → state_then deepest (breaks_of rs) s (xs ++ x ∷ []) ≡ after deepest (state_then deepest (breaks_of rs) s xs) x.call
+state_whole deepest rs s xs x none = state_more 0 deepest rs s xs x (subst (AreAgain 0 0 xs) (sym none) tt)
 
 -- ## Lists
 

@@ -1,6 +1,5 @@
 -- Attempts among the commits that a pass has seen.
 use Rattle.std.specs.Prelude.{◌≡◌, ℕ, suc, ◌<◌, ◌≤◌, true, if◌then◌else◌, List, [], ◌∷◌, length}
-use Rattle.itm_types.specs.declared.limits.TheConstants.{MAX_OPEN_BLOCKS}
 use Rattle.itm_types.specs.Memory.{bytes_of}
 use Rattle.itm_runtime.specs.Ties.{memory_of}
 use Rattle.shared_words.specs.declared.view.View.{View}
@@ -17,15 +16,15 @@ abbrev pub positions : List Attempt → List ℕ
 positions [] = []
 positions (a ∷ rest) = if is_committed a.outcome then a.at ∷ positions rest else positions rest
 
--- the commit at its position was seen, and takes the bytes before it to those that its attempt leaves alone on them
-pub record IsLeft (v : View) (a : Attempt) : Type 0 where
+-- the commit at its position was seen, and takes the bytes before it to those that its attempt leaves alone on them, where `deepest` blocks may be open
+pub record IsLeft (deepest : ℕ) (v : View) (a : Attempt) : Type 0 where
   pub seen : a.at < length v.seen
-  pub leaves : bytes_at v (suc a.at) ≡ (alone MAX_OPEN_BLOCKS (bytes_at v a.at) a).memory
+  pub leaves : bytes_at v (suc a.at) ≡ (alone deepest (bytes_at v a.at) a).memory
 
 -- so does each that committed
-abbrev pub AreLeft : View → List Attempt → Type 0
-AreLeft v [] = Unit {0}
-AreLeft v (a ∷ rest) = (is_committed a.outcome ≡ true → IsLeft v a) × AreLeft v rest
+abbrev pub AreLeft : ℕ → View → List Attempt → Type 0
+AreLeft deepest v [] = Unit {0}
+AreLeft deepest v (a ∷ rest) = (is_committed a.outcome ≡ true → IsLeft deepest v a) × AreLeft deepest v rest
 
 -- how many commits a thread knows of by an attempt of its own
 abbrev pub known_by : Attempt → ℕ

@@ -1,6 +1,5 @@
 -- Where a worker stands between two calls.
 use Rattle.std.specs.Prelude.{◌≡◌, ℕ, ◌+◌, ◌/◌, ◌<◌, ◌≤◌, Bool, true, false, List, [], ◌++◌, length, Option, None, Some}
-use Rattle.itm_types.specs.declared.limits.TheConstants.{MAX_OPEN_BLOCKS}
 use Rattle.itm_types.specs.Memory.{bytes_of, IsMemory, Agrees}
 use Rattle.itm_model.specs.Machine.{opened}
 use Rattle.norec_core.specs.Core.{Core, in_transaction}
@@ -33,37 +32,38 @@ abbrev pub stood : Bool → View → List ℕ → List ℕ
 stood false v m = m
 stood true v m = held v
 
--- what a run began with: its view, its number, how often a block may be tried again, how many commits were known, and its player
+-- what a run began with: its view, its number, how often a block may be tried again, how many blocks may be open at once, how many commits were known, and its player
 pub record Course (P : Type 0) : Type 0 where
   pub view : View
   pub number : ℕ
   pub retries : ℕ
+  pub depth : ℕ
   pub known : ℕ
   pub first : Between P
 
 module _ {P : Type 0} (rules : Rules P) where
   -- the open attempt: its calls are those of its player alone on each memory that it may have read, and lead the plain machine where the engine stands
-  pub record IsTry (b : Between P) (row : Attempt) (p : P) (v : View) (e : Core) : Type 0 where
-    pub of_block : IsOfBlock rules b row p
+  pub record IsTry (deepest : ℕ) (b : Between P) (row : Attempt) (p : P) (v : View) (e : Core) : Type 0 where
+    pub of_block : IsOfBlock rules deepest b row p
     pub began : row.began ≤ e.snapshot / 2
     pub restarts : row.restarts ≡ []  -- no block of it has run again
     pub ran : row.ran ≡ e.actions.ran
     pub each : (m : List ℕ) → MayRead v e m
-        → IsAlone rules MAX_OPEN_BLOCKS (breaks_of row.restarts) (rules.answered of_block.start.player (begin_code b.again)) (opened (bytes_of m) of_block.start.arena of_block.start.props) row.calls.list
-        × (stands_for e (stood e.irrevocable v m) ≡ state_then MAX_OPEN_BLOCKS (breaks_of row.restarts) (opened (bytes_of m) of_block.start.arena of_block.start.props) row.calls.list)
+        → IsAlone rules deepest (breaks_of row.restarts) (rules.answered of_block.start.player (begin_code b.again)) (opened (bytes_of m) of_block.start.arena of_block.start.props) row.calls.list
+        × (stands_for e (stood e.irrevocable v m) ≡ state_then deepest (breaks_of row.restarts) (opened (bytes_of m) of_block.start.arena of_block.start.props) row.calls.list)
 
   -- before the next one: the player has come as far as its calls outside a transaction led
-  pub record IsBefore (b : Between P) (t : Tally P) (arena : List ℕ) : Type 0 where
+  pub record IsBefore (deepest : ℕ) (b : Between P) (t : Tally P) (arena : List ℕ) : Type 0 where
     pub calls : ℕ
-    pub leads : LeadsTo rules calls b.player b.arena t.player arena
+    pub leads : LeadsTo rules deepest calls b.player b.arena t.player arena
     pub again : t.again ≡ b.again
     pub tries : b.tries < t.nth
 
   -- the attempts that have ended are the player's run over the commits that were seen
   pub record HasRun (c : Course P) (v : View) (ended : List Attempt) : Type 0 where
     pub went : Went c.view v
-    pub run : IsRunOf rules MAX_OPEN_BLOCKS (length v.seen) (bytes_at v) (Some c.first) ended
-    pub left : AreLeft v ended
+    pub run : IsRunOf rules c.depth (length v.seen) (bytes_at v) (Some c.first) ended
+    pub left : AreLeft c.depth v ended
     pub since : AreSince c.known ended
     pub known : known_after c.known ended ≤ length v.seen
     pub own : AreOwn c.number (c.retries + 1) ended
@@ -71,7 +71,7 @@ module _ {P : Type 0} (rules : Rules P) where
 
   -- where the run stands after them
   abbrev pub now_at : Course P → View → List Attempt → Option (Between P)
-  now_at c v ended = run_after rules (bytes_at v) (Some c.first) ended
+  now_at c v ended = run_after rules c.depth (bytes_at v) (Some c.first) ended
 
   -- within a transaction an attempt is open
   pub record IsInside (c : Course P) (v : View) (e : Core) (t : Tally P) : Type 0 where
@@ -79,7 +79,7 @@ module _ {P : Type 0} (rules : Rules P) where
     pub row : Attempt
     pub open_is : t.open_one ≡ Some row
     pub now_is : now_at c v t.ended ≡ Some between
-    pub try : IsTry between row t.player v e
+    pub try : IsTry c.depth between row t.player v e
     pub again : t.again ≡ true
     pub nth : row.nth ≡ t.nth
     pub thread : row.thread ≡ c.number
@@ -91,7 +91,7 @@ module _ {P : Type 0} (rules : Rules P) where
     pub between : Between P
     pub none : t.open_one ≡ None
     pub now_is : now_at c v t.ended ≡ Some between
-    pub before : IsBefore between t e.arena
+    pub before : IsBefore c.depth between t e.arena
     pub looked : c.view.looks + t.nth ≤ v.looks + 1
 
   pub record IsRunning (c : Course P) (v : View) (e : Core) (t : Tally P) : Type 0 where
@@ -101,5 +101,6 @@ module _ {P : Type 0} (rules : Rules P) where
     pub tries : t.nth ≤ c.retries + 1
     pub nested : IsNested rules (in_transaction e) t.player
     pub depth : rules.depth t.player ≡ length e.blocks
+    pub deepest : e.depth ≡ c.depth
     pub inside : in_transaction e ≡ true → IsInside c v e t
     pub outside : in_transaction e ≡ false → IsOutside c v e t

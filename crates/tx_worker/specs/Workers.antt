@@ -25,9 +25,10 @@ use Rattle.tx_worker.specs.Tallies.{tally_of}
 pub record Bounds : Type 0 where
   pub max_commits : ℕ
   pub patience : ℕ
+  pub depth : ℕ
 
 abbrev pub bounds_of : Core → Bounds
-bounds_of e = record { max_commits = e.max_commits; patience = e.patience }
+bounds_of e = record { max_commits = e.max_commits; patience = e.patience; depth = e.depth }
 
 module _ {P : Type 0} where
   abbrev pub view_in : Worker P → View

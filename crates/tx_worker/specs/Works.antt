@@ -1,6 +1,5 @@
 -- What a thread's whole run leaves.
 use Rattle.std.specs.Prelude.{◌≡◌, ◌⊎◌, ℕ, ◌+◌, ◌/◌, ◌≤◌, ◌++◌, ◌∷◌, [], Bool, true, false, List, None, Some, Result, Ok, Err, length}
-use Rattle.itm_types.specs.declared.limits.TheConstants.{MAX_OPEN_BLOCKS}
 use Rattle.shared_words.specs.declared.pass.Pass.{Pass}
 use Rattle.shared_words.specs.declared.view.View.{View}
 use Rattle.shared_words.specs.declared.words.Words.{Words}
@@ -35,9 +34,9 @@ is_held (Ok pass) = false
 is_held (Err thread) = true
 
 -- an attempt that did not end is irrevocable, by its calls alone, just where this says so
-abbrev pub AreHeld : View → Bool → List Attempt → Type 0
-AreHeld v held [] = Unit {0}
-AreHeld v held (a ∷ rest) = (a.outcome ≡ Unfinished → (alone MAX_OPEN_BLOCKS (bytes_at v a.at) a).irrevocable ≡ held) × AreHeld v held rest
+abbrev pub AreHeld : ℕ → View → Bool → List Attempt → Type 0
+AreHeld deepest v held [] = Unit {0}
+AreHeld deepest v held (a ∷ rest) = (a.outcome ≡ Unfinished → (alone deepest (bytes_at v a.at) a).irrevocable ≡ held) × AreHeld deepest v held rest
 
 -- the last attempt has not ended
 abbrev pub EndsOpen : List Attempt → Type 0
@@ -49,6 +48,7 @@ course_of start player number retries = record {
   view = view_of start.pass;
   number = number;
   retries = retries;
+  depth = start.engine.depth;
   known = start.engine.snapshot / 2;
   first = record { player = player; arena = start.engine.arena; again = false; tries = 0 };
 }
@@ -58,7 +58,7 @@ module _ {P : Type 0} (rules : Rules P) where
   pub record IsOver (c : Course P) (v : View) (attempts : List Attempt) : Type 0 where
     pub between : Between P
     pub now_is : now_at rules c v attempts ≡ Some between
-    pub none : begins_at rules between ≡ None
+    pub none : begins_at rules c.depth between ≡ None
 
   -- or its player has no call left in the last attempt, whose block has not ended
   pub record IsOverWithin (c : Course P) (v : View) (attempts : List Attempt) : Type 0 where
@@ -69,7 +69,7 @@ module _ {P : Type 0} (rules : Rules P) where
     pub between : Between P
     pub now_is : now_at rules c v before ≡ Some between
     pub start : Beginning P
-    pub begins : begins_at rules between ≡ Some start
+    pub begins : begins_at rules c.depth between ≡ Some start
     pub none : rules.next_call (player_then rules.answered (rules.answered start.player (begin_code between.again)) last.calls.list) ≡ None
 
   -- it finished where its player had no more calls; it gave up where the gate was shut, as many commits as may be were done, or it had looked at the clock as often as there are tries
@@ -83,7 +83,7 @@ module _ {P : Type 0} (rules : Rules P) where
     pub back : IsBack words w.pass
     pub runs : HasRun rules c (view_left w.pass) w.attempts  -- its attempts are the player's run, each opaque over the commits that were seen
     pub mine : (view_left w.pass).mine ≡ c.view.mine ++ positions w.attempts  -- just those that committed hold positions
-    pub held : AreHeld (view_left w.pass) (is_held w.pass) w.attempts
+    pub held : AreHeld c.depth (view_left w.pass) (is_held w.pass) w.attempts
     pub kept : is_held w.pass ≡ true → EndsOpen w.attempts  -- a thread that stays irrevocable tells the attempt that holds the clock
     pub ends : EndsAs c max_commits shuts w.end (view_left w.pass) w.attempts
 

@@ -1,7 +1,11 @@
 -- An index as rows join and are cut, and what it finds.
-use Rattle.std.proofs.Common.{◌≡◌, ◌≢◌, ◌⊎◌, ℕ, zero, suc, ◌==◌, ◌<◌, ◌≤◌, false, List, [], ◌∷◌, ◌++◌, Option, Some, None, length, take, slice_get, slice_set, get_or, ◌+◌, refl, sym, ap, subst, ◌∙◌, inl, inr, arith}
-use Rattle.std.proofs.lemmas.Bool.{cases_Bool, eqb-true, eqb-false}
-use Rattle.std.proofs.lemmas.List.{length-set, length-take-le, take_all, take_more}
+use Rattle.std.proofs.Common.{map, true, eqb, ◌^◌, ◌||◌, lit<, ◌≡◌, ◌≢◌, ◌⊎◌, ℕ, zero, suc, ◌==◌, ◌<◌, ◌≤◌, false, List, [], ◌∷◌, ◌++◌, Option, Some, None, length, take, slice_get, slice_set, get_or, ◌+◌, refl, sym, ap, subst, ◌∙◌, inl, inr, arith}
+use Rattle.std.specs.List.{list_any, AllByRecursion, IsDistinct}
+use Rattle.std.proofs.lemmas.Bool.{cases_Bool, eqb-true, eqb-false, ne_eqb}
+use Rattle.std.proofs.lemmas.List.{length-map, length-set, length-take-le, take_all, take_more}
+use Rattle.std.proofs.lemmas.Map.Keys.{IsDistinct-cons}
+use Rattle.std.proofs.lemmas.Map.Steps.{length-le_from_distinct_below}
+use Rattle.std.proofs.lemmas.Option.{slice_get_within}
 use Rattle.itm_types.specs.declared.limits.TheConstants.{MAX_WORDS}
 use Rattle.itm_types.specs.declared.row.LogRow.{LogRow}
 use Rattle.itm_types.specs.LogRows.{value_of, AreSingle}
@@ -49,11 +53,6 @@ none_before (y ∷ ys) (suc n) x s e =
       | inr other ↦ other
     ]
 
-pub below_at : (rows : List LogRow) (n : ℕ) (x : LogRow) → AllBelow rows → slice_get rows n ≡ Some x → x.word < MAX_WORDS
-below_at [] n x b e = absurd (cc)
-below_at (y ∷ ys) zero x b e = (let same : y ≡ x = cc in subst (λ (z : LogRow). z.word < MAX_WORDS) same b.0)
-below_at (y ∷ ys) (suc n) x b e = below_at ys n x b.1 e
-
 pub below_push : (rows : List LogRow) (r : LogRow) → AllBelow rows → r.word < MAX_WORDS → AllBelow (rows ++ r ∷ [])
 below_push [] r b l = (l, tt)
 below_push (y ∷ ys) r b l = (b.0, below_push ys r b.1 l)
@@ -69,21 +68,51 @@ got_cut (suc n) [] i x e = absurd (cc)
 got_cut (suc n) (y ∷ ys) zero x e = e
 got_cut (suc n) (y ∷ ys) (suc i) x e = got_cut n ys i x e
 
+-- ## How many rows there are
+
+words_of : List LogRow → List ℕ
+words_of rows = map (λ (r : LogRow). r.word) rows
+
+-- of each word that a memory can have there is one at most, so a place is a number of 32 bits
+pub few_rows : (rows : List LogRow) → AreSingle rows → AllBelow rows → length rows < 2 ^ 32
+unfolding words_of IsDistinct
+few_rows rows single below =
+    let at_most : length (words_of rows) ≤ MAX_WORDS = length-le_from_distinct_below (words_of rows) MAX_WORDS (distinct rows single) (λ q h. within rows q below h) in
+    let fits : MAX_WORDS < 2 ^ 32 = lit< tt in
+    omega (arith, at_most, fits, length-map rows (λ (r : LogRow). r.word))
+  where
+    apart : (rows : List LogRow) (word : ℕ) → value_of word rows ≡ None → AllByRecursion (λ y. eqb word y ≡ false) (map (λ (r : LogRow). r.word) rows)
+    apart [] word e = tt
+    apart (y ∷ ys) word e =
+        let other = other_word y ys word e in
+        (ne_eqb word y.word (λ same. eqb-false y.word word other (sym same)), apart ys word (sym (value_there y ys word other) ∙ e))
+
+    distinct : (rows : List LogRow) → AreSingle rows → IsDistinct eqb (map (λ (r : LogRow). r.word) rows)
+    distinct [] s = tt
+    distinct (r ∷ rs) s = IsDistinct-cons eqb r.word (map (λ (r : LogRow). r.word) rs) (apart rs r.word s.0) (distinct rs s.1)
+
+    within : (rows : List LogRow) (q : ℕ) → AllBelow rows → list_any (eqb q) (map (λ (r : LogRow). r.word) rows) ≡ true → q < MAX_WORDS
+    within [] q b h = absurd (cc)
+    within (y ∷ ys) q b h = elim (cases_Bool (eqb q y.word)) [
+      | inl same ↦ subst (λ (n : ℕ). n < MAX_WORDS) (sym (eqb-true q y.word same)) b.0
+      | inr other ↦ within ys q b.1 (sym (ap (λ t. t || list_any (eqb q) (map (λ (r : LogRow). r.word) ys)) other) ∙ h)
+    ]
+
 -- ## The index
 
-pub index_push : (places : List ℕ) (rows : List LogRow) (r : LogRow) → IsIndex places rows → r.word < MAX_WORDS → value_of r.word rows ≡ None → IsIndex (slice_set places r.word (length rows)) (rows ++ r ∷ [])
-index_push places rows r is below none = record {
-  long = length-set places r.word (length rows) ∙ is.long;
-  has = λ i x e. elim (got_push rows r i x e) [
-    | inl there ↦ slice_get-set_other places r.word x.word (length rows) (λ same. eqb-false x.word r.word (other_at rows r.word i x none there) (sym same)) ∙ is.has i x there
-    | inr last ↦
-        subst (λ (z : LogRow). slice_get (slice_set places r.word (length rows)) z.word ≡ Some i) last.1
-        (slice_get-set_same places r.word (length rows) (omega (arith, below, is.long)) ∙ ap Some (sym last.0))
-  ];
-}
+pub index_push : (places : List ℕ) (rows : List LogRow) (r : LogRow) → IsIndex places rows → value_of r.word rows ≡ None → IsIndex (slice_set places r.word (length rows)) (rows ++ r ∷ [])
+index_push places rows r is none i x e l =
+    let long : x.word < length places = omega (arith, l, length-set places r.word (length rows)) in
+    elim (got_push rows r i x e) [
+      | inl there ↦ slice_get-set_other places r.word x.word (length rows) (λ same. eqb-false x.word r.word (other_at rows r.word i x none there) (sym same)) ∙ is i x there long
+      | inr last ↦ (
+          let here : r.word < length places = subst (λ (z : LogRow). z.word < length places) (sym last.1) long in
+          subst (λ (z : LogRow). slice_get (slice_set places r.word (length rows)) z.word ≡ Some i) last.1
+          (slice_get-set_same places r.word (length rows) here ∙ ap Some (sym last.0)))
+    ]
 
 pub index_cut : (places : List ℕ) (n : ℕ) (rows : List LogRow) → IsIndex places rows → IsIndex places (take n rows)
-index_cut places n rows is = record { long = is.long; has = λ i x e. is.has i x (got_cut n rows i x e) }
+index_cut places n rows is i x e l = is i x (got_cut n rows i x e) l
 
 -- ## The index of rows, one after the other
 
@@ -92,77 +121,57 @@ got_or [] i d l = absurd (omega arith)
 got_or (y ∷ ys) zero d l = refl
 got_or (y ∷ ys) (suc i) d l = got_or ys i d (omega arith)
 
-pub noted_none : (places : List ℕ) (rows : List LogRow) → length places ≡ MAX_WORDS → IsIndex places (take 0 rows)
-noted_none places rows long = record { long = long; has = λ i x e. absurd (cc) }
+pub noted_none : (places : List ℕ) (rows : List LogRow) → IsIndex places (take 0 rows)
+noted_none places rows i x e l = absurd (cc)
 
-pub noted_more : (places : List ℕ) (rows : List LogRow) (place : ℕ) (d : LogRow) → place < length rows → AllBelow rows → AreSingle rows → IsIndex places (take place rows)
+pub noted_more : (places : List ℕ) (rows : List LogRow) (place : ℕ) (d : LogRow) → place < length rows → AreSingle rows → IsIndex places (take place rows)
     → IsIndex (slice_set places (get_or rows place d).word place) (take (place + 1) rows)
-noted_more places rows place d l below single is =
+noted_more places rows place d l single is =
     let r : LogRow = get_or rows place d in
-    let here = got_or rows place d l in
     let size : length (take place rows) ≡ place = length-take-le place rows (omega arith) in
-    let more = index_push places (take place rows) r is (below_at rows place r below here) (none_before rows place r single here) in
+    let more = index_push places (take place rows) r is (none_before rows place r single (got_or rows place d l)) in
     subst (IsIndex (slice_set places r.word place)) (sym (take_more rows place d l)) (subst (λ (n : ℕ). IsIndex (slice_set places r.word n) (take place rows ++ r ∷ [])) size more)
 
 pub noted_all : (places : List ℕ) (rows : List LogRow) (place : ℕ) → length rows ≤ place → IsIndex places (take place rows) → IsIndex places rows
 noted_all places rows place l is = subst (IsIndex places) (take_all place rows l) is
 
--- a list of places that is empty stays so
-pub some_places : (places : List ℕ) (word place : ℕ) → slice_set places word place ≢ [] → places ≢ []
-some_places places word place some e = some (ap (λ (ps : List ℕ). slice_set ps word place) e)
-
-pub no_places : (places : List ℕ) (word place : ℕ) → slice_set places word place ≡ [] → places ≡ []
-no_places [] word place e = refl
-no_places (p ∷ ps) zero place e = absurd (cc)
-no_places (p ∷ ps) (suc word) place e = absurd (cc)
-
 -- ## What it finds
 
-module _ (places : List ℕ) (rows : List LogRow) (is : IsIndex places rows) (word : ℕ) where
+module _ (places : List ℕ) (rows : List LogRow) (is : IsIndex places rows) (word p : ℕ) (there : slice_get places word ≡ Some p) where
   -- either the word has no row, or its place leads to it
-  found : (o : Option ℕ) → value_of word rows ≡ o → (o ≡ None) ⊎ ((i : ℕ) × (x : LogRow) × (slice_get places word ≡ Some i) × (slice_get rows i ≡ Some x) × (x.word ≡ word) × (o ≡ Some x.value))
+  found : (o : Option ℕ) → value_of word rows ≡ o → (o ≡ None) ⊎ ((x : LogRow) × (slice_get rows p ≡ Some x) × (x.word ≡ word) × (o ≡ Some x.value))
   found None e = inl refl
   found (Some value) e =
-      (let at = row_of rows word value e in
-      inr (at.0, at.1, ap (slice_get places) (sym at.3) ∙ is.has at.0 at.1 at.2, at.2, at.3, ap Some (sym at.4)))
-
-  pub no_place : slice_get places word ≡ None → None ≡ value_of word rows
-  no_place e = elim (found (value_of word rows) refl) [
-    | inl none ↦ sym none
-    | inr at ↦ (let there = at.2 in absurd (cc))
-  ]
-
-  module _ (p : ℕ) (there : slice_get places word ≡ Some p) where
-    pub no_row : slice_get rows p ≡ None → None ≡ value_of word rows
-    no_row e = elim (found (value_of word rows) refl) [
-      | inl none ↦ sym none
-      | inr at ↦ (let same : p ≡ at.0 = same_some p at.0 (sym there ∙ at.2) in let got = at.3 in let gone = ap (slice_get rows) (sym same) ∙ e in absurd (cc))
-    ]
-      where
-        same_some : (a b : ℕ) → ◌≡◌ {A = Option ℕ} (Some a) (Some b) → a ≡ b
-        same_some a b e = cc
-
-    module _ (x : LogRow) (here : slice_get rows p ≡ Some x) where
+      let at = row_of rows word value e in
+      let long : at.1.word < length places = subst (λ (n : ℕ). n < length places) (sym at.3) (slice_get_within places word p there) in
+      let place : p ≡ at.0 = one_place p at.0 (sym there ∙ (ap (slice_get places) (sym at.3) ∙ is at.0 at.1 at.2 long)) in
+      inr (at.1, ap (slice_get rows) place ∙ at.2, at.3, ap Some (sym at.4))
+    where
       one_place : (a b : ℕ) → ◌≡◌ {A = Option ℕ} (Some a) (Some b) → a ≡ b
       one_place a b e = cc
 
-      one_row : (a b : LogRow) → ◌≡◌ {A = Option LogRow} (Some a) (Some b) → a ≡ b
-      one_row a b e = cc
+  pub no_row : slice_get rows p ≡ None → None ≡ value_of word rows
+  no_row e = elim (found (value_of word rows) refl) [
+    | inl none ↦ sym none
+    | inr at ↦ (let got = at.1 in absurd (cc))
+  ]
 
-      pub its_row : x.word ≡ word → Some x.value ≡ value_of word rows
-      its_row same = elim (found (value_of word rows) refl) [
-        | inl none ↦ absurd (eqb-false x.word word (other_at rows word p x none here) same)
-        | inr at ↦ (
-            let place : p ≡ at.0 = one_place p at.0 (sym there ∙ at.2) in
-            let row : x ≡ at.1 = one_row x at.1 (sym here ∙ (ap (slice_get rows) place ∙ at.3)) in
-            ap (λ (r : LogRow). Some r.value) row ∙ sym at.5)
-      ]
+  module _ (x : LogRow) (here : slice_get rows p ≡ Some x) where
+    one_row : (a b : LogRow) → ◌≡◌ {A = Option LogRow} (Some a) (Some b) → a ≡ b
+    one_row a b e = cc
 
-      pub other_row : x.word ≢ word → None ≡ value_of word rows
-      other_row apart = elim (found (value_of word rows) refl) [
-        | inl none ↦ sym none
-        | inr at ↦ (
-            let place : p ≡ at.0 = one_place p at.0 (sym there ∙ at.2) in
-            let row : x ≡ at.1 = one_row x at.1 (sym here ∙ (ap (slice_get rows) place ∙ at.3)) in
-            absurd (apart (ap (λ (r : LogRow). r.word) row ∙ at.4)))
-      ]
+    pub its_row : x.word ≡ word → Some x.value ≡ value_of word rows
+    its_row same = elim (found (value_of word rows) refl) [
+      | inl none ↦ absurd (eqb-false x.word word (other_at rows word p x none here) same)
+      | inr at ↦ (
+          let row : x ≡ at.0 = one_row x at.0 (sym here ∙ at.1) in
+          ap (λ (r : LogRow). Some r.value) row ∙ sym at.3)
+    ]
+
+    pub other_row : x.word ≢ word → None ≡ value_of word rows
+    other_row apart = elim (found (value_of word rows) refl) [
+      | inl none ↦ sym none
+      | inr at ↦ (
+          let row : x ≡ at.0 = one_row x at.0 (sym here ∙ at.1) in
+          absurd (apart (ap (λ (r : LogRow). r.word) row ∙ at.2)))
+    ]

@@ -30,7 +30,7 @@ impl Model for ValueLog {
 
     ghost view = { λ l. record { rows = l.rows.items; room = l.rows.capacity - length l.rows.items } };
 
-    ghost invariant = { λ l. IsKept l.rows l.index.places.items };
+    ghost invariant = { λ l. IsKept l.rows.items l.index.places.items };
 }
 
 impl ValueLog {
@@ -69,10 +69,10 @@ impl ValueLog {
         // In every memory that agrees with the log, the word has that value.
         ensures word { IfSome result (λ value. (m : List ℕ) → Agrees m self.now.rows → slice_get m word ≡ Some value) }
     {
-        if self.index.is_none() {
-            scan(self.rows.as_slice(), word)
-        } else {
+        if self.index.covers(word) {
             self.index.find(self.rows.as_slice(), word)
+        } else {
+            scan(self.rows.as_slice(), word)
         }
     }
 
@@ -87,13 +87,13 @@ impl ValueLog {
         ensures kept { self.old.room ≤ self.new.room }
         ensures has_room { more ≤ self.old.room → IsOk result }
     {
-        if more <= self.rows.capacity() - self.rows.len() {
+        if more <= self.rows.capacity() - self.rows.len() && !self.index.is_behind() {
             return Ok(());
         }
         self.grow(more)
     }
 
-    /// Makes room for so many more rows where there is not enough.
+    /// The same, where there is not enough room, or the index lacks a row.
     #[cold]
     #[inline(never)]
     fn grow(&mut self, more: usize) -> Result<(), AllocError>
@@ -101,10 +101,14 @@ impl ValueLog {
         ensures ok { OnOk result (more ≤ self.new.room) }
         ensures err { OnErr result (self.new ≡ self.old) }
         ensures kept { self.old.room ≤ self.new.room }
+        ensures has_room { more ≤ self.old.room → IsOk result }
     {
-        if self.index.is_none() {
-            self.index = Index::of(*self.rows.allocator(), self.rows.as_slice())?;
+        let covered = self.index.cover(self.rows.as_slice());
+        if more <= self.rows.capacity() - self.rows.len() {
+            // Where the index is refused its memory, the rows are looked through for the words that it lacks.
+            return Ok(());
         }
+        covered?;
         self.rows.reserve(more)
     }
 

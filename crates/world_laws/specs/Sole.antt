@@ -41,7 +41,7 @@ pub record EndsWith (past : List Attempt) (n : ℕ) (outcome : Outcome) (r : Row
 abbrev pub IsIdle : Core → Type 0
 IsIdle e = (e.waits ≡ None) × (e.holds ≡ e.irrevocable)
 
-module _ {P : Type 0} (rules : Rules P) (max_commits : ℕ) (base : List ℕ) (first : Between P) where
+module _ {P : Type 0} (rules : Rules P) (max_commits deepest : ℕ) (base : List ℕ) (first : Between P) where
   -- after these attempts it goes on, at the first try of its block
   pub record IsOnWay (past : List Attempt) (n : ℕ) (r : Rows) (a : Actor P) : Type 0 where
     pub ended : r.ended ≡ past
@@ -52,9 +52,9 @@ module _ {P : Type 0} (rules : Rules P) (max_commits : ℕ) (base : List ℕ) (f
   pub record IsKeptOut (past : List Attempt) (r : Rows) (a : Actor P) : Type 0 where
     pub ended : r.ended ≡ past
     pub before : Between P
-    pub led : run_after rules (bytes_at base r.ended) (Some first) (of_thread a.thread r.ended) ≡ Some before
+    pub led : run_after rules deepest (bytes_at deepest base r.ended) (Some first) (of_thread a.thread r.ended) ≡ Some before
     pub start : Beginning P
-    pub begins : begins_at rules before ≡ Some start
+    pub begins : begins_at rules deepest before ≡ Some start
     pub goes : start.props.goes_irrevocable ≡ true
 
   -- by how it ended, if it has

@@ -6,12 +6,11 @@ use Rattle.norec_world.specs.Commits.{CommitsInOrder}
 use Rattle.norec_world.specs.Starts.{IsNew}
 use Rattle.norec_world.specs.Status.{ending_of}
 use Rattle.norec_world.specs.Tied.{AreTied}
-use Rattle.norec_world.specs.World.{World, ending_at}
+use Rattle.norec_world.specs.World.{World, attempts_of, ending_at}
 use Rattle.norec_world.specs.WorldEvents.{Leads}
 use Rattle.tx_attempts.specs.declared.attempt.Outcome.TheVariants.{Unfinished}
 use Rattle.tx_player.specs.Rules.{Rules}
 use Rattle.tx_runs.specs.declared.ending.End.TheVariants.{NoMemory}
-use Rattle.world_laws.specs.Told.{told_of}
 
 module _ {P : Type 0} where
   -- no actor that found no memory has an irrevocable attempt
@@ -20,7 +19,7 @@ module _ {P : Type 0} where
 
   -- in its history each attempt of a thread that found no memory has ended
   abbrev pub LeavesNoneOpen : World P → Type 0
-  LeavesNoneOpen w = All (λ row. ending_at w row.thread ≡ Some NoMemory → row.outcome ≡ Unfinished → ⊥) (told_of w).attempts
+  LeavesNoneOpen w = All (λ row. ending_at w row.thread ≡ Some NoMemory → row.outcome ≡ Unfinished → ⊥) (attempts_of w)
 
 -- a world that a schedule led to leaves none open where it is fed
 abbrev pub FedLeaveNoneOpen : {P : Type 0} → Rules P → Type 0

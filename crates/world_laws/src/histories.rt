@@ -1,11 +1,14 @@
 //! The histories of worlds: each of them is legal, and what they tell of threads that found no memory.
 
+ghost use Rattle.std.specs.Prelude.{◌≡◌};
 ghost use Rattle.norec_world.specs.Commits.{CommitsInOrder};
 ghost use Rattle.norec_world.specs.Headline.{AreOpaque};
 ghost use Rattle.norec_world.specs.Tied.{AreTied};
 ghost use Rattle.norec_world.specs.World.{World, observed};
 ghost use Rattle.tx_history.specs.Bounds.{AreLimited};
+ghost use Rattle.tx_history.specs.declared.history.Version.{Version};
 ghost use Rattle.tx_history.specs.Legal.{IsLegal};
+ghost use Rattle.tx_history.specs.Versions.{depth_of};
 ghost use Rattle.world_laws.specs.Limits.{HasArenaWidths, IsLimitedWorld};
 ghost use Rattle.world_laws.specs.Starved.{FedLeaveNoneOpen};
 ghost use Rattle.world_laws.specs.Told.{told_of};
@@ -13,19 +16,19 @@ ghost use Rattle.world_laws.specs.Told.{told_of};
 use tx_player::Player;
 
 /// What is told of any world whose commits are in order, whose attempts are opaque, and whose engines and words go with
-/// them, is a legal history: by the plain
+/// them, in a version that lets as many blocks be open at once, is a legal history: by the plain
 /// machine alone, its committed attempts run one after the other by position, and each other one runs alone on what so
 /// many first commits left. Does nothing.
 pub fn legal<P: Player>()
-    ensures { (w : World P) → CommitsInOrder w → AreOpaque P.Player (observed w) → AreTied P.Player w
-        → IsLegal (told_of w) }
+    ensures { (version : Version) (w : World P) → depth_of version ≡ w.depth → CommitsInOrder w
+        → AreOpaque P.Player (observed w) → AreTied P.Player w → IsLegal (told_of version w) }
 {}
 
-/// It is also within the limits of a run, where the world is, and where its players access their arenas in 1, 2, 4 or 8
+/// It is also within the limits of its version, where the world is, and where its players access their arenas in 1, 2, 4 or 8
 /// bytes. Does nothing.
 pub fn limited<P: Player>()
-    ensures { HasArenaWidths P.Player → (w : World P) → AreOpaque P.Player (observed w) → IsLimitedWorld w
-        → AreLimited (told_of w) }
+    ensures { HasArenaWidths P.Player → (version : Version) (w : World P) → AreOpaque P.Player (observed w)
+        → IsLimitedWorld version w → AreLimited (told_of version w) }
 {}
 
 /// Of an actor that found no memory only an irrevocable attempt stays open. So in the history of a world in which no such actor

@@ -14,7 +14,7 @@ use std::alloc::{AllocError, Global};
 use std::cell::Cell;
 use std::process::Abort;
 use std::test::*;
-use tx_history::Stream;
+use tx_history::{Stream, Version};
 
 /// Two threads that add one to the same word, each in one block of four calls: 6 steps where nobody comes between.
 const TWO_COUNTERS: &[u8] = b".memory 8
@@ -245,7 +245,7 @@ fn is_played(
         Item::Out(1),
     ];
     let mut stream = Stream::new(writer);
-    play(alloc, world, &items, &mut stream).is_ok()
+    play(alloc, world, &items, Version::One, &mut stream).is_ok()
 }
 
 /// The history is written as far as the run has come, and no farther.

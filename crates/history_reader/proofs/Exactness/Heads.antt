@@ -15,14 +15,15 @@ use Rattle.tx_attempts.specs.declared.attempt.Outcome.{Outcome}
 use Rattle.tx_history.specs.Histories.{outcome_name, kind_text}
 use Rattle.history_reader.specs.declared.state.Head.{Head}
 use Rattle.history_reader.specs.Fields.{next, next_three, none, one}
-use Rattle.history_reader.specs.Numbers.{depth, depth_from, ranged, thread, nth}
+use Rattle.tx_history.specs.Depths.{depth_from}
+use Rattle.tx_history.proofs.SameDepths.{near_is}
+use Rattle.history_reader.specs.Numbers.{depth, ranged, thread, nth}
 use Rattle.history_reader.specs.Words.{outcome_names, outcome, kind_names, kind, block_props}
 use Rattle.history_reader.specs.Digits.{sized, memory_bytes, arena_bytes, restart_bytes}
 use Rattle.history_reader.specs.Lines.{depth_of, memory_of, arena_of, try_of, outcome_of, head_of, ran_of, undone_of, restart_of, final_of}
 use Rattle.tx_history.specs.Bounds.{IsWord}
 use Rattle.history_reader.specs.Tellable.{IsMemory, IsRan, IsUndone}
 use Rattle.history_reader.specs.LineFields.{arena_text}
-use Rattle.history_reader.proofs.Values.{near_is}
 use Rattle.history_reader.proofs.Exactness.Fields.{bind_ok, both_ok, lookup_exact, or_operand_ok, ranged_exact, function_exact}
 use Rattle.history_reader.proofs.Exactness.Bytes.{sized_exact, memory_exact, arena_exact, restart_exact}
 use Rattle.history_reader.proofs.Exactness.Calls.{next_exact, none_exact, one_exact, three_exact, number_is, props_is}

@@ -36,7 +36,9 @@ use Rattle.tx_attempts.specs.declared.attempt.Outcome.TheVariants as outcomes
 use Rattle.tx_history.specs.Histories.{outcome_name, kind_text}
 use Rattle.history_reader.specs.declared.verb.Verb.{Verb}
 use Rattle.history_reader.specs.declared.verb.Verb.TheVariants as verbs
-use Rattle.history_reader.specs.Numbers.{depth, depth_from, ranged}
+use Rattle.tx_history.specs.Depths.{depth_from}
+use Rattle.tx_history.proofs.SameDepths.{near_is, same_depth}
+use Rattle.history_reader.specs.Numbers.{depth, ranged}
 use Rattle.history_reader.specs.Digits.{is_lower_digit, is_lower_hex, bytes_if, sized, are_words, memory_bytes, arena_bytes, restart_bytes, datum, datum_of}
 use Rattle.history_reader.specs.Words.{outcome, kind, block_props}
 use Rattle.history_reader.specs.Replies.{refusal_of}
@@ -44,7 +46,7 @@ use Rattle.history_reader.specs.Calls.{access_names, point_verb, or_point, verb_
 use Rattle.tx_history.specs.Bounds.{IsArenaWidth, IsDatum}
 use Rattle.history_reader.specs.Tellable.{IsMemory}
 use Rattle.history_reader.specs.LineFields.{verb_text, arena_text}
-use Rattle.history_reader.proofs.Values.{low_is, near_is, same_datum, same_depth}
+use Rattle.history_reader.proofs.Values.{low_is, same_datum}
 
 -- ## Numbers
 

@@ -1,4 +1,4 @@
-//! Another beginning, beside a copy of the memory that a caller keeps.
+//! Another beginning, beside a copy of the memory that a caller keeps, and another arena.
 
 ghost use Rattle.std.specs.Prelude.{◌≡◌, ◌≤◌, ◌↔◌, ◌&&◌, IsTrue, OnOk, OnErr, length, false};
 ghost use Rattle.itm_model.specs.Machine.{opened};
@@ -46,6 +46,15 @@ impl Plain {
             self.go_irrevocable();
         }
         Ok(())
+    }
+
+    /// The arena becomes these bytes, and nothing else changes: what is kept of it for the open blocks stays. Takes no
+    /// memory.
+    pub fn set_arena(&mut self, arena: &[u8])
+        requires { length arena.now ≡ length self.old.state.arena }
+        ensures { self.new ≡ record self.old { state = record self.old.state { arena = arena.now } } }
+    {
+        self.arena.copy_from_slice(arena);
     }
 
     /// Whether the memory is as at the last outermost begin, of which `base` is a copy. It costs what was written.

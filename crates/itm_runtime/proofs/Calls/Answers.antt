@@ -6,7 +6,6 @@ use Rattle.itm_types.specs.declared.call.Call.{Call}
 use Rattle.itm_types.specs.declared.call.Call.TheVariants.{Commit}
 use Rattle.itm_types.specs.declared.call.Reply.{Reply as Replied}
 use Rattle.itm_types.specs.Memory.{Agrees, IsMemory, bytes_of}
-use Rattle.itm_types.specs.declared.limits.TheConstants.{MAX_OPEN_BLOCKS}
 use Rattle.itm_model.specs.State.{State}
 use Rattle.itm_model.specs.Machine.{after, reply, undone}
 use Rattle.norec_core.specs.declared.answer.Answer.{Answer}
@@ -68,8 +67,8 @@ module _ (s : Start) (w : View) (mid new : Core) (m : IsMid s w mid new) where
       let was : s.engine.irrevocable ≡ false = mode_then s w mid new m ∙ g.revocable in
       let is : new.irrevocable ≡ false = ap (λ (c : Core). c.irrevocable) stays ∙ g.revocable in
       let meets : (x : List ℕ) → IsMemory mid.words x → Agrees x new.log → Meets s r new x x = λ x f a. record {
-        state = g.meets x f a ∙ ap (λ (st : State). after MAX_OPEN_BLOCKS st s.call) (same s w mid new m was x);
-        reply_is = g.reply_is x f a ∙ (λ i. recoded s.call (again_is i) (reply MAX_OPEN_BLOCKS (same s w mid new m was x i) s.call));
+        state = g.meets x f a ∙ (λ i. after (m.kept.depth i) (same s w mid new m was x i) s.call);
+        reply_is = g.reply_is x f a ∙ (λ i. recoded s.call (again_is i) (reply (m.kept.depth i) (same s w mid new m was x i) s.call));
       } in
       let tells : Tells s (Reply r) w new = record {
         here = in_mode s r w new false false was is (meets (memory_of w k) (is_memory mid.words w m.over k) (logged_as (in_transaction new) refl));
@@ -95,8 +94,8 @@ module _ (s : Start) (w : View) (mid new : Core) (m : IsMid s w mid new) where
       let agrees : Agrees (memory_of w k) mid.log = read_so_far s w mid new m (in_transaction mid) refl in
       let laid : backed mid (memory_of w k) ≡ held w = ap (backed mid) (whole s w mid new m k long) ∙ sym (m.holding g.held g.revocable).laid in
       let meets : Meets s r new (memory_of w k) (held w) = record {
-        state = ap (stands_for new) (sym laid) ∙ (g.meets (memory_of w k) fits agrees ∙ ap (λ (st : State). after MAX_OPEN_BLOCKS st s.call) (same s w mid new m was (memory_of w k)));
-        reply_is = g.reply_is (memory_of w k) ∙ (λ i. recoded s.call (again_is i) (reply MAX_OPEN_BLOCKS (same s w mid new m was (memory_of w k) i) s.call));
+        state = ap (stands_for new) (sym laid) ∙ (g.meets (memory_of w k) fits agrees ∙ (λ i. after (m.kept.depth i) (same s w mid new m was (memory_of w k) i) s.call));
+        reply_is = g.reply_is (memory_of w k) ∙ (λ i. recoded s.call (again_is i) (reply (m.kept.depth i) (same s w mid new m was (memory_of w k) i) s.call));
       } in
       let tells : Tells s (Reply r) w new = record {
         here = in_mode s r w new false true was is meets;
@@ -116,7 +115,7 @@ module _ (s : Start) (w : View) (mid new : Core) (m : IsMid s w mid new) where
       let plainly : (s.again && not (in_transaction s.engine)) ≡ false = first_time in
       let meets : Meets s r new (held s.view) (held w) = record {
         state = comes.0;
-        reply_is = comes.1 ∙ (sym (told_plainly s.call (reply MAX_OPEN_BLOCKS (stands_for s.engine (held s.view)) s.call)) ∙ ap (λ (b : Bool). recoded s.call b (reply MAX_OPEN_BLOCKS (stands_for s.engine (held s.view)) s.call)) (sym plainly));
+        reply_is = comes.1 ∙ (sym (told_plainly s.call (reply s.engine.depth (stands_for s.engine (held s.view)) s.call)) ∙ ap (λ (b : Bool). recoded s.call b (reply s.engine.depth (stands_for s.engine (held s.view)) s.call)) (sym plainly));
       } in
       let tells : Tells s (Reply r) w new = record {
         here = in_mode s r w new true true was is meets;
@@ -173,10 +172,10 @@ module _ (s : Start) (w : View) (mid new : Core) (m : IsMid s w mid new) where
 
   -- what the plain machine makes of the commit, by the memory that it was called over
   record CommitsOver (at : ℕ) (wrote : Bool) (x : List ℕ) : Type 0 where
-    pub wrote_is : wrote ≡ (after MAX_OPEN_BLOCKS (stands_for s.engine x) Commit).wrote
-    pub memory_is : wrote ≡ true → bytes_of (memory_of w (suc at)) ≡ (after MAX_OPEN_BLOCKS (stands_for s.engine x) Commit).memory
-    pub arena_is : new.arena ≡ (after MAX_OPEN_BLOCKS (stands_for s.engine x) Commit).arena
-    pub actions_is : new.actions ≡ (after MAX_OPEN_BLOCKS (stands_for s.engine x) Commit).actions
+    pub wrote_is : wrote ≡ (after s.engine.depth (stands_for s.engine x) Commit).wrote
+    pub memory_is : wrote ≡ true → bytes_of (memory_of w (suc at)) ≡ (after s.engine.depth (stands_for s.engine x) Commit).memory
+    pub arena_is : new.arena ≡ (after s.engine.depth (stands_for s.engine x) Commit).arena
+    pub actions_is : new.actions ≡ (after s.engine.depth (stands_for s.engine x) Commit).actions
 
   module _ (at : ℕ) (wrote : Bool) (g : engine.Commits mid at wrote new) (at_is : at ≡ k) where
     over_position : s.engine.irrevocable ≡ false → CommitsOver at wrote (memory_of w k)
@@ -186,16 +185,16 @@ module _ (s : Start) (w : View) (mid new : Core) (m : IsMid s w mid new) where
         let state = same s w mid new m was (memory_of w k) in
         let position : memory_of w at ≡ memory_of w k = ap (memory_of w) at_is in
         record {
-          wrote_is = g.wrote_is (memory_of w k) fits agrees ∙ ap (λ (st : State). (after MAX_OPEN_BLOCKS st Commit).wrote) state;
+          wrote_is = g.wrote_is (memory_of w k) fits agrees ∙ (λ i. (after (m.kept.depth i) (state i) Commit).wrote);
           memory_is = λ y. ap bytes_of (laid_memory at (sym (mode_then s w mid new m) ∙ was) (m.freed (g.freed ∙ y)) at_is ∙ ap (backed mid) position)
-              ∙ (g.memory_is (memory_of w k) fits agrees ∙ ap (λ (st : State). (after MAX_OPEN_BLOCKS st Commit).memory) state);
-          arena_is = g.arena_is (memory_of w k) ∙ ap (λ (st : State). (after MAX_OPEN_BLOCKS st Commit).arena) state;
-          actions_is = g.actions_is (memory_of w k) ∙ ap (λ (st : State). (after MAX_OPEN_BLOCKS st Commit).actions) state;
+              ∙ (g.memory_is (memory_of w k) fits agrees ∙ (λ i. (after (m.kept.depth i) (state i) Commit).memory));
+          arena_is = g.arena_is (memory_of w k) ∙ (λ i. (after (m.kept.depth i) (state i) Commit).arena);
+          actions_is = g.actions_is (memory_of w k) ∙ (λ i. (after (m.kept.depth i) (state i) Commit).actions);
         }
 
     over_held : s.call ≡ Commit → IsHeldMid s w (Answers (Committed at wrote)) new → CommitsOver at wrote (held s.view)
     over_held call on =
-        let Comes : Call → Type 0 = λ c. ComesTo (after MAX_OPEN_BLOCKS (stands_for s.engine (held s.view)) c) (reply MAX_OPEN_BLOCKS (stands_for s.engine (held s.view)) c) (Answers (Committed at wrote)) new (held w) in
+        let Comes : Call → Type 0 = λ c. ComesTo (after s.engine.depth (stands_for s.engine (held s.view)) c) (reply s.engine.depth (stands_for s.engine (held s.view)) c) (Answers (Committed at wrote)) new (held w) in
         let comes = subst Comes call on.comes in
         record {
           wrote_is = comes.1 ∙ sym comes.2;

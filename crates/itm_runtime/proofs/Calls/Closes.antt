@@ -4,7 +4,6 @@ use Rattle.std.proofs.lemmas.List.{take_all}
 use Rattle.itm_types.specs.declared.call.Call.{Call}
 use Rattle.itm_types.specs.declared.call.Call.TheVariants.{Begin, Commit, Mode}
 use Rattle.itm_types.specs.Memory.{Agrees, IsMemory}
-use Rattle.itm_types.specs.declared.limits.TheConstants.{MAX_OPEN_BLOCKS}
 use Rattle.itm_model.specs.Machine.{undone}
 use Rattle.nest_frames.specs.Nest.{stays_revocable}
 use Rattle.norec_core.specs.declared.answer.Answer.{Answer}
@@ -60,7 +59,7 @@ module _ (s : Start) (w : View) (mid new : Core) (m : IsMid s w mid new) where
       fixed = m.fixed;
       within = omega arith;
       words = r.words ∙ m.kept.words;
-      limits = (r.max_commits ∙ m.kept.max_commits, r.patience ∙ m.kept.patience);
+      limits = (r.max_commits ∙ m.kept.max_commits, r.patience ∙ m.kept.patience, r.depth ∙ m.kept.depth);
     }
 
     -- no transaction is open
@@ -106,7 +105,7 @@ module _ (s : Start) (w : View) (mid new : Core) (m : IsMid s w mid new) where
   -- ## The wish for the clock
 
   goes_same : (call : Call) → irrevocable_room mid call ≡ irrevocable_room s.engine call
-  goes_same (Begin props room) = λ i. if props.goes_irrevocable && may_go (m.kept.blocks i) props && nat_lt (length (m.kept.blocks i)) MAX_OPEN_BLOCKS && not (m.kept.irrevocable i) then Some room else None
+  goes_same (Begin props room) = λ i. if props.goes_irrevocable && may_go (m.kept.blocks i) props && nat_lt (length (m.kept.blocks i)) (m.kept.depth i) && not (m.kept.irrevocable i) then Some room else None
   goes_same (Mode room) = λ i. if is_inside (m.kept.blocks i) && not (stays_revocable (m.kept.blocks i)) && not (m.kept.irrevocable i) then Some room else None
   goes_same call = refl
 

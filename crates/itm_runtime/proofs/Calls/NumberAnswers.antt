@@ -15,7 +15,6 @@ use Rattle.itm_types.specs.declared.call.Refusal.{Refusal}
 use Rattle.itm_types.specs.declared.call.Refusal.TheVariants.{OutOfRange}
 use Rattle.itm_types.specs.declared.call.Reply.{Reply as Replied}
 use Rattle.itm_types.specs.declared.call.Reply.TheVariants.{Done}
-use Rattle.itm_types.specs.declared.limits.TheConstants.{MAX_OPEN_BLOCKS}
 use Rattle.itm_types.specs.Slices.{slice}
 use Rattle.itm_model.specs.Machine.{bytes_reply, or_else, ranges, refusal, reply_unless, standing, unless}
 use Rattle.itm_model.specs.Places.{in_range}
@@ -57,10 +56,10 @@ commits_not Commit = ⊥
 commits_not call = Unit {0}
 
 -- the bytes of a read that is accepted are as many as it asks for
-read_reply : (s : State) (hint : ReadHint) (at : ℕ) (r : Replied) (why : Option Refusal) → refusal MAX_OPEN_BLOCKS s (Read hint U8 at) ≡ why → r ≡ reply_unless why (bytes_reply (slice s.memory at 8)) → GoesOn (Reply r) → HasNumber (Reply r)
-read_reply s hint at r (Some why) is e on = absurd (on (stops.Refused why) (ap (λ (x : Replied). Some (Reply x)) (sym e)))
-read_reply s hint at r None is e on =
-    let none = later_none (standing MAX_OPEN_BLOCKS s (Read hint U8 at)) (ranges s (Read hint U8 at)) is in
+read_reply : (depth : ℕ) (s : State) (hint : ReadHint) (at : ℕ) (r : Replied) (why : Option Refusal) → refusal depth s (Read hint U8 at) ≡ why → r ≡ reply_unless why (bytes_reply (slice s.memory at 8)) → GoesOn (Reply r) → HasNumber (Reply r)
+read_reply depth s hint at r (Some why) is e on = absurd (on (stops.Refused why) (ap (λ (x : Replied). Some (Reply x)) (sym e)))
+read_reply depth s hint at r None is e on =
+    let none = later_none (standing depth s (Read hint U8 at)) (ranges s (Read hint U8 at)) is in
     let within = within_range (in_range s.memory at 8) none in
     subst (λ (x : Replied). HasNumber (Reply x)) (sym e) (slice_within s.memory at (leb-true (at + 8) (length s.memory) within))
 
@@ -68,7 +67,7 @@ read_reply s hint at r None is e on =
 pub read_number : (t : Standing) (hint : ReadHint) (at : ℕ) (a : Answer) (v : View) (e : Core) → Served (start_of t (Read hint U8 at) false) a v e → GoesOn a → HasNumber a
 read_number t hint at (Reply r) v e served on =
     let s : State = stands_for t.engine (came_over (start_of t (Read hint U8 at) false) v e) in
-    read_reply s hint at r (refusal MAX_OPEN_BLOCKS s (Read hint U8 at)) refl served.tells.here.reply_is on
+    read_reply t.engine.depth s hint at r (refusal t.engine.depth s (Read hint U8 at)) refl served.tells.here.reply_is on
 read_number t hint at (Committed position wrote) v e served on = absurd (subst commits_not served.tells.call tt)
 read_number t hint at (Conflict clock word) v e served on = absurd (on (stops.Conflict clock word) refl)
 read_number t hint at (Busy clock) v e served on = absurd (on (stops.Busy clock) refl)
@@ -81,7 +80,7 @@ write_reply r None e on = ap Reply e
 -- a write that goes on is done
 pub write_done : (t : Standing) (hint : WriteHint) (at : ℕ) (value : Datum) (a : Answer) (v : View) (e : Core) → Served (start_of t (Write hint at value) false) a v e → GoesOn a → a ≡ Reply Done
 write_done t hint at value (Reply r) v e served on =
-    write_reply r (refusal MAX_OPEN_BLOCKS (stands_for t.engine (came_over (start_of t (Write hint at value) false) v e)) (Write hint at value)) served.tells.here.reply_is on
+    write_reply r (refusal t.engine.depth (stands_for t.engine (came_over (start_of t (Write hint at value) false) v e)) (Write hint at value)) served.tells.here.reply_is on
 write_done t hint at value (Committed position wrote) v e served on = absurd (subst commits_not served.tells.call tt)
 write_done t hint at value (Conflict clock word) v e served on = absurd (on (stops.Conflict clock word) refl)
 write_done t hint at value (Busy clock) v e served on = absurd (on (stops.Busy clock) refl)

@@ -28,6 +28,7 @@ rolled v e t free none = record {
     even = t.settled.even;
     holder = λ h. absurd (cc);
     limit = t.settled.limit;
+    deep = t.settled.deep;
     irrevocable = λ i. absurd (cc);
   };
   reads = λ o. absurd (cc);

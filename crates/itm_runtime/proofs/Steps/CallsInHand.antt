@@ -1,7 +1,6 @@
 -- An engine with a call that came, or with the value of its step, and the view of its pass.
 use Rattle.std.proofs.Common.{◌≡◌, ◌≢◌, ◌⊎◌, ℕ, suc, ◌+◌, ◌/◌, ◌<◌, ◌≤◌, Bool, true, false, List, [], ◌∷◌, ◌++◌, length, take, None, Some, slice_get, slice_index, ap, ◌∙◌, arith}
 use Rattle.std.proofs.lemmas.Option.{slice_get-get_or}
-use Rattle.itm_types.specs.declared.limits.TheConstants.{MAX_OPEN_BLOCKS}
 use Rattle.itm_types.specs.declared.step.Step.TheVariants.{Store}
 use Rattle.itm_types.specs.Memory.{Agrees, IsMemory}
 use Rattle.itm_model.specs.Machine.{after as after_call, reply}
@@ -80,7 +79,7 @@ pub record Tried (s : Start) (w : View) (mid new : Core) : Type 0 where
 
 -- in an irrevocable transaction, what comes next of it over the words that are held
 pub record IsHeldMid (s : Start) (w : View) (what : Next) (new : Core) : Type 0 where
-  pub comes : ComesTo (after_call MAX_OPEN_BLOCKS (stands_for s.engine (held s.view)) s.call) (reply MAX_OPEN_BLOCKS (stands_for s.engine (held s.view)) s.call) what new (held w)
+  pub comes : ComesTo (after_call s.engine.depth (stands_for s.engine (held s.view)) s.call) (reply s.engine.depth (stands_for s.engine (held s.view)) s.call) what new (held w)
   pub got : (word value : ℕ) → new.waits ≡ Some (Store (suc word) value) → Got new.got (slice_get (held w) word)
 
 -- ## Rows and pairs

@@ -1,6 +1,5 @@
 -- A step of an irrevocable transaction was done, and its value is handed in.
 use Rattle.std.proofs.Common.{◌≡◌, ℕ, zero, suc, ◌+◌, true, List, length, Option, Some, slice_get, refl, sym, ap, subst, ◌∙◌, arith}
-use Rattle.itm_types.specs.declared.limits.TheConstants.{MAX_OPEN_BLOCKS}
 use Rattle.itm_types.specs.declared.call.Reply.{Reply}
 use Rattle.itm_types.specs.declared.step.Step.{Step}
 use Rattle.itm_types.specs.declared.step.Step.TheVariants.{Load, Store, Cas}
@@ -74,7 +73,7 @@ module _ (s : Start) (v : View) (e : Core) (n : ℕ) (w : View) (holds : e.holds
 
     pub hands_held : IsHeldMid s w what new
     hands_held = record {
-      comes = subst (λ (x : State). ComesTo x (reply MAX_OPEN_BLOCKS (stands_for s.engine (held s.view)) s.call) what new (held w)) h.leaves_it
+      comes = subst (λ (x : State). ComesTo x (reply s.engine.depth (stands_for s.engine (held s.view)) s.call) what new (held w)) h.leaves_it
           (subst (λ (r : Reply). ComesTo (leaves e (held v)) r what new (held w)) h.answers_it comes);
       got = got_next what g;
     }

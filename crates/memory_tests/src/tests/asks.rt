@@ -3,7 +3,7 @@
 ghost use Rattle.std.specs.Prelude.{◌≡◌, ◌<◌, ◌≤◌, IfOk, IsSome, None};
 ghost use Rattle.norec_core.specs.Proceeds.{Fits};
 
-use itm_types::{Call, Datum, Limits, Props, ReadHint, Reply, Step, Value, Width};
+use itm_types::{Call, Datum, Limits, Props, ReadHint, Reply, Step, USUAL_DEPTH, Value, Width};
 use norec_engine::{Answer, Engine, Next, Undone};
 use std::alloc::{AllocError, Global};
 use std::process::Abort;
@@ -48,14 +48,15 @@ fn arena(alloc: Global) -> Result<Arena, AllocError> {
 }
 
 /// An engine over so many words with this arena.
-fn over(alloc: Global, words: u32, arena: Arena) -> Engine
+fn over(alloc: Global, words: u32, arena: Arena) -> Result<Engine, AllocError>
     requires { (0 < words) × (words ≤ 8) }
-    ensures { result.waits ≡ None }
+    ensures { IfOk result (λ engine. engine.waits ≡ None) }
 {
     let limits = Limits {
         patience: 8,
         retries: 0,
         max_commits: 4,
+        depth: USUAL_DEPTH,
     };
     Engine::new(alloc, words, arena, limits)
 }
@@ -66,7 +67,7 @@ pub(super) fn engine(alloc: Global, words: u32) -> Result<Engine, AllocError>
     ensures { IfOk result (λ engine. engine.waits ≡ None) }
 {
     let arena = arena(alloc)?;
-    Ok(over(alloc, words, arena))
+    over(alloc, words, arena)
 }
 
 /// What an engine shows of what it did.

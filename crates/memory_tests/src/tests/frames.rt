@@ -1,6 +1,6 @@
 //! A refusal leaves the open blocks as they were, and what was refused is served at the second time.
 
-use itm_types::{Action, ActionKind, Datum, MAX_OPEN_BLOCKS, Props, Ran, Width};
+use itm_types::{Action, ActionKind, Datum, Props, Ran, USUAL_DEPTH, Width};
 use nest_frames::Frames;
 use std::alloc::{AllocError, Global};
 use std::process::Abort;
@@ -8,7 +8,7 @@ use std::test::Fail;
 use undo_log::Arena;
 
 fn enter(rt: &impl Abort, frames: &mut Frames) {
-    assert!(rt; frames.depth() < MAX_OPEN_BLOCKS);
+    assert!(rt; frames.depth() < frames.deepest());
     frames.enter(Props::default());
 }
 
@@ -167,7 +167,7 @@ fn fill_and_cancel(
 
 pub(super) fn expect_blocks(rt: &impl Abort, alloc: Global) -> Result<bool, AllocError> {
     let mut arena = arena(alloc)?;
-    let mut frames = Frames::new(alloc, 2);
+    let mut frames = Frames::new(alloc, 2, USUAL_DEPTH)?;
     fill_and_cancel(rt, &mut frames, &mut arena)
 }
 

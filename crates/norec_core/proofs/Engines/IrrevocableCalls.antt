@@ -1,7 +1,6 @@
 -- A transaction that becomes irrevocable, by the plain machine.
 use Rattle.std.proofs.Common.{◌≡◌, ℕ, suc, ◌<◌, ◌&&◌, ◌||◌, not, nat_lt, Bool, true, false, List, [], ◌∷◌, length, map, Option, None, Some, refl, sym, ap, ◌∙◌}
 use Rattle.std.proofs.lemmas.Bool.{cond-true, lt-ltb}
-use Rattle.itm_types.specs.declared.limits.TheConstants.{MAX_OPEN_BLOCKS}
 use Rattle.itm_types.specs.declared.call.Call.TheVariants.{Begin, Mode}
 use Rattle.itm_types.specs.declared.call.Props.{Props}
 use Rattle.itm_types.specs.declared.call.Refusal.{Refusal}
@@ -33,18 +32,18 @@ pub length-over : (blocks : List Frame) (arena m : List ℕ) → length (blocks_
 length-over [] arena m = refl
 length-over (b ∷ bs) arena m = ap suc (length-over bs arena m)
 
-module _ (rows : List Row) (blocks : List Frame) (arena : List ℕ) (actions : Actions) (m : List ℕ) where
+module _ (depth : ℕ) (rows : List Row) (blocks : List Frame) (arena : List ℕ) (actions : Actions) (m : List ℕ) where
   -- ## Within a transaction
 
-  mode_served : (room : ℕ) → is_inside blocks ≡ true → stays_revocable blocks ≡ false → refusal MAX_OPEN_BLOCKS (state_over rows blocks arena actions m) (Mode room) ≡ None
+  mode_served : (room : ℕ) → is_inside blocks ≡ true → stays_revocable blocks ≡ false → refusal depth (state_over rows blocks arena actions m) (Mode room) ≡ None
   mode_served room o r =
       let is_open = open_is rows blocks arena actions m ∙ o in
       let free = sym (revocable_over blocks arena m) ∙ r in
       (λ i. or_else (or_else (unless (is_open i) Outside) (unless (not (free i)) NoIrrevocable)) None)
 
   pub mode_enters : (room : ℕ) → is_inside blocks ≡ true → stays_revocable blocks ≡ false
-      → (state_kept (map made_irrevocable blocks) arena (record actions { undos = [] }) (overlay m rows) ≡ after MAX_OPEN_BLOCKS (state_over rows blocks arena actions m) (Mode room))
-      × (Done ≡ reply MAX_OPEN_BLOCKS (state_over rows blocks arena actions m) (Mode room))
+      → (state_kept (map made_irrevocable blocks) arena (record actions { undos = [] }) (overlay m rows) ≡ after depth (state_over rows blocks arena actions m) (Mode room))
+      × (Done ≡ reply depth (state_over rows blocks arena actions m) (Mode room))
   mode_enters room o r =
       let s : State = state_over rows blocks arena actions m in
       let none = mode_served room o r in (
@@ -53,16 +52,16 @@ module _ (rows : List Row) (blocks : List Frame) (arena : List ℕ) (actions : A
         sym (ap (λ (why : Option Refusal). reply_unless why Done) none),
       )
 
-  pub begin_served : (props : Props) (room : ℕ) → may_go blocks props ≡ true → length blocks < MAX_OPEN_BLOCKS → refusal MAX_OPEN_BLOCKS (state_over rows blocks arena actions m) (Begin props room) ≡ None
+  pub begin_served : (props : Props) (room : ℕ) → may_go blocks props ≡ true → length blocks < depth → refusal depth (state_over rows blocks arena actions m) (Begin props room) ≡ None
   begin_served props room g few =
       let may : not (props.goes_irrevocable && (props.no_irrevocable || keeps_revocable (blocks_over blocks arena m))) ≡ true =
       ap (λ (b : Bool). not (props.goes_irrevocable && (props.no_irrevocable || b))) (sym (revocable_over blocks arena m)) ∙ g in
-      let deep : nat_lt (length (blocks_over blocks arena m)) MAX_OPEN_BLOCKS ≡ true = ap (λ (n : ℕ). nat_lt n MAX_OPEN_BLOCKS) (length-over blocks arena m) ∙ lt-ltb (length blocks) MAX_OPEN_BLOCKS few in
+      let deep : nat_lt (length (blocks_over blocks arena m)) depth ≡ true = ap (λ (n : ℕ). nat_lt n depth) (length-over blocks arena m) ∙ lt-ltb (length blocks) depth few in
       (λ i. or_else (or_else (unless (may i) NoIrrevocable) (unless (deep i) TooDeep)) None)
 
-  pub begin_enters : (props : Props) (room : ℕ) → is_inside blocks ≡ true → props.goes_irrevocable ≡ true → may_go blocks props ≡ true → length blocks < MAX_OPEN_BLOCKS
-      → (state_kept (map made_irrevocable (begun props rows actions ∷ blocks)) arena (record actions { undos = [] }) (overlay m rows) ≡ after MAX_OPEN_BLOCKS (state_over rows blocks arena actions m) (Begin props room))
-      × (Code 5 ≡ reply MAX_OPEN_BLOCKS (state_over rows blocks arena actions m) (Begin props room))
+  pub begin_enters : (props : Props) (room : ℕ) → is_inside blocks ≡ true → props.goes_irrevocable ≡ true → may_go blocks props ≡ true → length blocks < depth
+      → (state_kept (map made_irrevocable (begun props rows actions ∷ blocks)) arena (record actions { undos = [] }) (overlay m rows) ≡ after depth (state_over rows blocks arena actions m) (Begin props room))
+      × (Code 5 ≡ reply depth (state_over rows blocks arena actions m) (Begin props room))
   begin_enters props room o goes g few =
       let s : State = state_over rows blocks arena actions m in
       let none = begin_served props room g few in
@@ -79,7 +78,7 @@ pub or_none : (o : Option Refusal) → or_else o None ≡ o
 or_none None = refl
 or_none (Some why) = refl
 
-pub mode_refused : (rows : List Row) (blocks : List Frame) (arena : List ℕ) (actions : Actions) (m : List ℕ) (room : ℕ)
-    → refusal MAX_OPEN_BLOCKS (state_over rows blocks arena actions m) (Mode room) ≡ mode_refusal (is_inside blocks) (stays_revocable blocks)
-mode_refused rows blocks arena actions m room =
+pub mode_refused : (depth : ℕ) (rows : List Row) (blocks : List Frame) (arena : List ℕ) (actions : Actions) (m : List ℕ) (room : ℕ)
+    → refusal depth (state_over rows blocks arena actions m) (Mode room) ≡ mode_refusal (is_inside blocks) (stays_revocable blocks)
+mode_refused depth rows blocks arena actions m room =
     or_none _ ∙ (λ i. or_else (unless (open_is rows blocks arena actions m i) Outside) (unless (not (sym (revocable_over blocks arena m) i)) NoIrrevocable))

@@ -16,13 +16,14 @@ use Rattle.norec_core.specs.Copies.{source_words, words_read, words_written}
 use Rattle.norec_core.specs.Keeps.{Keeps}
 
 pub keeps_self : (e : Core) → Keeps e e
-keeps_self e = record { words = refl; patience = refl; max_commits = refl; arena = λ r. refl; irrevocable = refl; room = refl; writes = refl; blocks = refl; actions = refl; doing = refl; again = refl; entry = refl }
+keeps_self e = record { words = refl; patience = refl; max_commits = refl; depth = refl; arena = λ r. refl; irrevocable = refl; room = refl; writes = refl; blocks = refl; actions = refl; doing = refl; again = refl; entry = refl }
 
 pub keeps_twice : (a b c : Core) → Keeps a b → Keeps b c → Keeps a c
 keeps_twice a b c k l = record {
   words = l.words ∙ k.words;
   patience = l.patience ∙ k.patience;
   max_commits = l.max_commits ∙ k.max_commits;
+  depth = l.depth ∙ k.depth;
   arena = λ r. l.arena (k.irrevocable ∙ r) ∙ k.arena r;
   irrevocable = l.irrevocable ∙ k.irrevocable;
   room = l.room ∙ k.room;
@@ -45,7 +46,7 @@ pub record IsHanded (e mid : Core) : Type 0 where
 handed_with : (e : Core) (waits : Option Step) (stage : Phase) (tries clock done : ℕ) (fresh : List LogRow) (holds freed : Bool) (got : Option ℕ) (gathered arena : List ℕ) → (e.irrevocable ≡ false → arena ≡ e.arena)
     → IsHanded e (record e { waits = waits; stage = stage; tries = tries; clock = clock; done = done; fresh = fresh; holds = holds; freed = freed; got = got; gathered = gathered; arena = arena })
 handed_with e waits stage tries clock done fresh holds freed got gathered arena same = record {
-  keeps = record { words = refl; patience = refl; max_commits = refl; arena = same; irrevocable = refl; room = refl; writes = refl; blocks = refl; actions = refl; doing = refl; again = refl; entry = refl };
+  keeps = record { words = refl; patience = refl; max_commits = refl; depth = refl; arena = same; irrevocable = refl; room = refl; writes = refl; blocks = refl; actions = refl; doing = refl; again = refl; entry = refl };
   log = refl;
   snapshot = refl;
   spent = refl;
@@ -72,6 +73,7 @@ keeps_asked mid new step g = let same = g.stays in record {
   words = ap (λ (c : Core). c.words) same;
   patience = ap (λ (c : Core). c.patience) same;
   max_commits = ap (λ (c : Core). c.max_commits) same;
+  depth = ap (λ (c : Core). c.depth) same;
   arena = λ r. ap (λ (c : Core). c.arena) same;
   irrevocable = ap (λ (c : Core). c.irrevocable) same;
   room = ap (λ (c : Core). c.room) same;

@@ -17,7 +17,7 @@ use Rattle.norec_core.specs.declared.call_parts.Target.TheVariants as into
 use Rattle.norec_core.specs.Aims as aims
 use Rattle.norec_core.specs.declared.call_parts.Taking.TheVariants as takings
 use Rattle.norec_core.specs.Phases.{Begin, Take, RoundStart, RoundRow, RoundEnd, Exchange, BackLoad, Store, Free, Fetch, Place}
-use Rattle.norec_core.specs.Core.{Core}
+use Rattle.norec_core.specs.Core.{Core, irrevocable_room}
 use Rattle.norec_core.specs.Held.{answers, leaves}
 use Rattle.norec_core.specs.Stands.{stands_for}
 use Rattle.norec_core.proofs.Examples.StepOrder.{all_of, byte_of, engine_after, exchanges, inside, lines, loads, logged, outside, read, stores}
@@ -56,6 +56,13 @@ going = record { no_abort = false; no_irrevocable = false; goes_irrevocable = tr
 nested_begin_goes : lines (inside 2 0 [] (all_of 0 1 ∷ [])) (calls.Begin going 5) (0 ∷ 0 ∷ [])
     ≡ Asks (Exchange (takings.Begin going 5)) (exchanges 0 1) ∷ Asks (Store (takings.Begin going 5) 0 None) (stores 1 1) ∷ Ends None ∷ []
 nested_begin_goes = refl
+
+-- where one more block may be open, and not where as many are as may be
+deeper_begin_goes : irrevocable_room (record (inside 2 0 [] []) { depth = 2 }) (calls.Begin going 5) ≡ Some 5
+deeper_begin_goes = refl
+
+too_deep_begin_stays : irrevocable_room (record (inside 2 0 [] []) { depth = 1 }) (calls.Begin going 5) ≡ None
+too_deep_begin_stays = refl
 
 -- an outermost one loads the clock and takes it, as often as the patience says
 abbrev op : Opening

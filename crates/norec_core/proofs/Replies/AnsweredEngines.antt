@@ -30,12 +30,13 @@ frees a = false
 
 -- these fields are as they were, and these are cleared
 abbrev Keeps : Core → Core → Type 0
-Keeps mid c = c ≡ record c { words = mid.words; patience = mid.patience; max_commits = mid.max_commits; clock = mid.clock; spent = mid.spent; waits = None; fresh = [] }
+Keeps mid c = c ≡ record c { words = mid.words; patience = mid.patience; max_commits = mid.max_commits; depth = mid.depth; clock = mid.clock; spent = mid.spent; waits = None; fresh = [] }
 
 pub record IsRest (mid : Core) (a : Answer) (new : Core) : Type 0 where
   pub words : new.words ≡ mid.words
   pub patience : new.patience ≡ mid.patience
   pub max_commits : new.max_commits ≡ mid.max_commits
+  pub depth : new.depth ≡ mid.depth
   pub clock : new.clock ≡ mid.clock
   pub spent : new.spent ≡ mid.spent
   pub idle : new.waits ≡ None
@@ -53,6 +54,7 @@ module _ (mid new : Core) where
     words = ap (λ (c : Core). c.words) same;
     patience = ap (λ (c : Core). c.patience) same;
     max_commits = ap (λ (c : Core). c.max_commits) same;
+    depth = ap (λ (c : Core). c.depth) same;
     clock = ap (λ (c : Core). c.clock) same;
     spent = ap (λ (c : Core). c.spent) same;
     idle = ap (λ (c : Core). c.waits) same;

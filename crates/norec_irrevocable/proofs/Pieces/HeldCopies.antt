@@ -7,7 +7,6 @@ use Rattle.itm_types.specs.declared.call.Refusal.{Refusal}
 use Rattle.itm_types.specs.declared.call.Reply.TheVariants.{Done}
 use Rattle.itm_types.specs.declared.copy.CopyPair.{CopyPair}
 use Rattle.itm_types.specs.declared.copy.CopyPair.TheVariants.{Out, In, Within}
-use Rattle.itm_types.specs.declared.limits.TheConstants.{MAX_OPEN_BLOCKS}
 use Rattle.itm_types.specs.Memory.{bytes_of, IsMemory}
 use Rattle.itm_types.specs.Slices.{slice}
 use Rattle.itm_types.proofs.Words.{length-bytes_of}
@@ -102,7 +101,7 @@ module _ (d : Data) (o : in_block d ≡ true) (m : List ℕ) (mem : IsMemory d.w
   size : length (bytes_of m) ≡ 8 * d.words
   size = (let len = length-bytes_of m in let n = mem.0 in omega arith)
 
-  pub copy_comes : (k : Copying) → IsServed d k → (copied_each (kept d m) k (drop 0 (chunks_in k)) ≡ after MAX_OPEN_BLOCKS (kept d m) (Copy k)) × (Done ≡ reply MAX_OPEN_BLOCKS (kept d m) (Copy k))
+  pub copy_comes : (k : Copying) → IsServed d k → (copied_each (kept d m) k (drop 0 (chunks_in k)) ≡ after d.frames.depth (kept d m) (Copy k)) × (Done ≡ reply d.frames.depth (kept d m) (Copy k))
   copy_comes k ok =
       let s : State = kept d m in
       let none = copy_served d o k ok m mem in (
@@ -111,7 +110,7 @@ module _ (d : Data) (o : in_block d ≡ true) (m : List ℕ) (mem : IsMemory d.w
       )
 
   pub fill_comes : (hint : WriteHint) (to byte n : ℕ) → to + n ≤ 8 * d.words
-      → (filled_each (kept d m) to (byte % 256) (drop 0 (chunks_of Up n)) ≡ after MAX_OPEN_BLOCKS (kept d m) (Fill hint to byte n)) × (Done ≡ reply MAX_OPEN_BLOCKS (kept d m) (Fill hint to byte n))
+      → (filled_each (kept d m) to (byte % 256) (drop 0 (chunks_of Up n)) ≡ after d.frames.depth (kept d m) (Fill hint to byte n)) × (Done ≡ reply d.frames.depth (kept d m) (Fill hint to byte n))
   fill_comes hint to byte n l =
       let s : State = kept d m in
       let none = access_served d o m mem (Fill hint to byte n) to n refl l in (

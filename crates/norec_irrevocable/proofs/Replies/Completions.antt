@@ -8,7 +8,6 @@ use Rattle.itm_types.specs.declared.call.Copying.{Copying}
 use Rattle.itm_types.specs.declared.call.Refusal.{Refusal}
 use Rattle.itm_types.specs.declared.call.Reply.TheVariants.{Done}
 use Rattle.itm_types.specs.declared.datum.Datum.{Datum}
-use Rattle.itm_types.specs.declared.limits.TheConstants.{MAX_OPEN_BLOCKS}
 use Rattle.itm_types.specs.Access.{size_of}
 use Rattle.itm_types.specs.Memory.{IsMemory}
 use Rattle.itm_model.specs.Machine.{bytes_reply, refusal, reply_unless}
@@ -23,8 +22,8 @@ use Rattle.norec_irrevocable.proofs.Replies.HeldAccesses.{access_served}
 use Rattle.norec_irrevocable.proofs.Replies.HeldReplies.{zeros}
 
 module _ (d : Data) (o : in_block d ≡ true) where
-  pub copy_served : (k : Copying) → IsServed d k → (m : List ℕ) → IsMemory d.words m → refusal MAX_OPEN_BLOCKS (kept d m) (Copy k) ≡ None
-  copy_served k ok m mem = copy_kept d.frames.blocks d.arena d.frames.actions m d.words mem k ∙ (ap (λ (b : Bool). copy_refusal b d.words (length d.arena) k) o ∙ ok)
+  pub copy_served : (k : Copying) → IsServed d k → (m : List ℕ) → IsMemory d.words m → refusal d.frames.depth (kept d m) (Copy k) ≡ None
+  copy_served k ok m mem = copy_kept d.frames.blocks d.arena d.frames.actions m d.frames.depth d.words mem k ∙ (ap (λ (b : Bool). copy_refusal b d.words (length d.arena) k) o ∙ ok)
 
   pub read_done : (hint : ReadHint) (width : Width) (at : ℕ) (bytes : List ℕ) → at + size_of width ≤ 8 * d.words → RepliesHeld (in_call d (Read hint width at) bytes) (Read hint width at) (bytes_reply bytes) (core_held d)
   read_done hint width at bytes l = record {

@@ -12,7 +12,6 @@ use Rattle.itm_types.specs.declared.call.Refusal.{Refusal}
 use Rattle.itm_types.specs.declared.call.Refusal.TheVariants.{Outside, OutOfRange}
 use Rattle.itm_types.specs.declared.call.Reply.TheVariants.{Done}
 use Rattle.itm_types.specs.declared.datum.Datum.{Datum}
-use Rattle.itm_types.specs.declared.limits.TheConstants.{MAX_OPEN_BLOCKS}
 use Rattle.itm_types.specs.Access.{size_of}
 use Rattle.itm_types.specs.Calls.{access_of}
 use Rattle.itm_types.specs.Memory.{AllFit, IsMemory}
@@ -47,14 +46,14 @@ accepted true words at size e = elim (cases_Bool (nat_le (at + size) (8 * words)
 ]
 
 module _ (d : Data) (o : in_block d ≡ true) (m : List ℕ) (mem : IsMemory d.words m) where
-  pub access_served : (call : Call) (at size : ℕ) → access_of call ≡ Some (at, size) → at + size ≤ 8 * d.words → refusal MAX_OPEN_BLOCKS (kept d m) call ≡ None
+  pub access_served : (call : Call) (at size : ℕ) → access_of call ≡ Some (at, size) → at + size ≤ 8 * d.words → refusal d.frames.depth (kept d m) call ≡ None
   access_served call at size is l =
-      access_kept d.frames.blocks d.arena d.frames.actions m d.words mem call at size is
+      access_kept d.frames.blocks d.arena d.frames.actions m d.frames.depth d.words mem call at size is
       ∙ (λ i. or_else (unless (o i) Outside) (unless (le-leb (at + size) (8 * d.words) l i) OutOfRange))
 
   -- the pieces of a read
   pub read_comes : (hint : ReadHint) (width : Width) (at : ℕ) → at + size_of width ≤ 8 * d.words
-      → (kept d m ≡ after MAX_OPEN_BLOCKS (kept d m) (Read hint width at)) × (bytes_reply (gathered m (pieces_of at (size_of width))) ≡ reply MAX_OPEN_BLOCKS (kept d m) (Read hint width at))
+      → (kept d m ≡ after d.frames.depth (kept d m) (Read hint width at)) × (bytes_reply (gathered m (pieces_of at (size_of width))) ≡ reply d.frames.depth (kept d m) (Read hint width at))
   read_comes hint width at l =
       let s : State = kept d m in
       let none = access_served (Read hint width at) at (size_of width) refl l in
@@ -66,7 +65,7 @@ module _ (d : Data) (o : in_block d ≡ true) (m : List ℕ) (mem : IsMemory d.w
 
   -- and of a write
   pub write_comes : (hint : WriteHint) (value : Datum) (at : ℕ) → at + size_of value.width ≤ 8 * d.words → AreBytes value.bytes.items
-      → (kept d (written m (pieces_of at (size_of value.width)) value.bytes.items) ≡ after MAX_OPEN_BLOCKS (kept d m) (Write hint at value)) × (Done ≡ reply MAX_OPEN_BLOCKS (kept d m) (Write hint at value))
+      → (kept d (written m (pieces_of at (size_of value.width)) value.bytes.items) ≡ after d.frames.depth (kept d m) (Write hint at value)) × (Done ≡ reply d.frames.depth (kept d m) (Write hint at value))
   write_comes hint value at l fit =
       let s : State = kept d m in
       let none = access_served (Write hint at value) at (size_of value.width) refl l in

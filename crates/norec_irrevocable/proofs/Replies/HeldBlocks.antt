@@ -1,7 +1,6 @@
 -- Blocks that begin in an irrevocable transaction, and a call that would make it irrevocable.
 use Rattle.std.proofs.Common.{◌≡◌, ℕ, ◌<◌, Bool, true, false, List, [], ◌∷◌, length, replicate, Option, None, if◌then◌else◌, refl, sym, ap, subst, ◌∙◌}
 use Rattle.std.proofs.lemmas.Bool.{cond-true, lt-ltb}
-use Rattle.itm_types.specs.declared.limits.TheConstants.{MAX_OPEN_BLOCKS}
 use Rattle.itm_types.specs.declared.call.Call.TheVariants.{Begin, Mode}
 use Rattle.itm_types.specs.declared.call.Props.{Props}
 use Rattle.itm_types.specs.declared.call.Refusal.{Refusal}
@@ -31,13 +30,14 @@ pub record HasEntered (d : Data) (props : Props) (new : Data) : Type 0 where
   pub rows : new.frames.writes.rows ≡ d.frames.writes.rows
   pub actions : new.frames.actions ≡ d.frames.actions
   pub room : new.frames.room ≡ d.frames.room
+  pub depth : new.frames.depth ≡ d.frames.depth
   pub others : new ≡ record d { frames = new.frames; spent = 0; entry = length d.log.rows }
 
-module _ (d new : Data) (props : Props) (room : ℕ) (o : in_block d ≡ true) (may : may_go d.frames.blocks props ≡ true) (few : length d.frames.blocks < MAX_OPEN_BLOCKS) (has : HasEntered d props new) where
-  begin_served : (m : List ℕ) → refusal MAX_OPEN_BLOCKS (kept d m) (Begin props room) ≡ None
+module _ (d new : Data) (props : Props) (room : ℕ) (o : in_block d ≡ true) (may : may_go d.frames.blocks props ≡ true) (few : length d.frames.blocks < d.frames.depth) (has : HasEntered d props new) where
+  begin_served : (m : List ℕ) → refusal d.frames.depth (kept d m) (Begin props room) ≡ None
   begin_served m =
-      begin_kept d.frames.blocks d.arena d.frames.actions m props room
-      ∙ (λ i. or_else (unless (may i) NoIrrevocable) (unless (lt-ltb (length d.frames.blocks) MAX_OPEN_BLOCKS few i) TooDeep))
+      begin_kept d.frames.blocks d.arena d.frames.actions m d.frames.depth props room
+      ∙ (λ i. or_else (unless (may i) NoIrrevocable) (unless (lt-ltb (length d.frames.blocks) d.frames.depth few i) TooDeep))
 
   abbrev mid : Core
   mid = came (core_held d) (Begin props room) false
@@ -53,13 +53,14 @@ module _ (d new : Data) (props : Props) (room : ℕ) (o : in_block d ≡ true) (
         ∙ (λ i. record (core_held (record d { spent = 0; entry = length d.log.rows })) {
           writes = has.rows i;
           blocks = has.blocks i;
+          depth = has.depth i;
           actions = (has.actions ∙ ap (λ (b : Bool). if b then d.frames.actions else record d.frames.actions { ran = [] }) (sym o)) i;
           room = (has.room ∙ sym (room_kept d (Begin props room))) i;
         });
     still = λ is. ap is_inside has.blocks;
   }
 
-  pub begin_comes : ComesBy d (λ m. after MAX_OPEN_BLOCKS (kept d m) (Begin props room)) (λ m. reply MAX_OPEN_BLOCKS (kept d m) (Begin props room)) (EndIrrevocable ends.Entered) new
+  pub begin_comes : ComesBy d (λ m. after d.frames.depth (kept d m) (Begin props room)) (λ m. reply d.frames.depth (kept d m) (Begin props room)) (EndIrrevocable ends.Entered) new
   begin_comes m mem =
       let s : State = kept d m in
       let opens : effect s (Begin props room) ≡ pushed s props = cond-true _ (entered s props) _ (open_kept d.frames.blocks d.arena d.frames.actions m ∙ o) ∙ both_same props.goes_irrevocable (pushed s props) in (
@@ -71,8 +72,8 @@ module _ (d new : Data) (props : Props) (room : ℕ) (o : in_block d ≡ true) (
 
 -- what it is already
 module _ (d new : Data) (room : ℕ) (is : new ≡ record d { spent = 0; entry = length d.log.rows }) (none : mode_refusal (in_block d) (stays_revocable d.frames.blocks) ≡ None) where
-  mode_served : (m : List ℕ) → refusal MAX_OPEN_BLOCKS (kept d m) (Mode room) ≡ None
-  mode_served m = mode_kept d.frames.blocks d.arena d.frames.actions m room ∙ none
+  mode_served : (m : List ℕ) → refusal d.frames.depth (kept d m) (Mode room) ≡ None
+  mode_served m = mode_kept d.frames.blocks d.arena d.frames.actions m d.frames.depth room ∙ none
 
   abbrev come : Data
   come = record d { spent = 0; entry = length d.log.rows }
@@ -87,7 +88,7 @@ module _ (d new : Data) (room : ℕ) (is : new ≡ record d { spent = 0; entry =
     still = λ o. o;
   }
 
-  comes : ComesBy d (λ m. after MAX_OPEN_BLOCKS (kept d m) (Mode room)) (λ m. reply MAX_OPEN_BLOCKS (kept d m) (Mode room)) (EndIrrevocable ends.Done) come
+  comes : ComesBy d (λ m. after d.frames.depth (kept d m) (Mode room)) (λ m. reply d.frames.depth (kept d m) (Mode room)) (EndIrrevocable ends.Done) come
   comes m mem = (
     sym (ap (λ (r : Option Refusal). after_unless r (kept d m) (kept d m)) (mode_served m)),
     sym (ap (λ (r : Option Refusal). reply_unless r Done) (mode_served m)),
@@ -96,5 +97,5 @@ module _ (d new : Data) (room : ℕ) (is : new ≡ record d { spent = 0; entry =
   pub mode_replies : HeldTurns (came (core_held d) (Mode room) false) (EndIrrevocable ends.Done) new
   mode_replies = subst (λ (x : Data). HeldTurns (came (core_held d) (Mode room) false) (EndIrrevocable ends.Done) x) (sym is) replied
 
-  pub mode_comes : ComesBy d (λ m. after MAX_OPEN_BLOCKS (kept d m) (Mode room)) (λ m. reply MAX_OPEN_BLOCKS (kept d m) (Mode room)) (EndIrrevocable ends.Done) new
-  mode_comes = subst (λ (x : Data). ComesBy d (λ m. after MAX_OPEN_BLOCKS (kept d m) (Mode room)) (λ m. reply MAX_OPEN_BLOCKS (kept d m) (Mode room)) (EndIrrevocable ends.Done) x) (sym is) comes
+  pub mode_comes : ComesBy d (λ m. after d.frames.depth (kept d m) (Mode room)) (λ m. reply d.frames.depth (kept d m) (Mode room)) (EndIrrevocable ends.Done) new
+  mode_comes = subst (λ (x : Data). ComesBy d (λ m. after d.frames.depth (kept d m) (Mode room)) (λ m. reply d.frames.depth (kept d m) (Mode room)) (EndIrrevocable ends.Done) x) (sym is) comes

@@ -1,7 +1,6 @@
 -- Replies in an irrevocable transaction that leave the engine as it was, but for the counts.
 use Rattle.std.proofs.Common.{◌≡◌, ℕ, zero, suc, ◌&&◌, not, Bool, true, false, List, length, replicate, Option, None, Some, unwrap_or, nat_lt, refl, sym, ap, ◌∙◌, arith, if◌then◌else◌}
 use Rattle.std.proofs.lemmas.List.{length-replicate}
-use Rattle.itm_types.specs.declared.limits.TheConstants.{MAX_OPEN_BLOCKS}
 use Rattle.itm_types.specs.declared.call.Call.{Call}
 use Rattle.itm_types.specs.declared.call.Call.TheVariants.{Begin, Mode, Read, CommitAction, Save}
 use Rattle.itm_types.specs.declared.call.Refusal.{Refusal}
@@ -38,7 +37,7 @@ and_not_3 true b c = and_not b c
 and_not_3 false b c = refl
 
 pub goes_nowhere : (d : Data) (call : Call) → irrevocable_room (core_held d) call ≡ None
-goes_nowhere d (Begin props room) = ap (λ (b : Bool). if b then Some room else None) (and_not_3 props.goes_irrevocable (may_go d.frames.blocks props) (nat_lt (length d.frames.blocks) MAX_OPEN_BLOCKS))
+goes_nowhere d (Begin props room) = ap (λ (b : Bool). if b then Some room else None) (and_not_3 props.goes_irrevocable (may_go d.frames.blocks props) (nat_lt (length d.frames.blocks) d.frames.depth))
 goes_nowhere d (Mode room) = ap (λ (b : Bool). if b then Some room else None) (and_not (in_block d) (not (stays_revocable d.frames.blocks)))
 goes_nowhere d call = refl
 
@@ -51,7 +50,7 @@ abbrev pub kept_in : Core → State
 kept_in c = stands_for c (replicate c.words 0)
 
 -- what is refused is told so, whatever the memory is
-pub refused_so : (c : Core) (call : Call) (why : Refusal) → refusal MAX_OPEN_BLOCKS (kept_in c) call ≡ Some why → Refused why ≡ reply_held c call
+pub refused_so : (c : Core) (call : Call) (why : Refusal) → refusal c.depth (kept_in c) call ≡ Some why → Refused why ≡ reply_held c call
 refused_so c (Read hint width at) why e = sym (ap (λ (o : Option Refusal). reply_unless o (bytes_reply c.gathered)) e)
 refused_so c call why e = sym (ap (λ (o : Option Refusal). reply_unless o (answer (kept_in c) call)) e)
 
@@ -63,7 +62,7 @@ room_unspent : (c : Core) (call : Call) (why : Refusal) → room_left c call (Re
 room_unspent c (CommitAction action) why = refl
 room_unspent c call why = refl
 
-module _ (d : Data) (call : Call) (why : Refusal) (refused : (m : List ℕ) → IsMemory d.words m → refusal MAX_OPEN_BLOCKS (kept d m) call ≡ Some why) where
+module _ (d : Data) (call : Call) (why : Refusal) (refused : (m : List ℕ) → IsMemory d.words m → refusal d.frames.depth (kept d m) call ≡ Some why) where
   abbrev come : Data
   come = record d { spent = 0; entry = length d.log.rows }
 
@@ -85,7 +84,7 @@ module _ (d : Data) (call : Call) (why : Refusal) (refused : (m : List ℕ) → 
         still = λ o. o;
       }
 
-  pub denied_comes : (m : List ℕ) → IsMemory d.words m → (kept d m ≡ after MAX_OPEN_BLOCKS (kept d m) call) × (Refused why ≡ reply MAX_OPEN_BLOCKS (kept d m) call)
+  pub denied_comes : (m : List ℕ) → IsMemory d.words m → (kept d m ≡ after d.frames.depth (kept d m) call) × (Refused why ≡ reply d.frames.depth (kept d m) call)
   denied_comes m mem = (
     sym (ap (λ (o : Option Refusal). after_unless o (kept d m) (effect (kept d m) call)) (refused m mem)),
     sym (ap (λ (o : Option Refusal). reply_unless o (answer (kept d m) call)) (refused m mem)),

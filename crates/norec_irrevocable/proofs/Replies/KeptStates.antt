@@ -1,7 +1,6 @@
 -- What the plain machine refuses of an irrevocable transaction.
 use Rattle.std.proofs.Common.{◌≡◌, ℕ, suc, ◌+◌, ◌*◌, ◌&&◌, ◌||◌, not, nat_le, nat_lt, Bool, true, false, List, [], ◌∷◌, length, map, Option, None, Some, if◌then◌else◌, refl, ap, ◌∙◌, arith}
 use Rattle.std.proofs.lemmas.Bool.{lt-ltb}
-use Rattle.itm_types.specs.declared.limits.TheConstants.{MAX_OPEN_BLOCKS}
 use Rattle.itm_types.specs.declared.call.Call.{Call}
 use Rattle.itm_types.specs.declared.call.Call.TheVariants.{Begin, Abort, Mode, Copy}
 use Rattle.itm_types.specs.declared.call.Copying.{Copying}
@@ -66,32 +65,33 @@ module _ (blocks : List Frame) (arena : List ℕ) (actions : Actions) (m : List 
 
   -- ## Calls
 
-  pub begin_kept : (props : Props) (room : ℕ) → refusal MAX_OPEN_BLOCKS now (Begin props room) ≡ begin_refusal (may_go blocks props) (nat_lt (length blocks) MAX_OPEN_BLOCKS)
-  begin_kept props room =
-      or_none _
-      ∙ (λ i. or_else (unless (not (props.goes_irrevocable && (props.no_irrevocable || revocable_kept blocks i))) NoIrrevocable) (unless (nat_lt (length-kept blocks i) MAX_OPEN_BLOCKS) TooDeep))
+  module _ (depth : ℕ) where
+    pub begin_kept : (props : Props) (room : ℕ) → refusal depth now (Begin props room) ≡ begin_refusal (may_go blocks props) (nat_lt (length blocks) depth)
+    begin_kept props room =
+        or_none _
+        ∙ (λ i. or_else (unless (not (props.goes_irrevocable && (props.no_irrevocable || revocable_kept blocks i))) NoIrrevocable) (unless (nat_lt (length-kept blocks i) depth) TooDeep))
 
-  pub mode_kept : (room : ℕ) → refusal MAX_OPEN_BLOCKS now (Mode room) ≡ mode_refusal (is_inside blocks) (stays_revocable blocks)
-  mode_kept room = or_none _ ∙ (λ i. or_else (unless (open_kept i) Outside) (unless (not (revocable_kept blocks i)) NoIrrevocable))
+    pub mode_kept : (room : ℕ) → refusal depth now (Mode room) ≡ mode_refusal (is_inside blocks) (stays_revocable blocks)
+    mode_kept room = or_none _ ∙ (λ i. or_else (unless (open_kept i) Outside) (unless (not (revocable_kept blocks i)) NoIrrevocable))
 
-  pub abort_refused : (outer : Bool) → is_inside blocks ≡ true → refusal MAX_OPEN_BLOCKS now (Abort outer) ≡ Some (if is_kept blocks outer then NoAbort else IsIrrevocable)
-  abort_refused outer o =
-      or_none _
-      ∙ ((λ i. or_else (unless ((open_kept ∙ o) i) Outside) (or_else (unless (not (abort_kept blocks outer i)) NoAbort) (unless (not true) IsIrrevocable)))
-      ∙ no_abort (is_kept blocks outer))
+    pub abort_refused : (outer : Bool) → is_inside blocks ≡ true → refusal depth now (Abort outer) ≡ Some (if is_kept blocks outer then NoAbort else IsIrrevocable)
+    abort_refused outer o =
+        or_none _
+        ∙ ((λ i. or_else (unless ((open_kept ∙ o) i) Outside) (or_else (unless (not (abort_kept blocks outer i)) NoAbort) (unless (not true) IsIrrevocable)))
+        ∙ no_abort (is_kept blocks outer))
 
-  module _ (words : ℕ) (mem : IsMemory words m) where
-    size : length (bytes_of m) ≡ 8 * words
-    size = (let len = length-bytes_of m in let n = mem.0 in omega arith)
+    module _ (words : ℕ) (mem : IsMemory words m) where
+      size : length (bytes_of m) ≡ 8 * words
+      size = (let len = length-bytes_of m in let n = mem.0 in omega arith)
 
-    -- a read, a write or a fill
-    pub access_kept : (call : Call) (at size : ℕ) → access_of call ≡ Some (at, size) → refusal MAX_OPEN_BLOCKS now call ≡ access_refusal (is_inside blocks) words at size
-    access_kept call at n is =
-        refusal_of now call at n is
-        ∙ (λ i. or_else (unless (open_kept i) Outside) (unless (nat_le (at + n) (size i)) OutOfRange))
+      -- a read, a write or a fill
+      pub access_kept : (call : Call) (at size : ℕ) → access_of call ≡ Some (at, size) → refusal depth now call ≡ access_refusal (is_inside blocks) words at size
+      access_kept call at n is =
+          refusal_of depth now call at n is
+          ∙ (λ i. or_else (unless (open_kept i) Outside) (unless (nat_le (at + n) (size i)) OutOfRange))
 
-    pub copy_kept : (k : Copying) → refusal MAX_OPEN_BLOCKS now (Copy k) ≡ copy_refusal (is_inside blocks) words (length arena) k
-    copy_kept k =
-        let target = target_is now words k.pair k.to k.size size in
-        let source = source_is now words k.pair k.from k.size size in
-        (λ i. or_else (unless (open_kept i) Outside) (or_else (target i) (or_else (source i) (unless (is_clear k) Overlap))))
+      pub copy_kept : (k : Copying) → refusal depth now (Copy k) ≡ copy_refusal (is_inside blocks) words (length arena) k
+      copy_kept k =
+          let target = target_is now words k.pair k.to k.size size in
+          let source = source_is now words k.pair k.from k.size size in
+          (λ i. or_else (unless (open_kept i) Outside) (or_else (target i) (or_else (source i) (unless (is_clear k) Overlap))))

@@ -7,7 +7,6 @@ use Rattle.itm_types.specs.declared.call.Call.TheVariants.{Begin, Copy, Mode}
 use Rattle.itm_types.specs.declared.call.Copying.{Copying}
 use Rattle.itm_types.specs.declared.call.Props.{Props}
 use Rattle.itm_types.specs.declared.call.Refusal.{Refusal}
-use Rattle.itm_types.specs.declared.limits.TheConstants.{MAX_OPEN_BLOCKS}
 use Rattle.itm_types.specs.Calls.{access_of}
 use Rattle.itm_types.specs.Memory.{IsMemory}
 use Rattle.itm_model.specs.Machine.{refusal}
@@ -50,7 +49,7 @@ mode_ending d room = ap (going_ending (core_held d)) (goes_nowhere d (Mode room)
 
 -- ## Refusals
 
-module _ (d : Data) (call : Call) (why : Refusal) (h : IsHeld d) (refused : (m : List ℕ) → IsMemory d.words m → refusal MAX_OPEN_BLOCKS (kept d m) call ≡ Some why)
+module _ (d : Data) (call : Call) (why : Refusal) (h : IsHeld d) (refused : (m : List ℕ) → IsMemory d.words m → refusal d.frames.depth (kept d m) call ≡ Some why)
     (at : stage_at (core_held d) call false ≡ Idle) (none : ending_at (core_held d) call ≡ None) where
   abbrev come : Data
   come = record d { spent = 0; entry = length d.log.rows }
@@ -72,9 +71,9 @@ module _ (d : Data) (call : Call) (why : Refusal) (h : IsHeld d) (refused : (m :
 pub refused_access : (d : Data) (call : Call) (why : Refusal) (place size : ℕ) (new : Data) → IsHeld d → access_of call ≡ Some (place, size) → access_refusal (in_block d) d.words place size ≡ Some why → new ≡ record d { spent = 0; entry = length d.log.rows }
     → HeldCallTurns d call (EndIrrevocable ends.Refused) (record new { why = why })
 refused_access d call why place size new h is e came =
-    refused_turn d call why h (λ m mem. access_kept d.frames.blocks d.arena d.frames.actions m d.words mem call place size is ∙ e) (refused_stage (core_held d) place size why e call is) (access_ending (core_held d) call place size is) new came
+    refused_turn d call why h (λ m mem. access_kept d.frames.blocks d.arena d.frames.actions m d.frames.depth d.words mem call place size is ∙ e) (refused_stage (core_held d) place size why e call is) (access_ending (core_held d) call place size is) new came
 
 pub refused_copy : (d : Data) (k : Copying) (why : Refusal) (new : Data) → IsHeld d → copy_refusal (in_block d) d.words (length d.arena) k ≡ Some why → new ≡ record d { spent = 0; entry = length d.log.rows }
     → HeldCallTurns d (Copy k) (EndIrrevocable ends.Refused) (record new { why = why })
 refused_copy d k why new h e came =
-    refused_turn d (Copy k) why h (λ m mem. copy_kept d.frames.blocks d.arena d.frames.actions m d.words mem k ∙ e) (cond-false (is_none (copy_refusal (in_block d) d.words (length d.arena) k)) _ _ (ap is_none e)) refl new came
+    refused_turn d (Copy k) why h (λ m mem. copy_kept d.frames.blocks d.arena d.frames.actions m d.frames.depth d.words mem k ∙ e) (cond-false (is_none (copy_refusal (in_block d) d.words (length d.arena) k)) _ _ (ap is_none e)) refl new came

@@ -1,7 +1,6 @@
 -- Begins of blocks: refused ones, and those within a transaction.
 use Rattle.std.proofs.Common.{◌≡◌, ℕ, ◌<◌, ◌&&◌, ◌||◌, not, nat_lt, Bool, true, false, List, ◌∷◌, length, Option, None, Some, unwrap_or, if◌then◌else◌, refl, sym, ap, subst, ◌∙◌}
 use Rattle.std.proofs.lemmas.Bool.{cond-true, cond-false, lt-ltb}
-use Rattle.itm_types.specs.declared.limits.TheConstants.{MAX_OPEN_BLOCKS}
 use Rattle.itm_types.specs.declared.call.Call.TheVariants.{Begin}
 use Rattle.itm_types.specs.declared.call.Props.{Props}
 use Rattle.itm_types.specs.declared.call.Refusal.{Refusal}
@@ -34,11 +33,11 @@ use Rattle.norec_revocable.proofs.Replies.Refusals.{denied, stands}
 
 -- ## What is refused
 
-begin_refused : (rows : List Row) (blocks : List Frame) (arena : List ℕ) (actions : Actions) (m : List ℕ) (props : Props) (room : ℕ)
-    → refusal MAX_OPEN_BLOCKS (state_over rows blocks arena actions m) (Begin props room) ≡ begin_refusal (may_go blocks props) (nat_lt (length blocks) MAX_OPEN_BLOCKS)
-begin_refused rows blocks arena actions m props room =
+begin_refused : (depth : ℕ) (rows : List Row) (blocks : List Frame) (arena : List ℕ) (actions : Actions) (m : List ℕ) (props : Props) (room : ℕ)
+    → refusal depth (state_over rows blocks arena actions m) (Begin props room) ≡ begin_refusal (may_go blocks props) (nat_lt (length blocks) depth)
+begin_refused depth rows blocks arena actions m props room =
     or_none _
-    ∙ (λ i. or_else (unless (not (props.goes_irrevocable && (props.no_irrevocable || sym (revocable_over blocks arena m) i))) NoIrrevocable) (unless (nat_lt (length-over blocks arena m i) MAX_OPEN_BLOCKS) TooDeep))
+    ∙ (λ i. or_else (unless (not (props.goes_irrevocable && (props.no_irrevocable || sym (revocable_over blocks arena m) i))) NoIrrevocable) (unless (nat_lt (length-over blocks arena m i) depth) TooDeep))
 
 -- such a call reserves no room
 no_room_for : (goes may few : Bool) (why : Refusal) (room : ℕ) → begin_refusal may few ≡ Some why → ◌≡◌ {A = Option ℕ} None (if goes && may && few && not false then Some room else None)
@@ -52,11 +51,11 @@ told_again : (props : Props) (room : ℕ) (again : Bool) (why : Refusal) → Ref
 told_again props room true why = refl
 told_again props room false why = refl
 
-pub begin_denied : (d : Data) (props : Props) (room : ℕ) (again : Bool) (why : Refusal) → IsSound d at.Idle → begin_refusal (may_go d.frames.blocks props) (nat_lt (length d.frames.blocks) MAX_OPEN_BLOCKS) ≡ Some why
+pub begin_denied : (d : Data) (props : Props) (room : ℕ) (again : Bool) (why : Refusal) → IsSound d at.Idle → begin_refusal (may_go d.frames.blocks props) (nat_lt (length d.frames.blocks) d.frames.depth) ≡ Some why
     → Replies (came (core d at.Idle) (Begin props room) again) (Begin props room) (Refused why) (core (record d { spent = 0; entry = length d.log.rows }) at.Idle)
 begin_denied d props room again why s e =
-    let refused = λ (m : List ℕ). refuses (stands d m) (Begin props room) why (begin_refused d.frames.writes.rows d.frames.blocks d.arena d.frames.actions m props room ∙ e) in
-    let plain = denied d (Begin props room) why s (ap (λ (o : Option ℕ). unwrap_or o d.frames.room) (no_room_for props.goes_irrevocable (may_go d.frames.blocks props) (nat_lt (length d.frames.blocks) MAX_OPEN_BLOCKS) why room e)) (λ m mem. refused m) in
+    let refused = λ (m : List ℕ). refuses d.frames.depth (stands d m) (Begin props room) why (begin_refused d.frames.depth d.frames.writes.rows d.frames.blocks d.arena d.frames.actions m props room ∙ e) in
+    let plain = denied d (Begin props room) why s (ap (λ (o : Option ℕ). unwrap_or o d.frames.room) (no_room_for props.goes_irrevocable (may_go d.frames.blocks props) (nat_lt (length d.frames.blocks) d.frames.depth) why room e)) (λ m mem. refused m) in
     record {
       meets = plain.meets;
       reply_is = λ m mem agrees. told_again props room (again && not (in_block d)) why ∙ ap (recoded (Begin props room) (again && not (in_block d))) (refused m).1;
@@ -78,19 +77,19 @@ none_for_depth false few why f e = refl
 none_for_depth true true why f e = absurd (cc)
 none_for_depth true false why f e = absurd (cc)
 
-module _ (d : Data) (props : Props) (room : ℕ) (again : Bool) (why : Refusal) (e : begin_refusal (may_go d.frames.blocks props) (nat_lt (length d.frames.blocks) MAX_OPEN_BLOCKS) ≡ Some why) where
-  goes_nowhere : ◌≡◌ {A = Option ℕ} None (if props.goes_irrevocable && may_go d.frames.blocks props && nat_lt (length d.frames.blocks) MAX_OPEN_BLOCKS && not false then Some room else None)
-  goes_nowhere = no_room_for props.goes_irrevocable (may_go d.frames.blocks props) (nat_lt (length d.frames.blocks) MAX_OPEN_BLOCKS) why room e
+module _ (d : Data) (props : Props) (room : ℕ) (again : Bool) (why : Refusal) (deep : 0 < d.frames.depth) (e : begin_refusal (may_go d.frames.blocks props) (nat_lt (length d.frames.blocks) d.frames.depth) ≡ Some why) where
+  goes_nowhere : ◌≡◌ {A = Option ℕ} None (if props.goes_irrevocable && may_go d.frames.blocks props && nat_lt (length d.frames.blocks) d.frames.depth && not false then Some room else None)
+  goes_nowhere = no_room_for props.goes_irrevocable (may_go d.frames.blocks props) (nat_lt (length d.frames.blocks) d.frames.depth) why room e
 
   may_not : in_block d ≡ false → may_go d.frames.blocks props ≡ false
-  may_not o = none_for_depth (may_go d.frames.blocks props) (nat_lt (length d.frames.blocks) MAX_OPEN_BLOCKS) why (ap (λ (blocks : List Frame). nat_lt (length blocks) MAX_OPEN_BLOCKS) (none_inside d.frames.blocks o)) e
+  may_not o = none_for_depth (may_go d.frames.blocks props) (nat_lt (length d.frames.blocks) d.frames.depth) why (ap (λ (blocks : List Frame). nat_lt (length blocks) d.frames.depth) (none_inside d.frames.blocks o) ∙ lt-ltb 0 d.frames.depth deep) e
 
   denied_stage : (inside : Bool) → in_block d ≡ inside → at.Idle ≡ stage_at (core d at.Idle) (Begin props room) again
   denied_stage true o =
       (λ i. if (sym o i) then going_stage (core d at.Idle) (goes_nowhere i) (takings.Begin props room) else (if may_go d.frames.blocks props then at.Begin (record { props = props; room = room; again = again }) else at.Idle))
   denied_stage false o =
       let none = may_not o in
-      (λ i. if (sym o i) then going_stage (core d at.Idle) (if props.goes_irrevocable && may_go d.frames.blocks props && nat_lt (length d.frames.blocks) MAX_OPEN_BLOCKS && not false then Some room else None) (takings.Begin props room) else (if (sym none i) then at.Begin (record { props = props; room = room; again = again }) else at.Idle))
+      (λ i. if (sym o i) then going_stage (core d at.Idle) (if props.goes_irrevocable && may_go d.frames.blocks props && nat_lt (length d.frames.blocks) d.frames.depth && not false then Some room else None) (takings.Begin props room) else (if (sym none i) then at.Begin (record { props = props; room = room; again = again }) else at.Idle))
 
   pub denied_order : at.Idle ≡ stage_at (core d at.Idle) (Begin props room) again
   denied_order = denied_stage (in_block d) refl
@@ -98,7 +97,7 @@ module _ (d : Data) (props : Props) (room : ℕ) (again : Bool) (why : Refusal) 
   denied_ending : (inside : Bool) → in_block d ≡ inside → None ≡ ending_at (core d at.Idle) (Begin props room)
   denied_ending true o = (λ i. if (sym o i) then going_ending (core d at.Idle) (goes_nowhere i) else None)
   denied_ending false o =
-      (λ i. if (sym o i) then going_ending (core d at.Idle) (if props.goes_irrevocable && may_go d.frames.blocks props && nat_lt (length d.frames.blocks) MAX_OPEN_BLOCKS && not false then Some room else None) else None)
+      (λ i. if (sym o i) then going_ending (core d at.Idle) (if props.goes_irrevocable && may_go d.frames.blocks props && nat_lt (length d.frames.blocks) d.frames.depth && not false then Some room else None) else None)
 
   pub denied_ends : IsEnding (ending_at (core d at.Idle) (Begin props room)) (Reply (Refused why))
   denied_ends = subst (λ (end : _). IsEnding end (Reply (Refused why))) (denied_ending (in_block d) refl) tt
@@ -118,9 +117,9 @@ again_inside : (again inside : Bool) → inside ≡ true → false ≡ (again &&
 again_inside false inside o = refl
 again_inside true inside o = ap not (sym o)
 
-module _ (d : Data) (props : Props) (room : ℕ) (again : Bool) (may : may_go d.frames.blocks props ≡ true) (few : length d.frames.blocks < MAX_OPEN_BLOCKS) where
+module _ (d : Data) (props : Props) (room : ℕ) (again : Bool) (may : may_go d.frames.blocks props ≡ true) (few : length d.frames.blocks < d.frames.depth) where
   room_is : (if props.goes_irrevocable then room else d.frames.room) ≡ (came (core d at.Idle) (Begin props room) again).room
-  room_is = has_room_for props.goes_irrevocable (may_go d.frames.blocks props) (nat_lt (length d.frames.blocks) MAX_OPEN_BLOCKS) room d.frames.room may (lt-ltb (length d.frames.blocks) MAX_OPEN_BLOCKS few)
+  room_is = has_room_for props.goes_irrevocable (may_go d.frames.blocks props) (nat_lt (length d.frames.blocks) d.frames.depth) room d.frames.room may (lt-ltb (length d.frames.blocks) d.frames.depth few)
 
   -- where it goes irrevocable within a transaction, the clock is to be taken
   pub begin_came : in_block d ≡ true
@@ -133,6 +132,7 @@ module _ (d : Data) (props : Props) (room : ℕ) (again : Bool) (may : may_go d.
     frames = record {
       writes = record d.frames.writes { inner = place_of d.frames.writes };
       size = d.frames.size;
+      depth = d.frames.depth;
       blocks = begun props d.frames.writes.rows d.frames.actions ∷ d.frames.blocks;
       actions = d.frames.actions;
       room = if props.goes_irrevocable then room else d.frames.room;
@@ -142,7 +142,7 @@ module _ (d : Data) (props : Props) (room : ℕ) (again : Bool) (may : may_go d.
   pub nested_replies : in_block d ≡ true → props.goes_irrevocable ≡ false → IsSound d at.Idle
       → Replies (came (core d at.Idle) (Begin props room) again) (Begin props room) (Code 5) (core nested at.Idle)
   nested_replies o goes s =
-      let none = λ (m : List ℕ). begin_served d.frames.writes.rows d.frames.blocks d.arena d.frames.actions m props room may few in
+      let none = λ (m : List ℕ). begin_served d.frames.depth d.frames.writes.rows d.frames.blocks d.arena d.frames.actions m props room may few in
       let opens = λ (m : List ℕ).
       (let is_open = open_is d.frames.writes.rows d.frames.blocks d.arena d.frames.actions m ∙ o in
       cond-true _ (entered (stands d m) props) _ is_open ∙ cond-false props.goes_irrevocable _ (pushed (stands d m) props) goes) in
@@ -150,7 +150,7 @@ module _ (d : Data) (props : Props) (room : ℕ) (again : Bool) (may : may_go d.
         meets = λ m mem agrees. sym (opens m) ∙ sym (ap (λ (why : Option Refusal). after_unless why (stands d m) (effect (stands d m) (Begin props room))) (none m));
         reply_is = λ m mem agrees.
             sym (ap (λ (why : Option Refusal). reply_unless why (Code 5)) (none m))
-            ∙ ap (λ (was : Bool). recoded (Begin props room) was (reply MAX_OPEN_BLOCKS (stands d m) (Begin props room))) (again_inside again (in_block d) o);
+            ∙ ap (λ (was : Bool). recoded (Begin props room) was (reply d.frames.depth (stands d m) (Begin props room))) (again_inside again (in_block d) o);
         stays = (λ i. record (core nested at.Idle) { room = room_is i });
         writes = λ m mem agrees. refl;
         arena = λ m mem agrees. refl;

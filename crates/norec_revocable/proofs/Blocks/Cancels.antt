@@ -1,9 +1,8 @@
 -- Cancels of open blocks, as replies.
-use Rattle.std.proofs.Common.{◌≡◌, ℕ, Bool, true, false, not, List, [], ◌∷◌, length, drop, None, refl, sym, ap, subst, ◌∙◌, if◌then◌else◌}
+use Rattle.std.proofs.Common.{◌≡◌, ◌<◌, ℕ, Bool, true, false, not, List, [], ◌∷◌, length, drop, None, refl, sym, ap, subst, ◌∙◌, if◌then◌else◌}
 use Rattle.itm_types.specs.declared.call.Call.TheVariants.{Abort}
 use Rattle.itm_types.specs.declared.call.Refusal.TheVariants.{Outside, NoAbort}
 use Rattle.itm_types.specs.declared.call.Reply.TheVariants.{Code, Refused}
-use Rattle.itm_types.specs.declared.limits.TheConstants.{MAX_OPEN_BLOCKS}
 use Rattle.itm_types.specs.KeptBytes.{restored}
 use Rattle.itm_types.specs.Memory.{bytes_of}
 use Rattle.undo_log.specs.Rollback.{put_back, kept_of}
@@ -34,7 +33,7 @@ come d = record d { spent = 0; entry = length d.log.rows }
 
 -- why a cancel is refused where a block is open
 refusal_is : (d : Data) (outer keeps : Bool) (m : List ℕ) → in_block d ≡ true → is_kept d.frames.blocks outer ≡ keeps
-    → refusal MAX_OPEN_BLOCKS (stands d m) (Abort outer) ≡ or_else (or_else (unless (not keeps) NoAbort) None) None
+    → refusal d.frames.depth (stands d m) (Abort outer) ≡ or_else (or_else (unless (not keeps) NoAbort) None) None
 refusal_is d outer keeps m o k =
     let is_open = open_is d.frames.writes.rows d.frames.blocks d.arena d.frames.actions m ∙ o in
     let kept = sym (kept_over d.frames.blocks d.arena m outer) ∙ k in
@@ -42,7 +41,7 @@ refusal_is d outer keeps m o k =
 
 refused_as_kept : (d : Data) (outer : Bool) → IsSound d Idle → in_block d ≡ true → is_kept d.frames.blocks outer ≡ true
     → Replies (came (core d Idle) (Abort outer) false) (Abort outer) (Refused NoAbort) (core (come d) Idle)
-refused_as_kept d outer s o k = denied d (Abort outer) NoAbort s refl (λ m mem. refuses (stands d m) (Abort outer) NoAbort (refusal_is d outer true m o k))
+refused_as_kept d outer s o k = denied d (Abort outer) NoAbort s refl (λ m mem. refuses d.frames.depth (stands d m) (Abort outer) NoAbort (refusal_is d outer true m o k))
 
 pub kept_replies : (d new : Data) (outer : Bool) → new ≡ come d → IsSound d Idle → in_block new ≡ true → is_kept new.frames.blocks outer ≡ true
     → Replies (came (core d Idle) (Abort outer) false) (Abort outer) (Refused NoAbort) (core new Idle)
@@ -52,10 +51,10 @@ kept_replies d new outer is s o k =
 
 -- of one that is accepted
 cancels : (d : Data) (outer : Bool) (m : List ℕ) (new : State) → in_block d ≡ true → is_kept d.frames.blocks outer ≡ false
-    → new ≡ effect (stands d m) (Abort outer) → new ≡ after MAX_OPEN_BLOCKS (stands d m) (Abort outer)
+    → new ≡ effect (stands d m) (Abort outer) → new ≡ after d.frames.depth (stands d m) (Abort outer)
 cancels d outer m new o k e = e ∙ sym (ap (λ r. after_unless r (stands d m) (effect (stands d m) (Abort outer))) (refusal_is d outer false m o k))
 
-told : (d : Data) (outer : Bool) (m : List ℕ) → in_block d ≡ true → is_kept d.frames.blocks outer ≡ false → Code 24 ≡ reply MAX_OPEN_BLOCKS (stands d m) (Abort outer)
+told : (d : Data) (outer : Bool) (m : List ℕ) → in_block d ≡ true → is_kept d.frames.blocks outer ≡ false → Code 24 ≡ reply d.frames.depth (stands d m) (Abort outer)
 told d outer m o k = sym (ap (λ r. reply_unless r (answer (stands d m) (Abort outer))) (refusal_is d outer false m o k))
 
 -- ## The innermost block, within others
@@ -66,6 +65,7 @@ pub record IsCancelled (old : Data) (frames : Nest) (arena : List ℕ) : Type 0 
   pub may : is_kept old.frames.blocks false ≡ false
   pub blocks : frames.blocks ≡ drop 1 old.frames.blocks
   pub room : frames.room ≡ old.frames.room
+  pub depth : frames.depth ≡ old.frames.depth
   pub rows : frames.writes.rows ≡ rows_of old.frames.blocks
   pub actions : frames.actions ≡ actions_cancelled old.frames.blocks old.frames.actions
   pub size : length arena ≡ length old.arena
@@ -84,13 +84,13 @@ cancelled_frames words (b ∷ []) o inner f = absurd (cc)
 cancelled_frames words (b ∷ p ∷ bs) o inner f = (f.0, f.1, f.2, refl)
 
 cancel_sound : (d : Data) (frames : Nest) (arena : List ℕ) → IsSound d Idle → in_block d ≡ true → is_outermost d.frames.blocks ≡ false
-    → frames.blocks ≡ drop 1 d.frames.blocks → frames.writes.rows ≡ rows_of d.frames.blocks → frames.size ≡ d.frames.size → length arena ≡ length d.arena
+    → frames.blocks ≡ drop 1 d.frames.blocks → frames.writes.rows ≡ rows_of d.frames.blocks → frames.size ≡ d.frames.size → frames.depth ≡ d.frames.depth → length arena ≡ length d.arena
     → IsSound (record (come d) { frames = frames; arena = arena }) Idle
-cancel_sound d frames arena s is_open inner blocks rows sized size =
+cancel_sound d frames arena s is_open inner blocks rows sized depth size =
     let idle = s.in_phase.0 is_open in
     let left = cancelled_frames d.words d.frames.blocks is_open inner idle.0.frames in
     record {
-      bounds = record { patient = s.bounds.patient; commits = s.bounds.commits; small = s.bounds.small; sized = sized ∙ (s.bounds.sized ∙ sym size); even = s.bounds.even };
+      bounds = record { patient = s.bounds.patient; commits = s.bounds.commits; small = s.bounds.small; sized = sized ∙ (s.bounds.sized ∙ sym size); deep = subst (λ (n : ℕ). 0 < n) (sym depth) s.bounds.deep; even = s.bounds.even };
       reached = s.reached;
       in_phase = (
         λ o. (
@@ -109,10 +109,10 @@ cancel_sound d frames arena s is_open inner blocks rows sized size =
     }
 
 pub cancelled_sound : (d new : Data) (frames : Nest) (arena : List ℕ) → new ≡ come d → IsSound d Idle → in_block new ≡ true → is_outermost new.frames.blocks ≡ false
-    → frames.blocks ≡ drop 1 new.frames.blocks → frames.writes.rows ≡ rows_of new.frames.blocks → frames.size ≡ new.frames.size → length arena ≡ length new.arena
+    → frames.blocks ≡ drop 1 new.frames.blocks → frames.writes.rows ≡ rows_of new.frames.blocks → frames.size ≡ new.frames.size → frames.depth ≡ new.frames.depth → length arena ≡ length new.arena
     → IsSound (record new { frames = frames; arena = arena }) Idle
 cancelled_sound d new frames arena is s =
-    subst (λ (x : Data). in_block x ≡ true → is_outermost x.frames.blocks ≡ false → frames.blocks ≡ drop 1 x.frames.blocks → frames.writes.rows ≡ rows_of x.frames.blocks → frames.size ≡ x.frames.size → length arena ≡ length x.arena
+    subst (λ (x : Data). in_block x ≡ true → is_outermost x.frames.blocks ≡ false → frames.blocks ≡ drop 1 x.frames.blocks → frames.writes.rows ≡ rows_of x.frames.blocks → frames.size ≡ x.frames.size → frames.depth ≡ x.frames.depth → length arena ≡ length x.arena
     → IsSound (record x { frames = frames; arena = arena }) Idle) (sym is) (cancel_sound d frames arena s)
 
 back_is : (rows : List Row) (blocks : List Frame) (arena : List ℕ) (actions : Actions) (m : List ℕ) (rows' : List Row) (blocks' : List Frame) (arena' : List ℕ) (actions' : Actions) → is_inside blocks ≡ true
@@ -129,7 +129,7 @@ cancel_replies d frames arena s e = record {
   meets = λ m mem agrees. cancels d false m (state_over frames.writes.rows frames.blocks arena frames.actions m) e.is_open e.may
       (back_is d.frames.writes.rows d.frames.blocks d.arena d.frames.actions m frames.writes.rows frames.blocks arena frames.actions e.is_open e.rows e.blocks e.size e.restored e.actions);
   reply_is = λ m mem agrees. told d false m e.is_open e.may;
-  stays = ap (λ (n : ℕ). record (core (record (come d) { frames = frames; arena = arena }) Idle) { room = n }) e.room;
+  stays = (λ i. record (core (record (come d) { frames = frames; arena = arena }) Idle) { depth = e.depth i; room = e.room i });
   writes = λ m mem agrees. e.rows;
   arena = λ m mem agrees. e.left;
   free = refl;

@@ -2,7 +2,6 @@
 use Rattle.std.proofs.Common.{◌≡◌, ℕ, ◌%◌, ◌&&◌, not, Bool, true, false, List, [], length, map, take, Option, None, Some, is_some, unwrap_or, if◌then◌else◌, refl, sym, ap, ◌∙◌, arith}
 use Rattle.std.proofs.lemmas.Bool.{lt-ltb}
 use Rattle.std.proofs.lemmas.List.{take_all}
-use Rattle.itm_types.specs.declared.limits.TheConstants.{MAX_OPEN_BLOCKS}
 use Rattle.itm_types.specs.declared.call.Call.TheVariants.{Begin, Mode}
 use Rattle.itm_types.specs.declared.call.Props.{Props}
 use Rattle.itm_types.specs.declared.call.Refusal.{Refusal}
@@ -35,6 +34,7 @@ pub record HasGone (d : Data) (props : Option Props) (new : Data) : Type 0 where
   pub frames : new.frames ≡ record {
     writes = unwritten;
     size = d.frames.size;
+    depth = d.frames.depth;
     blocks = map made_irrevocable (blocks_with props d.frames);
     actions = record d.frames.actions { undos = [] };
     room = d.frames.room;
@@ -62,6 +62,7 @@ module _ (d new : Data) (row : ℕ) (stored : row ≡ length d.frames.writes.row
         writes = (gone.frames i).writes.rows;
         blocks = (gone.frames i).blocks;
         actions = (gone.frames i).actions;
+        depth = (gone.frames i).depth;
         room = (gone.frames i).room;
       })
 
@@ -72,7 +73,7 @@ module _ (d new : Data) (row : ℕ) (stored : row ≡ length d.frames.writes.row
 
   pub mode_entered : (room steps : ℕ) → IsHolding d (takings.Mode room) steps → HasGone d None new → Enters (in_stores d (takings.Mode room) row) (Mode room) Done (core_held new)
   mode_entered room steps h gone =
-      let enters = λ (m : List ℕ). mode_enters d.frames.writes.rows d.frames.blocks d.arena d.frames.actions m room h.is_open.is_open h.wants.0 in
+      let enters = λ (m : List ℕ). mode_enters d.frames.depth d.frames.writes.rows d.frames.blocks d.arena d.frames.actions m room h.is_open.is_open h.wants.0 in
       record {
         held = refl;
         revocable = refl;
@@ -87,8 +88,8 @@ module _ (d new : Data) (row : ℕ) (stored : row ≡ length d.frames.writes.row
 
   pub begin_entered : (props : Props) (room steps : ℕ) → IsHolding d (takings.Begin props room) steps → HasGone d (Some props) new → Enters (in_stores d (takings.Begin props room) row) (Begin props room) (Code 5) (core_held new)
   begin_entered props room steps h gone =
-      let enters = λ (m : List ℕ). begin_enters d.frames.writes.rows d.frames.blocks d.arena d.frames.actions m props room h.is_open.is_open h.wants.0 h.wants.1 h.wants.2 in
-      let few = lt-ltb (length d.frames.blocks) MAX_OPEN_BLOCKS h.wants.2 in
+      let enters = λ (m : List ℕ). begin_enters d.frames.depth d.frames.writes.rows d.frames.blocks d.arena d.frames.actions m props room h.is_open.is_open h.wants.0 h.wants.1 h.wants.2 in
+      let few = lt-ltb (length d.frames.blocks) d.frames.depth h.wants.2 in
       record {
         held = refl;
         revocable = refl;
@@ -115,7 +116,7 @@ pub wants_clock : (d : Data) (taking : Taking) (was : ℕ) → in_block d ≡ tr
 wants_clock d takings.Commit was o w = (one_outermost d.frames.blocks w.0, w.1)
 wants_clock d (takings.Mode room) was o w = (λ i. is_some (if (o i) && not (w.0 i) && not false then Some room else None))
 wants_clock d (takings.Begin props room) was o w =
-    let few = lt-ltb (length d.frames.blocks) MAX_OPEN_BLOCKS w.2 in
+    let few = lt-ltb (length d.frames.blocks) d.frames.depth w.2 in
     (λ i. is_some (if (w.0 i) && (w.1 i) && (few i) && not false then Some room else None))
 
 -- ## What is refused
@@ -130,7 +131,7 @@ pub mode_denied : (d : Data) (room : ℕ) (why : Refusal) → IsSound d Idle →
     → Replies (came (core d Idle) (Mode room) false) (Mode room) (Refused why) (core (record d { spent = 0; entry = length d.log.rows }) Idle)
 mode_denied d room why s e =
     denied d (Mode room) why s (ap (λ (o : Option ℕ). unwrap_or o d.frames.room) (no_room (in_block d) (stays_revocable d.frames.blocks) why room e))
-    (λ m mem. refuses (stands d m) (Mode room) why (mode_refused d.frames.writes.rows d.frames.blocks d.arena d.frames.actions m room ∙ e))
+    (λ m mem. refuses d.frames.depth (stands d m) (Mode room) why (mode_refused d.frames.depth d.frames.writes.rows d.frames.blocks d.arena d.frames.actions m room ∙ e))
 
 -- one that is served
 pub mode_accepted : (is_open stays : Bool) → mode_refusal is_open stays ≡ None → (is_open ≡ true) × (stays ≡ false)

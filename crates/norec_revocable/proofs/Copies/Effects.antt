@@ -7,7 +7,6 @@ use Rattle.itm_types.specs.declared.call.Refusal.TheVariants.{Outside, Overlap}
 use Rattle.itm_types.specs.declared.call.Reply.TheVariants.{Done, Refused}
 use Rattle.itm_types.specs.declared.copy.CopyPair.{CopyPair}
 use Rattle.itm_types.specs.declared.copy.CopyPair.TheVariants.{Out, In, Within}
-use Rattle.itm_types.specs.declared.limits.TheConstants.{MAX_OPEN_BLOCKS}
 use Rattle.itm_types.specs.Memory.{bytes_of, IsMemory}
 use Rattle.itm_types.specs.Slices.{with_slice, AreBytes}
 use Rattle.itm_types.proofs.Words.{length-bytes_of}
@@ -37,9 +36,9 @@ use Rattle.norec_revocable.proofs.Replies.Refusals.{denied, stands}
 -- ## Refusals
 
 -- a copy is refused by an engine as by the state that it stands for
-pub copy_refused : (rows : List Row) (blocks : List Frame) (arena : List ℕ) (actions : Actions) (m : List ℕ) (words : ℕ) (k : Copying) → IsMemory words m
-    → refusal MAX_OPEN_BLOCKS (state_over rows blocks arena actions m) (Copy k) ≡ copy_refusal (is_inside blocks) words (length arena) k
-copy_refused rows blocks arena actions m words k mem =
+pub copy_refused : (depth : ℕ) (rows : List Row) (blocks : List Frame) (arena : List ℕ) (actions : Actions) (m : List ℕ) (words : ℕ) (k : Copying) → IsMemory words m
+    → refusal depth (state_over rows blocks arena actions m) (Copy k) ≡ copy_refusal (is_inside blocks) words (length arena) k
+copy_refused depth rows blocks arena actions m words k mem =
     let s : State = state_over rows blocks arena actions m in
     let len = length-bytes_of (overlay m rows) in
     let same : length (overlay m rows) ≡ words = length-overlay m rows ∙ mem.0 in
@@ -51,7 +50,7 @@ copy_refused rows blocks arena actions m words k mem =
 pub refused_copy : (d : Data) (k : Copying) (why : Refusal) → IsSound d Idle → copy_refusal (in_block d) d.words (length d.arena) k ≡ Some why
     → Replies (came (core d Idle) (Copy k) false) (Copy k) (Refused why) (core (record d { spent = 0; entry = length d.log.rows }) Idle)
 refused_copy d k why s e =
-    denied d (Copy k) why s refl (λ m mem. refuses (stands d m) (Copy k) why (copy_refused d.frames.writes.rows d.frames.blocks d.arena d.frames.actions m d.words k mem ∙ e))
+    denied d (Copy k) why s refl (λ m mem. refuses d.frames.depth (stands d m) (Copy k) why (copy_refused d.frames.depth d.frames.writes.rows d.frames.blocks d.arena d.frames.actions m d.words k mem ∙ e))
 
 -- ## What is copied
 
@@ -84,14 +83,14 @@ copied_over (Within from to) rows blocks arena actions m words k bytes mem are b
     written_over m rows blocks arena actions k.to (direction_of k) bytes mem.1 are b (omega arith)
 
 -- a copy of these bytes by an open engine
-pub copies : (rows : List Row) (blocks : List Frame) (arena : List ℕ) (actions : Actions) (m : List ℕ) (words : ℕ) (k : Copying) → is_inside blocks ≡ true → IsMemory words m → AreRows rows
+pub copies : (depth : ℕ) (rows : List Row) (blocks : List Frame) (arena : List ℕ) (actions : Actions) (m : List ℕ) (words : ℕ) (k : Copying) → is_inside blocks ≡ true → IsMemory words m → AreRows rows
     → copy_refusal true words (length arena) k ≡ None → (bytes : List ℕ) → AreBytes bytes → bytes ≡ source_in k.pair arena (bytes_of (overlay m rows)) k.from k.size
-    → (state_over (writes_copied rows k k.pair bytes) blocks (arena_copied arena k k.pair bytes) actions m ≡ after MAX_OPEN_BLOCKS (state_over rows blocks arena actions m) (Copy k))
-    × (Done ≡ reply MAX_OPEN_BLOCKS (state_over rows blocks arena actions m) (Copy k))
-copies rows blocks arena actions m words k o mem are accepted bytes b got =
+    → (state_over (writes_copied rows k k.pair bytes) blocks (arena_copied arena k k.pair bytes) actions m ≡ after depth (state_over rows blocks arena actions m) (Copy k))
+    × (Done ≡ reply depth (state_over rows blocks arena actions m) (Copy k))
+copies depth rows blocks arena actions m words k o mem are accepted bytes b got =
     let s : State = state_over rows blocks arena actions m in
-    let none : refusal MAX_OPEN_BLOCKS s (Copy k) ≡ None =
-    copy_refused rows blocks arena actions m words k mem ∙ (ap (λ (is : Bool). copy_refusal is words (length arena) k) o ∙ accepted) in
+    let none : refusal depth s (Copy k) ≡ None =
+    copy_refused depth rows blocks arena actions m words k mem ∙ (ap (λ (is : Bool). copy_refusal is words (length arena) k) o ∙ accepted) in
     let sides = accepted_sides words (length arena) k accepted in
     let len = length-bytes_of (overlay m rows) in
     let same : length (overlay m rows) ≡ words = length-overlay m rows ∙ mem.0 in

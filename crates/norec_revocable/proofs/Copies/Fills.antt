@@ -7,7 +7,6 @@ use Rattle.itm_types.specs.declared.call.Call.{Call}
 use Rattle.itm_types.specs.declared.call.Call.TheVariants.{Fill}
 use Rattle.itm_types.specs.declared.call.Refusal.{Refusal}
 use Rattle.itm_types.specs.declared.call.Reply.TheVariants.{Done}
-use Rattle.itm_types.specs.declared.limits.TheConstants.{MAX_OPEN_BLOCKS}
 use Rattle.itm_types.specs.Memory.{IsMemory}
 use Rattle.itm_types.specs.Slices.{AreBytes}
 use Rattle.itm_model.specs.State.{State}
@@ -18,6 +17,7 @@ use Rattle.write_set.specs.declared.row.Row.{Row}
 use Rattle.write_set.specs.Rows.{AreRows}
 use Rattle.user_actions.specs.Actions.{Actions}
 use Rattle.nest_frames.specs.Nest.{Frame, Nest}
+use Rattle.norec_data.proofs.KeptBounds.{bounds_kept}
 use Rattle.norec_data.specs.declared.data.Data.{Data}
 use Rattle.norec_core.specs.Phases.{Idle}
 use Rattle.norec_data.specs.declared.end.CallEnd.TheVariants as ends
@@ -26,7 +26,6 @@ use Rattle.norec_core.specs.Core.{came, is_inside}
 use Rattle.norec_core.specs.Accesses.{access_refusal}
 use Rattle.norec_data.specs.View.{core, in_block}
 use Rattle.norec_revocable.specs.InPhases.{AreFrames, IsSound}
-use Rattle.norec_data.specs.Bounds.{IsBounded}
 use Rattle.norec_revocable.specs.Between.{IsSoundTurn}
 use Rattle.norec_core.specs.Proceeds.{Replies}
 use Rattle.norec_core.specs.Rows.{range_pieces, reserved_all, put_chunks, put_range, AllWritesWithin}
@@ -50,14 +49,14 @@ AreBytes-set : (size byte : ℕ) → AreBytes (bytes_set size byte)
 AreBytes-set size byte = AreBytes-replicate size (byte % 256) (omega arith)
 
 -- a fill by an engine that does not refuse it
-fills : (rows : List Row) (blocks : List Frame) (arena : List ℕ) (actions : Actions) (m : List ℕ) (words : ℕ) (hint : WriteHint) (to byte size : ℕ) → IsMemory words m → AreRows rows
+fills : (depth : ℕ) (rows : List Row) (blocks : List Frame) (arena : List ℕ) (actions : Actions) (m : List ℕ) (words : ℕ) (hint : WriteHint) (to byte size : ℕ) → IsMemory words m → AreRows rows
     → access_refusal (is_inside blocks) words to size ≡ None
-    → (state_over (put_range rows to Up (bytes_set size byte)) blocks arena actions m ≡ after MAX_OPEN_BLOCKS (state_over rows blocks arena actions m) (Fill hint to byte size))
-    × (Done ≡ reply MAX_OPEN_BLOCKS (state_over rows blocks arena actions m) (Fill hint to byte size))
-fills rows blocks arena actions m words hint to byte size mem are accepted =
+    → (state_over (put_range rows to Up (bytes_set size byte)) blocks arena actions m ≡ after depth (state_over rows blocks arena actions m) (Fill hint to byte size))
+    × (Done ≡ reply depth (state_over rows blocks arena actions m) (Fill hint to byte size))
+fills depth rows blocks arena actions m words hint to byte size mem are accepted =
     let s : State = state_over rows blocks arena actions m in
     let call : Call = Fill hint to byte size in
-    let none : refusal MAX_OPEN_BLOCKS s call ≡ None = access_same rows blocks arena actions m words call to size mem refl ∙ accepted in
+    let none : refusal depth s call ≡ None = access_same depth rows blocks arena actions m words call to size mem refl ∙ accepted in
     let within = (served (is_inside blocks) words to size accepted).1 in
     let n = mem.0 in
     let len : length (bytes_set size byte) ≡ size = length-replicate size (byte % 256) in (
@@ -74,6 +73,7 @@ pub record IsFilled (d : Data) (to byte size : ℕ) (frames : Nest) : Type 0 whe
   pub rows : frames.writes.rows ≡ put_range d.frames.writes.rows to Up (bytes_set size byte)
   pub blocks : frames.blocks ≡ d.frames.blocks
   pub sized : frames.size ≡ d.frames.size
+  pub depth : frames.depth ≡ d.frames.depth
   pub actions : frames.actions ≡ d.frames.actions
   pub room : frames.room ≡ d.frames.room
 
@@ -84,6 +84,7 @@ none_filled d to byte size accepted none = record {
   rows = sym (ap (λ (n : ℕ). put_range d.frames.writes.rows to Up (bytes_set n byte)) none);
   blocks = refl;
   sized = refl;
+  depth = refl;
   actions = refl;
   room = refl;
 }
@@ -91,8 +92,8 @@ none_filled d to byte size accepted none = record {
 -- one of these bytes, whose words have rows
 pub some_filled : (d : Data) (to byte size : ℕ) (rows : List Row) (bytes : List ℕ) (frames : Nest) → access_refusal (in_block d) d.words to size ≡ None
     → rows ≡ reserved_all d.frames.writes.rows (range_pieces to (chunks_of Up size)) → bytes ≡ bytes_set size byte → frames.writes.rows ≡ put_chunks rows to (chunks_of Up (length bytes)) bytes
-    → frames.blocks ≡ d.frames.blocks → frames.size ≡ d.frames.size → frames.actions ≡ d.frames.actions → frames.room ≡ d.frames.room → IsFilled d to byte size frames
-some_filled d to byte size rows bytes frames accepted reserved are put blocks sized actions room =
+    → frames.blocks ≡ d.frames.blocks → frames.size ≡ d.frames.size → frames.depth ≡ d.frames.depth → frames.actions ≡ d.frames.actions → frames.room ≡ d.frames.room → IsFilled d to byte size frames
+some_filled d to byte size rows bytes frames accepted reserved are put blocks sized deep actions room =
     let len : size ≡ length (bytes_set size byte) = sym (length-replicate size (byte % 256)) in
     let same = reserved ∙ (λ i. reserved_all d.frames.writes.rows (range_pieces to (chunks_of Up (len i)))) in
     record {
@@ -100,6 +101,7 @@ some_filled d to byte size rows bytes frames accepted reserved are put blocks si
       rows = put ∙ (λ i. put_chunks (same i) to (chunks_of Up (length (are i))) (are i));
       blocks = blocks;
       sized = sized;
+      depth = deep;
       actions = actions;
       room = room;
     }
@@ -116,7 +118,7 @@ module _ (d : Data) (to byte size : ℕ) (frames : Nest) (buffer : Vec ℕ) (s :
       record {
         asked = tt;
         sound = record {
-          bounds = subst (λ (n : ℕ). IsBounded d.words d.limits d.snapshot n d.arena) (sym is.sized) s.bounds;
+          bounds = bounds_kept d frames is.sized is.depth s.bounds;
           reached = s.reached;
           in_phase = (
             λ o. (
@@ -139,11 +141,11 @@ module _ (d : Data) (to byte size : ℕ) (frames : Nest) (buffer : Vec ℕ) (s :
   fill_replies hint =
       let may = served (in_block d) d.words to size is.accepted in
       let idle = s.in_phase.0 may.0 in
-      let all = λ (m : List ℕ) (mem : IsMemory d.words m). fills d.frames.writes.rows d.frames.blocks d.arena d.frames.actions m d.words hint to byte size mem idle.0.rows is.accepted in
+      let all = λ (m : List ℕ) (mem : IsMemory d.words m). fills d.frames.depth d.frames.writes.rows d.frames.blocks d.arena d.frames.actions m d.words hint to byte size mem idle.0.rows is.accepted in
       record {
         meets = λ m mem agrees. (λ i. state_over (is.rows i) (is.blocks i) d.arena (is.actions i) m) ∙ (all m mem).0;
         reply_is = λ m mem agrees. (all m mem).1;
-        stays = ap (λ (n : ℕ). record (core (filled d frames buffer) Idle) { room = n }) is.room;
+        stays = (λ i. record (core (filled d frames buffer) Idle) { depth = is.depth i; room = is.room i });
         writes = λ m mem agrees. is.rows;
         arena = λ m mem agrees. refl;
         free = refl;

@@ -9,6 +9,7 @@ use Rattle.itm_types.specs.declared.copy.CopyPair.TheVariants.{Out, In, Within}
 use Rattle.itm_types.specs.declared.row.LogRow.{LogRow}
 use Rattle.write_set.specs.declared.row.Row.{Row}
 use Rattle.write_set.specs.Rows.{AreRows}
+use Rattle.norec_data.proofs.KeptBounds.{bounds_kept}
 use Rattle.norec_data.specs.declared.data.Data.{Data}
 use Rattle.norec_core.specs.Phases.{Idle}
 use Rattle.norec_core.specs.Copies.{copy_refusal, target_refusal, chunks_in, direction_of, is_out, source_in, source_words}
@@ -48,7 +49,7 @@ abbrev pub ready : Data → Data → Data
 ready s e = record s { buffer = e.buffer; log = e.log; frames = e.frames; written = length s.frames.writes.rows; entry = length e.log.rows; tries = 0; spent = 0 }
 
 module _ (s e : Data) (k : Copying) (sound : IsSound s Idle) (accepted : copy_refusal (in_block s) s.words (length s.arena) k ≡ None)
-    (log : e.log.rows ≡ s.log.rows) (blocks : e.frames.blocks ≡ s.frames.blocks) (size : e.frames.size ≡ s.frames.size) (actions : e.frames.actions ≡ s.frames.actions) (room : e.frames.room ≡ s.frames.room)
+    (log : e.log.rows ≡ s.log.rows) (blocks : e.frames.blocks ≡ s.frames.blocks) (size : e.frames.size ≡ s.frames.size) (depth : e.frames.depth ≡ s.frames.depth) (actions : e.frames.actions ≡ s.frames.actions) (room : e.frames.room ≡ s.frames.room)
     (rows : e.frames.writes.rows ≡ reserved_for k k.pair s.frames.writes.rows) (may_put : MayPutFor k k.pair e.frames.writes) where
   was_open : in_block s ≡ true
   was_open = accepted_open (in_block s) s.words (length s.arena) k accepted
@@ -59,8 +60,8 @@ module _ (s e : Data) (k : Copying) (sound : IsSound s Idle) (accepted : copy_re
   pub before : rows_before (ready s e) ≡ s.frames.writes.rows
   before = ap (take (length s.frames.writes.rows)) rows ∙ first_rows k k.pair s.frames.writes.rows
 
-  pub ready_bounds : IsBounded s.words s.limits s.snapshot e.frames.size s.arena
-  ready_bounds = subst (λ (n : ℕ). IsBounded s.words s.limits s.snapshot n s.arena) (sym size) sound.bounds
+  pub ready_bounds : IsBounded s.words s.limits s.snapshot e.frames.size e.frames.depth s.arena
+  ready_bounds = bounds_kept s e.frames size depth sound.bounds
 
   pub ready_open : IsOpen (ready s e)
   ready_open =
@@ -88,7 +89,7 @@ module _ (s e : Data) (k : Copying) (sound : IsSound s Idle) (accepted : copy_re
 
   -- as callers see it, it has come
   pub ready_came : logged (in_copy (ready s e) k) s.log.rows ≡ came (core s Idle) (Copy k) false
-  ready_came = λ i. record (came (core s Idle) (Copy k) false) { writes = before i; entry = length (log i); blocks = blocks i; actions = actions i; room = room i }
+  ready_came = λ i. record (came (core s Idle) (Copy k) false) { writes = before i; entry = length (log i); depth = depth i; blocks = blocks i; actions = actions i; room = room i }
 
   -- nothing is read yet
   pub ready_to_copy : is_out k.pair ≡ false → e.buffer.items ≡ replicate k.size 0 → source_words k ≤ e.log.room → MayCopy (ready s e) k 0

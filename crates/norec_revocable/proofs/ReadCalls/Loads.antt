@@ -58,7 +58,7 @@ none_gathered false = refl
 -- ## The piece that is loaded next
 
 module _ (d : Data) (r next : Reading) (is : next ≡ record r { number = next.number }) (on : r.number ≤ next.number)
-    (bounds : IsBounded d.words d.limits d.snapshot d.frames.size d.arena) (o : IsOpen d) (may : MayRead d next) (settled : d.clock ≡ d.snapshot)
+    (bounds : IsBounded d.words d.limits d.snapshot d.frames.size d.frames.depth d.arena) (o : IsOpen d) (may : MayRead d next) (settled : d.clock ≡ d.snapshot)
     (spent : d.spent ≤ 2 * passed r + d.tries * round_of (aims.Read r) d) where
   spent_so_far : d.spent ≤ 2 * passed next + d.tries * round_of (aims.Read next) d
   spent_so_far =

@@ -7,7 +7,6 @@ use Rattle.itm_types.specs.Memory.{bytes_of, IsMemory, Agrees}
 use Rattle.itm_types.specs.Slices.{slice}
 use Rattle.itm_types.specs.declared.call.Call.TheVariants.{Read}
 use Rattle.itm_types.specs.declared.call.Reply.TheVariants.{Bytes}
-use Rattle.itm_types.specs.declared.limits.TheConstants.{MAX_OPEN_BLOCKS}
 use Rattle.itm_types.specs.declared.row.LogRow.{LogRow}
 use Rattle.itm_model.specs.Machine.{after, reply}
 use Rattle.word_pieces.specs.Pieces.{piece_of}
@@ -31,7 +30,7 @@ use Rattle.norec_revocable.specs.Between.{between, logged, IsValue}
 
 -- the read finds these bytes in whatever memory agrees with the log
 pub record Finds (s : Data) (r : Reading) (bytes : List ℕ) : Type 0 where
-  pub bounds : IsBounded s.words s.limits s.snapshot s.frames.size s.arena
+  pub bounds : IsBounded s.words s.limits s.snapshot s.frames.size s.frames.depth s.arena
   pub is_open : IsOpen s
   pub within : r.at + r.size ≤ 8 * s.words
   pub purpose : IsFor s r.purpose r.at r.size
@@ -47,10 +46,10 @@ module _ (s : Data) (r : Reading) (bytes : List ℕ) (finds : Finds s r bytes) (
       let before : rows_before s ≡ rows = take_all s.written rows (omega (arith, f.1)) in
       let within : r.at + size_of width ≤ 8 * s.words = omega (arith, finds.within, f.0) in
       let all = λ (m : List ℕ) (mem : IsMemory s.words m) (agrees : Agrees m s.log.rows).
-      reads rows s.frames.blocks s.arena s.frames.actions m s.words hint width r.at finds.is_open.is_open mem bytes within (finds.has m mem agrees ∙ ap (slice (bytes_of (overlay m rows)) r.at) f.0) in
+      reads s.frames.depth rows s.frames.blocks s.arena s.frames.actions m s.words hint width r.at finds.is_open.is_open mem bytes within (finds.has m mem agrees ∙ ap (slice (bytes_of (overlay m rows)) r.at) f.0) in
       record {
-        meets = λ m mem agrees. (all m mem agrees).0 ∙ ap (λ (rs : List Row). after MAX_OPEN_BLOCKS (state_over rs s.frames.blocks s.arena s.frames.actions m) (Read hint width r.at)) (sym before);
-        reply_is = λ m mem agrees. (all m mem agrees).1 ∙ ap (λ (rs : List Row). reply MAX_OPEN_BLOCKS (state_over rs s.frames.blocks s.arena s.frames.actions m) (Read hint width r.at)) (sym before);
+        meets = λ m mem agrees. (all m mem agrees).0 ∙ ap (λ (rs : List Row). after s.frames.depth (state_over rs s.frames.blocks s.arena s.frames.actions m) (Read hint width r.at)) (sym before);
+        reply_is = λ m mem agrees. (all m mem agrees).1 ∙ ap (λ (rs : List Row). reply s.frames.depth (state_over rs s.frames.blocks s.arena s.frames.actions m) (Read hint width r.at)) (sym before);
         stays = refl;
         writes = λ m mem agrees. sym before;
         arena = λ m mem agrees. refl;

@@ -9,7 +9,6 @@ use Rattle.itm_types.specs.declared.call.Call.TheVariants.{Log, LogBytes, Commit
 use Rattle.itm_types.specs.declared.call.Refusal.{Refusal}
 use Rattle.itm_types.specs.declared.call.Refusal.TheVariants.{Outside, OutOfArena}
 use Rattle.itm_types.specs.declared.call.Reply.TheVariants.{Done, Refused}
-use Rattle.itm_types.specs.declared.limits.TheConstants.{MAX_OPEN_BLOCKS}
 use Rattle.itm_types.specs.Access.{size_of}
 use Rattle.itm_types.specs.Calls.{logged_of, registered_by}
 use Rattle.itm_types.specs.KeptBytes.{also_kept}
@@ -113,8 +112,8 @@ closed_refusal d m rest o = ap (λ (b : Bool). or_else (unless b Outside) rest) 
 
 pub unregistered_replies : (d : Data) (call : Call) (kind : ActionKind) (action : Action) → registered_by call ≡ Some (kind, action) → in_block d ≡ false → IsSound d Idle
     → Replies (came (core d Idle) call false) call (Refused Outside) (core (come d) Idle)
-unregistered_replies d (CommitAction a) kind action is o s = denied d (CommitAction a) Outside s refl (λ m mem. refuses (stands d m) (CommitAction a) Outside (closed_refusal d m None o))
-unregistered_replies d (UndoAction a) kind action is o s = denied d (UndoAction a) Outside s refl (λ m mem. refuses (stands d m) (UndoAction a) Outside (closed_refusal d m None o))
+unregistered_replies d (CommitAction a) kind action is o s = denied d (CommitAction a) Outside s refl (λ m mem. refuses d.frames.depth (stands d m) (CommitAction a) Outside (closed_refusal d m None o))
+unregistered_replies d (UndoAction a) kind action is o s = denied d (UndoAction a) Outside s refl (λ m mem. refuses d.frames.depth (stands d m) (UndoAction a) Outside (closed_refusal d m None o))
 unregistered_replies d call kind action is o s = absurd (cc)
 
 -- ## Logs of the arena
@@ -127,7 +126,7 @@ not_within a b is h e = elim (cases_Bool (nat_le a b)) [
 ]
 
 -- why a log is refused, if it is
-log_refusal : (d : Data) (m : List ℕ) (call : Call) (place size : ℕ) → logged_of call ≡ Some (place, size) → refusal MAX_OPEN_BLOCKS (stands d m) call ≡ or_else (unless (in_block d) Outside) (unless (nat_le (place + size) (length d.arena)) OutOfArena)
+log_refusal : (d : Data) (m : List ℕ) (call : Call) (place size : ℕ) → logged_of call ≡ Some (place, size) → refusal d.frames.depth (stands d m) call ≡ or_else (unless (in_block d) Outside) (unless (nat_le (place + size) (length d.arena)) OutOfArena)
 log_refusal d m (Log width at) place size is =
     let same : ◌≡◌ {A = ℕ × ℕ} (at, size_of width) (place, size) = cc in
     (λ i. or_else (unless (open_is d.frames.writes.rows d.frames.blocks d.arena d.frames.actions m i) Outside) (unless (nat_le ((same i).0 + (same i).1) (length d.arena)) OutOfArena))
@@ -145,7 +144,7 @@ pub unlogged_replies : (d : Data) (call : Call) (place size : ℕ) (why : Refusa
     → or_else (unless (in_block d) Outside) (unless (nat_le (place + size) (length d.arena)) OutOfArena) ≡ Some why
     → Replies (came (core d Idle) call false) call (Refused why) (core (come d) Idle)
 unlogged_replies d call place size why is s e =
-    denied d call why s (log_room d call place size why is) (λ m mem. refuses (stands d m) call why (log_refusal d m call place size is ∙ e))
+    denied d call why s (log_room d call place size why is) (λ m mem. refuses d.frames.depth (stands d m) call why (log_refusal d m call place size is ∙ e))
 
 -- the fields once these are logged
 abbrev pub with_log : Data → List Old → Data
@@ -181,7 +180,7 @@ logged_over (b ∷ bs) arena m place size kept =
     (λ i. record (block_over b arena m) { saved = Some (record { memory = bytes_of (overlay m b.rows); wrote = is_some_row b.rows; commits = b.commits; undos = b.undos; kept = kept i }) } ∷ blocks_over bs arena m)
 
 module _ (d : Data) (place size : ℕ) (o : in_block d ≡ true) (s : IsSound d Idle) (within : place + size ≤ length d.arena) (kept : kept_of d.arena (log_of (logged d.frames.blocks (found d.arena place size))) ≡ also_kept (kept_of d.arena (log_of d.frames.blocks)) d.arena place size) where
-  log_served : (m : List ℕ) (call : Call) → logged_of call ≡ Some (place, size) → refusal MAX_OPEN_BLOCKS (stands d m) call ≡ None
+  log_served : (m : List ℕ) (call : Call) → logged_of call ≡ Some (place, size) → refusal d.frames.depth (stands d m) call ≡ None
   log_served m call is =
       log_refusal d m call place size is
       ∙ (λ i. or_else (unless (o i) Outside) (unless (le-leb (place + size) (length d.arena) within i) OutOfArena))

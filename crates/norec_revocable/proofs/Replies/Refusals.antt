@@ -9,7 +9,6 @@ use Rattle.itm_types.specs.declared.call.Reply.TheVariants.{Done, Code, Refused}
 use Rattle.itm_types.specs.declared.datum.Datum.{Datum}
 use Rattle.itm_types.specs.Access.{size_of}
 use Rattle.itm_types.specs.Slices.{with_slice}
-use Rattle.itm_types.specs.declared.limits.TheConstants.{MAX_OPEN_BLOCKS}
 use Rattle.itm_types.specs.Calls.{access_of}
 use Rattle.itm_types.specs.Memory.{IsMemory}
 use Rattle.itm_types.specs.declared.call.Reply.{Reply as Replied}
@@ -42,14 +41,14 @@ served true words place size e = elim (cases_Bool (nat_le (place + size) (8 * wo
 
 -- a reply that leaves the engine as it was, but for the counts and perhaps the arena
 local_replies : (d : Data) (call : Call) (r : Replied) (arena : List ℕ) → IsSound d Idle
-    → ((m : List ℕ) → IsMemory d.words m → (state_over d.frames.writes.rows d.frames.blocks arena d.frames.actions m ≡ after MAX_OPEN_BLOCKS (stands d m) call) × (r ≡ reply MAX_OPEN_BLOCKS (stands d m) call))
+    → ((m : List ℕ) → IsMemory d.words m → (state_over d.frames.writes.rows d.frames.blocks arena d.frames.actions m ≡ after d.frames.depth (stands d m) call) × (r ≡ reply d.frames.depth (stands d m) call))
     → ((m : List ℕ) → d.frames.writes.rows ≡ writes_after (came (core d Idle) call false) m call r) → ((m : List ℕ) → arena ≡ arena_after (came (core d Idle) call false) m call r)
     → d.frames.blocks ≡ blocks_after (came (core d Idle) call false) call r → d.frames.actions ≡ actions_after (came (core d Idle) call false) call r
     → d.frames.room ≡ room_left (came (core d Idle) call false) call r
     → Replies (came (core d Idle) call false) call r (core (record d { arena = arena; spent = 0; entry = length d.log.rows }) Idle)
 local_replies d call r arena s all writes left blocks actions room = record {
   meets = λ m mem agrees. (all m mem).0;
-  reply_is = λ m mem agrees. (all m mem).1 ∙ sym (told_plainly call (reply MAX_OPEN_BLOCKS (stands d m) call));
+  reply_is = λ m mem agrees. (all m mem).1 ∙ sym (told_plainly call (reply d.frames.depth (stands d m) call));
   stays = ap (λ (n : ℕ). record (core (record d { arena = arena; spent = 0; entry = length d.log.rows }) Idle) { room = n }) room;
   writes = λ m mem agrees. writes m;
   arena = λ m mem agrees. left m;
@@ -64,7 +63,7 @@ local_replies d call r arena s all writes left blocks actions room = record {
 
 -- of a refused call
 pub denied : (d : Data) (call : Call) (why : Refusal) → IsSound d Idle → d.frames.room ≡ room_left (came (core d Idle) call false) call (Refused why)
-    → ((m : List ℕ) → IsMemory d.words m → (stands d m ≡ after MAX_OPEN_BLOCKS (stands d m) call) × (Refused why ≡ reply MAX_OPEN_BLOCKS (stands d m) call))
+    → ((m : List ℕ) → IsMemory d.words m → (stands d m ≡ after d.frames.depth (stands d m) call) × (Refused why ≡ reply d.frames.depth (stands d m) call))
     → Replies (came (core d Idle) call false) call (Refused why) (core (record d { spent = 0; entry = length d.log.rows }) Idle)
 denied d call why s room all =
     let c = came (core d Idle) call false in
@@ -81,7 +80,7 @@ pub refused_replies : (d : Data) (call : Call) (at size : ℕ) (why : Refusal) �
     → access_refusal (in_block d) d.words at size ≡ Some why
     → Replies (came (core d Idle) call false) call (Refused why) (core (record d { spent = 0; entry = length d.log.rows }) Idle)
 refused_replies d call at size why s is e =
-    denied d call why s (access_room (core d Idle) call at size why is) (λ m mem. access_refused d.frames.writes.rows d.frames.blocks d.arena d.frames.actions m d.words call at size why mem is e)
+    denied d call why s (access_room (core d Idle) call at size why is) (λ m mem. access_refused d.frames.depth d.frames.writes.rows d.frames.blocks d.arena d.frames.actions m d.words call at size why mem is e)
 
 -- it is told whether a transaction is open
 pub asked_replies : (d : Data) → IsSound d Idle

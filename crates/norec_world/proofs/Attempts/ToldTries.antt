@@ -1,6 +1,6 @@
 -- An open attempt that is told where its engine reads goes on with its try.
 use Rattle.std.proofs.Common.{◌≡◌, ℕ, ◌/◌, Bool, true, false, nat_lt, None, refl, sym, ap, subst, ◌∙◌}
-use Rattle.norec_world.proofs.Common.{Actor, Attempt, Conflict, GoesOnAfter, HasRow, IsTold, Outcome, Prior, Rows, Tries, TriesAgain, active_of, begins, between, in_transaction, outrun, over, runs, shut_out, turned_away}
+use Rattle.norec_world.proofs.Common.{Actor, Attempt, GoesOnAfter, HasRow, IsTold, Outcome, Prior, Rows, Tries, TriesAgain, active_of, begins, between, in_transaction, outrun, over, runs, shut_out, turned_away}
 use Rattle.tx_attempts.specs.declared.attempt.Outcome.TheVariants as outcomes
 use Rattle.norec_world.proofs.Attempts.ActiveRows.{changed_here}
 use Rattle.norec_world.proofs.Events.SoundOthers.{row_open, row_shut}

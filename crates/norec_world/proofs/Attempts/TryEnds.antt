@@ -1,13 +1,15 @@
 -- What an answer does to the try that its call belongs to.
 use Rattle.tx_attempts.specs.Kept.{grown, spent}
 use Rattle.itm_types.specs.declared.call.Ran.{Ran}
-use Rattle.std.proofs.Common.{true≢false, inl, inr, ◌≡◌, ℕ, ◌+◌, ◌*◌, ◌/◌, ◌%◌, ◌≤◌, Bool, true, false, nat_lt, if◌then◌else◌, is_some, IsSome, ◌&&◌, not, List, [], ◌∷◌, ◌++◌, length, Option, None, Some, refl, sym, ap, subst, ◌∙◌, arith, append-nil, ◌⊎◌}
+use Rattle.std.proofs.Common.{true≢false, inl, inr, ◌≡◌, ℕ, ◌+◌, ◌*◌, ◌/◌, ◌%◌, ◌<◌, ◌≤◌, Bool, true, false, nat_lt, if◌then◌else◌, is_some, IsSome, ◌&&◌, not, List, [], ◌∷◌, ◌++◌, length, Option, None, Some, refl, sym, ap, subst, ◌∙◌, arith, append-nil, ◌⊎◌}
 use Rattle.nest_frames.specs.Nest.{Frame}
 use Rattle.norec_world.proofs.Engines.PlayerLaws.{deep_of}
 use Rattle.norec_world.proofs.Attempts.Cancels.{cancels}
-use Rattle.norec_world.proofs.Common.{Actor, Agrees, Answer, Attempt, Begin, Busy, Call, Cells, ClosedBy, Code, Committed, Conflict, ConflictsIn, Core, CountsTry, Ended, Ends, EndsAt, Full, GoesOnAfter, HasRow, IsBetween, IsMemory, IsReady, IsSettledBy, IsTied, MAX_OPEN_BLOCKS, Opens, Outcome, Props, Ready, RecordsReply, Replied, Replies, Reply, RestsAs, Rows, Rules, Status, Tries, TriesAgain, active_of, begins, between, cases_Bool, cond-false, cond-true, current_of, ending_of, in_transaction, is_begin, is_done, is_inside, none_inside, outrun, over, prior_of, recoded, reply as replied, reply_cases, runs, shut_out, stands_for, turned_away, with_opened}
+use Rattle.norec_world.proofs.Attempts.OpenTries.{outermost_refusal}
+use Rattle.norec_world.proofs.Common.{Actor, Agrees, Answer, Attempt, Begin, Busy, Call, Cells, ClosedBy, Code, Committed, Conflict, ConflictsIn, Core, CountsTry, Ended, Ends, EndsAt, Full, GoesOnAfter, HasRow, IsBetween, IsMemory, IsReady, IsSettledBy, IsTied, Opens, Outcome, Props, Ready, RecordsReply, Replied, Replies, Reply, RestsAs, Rows, Rules, Status, Tries, TriesAgain, active_of, between, cases_Bool, cond-false, cond-true, current_of, ending_of, in_transaction, is_begin, is_done, is_inside, none_inside, outrun, over, prior_of, recoded, reply as replied, reply_cases, runs, shut_out, stands_for, turned_away, with_opened}
 use Rattle.itm_types.specs.declared.call.Reply.TheVariants as replies
 use Rattle.itm_model.specs.Machine.{or_else, reply_unless, unless}
+use Rattle.itm_types.specs.declared.call.Refusal.{Refusal}
 use Rattle.itm_types.specs.declared.call.Refusal.TheVariants.{NoIrrevocable}
 use Rattle.norec_core.specs.Core.{irrevocable_room, may_go}
 use Rattle.norec_core.specs.Proceeds.{Conflicts, IsBegin, IsLost, IsSettled, WantsClock}
@@ -231,18 +233,19 @@ module _ {P : Type 0} {rules : Rules P} {cells cells' : Cells} {r r1 : Rows} {mi
 -- ## A begin is answered
 
 -- the plain machine refuses an outermost begin only where it may not go irrevocable, so else the engine's reply to one opens
-opening_reply : (c : Core) (m : List ℕ) (props : Props) (room : ℕ) → c.irrevocable ≡ false → c.blocks ≡ [] → may_go c.blocks props ≡ true → replied MAX_OPEN_BLOCKS (stands_for c m) (Begin props room) ≡ Code 5
-opening_reply c m props room revocable none may =
-    (λ i. replied MAX_OPEN_BLOCKS (state_in (revocable i) c.writes (none i) c.arena c.actions m) (Begin props room))
-    ∙ ap (λ (b : Bool). reply_unless (or_else (or_else (unless b NoIrrevocable) None) None) (Code 5)) (sym (ap (λ (bs : List Frame). may_go bs props) none) ∙ may)
+opening_reply : (c : Core) (m : List ℕ) (props : Props) (room : ℕ) → 0 < c.depth → c.irrevocable ≡ false → c.blocks ≡ [] → may_go c.blocks props ≡ true → replied c.depth (stands_for c m) (Begin props room) ≡ Code 5
+opening_reply c m props room deep revocable none may =
+    (λ i. replied c.depth (state_in (revocable i) c.writes (none i) c.arena c.actions m) (Begin props room))
+    ∙ (ap (λ (why : Option Refusal). reply_unless why (Code 5)) (outermost_refusal c.depth deep (may_go [] props))
+    ∙ ap (λ (b : Bool). reply_unless (or_else (or_else (unless b NoIrrevocable) None) None) (Code 5)) (sym (ap (λ (bs : List Frame). may_go bs props) none) ∙ may))
 
 code_opens : (mid : Core) (props : Props) (room : ℕ) (again : Bool) → is_inside (blocks_after mid (Begin props room) (recoded (Begin props room) again (Code 5))) ≡ true
 code_opens mid props room true = refl
 code_opens mid props room false = refl
 
-pub begin_opens : (mid new : Core) (m : List ℕ) (props : Props) (room : ℕ) (told : Replied) → Replies mid (Begin props room) told new → in_transaction mid ≡ false → may_go mid.blocks props ≡ true → IsMemory mid.words m → Agrees m new.log → in_transaction new ≡ false → ⊥
-begin_opens mid new m props room told g outside may memory agrees closed =
-    let code = g.reply_is m memory agrees ∙ ap (recoded (Begin props room) mid.again) (opening_reply mid m props room g.revocable (none_inside mid.blocks outside) may) in
+pub begin_opens : (mid new : Core) (m : List ℕ) (props : Props) (room : ℕ) (told : Replied) → Replies mid (Begin props room) told new → 0 < mid.depth → in_transaction mid ≡ false → may_go mid.blocks props ≡ true → IsMemory mid.words m → Agrees m new.log → in_transaction new ≡ false → ⊥
+begin_opens mid new m props room told g deep outside may memory agrees closed =
+    let code = g.reply_is m memory agrees ∙ ap (recoded (Begin props room) mid.again) (opening_reply mid m props room deep g.revocable (none_inside mid.blocks outside) may) in
     let opens : in_transaction new ≡ true = ap is_inside (g.blocks ∙ ap (blocks_after mid (Begin props room)) code) ∙ code_opens mid props room mid.again in
     true≢false (sym opens ∙ closed)
 
@@ -323,7 +326,7 @@ module _ {P : Type 0} {rules : Rules P} {cells cells' : Cells} {r r1 : Rows} {mi
       refused : (props : Props) (room : ℕ) → call ≡ Begin props room → in_transaction a.engine ≡ false → ⊥
       refused props room is closed =
           let g : Replies mid (Begin props room) reply a.engine = subst (λ (c : Call). Replies mid c reply a.engine) is (plain_reply mid a.engine call reply m.taken.doing m.taken.tied.settled closed m.ends) in
-          begin_opens mid a.engine cells'.words props room reply g m.taken.was_is (may props room is) (sym m.taken.words, m.taken.tied.fit) (subst (Agrees cells'.words) (sym (m.taken.tied.settled.closed closed).0) tt) closed
+          begin_opens mid a.engine cells'.words props room reply g (subst (λ (d : ℕ). 0 < d) (ap (λ (c : Core). c.depth) g.stays) m.taken.tied.settled.deep) m.taken.was_is (may props room is) (sym m.taken.words, m.taken.tied.fit) (subst (Agrees cells'.words) (sym (m.taken.tied.settled.closed closed).0) tt) closed
   begin_tries seen may (Busy clock) early m =
       let pending = begin_pending m (call_begins call (subst IsBegin m.taken.doing m.ends.begins)) in
       let out = m.taken.outside refl m.ends.free in
@@ -366,9 +369,9 @@ module _ {P : Type 0} {rules : Rules P} {cells cells' : Cells} {r r1 : Rows} {mi
         row = pending.0;
         was = pending.1;
         ended = ap (λ (x : Rows). x.ended) m.told.0;
-        goes = ap (λ (x : Props). x.goes_irrevocable) props ∙ goes_by b.1 b.0.goes_irrevocable (may_go mid.blocks b.0) (nat_lt (length mid.blocks) MAX_OPEN_BLOCKS) (not mid.irrevocable) wants;
+        goes = ap (λ (x : Props). x.goes_irrevocable) props ∙ goes_by b.1 b.0.goes_irrevocable (may_go mid.blocks b.0) (nat_lt (length mid.blocks) mid.depth) (not mid.irrevocable) wants;
         may = ap (may_go []) props
-            ∙ (sym (ap (λ (bs : List Frame). may_go bs b.0) (none_inside mid.blocks m.taken.was_is)) ∙ may_by b.1 b.0.goes_irrevocable (may_go mid.blocks b.0) (nat_lt (length mid.blocks) MAX_OPEN_BLOCKS) (not mid.irrevocable) wants);
+            ∙ (sym (ap (λ (bs : List Frame). may_go bs b.0) (none_inside mid.blocks m.taken.was_is)) ∙ may_by b.1 b.0.goes_irrevocable (may_go mid.blocks b.0) (nat_lt (length mid.blocks) mid.depth) (not mid.irrevocable) wants);
         full = omega (arith, m.ends.full, m.ends.at_is, ap (λ (c : Core). c.max_commits) m.ends.stays, reached cells' a.engine m.taken.tied, out.0);
         same = out.0;
         after = record { none = none_active rules r r1 a last false m.settled m.answered.fits.1; status = m.told.1 };

@@ -1,6 +1,6 @@
 -- The memories that the commits left stay when more attempts end.
 use Rattle.std.proofs.Common.{inl, inr, ◌≡◌, ℕ, zero, suc, ◌/◌, ◌<◌, ◌≤◌, List, [], ◌∷◌, ◌++◌, None, Some, refl, sym, ap, ◌∙◌, arith, lt-ltb}
-use Rattle.norec_world.proofs.Common.{AreCounted, Attempt, MAX_OPEN_BLOCKS, bytes_at, cases_Bool, committed_at, count_at, is_at, le-ltb, memory_left, one_where, AreLaid, Cells, Rows}
+use Rattle.norec_world.proofs.Common.{AreCounted, Attempt, bytes_at, cases_Bool, committed_at, count_at, is_at, le-ltb, memory_left, one_where, AreLaid, Cells, Rows}
 
 -- ## Which attempt committed at a position
 
@@ -36,7 +36,7 @@ found_later (x ∷ xs) ys position e = elim (cases_Bool (is_at position x)) [
 
 -- ## The memories
 
-module _ (base : List ℕ) (clock : ℕ) (xs : List Attempt) (counted : AreCounted clock xs) where
+module _ (deepest : ℕ) (base : List ℕ) (clock : ℕ) (xs : List Attempt) (counted : AreCounted clock xs) where
   one_at : (position : ℕ) → position < clock / 2 → (a : Attempt) × (committed_at xs position ≡ Some a)
   one_at position l = found_at xs position (let e = counted.each position ∙ ap one_where (lt-ltb position (clock / 2) l) in omega arith)
 
@@ -45,13 +45,13 @@ module _ (base : List ℕ) (clock : ℕ) (xs : List Attempt) (counted : AreCount
   none_next position l = none_at xs position (counted.each position ∙ ap one_where (le-ltb position (clock / 2) l))
 
   -- with more attempts they are the same
-  pub bytes_still : (ys : List Attempt) (k : ℕ) → k ≤ clock / 2 → bytes_at base (xs ++ ys) k ≡ bytes_at base xs k
+  pub bytes_still : (ys : List Attempt) (k : ℕ) → k ≤ clock / 2 → bytes_at deepest base (xs ++ ys) k ≡ bytes_at deepest base xs k
   bytes_still ys zero l = refl
   bytes_still ys (suc k) l =
       let one = one_at k (omega arith) in
-      (λ i. memory_left MAX_OPEN_BLOCKS (bytes_still ys k (omega arith) i) (committed_at (xs ++ ys) k))
-      ∙ ap (memory_left MAX_OPEN_BLOCKS (bytes_at base xs k)) (found_still xs ys k one.0 one.1 ∙ sym one.1)
+      (λ i. memory_left deepest (bytes_still ys k (omega arith) i) (committed_at (xs ++ ys) k))
+      ∙ ap (memory_left deepest (bytes_at deepest base xs k)) (found_still xs ys k one.0 one.1 ∙ sym one.1)
 
 -- and so they are where more of the attempts have ended
-pub bytes_stay : {base : List ℕ} {cells : Cells} {r : Rows} {ended : List Attempt} → AreLaid base cells r → (more : List Attempt) → ended ≡ r.ended ++ more → (k : ℕ) → k ≤ cells.clock / 2 → bytes_at base ended k ≡ bytes_at base r.ended k
-bytes_stay {base} {cells} {r} laid more is k l = ap (λ (xs : List Attempt). bytes_at base xs k) is ∙ bytes_still base cells.clock r.ended laid.counted more k l
+pub bytes_stay : {deepest : ℕ} {base : List ℕ} {cells : Cells} {r : Rows} {ended : List Attempt} → AreLaid deepest base cells r → (more : List Attempt) → ended ≡ r.ended ++ more → (k : ℕ) → k ≤ cells.clock / 2 → bytes_at deepest base ended k ≡ bytes_at deepest base r.ended k
+bytes_stay {deepest} {base} {cells} {r} laid more is k l = ap (λ (xs : List Attempt). bytes_at deepest base xs k) is ∙ bytes_still deepest base cells.clock r.ended laid.counted more k l

@@ -82,35 +82,35 @@ module _ (memory : ℕ → List ℕ) (cells : Cells) (e : Core) (t : IsTied cell
 -- ## Over cells and then others
 
 -- over these cells and then those, by the engine mid, in which the value or the call is, and the engine that it became
-pub record HasSeen (base : List ℕ) (cells cells' : Cells) (r : Rows) (mid new : Core) : Type 0 where
-  pub laid : AreLaid base cells r
+pub record HasSeen (deepest : ℕ) (base : List ℕ) (cells cells' : Cells) (r : Rows) (mid new : Core) : Type 0 where
+  pub laid : AreLaid deepest base cells r
   pub words : mid.words ≡ length cells.words
   pub long : length cells'.words ≡ length cells.words
   pub late : mid.snapshot / 2 ≤ cells.clock / 2
   pub up : in_transaction mid ≡ true → mid.snapshot ≤ new.snapshot
   pub opens : in_transaction mid ≡ false → in_transaction new ≡ true → cells.clock / 2 ≤ new.snapshot / 2
   pub unlogged : in_transaction mid ≡ false → mid.log ≡ []
-  pub logged : in_transaction mid ≡ true → Agrees (words_at base r.ended (mid.snapshot / 2)) mid.log
-  pub still : in_transaction mid ≡ true → Agrees (words_at base r.ended (new.snapshot / 2)) mid.log
-  pub now : in_transaction new ≡ true → Agrees (words_at base r.ended (new.snapshot / 2)) new.log
+  pub logged : in_transaction mid ≡ true → Agrees (words_at deepest base r.ended (mid.snapshot / 2)) mid.log
+  pub still : in_transaction mid ≡ true → Agrees (words_at deepest base r.ended (new.snapshot / 2)) mid.log
+  pub now : in_transaction new ≡ true → Agrees (words_at deepest base r.ended (new.snapshot / 2)) new.log
   pub fewer : in_transaction new ≡ true → new.irrevocable ≡ false → (m : List ℕ) → Agrees m new.log → Agrees m mid.log
-  pub loaded : mid.freed ≡ false → Loaded (words_at base r.ended) cells' mid
+  pub loaded : mid.freed ≡ false → Loaded (words_at deepest base r.ended) cells' mid
   pub even : mid.freed ≡ false → cells'.clock % 2 ≡ 0 → cells' ≡ cells  -- an even clock that was not freed was there before
-  pub freed : mid.freed ≡ true → mid.irrevocable ≡ false → cells'.words ≡ backed mid (words_at base r.ended (cells.clock / 2))
+  pub freed : mid.freed ≡ true → mid.irrevocable ≡ false → cells'.words ≡ backed mid (words_at deepest base r.ended (cells.clock / 2))
 
 -- what stands at a position that there is
-module _ {base : List ℕ} {cells cells' : Cells} {r : Rows} {mid new : Core} (s : HasSeen base cells cells' r mid new) where
-  pub memory_at : (k : ℕ) → k ≤ cells.clock / 2 → IsMemory mid.words (words_at base r.ended k)
+module _ {deepest : ℕ} {base : List ℕ} {cells cells' : Cells} {r : Rows} {mid new : Core} (s : HasSeen deepest base cells cells' r mid new) where
+  pub memory_at : (k : ℕ) → k ≤ cells.clock / 2 → IsMemory mid.words (words_at deepest base r.ended k)
   memory_at k l = (let f = s.laid.memories.fits k l in (f.0 ∙ sym s.words, f.1))
 
-  pub same_at : (k : ℕ) → k ≤ cells.clock / 2 → bytes_of (words_at base r.ended k) ≡ bytes_at base r.ended k
+  pub same_at : (k : ℕ) → k ≤ cells.clock / 2 → bytes_of (words_at deepest base r.ended k) ≡ bytes_at deepest base r.ended k
   same_at k l = s.laid.memories.same k l
 
 -- ## A call comes
 
-pub call_seen : (base : List ℕ) (cells : Cells) (r : Rows) (e new : Core) (call : Call) (again : Bool) → AreLaid base cells r → IsTied cells e → e.holds ≡ e.irrevocable → Sees (words_at base r.ended) cells e → StaysOn e new
-    → HasSeen base cells cells r (came e call again) new
-call_seen base cells r e new call again laid tied free sees stays = record {
+pub call_seen : (deepest : ℕ) (base : List ℕ) (cells : Cells) (r : Rows) (e new : Core) (call : Call) (again : Bool) → AreLaid deepest base cells r → IsTied cells e → e.holds ≡ e.irrevocable → Sees (words_at deepest base r.ended) cells e → StaysOn e new
+    → HasSeen deepest base cells cells r (came e call again) new
+call_seen deepest base cells r e new call again laid tied free sees stays = record {
   laid = laid;
   words = tied.words;
   long = refl;
@@ -119,10 +119,10 @@ call_seen base cells r e new call again laid tied free sees stays = record {
   opens = λ shut o. absurd (both_ways (in_transaction e) shut (stays.opens o));
   unlogged = λ o. (tied.settled.closed o).0;
   logged = sees.logged;
-  still = λ o. subst (λ (k : ℕ). Agrees (words_at base r.ended (k / 2)) e.log) (sym stays.snapshot) (sees.logged o);
+  still = λ o. subst (λ (k : ℕ). Agrees (words_at deepest base r.ended (k / 2)) e.log) (sym stays.snapshot) (sees.logged o);
   now = λ o.
-      subst (λ (l : _). Agrees (words_at base r.ended (new.snapshot / 2)) l) (sym (stays.log o))
-      (subst (λ (k : ℕ). Agrees (words_at base r.ended (k / 2)) e.log) (sym stays.snapshot) (sees.logged (stays.opens o)));
+      subst (λ (l : _). Agrees (words_at deepest base r.ended (new.snapshot / 2)) l) (sym (stays.log o))
+      (subst (λ (k : ℕ). Agrees (words_at deepest base r.ended (k / 2)) e.log) (sym stays.snapshot) (sees.logged (stays.opens o)));
   fewer = λ o r m x. subst (Agrees m) (stays.log o) x;
   loaded = λ f. record { fresh = λ even same h. tt; held = λ h r. absurd (both_ways e.irrevocable r (sym free ∙ h)); got = λ h r. absurd (both_ways e.irrevocable r (sym free ∙ h)) };
   even = λ f even. refl;
@@ -150,12 +150,12 @@ module _ (cells : Cells) (e : Core) (tied : IsTied cells e) where
   freed_words memory x (Store zero value) l k r = x.held l.1 r
   freed_words memory x s l k r = absurd (cc)
 
-pub step_seen : (base : List ℕ) (cells : Cells) (r : Rows) (e new : Core) (step : Step) → AreLaid base cells r → IsTied cells e → Sees (words_at base r.ended) cells e → e.waits ≡ Some step → IsLawful e step → Joins e (found cells step) new
-    → HasSeen base cells (cells_after cells step) r (handed_to e (Some step) (found cells step)) new
-step_seen base cells r e new step laid tied sees waits lawful joins =
+pub step_seen : (deepest : ℕ) (base : List ℕ) (cells : Cells) (r : Rows) (e new : Core) (step : Step) → AreLaid deepest base cells r → IsTied cells e → Sees (words_at deepest base r.ended) cells e → e.waits ≡ Some step → IsLawful e step → Joins e (found cells step) new
+    → HasSeen deepest base cells (cells_after cells step) r (handed_to e (Some step) (found cells step)) new
+step_seen deepest base cells r e new step laid tied sees waits lawful joins =
     let k = handed_is e step (found cells step) in
     let mid : Core = handed_to e (Some step) (found cells step) in
-    let memory : ℕ → List ℕ = words_at base r.ended in
+    let memory : ℕ → List ℕ = words_at deepest base r.ended in
     let fits = laid.memories.fits (cells.clock / 2) (let l : cells.clock / 2 ≤ cells.clock / 2 = omega arith in l) in
     let unfreed = freed_by e step (found cells step) tied.settled.unfreed in
     record {

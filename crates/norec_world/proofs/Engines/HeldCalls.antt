@@ -9,15 +9,15 @@ use Rattle.norec_core.specs.Held.{ComesTo}
 use Rattle.norec_core.specs.Proceeds.{WantsClock}
 use Rattle.norec_core.specs.Stands.{is_some_row, state_in}
 use Rattle.norec_core.proofs.Engines.IrrevocableCalls.{begin_enters, mode_enters}
-use Rattle.norec_world.proofs.Common.{Attempt, Begin, Call, Cells, Commit, Core, Got, MAX_OPEN_BLOCKS, Next, Row, Rows, State, Store, active_of, after, alone, bytes_at, bytes_of, in_transaction, is_open, reply, stands_for, state_over, takes_clock}
+use Rattle.norec_world.proofs.Common.{Attempt, Begin, Call, Cells, Commit, Core, Got, Next, Row, Rows, State, Store, active_of, after, alone, bytes_at, bytes_of, in_transaction, is_open, reply, stands_for, state_over, takes_clock}
 
 -- the attempt's calls alone on the memory of its position lead to an open block, and the call comes to what the plain machine makes of it then
-pub record HasHeld (base : List ℕ) (cells cells' : Cells) (r : Rows) (thread : ℕ) (mid new : Core) (call : Call) (what : Next) : Type 0 where
-  pub still_open : mid.irrevocable ≡ true → (row : Attempt) → active_of thread r.active ≡ Some row → is_open (alone MAX_OPEN_BLOCKS (bytes_at base r.ended (cells.clock / 2)) row) ≡ true
-  pub mode : mid.irrevocable ≡ true → (row : Attempt) → active_of thread r.active ≡ Some row → (alone MAX_OPEN_BLOCKS (bytes_at base r.ended (cells.clock / 2)) row).irrevocable ≡ true
-  pub ran : mid.irrevocable ≡ true → (row : Attempt) → active_of thread r.active ≡ Some row → row.ran ≡ (alone MAX_OPEN_BLOCKS (bytes_at base r.ended (cells.clock / 2)) row).actions.ran
+pub record HasHeld (deepest : ℕ) (base : List ℕ) (cells cells' : Cells) (r : Rows) (thread : ℕ) (mid new : Core) (call : Call) (what : Next) : Type 0 where
+  pub still_open : mid.irrevocable ≡ true → (row : Attempt) → active_of thread r.active ≡ Some row → is_open (alone deepest (bytes_at deepest base r.ended (cells.clock / 2)) row) ≡ true
+  pub mode : mid.irrevocable ≡ true → (row : Attempt) → active_of thread r.active ≡ Some row → (alone deepest (bytes_at deepest base r.ended (cells.clock / 2)) row).irrevocable ≡ true
+  pub ran : mid.irrevocable ≡ true → (row : Attempt) → active_of thread r.active ≡ Some row → row.ran ≡ (alone deepest (bytes_at deepest base r.ended (cells.clock / 2)) row).actions.ran
   pub comes : mid.irrevocable ≡ true → (row : Attempt) → active_of thread r.active ≡ Some row
-      → ComesTo (after MAX_OPEN_BLOCKS (alone MAX_OPEN_BLOCKS (bytes_at base r.ended (cells.clock / 2)) row) call) (reply MAX_OPEN_BLOCKS (alone MAX_OPEN_BLOCKS (bytes_at base r.ended (cells.clock / 2)) row) call) what new cells'.words
+      → ComesTo (after deepest (alone deepest (bytes_at deepest base r.ended (cells.clock / 2)) row) call) (reply deepest (alone deepest (bytes_at deepest base r.ended (cells.clock / 2)) row) call) what new cells'.words
   pub shut : in_transaction mid ≡ false → mid.irrevocable ≡ false
   pub got : mid.irrevocable ≡ true → (word value : ℕ) → new.waits ≡ Some (Store (suc word) value) → Got new.got (slice_get cells'.words word)
 
@@ -52,9 +52,9 @@ pub record CommitsTo (cells : Cells) (new : Core) (wrote : Bool) (s : State) : T
   pub memory_is : wrote ≡ true → bytes_of cells.words ≡ s.memory
 
 -- the commit of a transaction that is not irrevocable
-pub commits_over : (mid : Core) (m : List ℕ) → mid.irrevocable ≡ false → length mid.blocks ≡ 1 → is_open (after MAX_OPEN_BLOCKS (stands_for mid m) Commit) ≡ false
+pub commits_over : (mid : Core) (m : List ℕ) → mid.irrevocable ≡ false → length mid.blocks ≡ 1 → is_open (after mid.depth (stands_for mid m) Commit) ≡ false
 commits_over mid m revocable one =
-    ap (λ (b : Bool). is_open (after MAX_OPEN_BLOCKS (state_in b mid.writes mid.blocks mid.arena mid.actions m) Commit)) revocable ∙ ap is_open (commits mid.writes mid.blocks mid.arena mid.actions m one)
+    ap (λ (b : Bool). is_open (after mid.depth (state_in b mid.writes mid.blocks mid.arena mid.actions m) Commit)) revocable ∙ ap is_open (commits mid.depth mid.writes mid.blocks mid.arena mid.actions m one)
 
 -- ## A call that wants the clock
 
@@ -76,19 +76,19 @@ some_rows [] n = absurd (n refl)
 some_rows (x ∷ xs) n = refl
 
 module _ (mid : Core) (m : List ℕ) (revocable : mid.irrevocable ≡ false) (inside : in_transaction mid ≡ true) where
-  over_it : (call : Call) → takes_clock (after MAX_OPEN_BLOCKS (state_over mid.writes mid.blocks mid.arena mid.actions m) call) ≡ true → takes_clock (after MAX_OPEN_BLOCKS (stands_for mid m) call) ≡ true
-  over_it call e = ap (λ (b : Bool). takes_clock (after MAX_OPEN_BLOCKS (state_in b mid.writes mid.blocks mid.arena mid.actions m) call)) revocable ∙ e
+  over_it : (call : Call) → takes_clock (after mid.depth (state_over mid.writes mid.blocks mid.arena mid.actions m) call) ≡ true → takes_clock (after mid.depth (stands_for mid m) call) ≡ true
+  over_it call e = ap (λ (b : Bool). takes_clock (after mid.depth (state_in b mid.writes mid.blocks mid.arena mid.actions m) call)) revocable ∙ e
 
   -- takes it where it is served
-  pub wants_taking : (call : Call) → WantsClock mid (Some call) → takes_clock (after MAX_OPEN_BLOCKS (stands_for mid m) call) ≡ true
-  wants_taking Commit w = over_it Commit (ap takes_clock (commits mid.writes mid.blocks mid.arena mid.actions m w.0) ∙ some_rows mid.writes w.1)
+  pub wants_taking : (call : Call) → WantsClock mid (Some call) → takes_clock (after mid.depth (stands_for mid m) call) ≡ true
+  wants_taking Commit w = over_it Commit (ap takes_clock (commits mid.depth mid.writes mid.blocks mid.arena mid.actions m w.0) ∙ some_rows mid.writes w.1)
   wants_taking (Mode room) w =
       let all = told_under (in_transaction mid && not (stays_revocable mid.blocks) && not mid.irrevocable) room w in
       let free = no_true (stays_revocable mid.blocks) (both_true (in_transaction mid) _ (both_true (in_transaction mid && not (stays_revocable mid.blocks)) _ all).0).1 in
-      over_it (Mode room) (ap takes_clock (sym (mode_enters mid.writes mid.blocks mid.arena mid.actions m room inside free).0))
+      over_it (Mode room) (ap takes_clock (sym (mode_enters mid.depth mid.writes mid.blocks mid.arena mid.actions m room inside free).0))
   wants_taking (Begin props room) w =
-      let all = told_under (props.goes_irrevocable && may_go mid.blocks props && nat_lt (length mid.blocks) MAX_OPEN_BLOCKS && not mid.irrevocable) room w in
-      let served = both_true (props.goes_irrevocable && may_go mid.blocks props) _ (both_true (props.goes_irrevocable && may_go mid.blocks props && nat_lt (length mid.blocks) MAX_OPEN_BLOCKS) _ all).0 in
+      let all = told_under (props.goes_irrevocable && may_go mid.blocks props && nat_lt (length mid.blocks) mid.depth && not mid.irrevocable) room w in
+      let served = both_true (props.goes_irrevocable && may_go mid.blocks props) _ (both_true (props.goes_irrevocable && may_go mid.blocks props && nat_lt (length mid.blocks) mid.depth) _ all).0 in
       let may = both_true props.goes_irrevocable _ served.0 in
-      over_it (Begin props room) (ap takes_clock (sym (begin_enters mid.writes mid.blocks mid.arena mid.actions m props room inside may.0 may.1 (ltb-true (length mid.blocks) MAX_OPEN_BLOCKS served.1)).0))
+      over_it (Begin props room) (ap takes_clock (sym (begin_enters mid.depth mid.writes mid.blocks mid.arena mid.actions m props room inside may.0 may.1 (ltb-true (length mid.blocks) mid.depth served.1)).0))
   wants_taking call w = absurd (let f : false ≡ true = w in cc)

@@ -2,7 +2,7 @@
 use Rattle.std.proofs.Common.{◌≡◌, ℕ, zero, suc, ◌/◌, true, false, List, Option, Some, slice_get, refl, sym, ap, subst, ◌∙◌, arith}
 use Rattle.norec_core.specs.Held.{ComesTo, IsFound, answers, leaves, memory_after}
 use Rattle.norec_core.specs.Order.{asked_from, stage_from}
-use Rattle.norec_world.proofs.Common.{Actor, Answers, Asks, AsksFor, Attempt, Call, Cas, Cells, Core, Got, IsHeld, IsLawful, IsTied, Load, MAX_OPEN_BLOCKS, Next, Proceeds, Replied, Rows, Rules, StandsIn, State, Step, Store, active_of, after, alone, bytes_at, cells_after, found, handed_to, is_inside, reply, rests, slice_get-get_or, stands_for}
+use Rattle.norec_world.proofs.Common.{Actor, Answers, Asks, AsksFor, Attempt, Call, Cas, Cells, Core, Got, IsHeld, IsLawful, IsTied, Load, Next, Proceeds, Replied, Rows, Rules, StandsIn, State, Step, Store, active_of, after, alone, bytes_at, cells_after, found, handed_to, is_inside, reply, rests, slice_get-get_or, stands_for}
 use Rattle.norec_world.proofs.Engines.HeldCalls.{HasHeld}
 use Rattle.norec_world.proofs.Engines.SoundSteps.{IsCalling, IsStepping, active_same, ended_same, mid, mid_step, same, waits, went}
 use Rattle.norec_world.proofs.Engines.SoundSteps as steps
@@ -12,24 +12,24 @@ use Rattle.norec_core.proofs.Engines.HeldStores as stores
 -- ## A call comes
 
 module _ {P : Type 0} {rules : Rules P} {cells : Cells} {r0 r : Rows} {old a : Actor P} {call : Call} {what : Next} (m : IsCalling rules cells r0 r old a call what)
-    (base : List ℕ) (held : old.engine.irrevocable ≡ true → (row : Attempt) → active_of old.thread r0.active ≡ Some row → IsHeld (bytes_at base r0.ended (cells.clock / 2)) cells.words row old.engine) where
-  memory_same : bytes_at base r.ended (cells.clock / 2) ≡ bytes_at base r0.ended (cells.clock / 2)
-  memory_same = ap (λ (l : List Attempt). bytes_at base l (cells.clock / 2)) (ended_same m)
+    (base : List ℕ) (held : old.engine.irrevocable ≡ true → (row : Attempt) → active_of old.thread r0.active ≡ Some row → IsHeld old.engine.depth (bytes_at old.engine.depth base r0.ended (cells.clock / 2)) cells.words row old.engine) where
+  memory_same : bytes_at old.engine.depth base r.ended (cells.clock / 2) ≡ bytes_at old.engine.depth base r0.ended (cells.clock / 2)
+  memory_same = ap (λ (l : List Attempt). bytes_at old.engine.depth base l (cells.clock / 2)) (ended_same m)
 
-  held_then : old.engine.irrevocable ≡ true → (row : Attempt) → active_of a.thread r.active ≡ Some row → IsHeld (bytes_at base r.ended (cells.clock / 2)) cells.words row old.engine
-  held_then i row f = subst (λ (bytes : List ℕ). IsHeld bytes cells.words row old.engine) (sym memory_same) (held i row (sym (active_same m) ∙ f))
+  held_then : old.engine.irrevocable ≡ true → (row : Attempt) → active_of a.thread r.active ≡ Some row → IsHeld old.engine.depth (bytes_at old.engine.depth base r.ended (cells.clock / 2)) cells.words row old.engine
+  held_then i row f = subst (λ (bytes : List ℕ). IsHeld old.engine.depth bytes cells.words row old.engine) (sym memory_same) (held i row (sym (active_same m) ∙ f))
 
-  stands_then : old.engine.irrevocable ≡ true → (row : Attempt) → active_of a.thread r.active ≡ Some row → stands_for old.engine cells.words ≡ alone MAX_OPEN_BLOCKS (bytes_at base r.ended (cells.clock / 2)) row
+  stands_then : old.engine.irrevocable ≡ true → (row : Attempt) → active_of a.thread r.active ≡ Some row → stands_for old.engine cells.words ≡ alone old.engine.depth (bytes_at old.engine.depth base r.ended (cells.clock / 2)) row
   stands_then i row f =
-      subst (λ (w : Option Step). StandsIn w old.engine.doing old.engine cells.words (alone MAX_OPEN_BLOCKS (bytes_at base r.ended (cells.clock / 2)) row)) (steps.rests m.sound m.ready).idle (held_then i row f).stands
+      subst (λ (w : Option Step). StandsIn old.engine.depth w old.engine.doing old.engine cells.words (alone old.engine.depth (bytes_at old.engine.depth base r.ended (cells.clock / 2)) row)) (steps.rests m.sound m.ready).idle (held_then i row f).stands
 
-  pub call_held : HasHeld base cells cells r a.thread (mid m) a.engine call what
+  pub call_held : HasHeld old.engine.depth base cells cells r a.thread (mid m) a.engine call what
   call_held = record {
     still_open = λ i row f. (held_then i row f).still_open;
     mode = λ i row f. (held_then i row f).mode;
     ran = λ i row f. (held_then i row f).ran;
     comes = λ i row f.
-        subst (λ (s : State). ComesTo (after MAX_OPEN_BLOCKS s call) (reply MAX_OPEN_BLOCKS s call) what a.engine cells.words) (stands_then i row f)
+        subst (λ (s : State). ComesTo (after old.engine.depth s call) (reply old.engine.depth s call) what a.engine cells.words) (stands_then i row f)
         (m.asks.called.held i cells.words (sym m.sound.tied.words, m.sound.tied.fit));
     shut = λ o. shut_revocable old.engine m.sound.tied.settled o;
     got = λ i word value e. none_got (mid m) a.engine what m.asks.called.proceeds refl word value cells.words e;
@@ -65,19 +65,19 @@ got_handed cells e new word value writes t step l held unfreed was now =
     subst (λ (m : List ℕ). Got (handed_to e (Some step) (found cells step)).got (slice_get m word)) (words_then cells step) (stores.got_handed e new word value (found cells step) writes cells.words held now step l unfreed was (is_loaded cells e step t l))
 
 module _ {P : Type 0} {rules : Rules P} {cells : Cells} {r : Rows} {old : Actor P} {call : Call} {what : Next} {cells' : Cells} {new : Core} (m : IsStepping rules cells r old call what cells' new)
-    (base : List ℕ) (held : old.engine.irrevocable ≡ true → (row : Attempt) → active_of old.thread r.active ≡ Some row → IsHeld (bytes_at base r.ended (cells.clock / 2)) cells.words row old.engine) where
+    (deepest : ℕ) (base : List ℕ) (held : old.engine.irrevocable ≡ true → (row : Attempt) → active_of old.thread r.active ≡ Some row → IsHeld deepest (bytes_at deepest base r.ended (cells.clock / 2)) cells.words row old.engine) where
   was : (mid_step m).irrevocable ≡ true → old.engine.irrevocable ≡ true
   was i = sym (same m).irrevocable ∙ i
 
   in_call : old.engine.irrevocable ≡ true → (row : Attempt) → active_of old.thread r.active ≡ Some row
-      → (leaves old.engine cells.words ≡ after MAX_OPEN_BLOCKS (alone MAX_OPEN_BLOCKS (bytes_at base r.ended (cells.clock / 2)) row) call) × (answers old.engine cells.words ≡ reply MAX_OPEN_BLOCKS (alone MAX_OPEN_BLOCKS (bytes_at base r.ended (cells.clock / 2)) row) call)
+      → (leaves old.engine cells.words ≡ after deepest (alone deepest (bytes_at deepest base r.ended (cells.clock / 2)) row) call) × (answers old.engine cells.words ≡ reply deepest (alone deepest (bytes_at deepest base r.ended (cells.clock / 2)) row) call)
   in_call i row f =
       let w = waits m in
-      subst (λ (o : Option Call). StandsIn (Some m.step) o old.engine cells.words (alone MAX_OPEN_BLOCKS (bytes_at base r.ended (cells.clock / 2)) row)) w.doing
-      (subst (λ (o : Option Step). StandsIn o old.engine.doing old.engine cells.words (alone MAX_OPEN_BLOCKS (bytes_at base r.ended (cells.clock / 2)) row)) w.waits (held i row f).stands)
+      subst (λ (o : Option Call). StandsIn deepest (Some m.step) o old.engine cells.words (alone deepest (bytes_at deepest base r.ended (cells.clock / 2)) row)) w.doing
+      (subst (λ (o : Option Step). StandsIn deepest o old.engine.doing old.engine cells.words (alone deepest (bytes_at deepest base r.ended (cells.clock / 2)) row)) w.waits (held i row f).stands)
 
   comes_to : old.engine.irrevocable ≡ true → (row : Attempt) → active_of old.thread r.active ≡ Some row
-      → ComesTo (after MAX_OPEN_BLOCKS (alone MAX_OPEN_BLOCKS (bytes_at base r.ended (cells.clock / 2)) row) call) (reply MAX_OPEN_BLOCKS (alone MAX_OPEN_BLOCKS (bytes_at base r.ended (cells.clock / 2)) row) call) what new cells'.words
+      → ComesTo (after deepest (alone deepest (bytes_at deepest base r.ended (cells.clock / 2)) row) call) (reply deepest (alone deepest (bytes_at deepest base r.ended (cells.clock / 2)) row) call) what new cells'.words
   comes_to i row f =
       let w = waits m in
       let h = held i row f in
@@ -85,8 +85,8 @@ module _ {P : Type 0} {rules : Rules P} {cells : Cells} {r : Rows} {old : Actor 
       let there = subst (λ (o : Option Step). IsFound old.engine o (found cells m.step) cells.words) (sym w.waits)
       (is_found old.engine m.step (found cells m.step) cells.words (is_loaded cells old.engine m.step m.sound.tied w.lawful) (λ word value e. h.got word value (w.waits ∙ ap (λ (s : Step). Some s) e))) in
       let words : memory_after old.engine.waits cells.words ≡ cells'.words = ap (λ (o : Option Step). memory_after o cells.words) w.waits ∙ (words_then cells m.step ∙ ap (λ (c : Cells). c.words) (sym m.cells_are)) in
-      subst (λ (x : List ℕ). ComesTo (after MAX_OPEN_BLOCKS (alone MAX_OPEN_BLOCKS (bytes_at base r.ended (cells.clock / 2)) row) call) (reply MAX_OPEN_BLOCKS (alone MAX_OPEN_BLOCKS (bytes_at base r.ended (cells.clock / 2)) row) call) what new x) words
-      (subst (λ (x : Replied). ComesTo (after MAX_OPEN_BLOCKS (alone MAX_OPEN_BLOCKS (bytes_at base r.ended (cells.clock / 2)) row) call) x what new (memory_after old.engine.waits cells.words)) pair.1
+      subst (λ (x : List ℕ). ComesTo (after deepest (alone deepest (bytes_at deepest base r.ended (cells.clock / 2)) row) call) (reply deepest (alone deepest (bytes_at deepest base r.ended (cells.clock / 2)) row) call) what new x) words
+      (subst (λ (x : Replied). ComesTo (after deepest (alone deepest (bytes_at deepest base r.ended (cells.clock / 2)) row) call) x what new (memory_after old.engine.waits cells.words)) pair.1
       (subst (λ (x : State). ComesTo x (answers old.engine cells.words) what new (memory_after old.engine.waits cells.words)) pair.0
       (m.resumed.held i cells.words (sym m.sound.tied.words, m.sound.tied.fit) there)))
 
@@ -101,7 +101,7 @@ module _ {P : Type 0} {rules : Rules P} {cells : Cells} {r : Rows} {old : Actor 
       (subst (λ (c : Cells). Got (mid_step m).got (slice_get c.words word)) (sym m.cells_are)
       (got_handed cells old.engine new word value writes m.sound.tied m.step w.lawful (m.sound.tied.settled.irrevocable i).0 g.unfreed (sym w.asks ∙ w.waits) asks))
 
-  pub step_held : HasHeld base cells cells' r old.thread (mid_step m) new call what
+  pub step_held : HasHeld deepest base cells cells' r old.thread (mid_step m) new call what
   step_held = record {
     still_open = λ i row f. (held (was i) row f).still_open;
     mode = λ i row f. (held (was i) row f).mode;

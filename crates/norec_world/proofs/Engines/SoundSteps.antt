@@ -156,7 +156,7 @@ module _ {P : Type 0} {rules : Rules P} {cells : Cells} {r : Rows} {old : Actor 
 
   -- nor does it want more or less room
   same_wants : wanted (handed_to old.engine (Some m.step) (found cells m.step)) ≡ wanted old.engine
-  same_wants = wanted_same (handed_to old.engine (Some m.step) (found cells m.step)) old.engine same.blocks same.irrevocable same.doing
+  same_wants = wanted_same (handed_to old.engine (Some m.step) (found cells m.step)) old.engine same.depth same.blocks same.irrevocable same.doing
 
   pub step_taken : (status : Status) → status ≡ Ready → HasTaken rules (in_transaction old.engine) cells cells' r (handed_to old.engine (Some m.step) (found cells m.step)) (record old { engine = new; status = status }) call what
   step_taken status ready =
@@ -194,7 +194,7 @@ module _ {P : Type 0} {rules : Rules P} {cells : Cells} {r : Rows} {old : Actor 
       gave_acting r (record old { engine = new; status = status }) (handed_to old.engine (Some m.step) (found cells m.step)) call (in_transaction old.engine) inside m.sound.kept.row (same.doing ∙ waits.doing)
       (record { end_room = acts.empty.end_room; cancel_room = acts.empty.cancel_room }) (λ row e. acts.all row e ∙ ap (λ (x : _). x.ran) (sym same_actions))
       (λ row e. (let p = acts.places row e in let n = registers_none call plain.1 in let t = ap total same_actions in omega arith)) (λ row e abort. absurd (let both : false ≡ true = sym plain.0 ∙ abort in cc)) acts.pending
-      (same_room old.engine (handed_to old.engine (Some m.step) (found cells m.step)) old (sym same.blocks) (sym same.irrevocable) (sym same.doing) (sym same.room) (sym same.actions) acts.room)
+      (same_room old.engine (handed_to old.engine (Some m.step) (found cells m.step)) old (sym same.depth) (sym same.blocks) (sym same.irrevocable) (sym same.doing) (sym same.room) (sym same.actions) acts.room)
       (λ row e. (let few = acts.backed row e in let n = promised_same (handed_to old.engine (Some m.step) (found cells m.step)) old.engine same.irrevocable same.room in omega arith))
       (λ o. asks.ahead (sym inside ∙ o) ∙ sym same_wants) (λ row e. asks.pending row e ∙ sym same_wants) (let k = asks.backed in let n = same.room in let l = same_wants in omega arith) m.resumed.settled what went (λ shut. (let none = (m.sound.tied.settled.closed (sym inside ∙ shut)) in (ap (λ (x : _). x.commits) same_actions ∙ none.2, ap (λ (x : _). x.undos) same_actions ∙ none.3))) (λ step e. plain)
 
@@ -204,7 +204,7 @@ module _ {P : Type 0} {rules : Rules P} {cells : Cells} {r : Rows} {old : Actor 
       let taken = subst (λ (c : Cells). HoldsOn cells old.engine c mid_step) (sym m.cells_are) (holds_handed cells old.engine m.step m.sound.tied waits.lawful) in
       let kept = limit_same mid_step new what went in
       clocks_twice cells cells' cells' old.engine mid_step last (clocks_of cells cells' old.engine mid_step taken (λ h. (let held = is_mid.holder h in let even = is_mid.even h in omega arith)))
-      (clocks_still cells' mid_step last (ap (λ (c : Core). c.holds) is ∙ (clock_same mid_step new what went).2) (ap (λ (c : Core). c.clock) is ∙ (clock_same mid_step new what went).1) (ap (λ (c : Core). c.max_commits) is ∙ kept.0, ap (λ (c : Core). c.patience) is ∙ kept.1))
+      (clocks_still cells' mid_step last (ap (λ (c : Core). c.holds) is ∙ (clock_same mid_step new what went).2) (ap (λ (c : Core). c.clock) is ∙ (clock_same mid_step new what went).1) (ap (λ (c : Core). c.max_commits) is ∙ kept.0, ap (λ (c : Core). c.patience) is ∙ kept.1, ap (λ (c : Core). c.depth) is ∙ kept.2))
 
   -- the value came to the engine, and what came of it was taken up
   pub takes_in : (status : Status) → status ≡ Ready → {rows r' : Rows} {last : Actor P} → last.engine ≡ new → Tells rules (in_transaction old.engine) r rows (record old { engine = new; status = status }) last call what

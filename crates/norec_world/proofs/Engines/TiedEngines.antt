@@ -104,9 +104,9 @@ module _ (cells : Cells) (e new : Core) (t : IsTied cells e) (settled : IsSettle
 -- ## Who holds the clock
 
 -- how many writers may commit stays, and the patience
-pub limit_same : (mid new : Core) (what : Next) → Proceeds mid what new → (new.max_commits ≡ mid.max_commits) × (new.patience ≡ mid.patience)
-limit_same mid new (Asks step) g = (ap (λ (c : Core). c.max_commits) g.stays, ap (λ (c : Core). c.patience) g.stays)
-limit_same mid new (Answers a) g = (let r = rests mid new a g in (r.max_commits, r.patience))
+pub limit_same : (mid new : Core) (what : Next) → Proceeds mid what new → (new.max_commits ≡ mid.max_commits) × (new.patience ≡ mid.patience) × (new.depth ≡ mid.depth)
+limit_same mid new (Asks step) g = (ap (λ (c : Core). c.max_commits) g.stays, ap (λ (c : Core). c.patience) g.stays, ap (λ (c : Core). c.depth) g.stays)
+limit_same mid new (Answers a) g = (let r = rests mid new a g in (r.max_commits, r.patience, r.depth))
 
 -- giving up leaves the snapshot
 pub snapshot_still : (e new : Core) → new ≡ after_undoing e → new.snapshot ≡ e.snapshot
@@ -121,8 +121,8 @@ log_of_none : (words : ℕ) → IsLog words []
 log_of_none words = record { within = tt; single = tt; fit = tt }
 
 -- an engine that has begun nothing
-pub opening_settled : (words : ℕ) (arena : List ℕ) (patience max_commits : ℕ) → max_commits ≤ MAX_COMMITS → IsSettled (opening words arena patience max_commits)
-opening_settled words arena patience max_commits few = record {
+pub opening_settled : (words : ℕ) (arena : List ℕ) (patience max_commits depth : ℕ) → max_commits ≤ MAX_COMMITS → 0 < depth → IsSettled (opening words arena patience max_commits depth)
+opening_settled words arena patience max_commits depth few some = record {
   closed = λ o. (refl, refl, refl, refl);
   reached = omega arith;
   logged = log_of_none words;
@@ -132,6 +132,7 @@ opening_settled words arena patience max_commits few = record {
   even = refl;
   holder = λ h. absurd (cc);
   limit = few;
+  deep = some;
   irrevocable = λ i. absurd (cc);
 }
 
@@ -166,6 +167,7 @@ tied_undone cells e new is unregistered t = by_holds e.holds refl
             even = ap (λ (n : ℕ). n % 2) snapshot ∙ s.even;
             holder = λ h. absurd (both_ways new.holds lost h);
             limit = (let l = s.limit in omega arith);
+            deep = subst (λ (d : ℕ). 0 < d) (sym (ap (λ (c : Core). c.depth) same)) s.deep;
             irrevocable = λ i. absurd (both_ways new.irrevocable revocable i);
           };
         }
@@ -180,7 +182,7 @@ taken_capped false clock from to max_commits even few up l = l
 
 -- one that neither takes nor frees it
 holds_still : (cells cells' : Cells) (e e' : Core) → e'.holds ≡ e.holds → (e.holds ≡ false → cells' ≡ cells) → cells'.clock ≡ cells.clock → length cells'.words ≡ length cells.words
-    → (e'.max_commits ≡ e.max_commits) × (e'.patience ≡ e.patience) → ((e.holds ≡ false → e.clock ≡ cells.clock) → e'.holds ≡ false → e'.clock ≡ cells'.clock) → HoldsOn cells e cells' e'
+    → (e'.max_commits ≡ e.max_commits) × (e'.patience ≡ e.patience) × (e'.depth ≡ e.depth) → ((e.holds ≡ false → e.clock ≡ cells.clock) → e'.holds ≡ false → e'.clock ≡ cells'.clock) → HoldsOn cells e cells' e'
 holds_still cells cells' e e' same leaves clock long limit seen = record {
   takes = λ f h. absurd (both_ways e.holds f (sym same ∙ h));
   frees = λ h f. absurd (both_ways e.holds (sym same ∙ f) h);
@@ -195,17 +197,17 @@ holds_still cells cells' e e' same leaves clock long limit seen = record {
 
 -- the step's value came
 pub holds_handed : (cells : Cells) (e : Core) (step : Step) → IsTied cells e → IsLawful e step → HoldsOn cells e (cells_after cells step) (handed_to e (Some step) (found cells step))
-holds_handed cells e (Load zero) t l = holds_still cells cells e _ refl (λ f. refl) refl refl (refl, refl) (λ s f. refl)
+holds_handed cells e (Load zero) t l = holds_still cells cells e _ refl (λ f. refl) refl refl (refl, refl, refl) (λ s f. refl)
 holds_handed cells e (Load (suc word)) t l =
     let k = kept e.holds in
     holds_still cells cells e (word_loaded e e.holds word (slice_index cells.words word)) k.0 (λ f. refl) refl refl k.1 (λ s f. k.2 ∙ s (sym k.0 ∙ f))
   where
     kept : (h : Bool) → ((word_loaded e h word (slice_index cells.words word)).holds ≡ e.holds)
-        × (((word_loaded e h word (slice_index cells.words word)).max_commits ≡ e.max_commits) × ((word_loaded e h word (slice_index cells.words word)).patience ≡ e.patience))
+        × (((word_loaded e h word (slice_index cells.words word)).max_commits ≡ e.max_commits) × ((word_loaded e h word (slice_index cells.words word)).patience ≡ e.patience) × ((word_loaded e h word (slice_index cells.words word)).depth ≡ e.depth))
         × ((word_loaded e h word (slice_index cells.words word)).clock ≡ e.clock)
-    kept true = (refl, (refl, refl), refl)
-    kept false = (refl, (refl, refl), refl)
-holds_handed cells e (Store (suc word) value) t l = holds_still cells _ e _ refl (λ f. absurd (both_ways e.holds f l.1)) refl (length-set cells.words word value) (refl, refl) (λ s f. absurd (both_ways e.holds f l.1))
+    kept true = (refl, (refl, refl, refl), refl)
+    kept false = (refl, (refl, refl, refl), refl)
+holds_handed cells e (Store (suc word) value) t l = holds_still cells _ e _ refl (λ f. absurd (both_ways e.holds f l.1)) refl (length-set cells.words word value) (refl, refl, refl) (λ s f. absurd (both_ways e.holds f l.1))
 holds_handed cells e (Store zero value) t l =
     let even = held_even e t.settled l.1 in
     let held = t.holder l.1 in
@@ -217,7 +219,7 @@ holds_handed cells e (Store zero value) t l =
       leaves = λ f k. absurd (both_ways e.holds f l.1);
       late = (let k : cells.clock ≤ value = omega arith in k);
       long = refl;
-      limit = (refl, refl);
+      limit = (refl, refl, refl);
       capped = λ m. (let few = held_below e t.settled l.1 in omega arith);
       seen = λ s f. refl;
     }
@@ -228,7 +230,7 @@ holds_handed cells e (Cas cell from to) t l = record {
   leaves = λ f k. ap (λ (b : Bool). record cells { clock = if b then to else cells.clock }) k;
   late = taken_late cells e e t t.settled (cells.clock == from) cells.clock from to (λ y. eqb-true cells.clock from y) l.6;
   long = refl;
-  limit = (refl, refl);
+  limit = (refl, refl, refl);
   capped = taken_capped (cells.clock == from) cells.clock from to e.max_commits l.4 l.5 l.6;
   seen = λ s f. sym (ap (λ (b : Bool). if b then to else cells.clock) f);
 }

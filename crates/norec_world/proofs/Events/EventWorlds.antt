@@ -23,8 +23,8 @@ module _ {P : Type 0} {rules : Rules P} {cells cells' : Cells} {r r1 r2 : Rows} 
   event_clocks : ClocksOn cells a.engine cells' a2.engine
   event_clocks = clocks_twice cells cells' cells' a.engine a1.engine a2.engine x.clocks (clocks_still cells' a1.engine a2.engine y.holds y.clock y.limit)
 
-  event_then : (base : List ℕ) → HasRead base r1 a1 → (event : IsEvent rules cells r a cells' r2 a2) × HasRead base event.rows event.stepped
-  event_then base read = (
+  event_then : (deepest : ℕ) (base : List ℕ) → HasRead deepest base r1 a1 → (event : IsEvent rules cells r a cells' r2 a2) × HasRead deepest base event.rows event.stepped
+  event_then deepest base read = (
     record {
       rows = r1;
       stepped = a1;
@@ -58,15 +58,15 @@ module _ {P : Type 0} {rules : Rules P} (laws : Obeys rules) (w : World P) (kept
   abbrev after : World P
   after = record w { cells = cells'; actors = slice_set w.actors i a2; attempts = r2; events = events }
 
-  event : (e : IsEvent rules w.cells w.attempts got cells' r2 a2) × HasRead w.base e.rows e.stepped
-  event = event_then x y w.base (has_read rules laws w kept i got a1 here cells' r1 events x.others x.clocks x.runs x.sound.tied)
+  event : (e : IsEvent rules w.cells w.attempts got cells' r2 a2) × HasRead w.depth w.base e.rows e.stepped
+  event = event_then x y w.depth w.base (has_read rules laws w kept i got a1 here cells' r1 events x.others x.clocks x.runs x.sound.tied)
 
   pub world_after : IsWorld rules (record w { cells = cells'; actors = slice_set w.actors i a2; attempts = r2; events = events })
   world_after =
       let actors = actors_after rules w.cells cells' w.attempts r2 w.actors kept.actors i got a2 here y.sound done (event_others x y) (event_clocks x y) in
       let commits = commits_after rules w kept.commits i got a2 here cells' r2 events event.0 in
       let running = running_after rules laws w kept i got a2 here cells' r2 events (event_others x y) (event_clocks x y)
-      (λ first base laid runs. (let z = x.runs first base laid runs in y.runs first base z.0 z.1)) in
+      (λ first deepest base laid runs. (let z = x.runs first deepest base laid runs in y.runs first deepest base z.0 z.1)) in
       record {
         actors = actors;
         long = length-set w.actors i a2 ∙ kept.long;
@@ -83,4 +83,4 @@ module _ {P : Type 0} {rules : Rules P} (laws : Obeys rules) (w : World P) (kept
       (λ a is.
       (let same : got ≡ a = (let found : Some got ≡ Some a = sym here ∙ is in cc) in
       subst (λ (z : Actor P). ActorGoes rules i w z after) same (a2, refl, event.0, done, event.1)))
-      kept'.commits (world_opaque rules laws after kept') (world_tied rules laws after kept') (record { opening = refl; base = refl; arena = refl; patience = refl; max_commits = refl; retries = refl }) (length-set w.actors i a2)
+      kept'.commits (world_opaque rules laws after kept') (world_tied rules laws after kept') (record { opening = refl; base = refl; arena = refl; patience = refl; max_commits = refl; retries = refl; depth = refl }) (length-set w.actors i a2)

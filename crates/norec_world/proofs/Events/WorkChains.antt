@@ -7,7 +7,7 @@ use Rattle.norec_world.proofs.Commits.CommitCounts.{counted_after}
 use Rattle.norec_world.proofs.Events.Measures.{less_less}
 use Rattle.norec_world.proofs.Events.LocalWork.{works_both}
 use Rattle.norec_world.proofs.Attempts.OthersAttempts.{others_same, others_twice}
-use Rattle.norec_world.proofs.Runs.Calls.{call_runs, finish_runs, laid_calls, starve_runs}
+use Rattle.norec_world.proofs.Runs.Calls.{call_runs, finish_runs, laid_calls, starve_runs, still_at}
 use Rattle.norec_world.proofs.Engines.SoundSteps.{IsCalling, call_less, call_taken, ended_same, mid, rests, same_rank}
 use Rattle.norec_world.proofs.Engines.Intakes.{now, ready_of, recorded, still_going}
 use Rattle.norec_world.proofs.Engines.TiedEngines.{clock_same, limit_same, snapshot_still}
@@ -34,11 +34,11 @@ module _ {P : Type 0} {rules : Rules P} (laws : Obeys rules) {cells : Cells} {r0
     sound = record { tied = sound.tied; acts = (let x = sound.acts in record { empty = record { end_room = x.empty.end_room; cancel_room = x.empty.cancel_room }; all = x.all; places = x.places; pending = x.pending; status = tt; room = x.room; backed = x.backed; asks = tt }); kept = (let k = sound.kept in record { row = k.row; empty = k.empty; tried = k.tried; tries = k.tries; retries = k.retries }); status = (rests sound ready).idle };
     works = one_act r0 (record old { status = Ended Finished }) (finishes (record { none = none; actor = refl; rows = refl }));
     tries = λ w. finish_tries rules cells r0 old sound ready (record old { status = Ended Finished }) refl;
-    runs = λ first base laid runs. (laid, finish_runs sound ready first base runs);
+    runs = λ first deepest base laid runs. (laid, finish_runs sound ready first deepest base runs);
     others = others_same old (record old { status = Ended Finished }) r0 r0 refl refl refl refl (let l : r0.room ≤ r0.room = omega arith in l);
     holds = refl;
     clock = refl;
-    limit = (refl, refl);
+    limit = (refl, refl, refl);
     snapshot = refl;
     retries = refl;
     finishes = λ w e. none;
@@ -48,7 +48,7 @@ module _ {P : Type 0} {rules : Rules P} (laws : Obeys rules) {cells : Cells} {r0
 
   -- memory was refused to it
   pub starve_worked : (r1 : Rows) (last : Actor P) → IsSound rules cells r1 last → Starves rules r0 old r1 last → KeepsOthers old r0 last r1 → (old.engine.irrevocable ≡ false → in_transaction last.engine ≡ false) → last.engine.holds ≡ old.engine.holds
-      → (last.engine.max_commits ≡ old.engine.max_commits) × (last.engine.patience ≡ old.engine.patience) → HasWorked rules cells r0 old r1 last
+      → (last.engine.max_commits ≡ old.engine.max_commits) × (last.engine.patience ≡ old.engine.patience) × (last.engine.depth ≡ old.engine.depth) → HasWorked rules cells r0 old r1 last
   starve_worked r1 last sound' s others closed holds limit =
       let tries = starve_tries rules cells r0 old sound ready r1 last s (λ revocable. subst (λ (b : Bool). HasRow b r1 last.thread) (closed revocable) sound'.kept.row) in
       let own = others.own in
@@ -56,10 +56,10 @@ module _ {P : Type 0} {rules : Rules P} (laws : Obeys rules) {cells : Cells} {r0
         sound = sound';
         works = one_act r1 last (starves s);
         tries = λ w. tries;
-        runs = λ first base laid runs. (
-          laid_calls base cells r0 r1 laid own.more own.ended (counted_after cells.clock cells.clock (prior_of r0 old) r1 last tries laid.counted),
+        runs = still_at rules cells r0 old cells r1 last old.engine.depth refl (λ first base laid runs. (
+          laid_calls old.engine.depth base cells r0 r1 laid own.more own.ended (counted_after cells.clock cells.clock (prior_of r0 old) r1 last tries laid.counted),
           starve_runs laws sound s first base laid runs (rests sound ready).free (rests sound ready).nested own.more own.ended,
-        );
+        ));
         others = others;
         holds = holds;
         clock = clock_still old.engine last.engine s.engine;
@@ -103,11 +103,12 @@ module _ {P : Type 0} {rules : Rules P} (laws : Obeys rules) {cells : Cells} {r0
           same = record { thread = x.thread ∙ m.asked.same.thread; retries = x.retries ∙ m.asked.same.retries; nothing = λ e. (rests (x.sound acts) e).nothing };
         }));
         tries = λ w. tries;
-        runs = λ first base laid runs. call_runs laws m first base laid runs r1 last done tells own.more (own.ended ∙ ap (λ (l : List Attempt). l ++ own.more) (sym (ended_same m))) (counted_after cells.clock cells.clock (prior_of r0 old) r1 last tries laid.counted);
+        runs = still_at rules cells r0 old cells r1 last old.engine.depth refl (λ first base laid runs.
+            call_runs laws m first base laid runs r1 last done tells own.more (own.ended ∙ ap (λ (l : List Attempt). l ++ own.more) (sym (ended_same m))) (counted_after cells.clock cells.clock (prior_of r0 old) r1 last tries laid.counted));
         others = others;
         holds = ap (λ (c : Core). c.holds) x.engine ∙ (clock_same (mid m) a.engine what m.asks.called.proceeds).2;
         clock = ap (λ (c : Core). c.clock) x.engine ∙ (clock_same (mid m) a.engine what m.asks.called.proceeds).1;
-        limit = (ap (λ (c : Core). c.max_commits) x.engine ∙ kept.0, ap (λ (c : Core). c.patience) x.engine ∙ kept.1);
+        limit = (ap (λ (c : Core). c.max_commits) x.engine ∙ kept.0, ap (λ (c : Core). c.patience) x.engine ∙ kept.1, ap (λ (c : Core). c.depth) x.engine ∙ kept.2);
         snapshot = ap (λ (c : Core). c.snapshot) x.engine ∙ m.asked.called.stays.snapshot;
         retries = x.retries ∙ m.asked.same.retries;
         finishes = λ w e. absurd (recorded (λ x y. ending_of y.status ≡ Some Finished → ⊥) taken done tells (λ step t e. absurd (cc)) (λ answer is t. not_finished rules r r1 a last call (in_transaction old.engine) taken.ready answer t.told) e);
@@ -124,11 +125,11 @@ module _ {P : Type 0} {rules : Rules P} {cells : Cells} {r : Rows} {a : Actor P}
     sound = sound;
     works = (0, (refl, refl));
     tries = λ w. tries_still rules cells r a sound (ready_of a.status w);
-    runs = λ first base laid runs. (laid, runs);
+    runs = λ first deepest base laid runs. (laid, runs);
     others = others_same a a r r refl refl refl refl (let l : r.room ≤ r.room = omega arith in l);
     holds = refl;
     clock = refl;
-    limit = (refl, refl);
+    limit = (refl, refl, refl);
     snapshot = refl;
     retries = refl;
     finishes = λ w. still_going (ready_of a.status w);
@@ -143,11 +144,11 @@ module _ {P : Type 0} {rules : Rules P} {cells : Cells} {r : Rows} {a : Actor P}
         sound = y.sound;
         works = works_both rules cells.clock r r1 r2 a a1 a2 x.works y.works;
         tries = λ w. tries_then cells.clock cells.clock (prior_of r a) r1 r2 a1 a2 ready (rests x.sound ready).nothing x.limit.0 x.retries y.snapshot (y.tries ready_1) (x.tries w);
-        runs = λ first base laid runs. (let z = x.runs first base laid runs in y.runs first base z.0 z.1);
+        runs = λ first deepest base laid runs. (let z = x.runs first deepest base laid runs in y.runs first deepest base z.0 z.1);
         others = others_twice a a1 a2 r r1 r2 x.others y.others;
         holds = y.holds ∙ x.holds;
         clock = y.clock ∙ x.clock;
-        limit = (y.limit.0 ∙ x.limit.0, y.limit.1 ∙ x.limit.1);
+        limit = (y.limit.0 ∙ x.limit.0, y.limit.1 ∙ x.limit.1, y.limit.2 ∙ x.limit.2);
         snapshot = y.snapshot ∙ x.snapshot;
         retries = y.retries ∙ x.retries;
         finishes = λ w. y.finishes ready_1;

@@ -84,7 +84,7 @@ module _ {P : Type 0} (rules : Rules P) (w : World P) (i : ℕ)
     commits = commits;
     opaque = opaque;
     tied = tied;
-    opening = record { opening = refl; base = refl; arena = refl; patience = refl; max_commits = refl; retries = refl };
+    opening = record { opening = refl; base = refl; arena = refl; patience = refl; max_commits = refl; retries = refl; depth = refl };
     actors = refl;
   }
 
@@ -178,7 +178,7 @@ at_place_is {A} f xs place x e = ap (λ (o : Option A). option_map_or f o 0) e
 -- ## Worlds
 
 pub opening_same : {P : Type 0} (w : World P) → SameOpening w w
-opening_same w = record { opening = refl; base = refl; arena = refl; patience = refl; max_commits = refl; retries = refl }
+opening_same w = record { opening = refl; base = refl; arena = refl; patience = refl; max_commits = refl; retries = refl; depth = refl }
 
 pub opening_both : {P : Type 0} (a b c : World P) → SameOpening a b → SameOpening b c → SameOpening a c
 opening_both a b c f g = record {
@@ -187,6 +187,7 @@ opening_both a b c f g = record {
   arena = g.arena ∙ f.arena;
   patience = g.patience ∙ f.patience;
   max_commits = g.max_commits ∙ f.max_commits;
+  depth = g.depth ∙ f.depth;
   retries = g.retries ∙ f.retries;
 }
 

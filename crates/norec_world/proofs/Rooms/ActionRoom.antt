@@ -54,7 +54,7 @@ module _ {P : Type 0} (r : Rows) (a : Actor P) (mid : Core) (call : Call) (was :
         places = λ row e. (let p = places row e in let n = ap total same in omega arith);
         pending = pending;
         status = other;
-        room = same_room mid a.engine a (sym (ap (λ (c : Core). c.blocks) g.stays)) (sym (ap (λ (c : Core). c.irrevocable) g.stays)) (sym (ap (λ (c : Core). c.doing) g.stays)) (sym (ap (λ (c : Core). c.room) g.stays)) (sym same) room;
+        room = same_room mid a.engine a (sym (ap (λ (c : Core). c.depth) g.stays)) (sym (ap (λ (c : Core). c.blocks) g.stays)) (sym (ap (λ (c : Core). c.irrevocable) g.stays)) (sym (ap (λ (c : Core). c.doing) g.stays)) (sym (ap (λ (c : Core). c.room) g.stays)) (sym same) room;
         backed = λ row e. (let few = backed row e in let n = promised_same a.engine mid (ap (λ (c : Core). c.irrevocable) g.stays) (ap (λ (c : Core). c.room) g.stays) in omega arith);
         asks = record {
           ahead = λ o. ahead (sym (ap in_transaction g.stays) ∙ o) ∙ sym (wanted_on g);
@@ -64,7 +64,7 @@ module _ {P : Type 0} (r : Rows) (a : Actor P) (mid : Core) (call : Call) (was :
       }
     where
       wanted_on : AsksFor mid step a.engine → wanted a.engine ≡ wanted mid
-      wanted_on g = wanted_same a.engine mid (ap (λ (c : Core). c.blocks) g.stays) (ap (λ (c : Core). c.irrevocable) g.stays) (ap (λ (c : Core). c.doing) g.stays)
+      wanted_on g = wanted_same a.engine mid (ap (λ (c : Core). c.depth) g.stays) (ap (λ (c : Core). c.blocks) g.stays) (ap (λ (c : Core). c.irrevocable) g.stays) (ap (λ (c : Core). c.doing) g.stays)
 
   module _ (answer : Answer) (g : Ends mid answer a.engine) (shut : in_transaction mid ≡ false → (mid.actions.commits ≡ []) × (mid.actions.undos ≡ [])) where
     acts : LeavesActions mid call a.engine

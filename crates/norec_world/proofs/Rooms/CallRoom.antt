@@ -15,7 +15,7 @@ use Rattle.norec_world.specs.ActionRoom.{IsBacked, goes_in, promised, wanted}
 use Rattle.norec_world.specs.LocalWork.{IsShort}
 use Rattle.norec_world.proofs.Engines.HeldCalls.{both_true, no_true, stands_mode, told_under}
 use Rattle.norec_world.proofs.Rooms.HeldRoom.{goes_in_same, goes_no_more, goes_same}
-use Rattle.norec_world.proofs.Common.{Actor, Answer, Attempt, Call, Core, Done, Ends, IsMemory, MAX_OPEN_BLOCKS, Replied, Reply, Rows, State, active_of, after, in_transaction, is_open, outside, refusal, reply_cases, rests, stands_for, state_over}
+use Rattle.norec_world.proofs.Common.{Actor, Answer, Attempt, Call, Core, Done, Ends, IsMemory, Replied, Reply, Rows, State, active_of, after, in_transaction, is_open, outside, refusal, reply_cases, rests, stands_for, state_over}
 
 -- ## A call that makes a transaction irrevocable is answered in one that is
 
@@ -37,20 +37,20 @@ begun_irrevocable s props room goes = by_place (is_open s)
     by_place false = so (outside s.memory s.arena)
 
 module _ (mid : Core) (m : List ℕ) (revocable : mid.irrevocable ≡ false) where
-  over : (call : Call) → (after MAX_OPEN_BLOCKS (state_over mid.writes mid.blocks mid.arena mid.actions m) call).irrevocable ≡ true → (after MAX_OPEN_BLOCKS (stands_for mid m) call).irrevocable ≡ true
-  over call e = ap (λ (b : Bool). (after MAX_OPEN_BLOCKS (state_in b mid.writes mid.blocks mid.arena mid.actions m) call).irrevocable) revocable ∙ e
+  over : (call : Call) → (after mid.depth (state_over mid.writes mid.blocks mid.arena mid.actions m) call).irrevocable ≡ true → (after mid.depth (stands_for mid m) call).irrevocable ≡ true
+  over call e = ap (λ (b : Bool). (after mid.depth (state_in b mid.writes mid.blocks mid.arena mid.actions m) call).irrevocable) revocable ∙ e
 
-  makes_irrevocable : (call : Call) → is_some (irrevocable_room mid call) ≡ true → (after MAX_OPEN_BLOCKS (stands_for mid m) call).irrevocable ≡ true
+  makes_irrevocable : (call : Call) → is_some (irrevocable_room mid call) ≡ true → (after mid.depth (stands_for mid m) call).irrevocable ≡ true
   makes_irrevocable (Mode room) w =
       let all = told_under (in_transaction mid && not (stays_revocable mid.blocks) && not mid.irrevocable) room w in
       let two = both_true (in_transaction mid) _ (both_true (in_transaction mid && not (stays_revocable mid.blocks)) _ all).0 in
-      over (Mode room) (ap (λ (s : State). s.irrevocable) (sym (mode_enters mid.writes mid.blocks mid.arena mid.actions m room two.0 (no_true (stays_revocable mid.blocks) two.1)).0))
+      over (Mode room) (ap (λ (s : State). s.irrevocable) (sym (mode_enters mid.depth mid.writes mid.blocks mid.arena mid.actions m room two.0 (no_true (stays_revocable mid.blocks) two.1)).0))
   makes_irrevocable (Begins props room) w =
-      let all = told_under (props.goes_irrevocable && may_go mid.blocks props && nat_lt (length mid.blocks) MAX_OPEN_BLOCKS && not mid.irrevocable) room w in
-      let served = both_true (props.goes_irrevocable && may_go mid.blocks props) _ (both_true (props.goes_irrevocable && may_go mid.blocks props && nat_lt (length mid.blocks) MAX_OPEN_BLOCKS) _ all).0 in
+      let all = told_under (props.goes_irrevocable && may_go mid.blocks props && nat_lt (length mid.blocks) mid.depth && not mid.irrevocable) room w in
+      let served = both_true (props.goes_irrevocable && may_go mid.blocks props) _ (both_true (props.goes_irrevocable && may_go mid.blocks props && nat_lt (length mid.blocks) mid.depth) _ all).0 in
       let may = both_true props.goes_irrevocable _ served.0 in
       let s : State = state_over mid.writes mid.blocks mid.arena mid.actions m in
-      let none : refusal MAX_OPEN_BLOCKS s (Begins props room) ≡ None = begin_served mid.writes mid.blocks mid.arena mid.actions m props room may.1 (ltb-true (length mid.blocks) MAX_OPEN_BLOCKS served.1) in
+      let none : refusal mid.depth s (Begins props room) ≡ None = begin_served mid.depth mid.writes mid.blocks mid.arena mid.actions m props room may.1 (ltb-true (length mid.blocks) mid.depth served.1) in
       over (Begins props room) (ap (λ (why : Option Refusal). (after_unless why s (effect s (Begins props room))).irrevocable) none ∙ begun_irrevocable s props room may.0)
   makes_irrevocable call w = absurd (let f : false ≡ true = w in cc)
 
@@ -140,8 +140,8 @@ module _ (mid new : Core) (call : Call) (answer : Answer) (doing : mid.doing ≡
 pub promised_same : (c d : Core) → c.irrevocable ≡ d.irrevocable → c.room ≡ d.room → promised c ≡ promised d
 promised_same c d h room = λ i. if h i then room i else 0
 
-pub wanted_same : (c d : Core) → c.blocks ≡ d.blocks → c.irrevocable ≡ d.irrevocable → c.doing ≡ d.doing → wanted c ≡ wanted d
-wanted_same c d b h doing = λ i. unwrap_or ((goes_in_same c d c.doing b h ∙ ap (goes_in d) doing) i) 0
+pub wanted_same : (c d : Core) → c.depth ≡ d.depth → c.blocks ≡ d.blocks → c.irrevocable ≡ d.irrevocable → c.doing ≡ d.doing → wanted c ≡ wanted d
+wanted_same c d deep b h doing = λ i. unwrap_or ((goes_in_same c d c.doing deep b h ∙ ap (goes_in d) doing) i) 0
 
 -- as it comes
 pub promised_came : (c : Core) (call : Call) (again : Bool) → promised (came c call again) ≡ promised c
@@ -152,7 +152,7 @@ promised_came c call again = by_mode c.irrevocable refl
     by_mode false e = promised_none (came c call again) e ∙ sym (promised_none c e)
 
 pub wanted_came : (c : Core) (call : Call) (again : Bool) → wanted (came c call again) ≡ unwrap_or (irrevocable_room c call) 0
-wanted_came c call again = ap (λ (o : Option ℕ). unwrap_or o 0) (goes_same (came c call again) c call refl refl)
+wanted_came c call again = ap (λ (o : Option ℕ). unwrap_or o 0) (goes_same (came c call again) c call refl refl refl)
 
 pub backed_came : (c : Core) (call : Call) (again : Bool) → wanted (came c call again) ≤ (came c call again).room
 backed_came c call again = (let asked = wanted_came c call again in let most = by_room (irrevocable_room c call) in omega arith)

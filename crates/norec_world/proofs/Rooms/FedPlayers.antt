@@ -19,7 +19,7 @@ use Rattle.norec_world.proofs.Rooms.CallRoom.{wanted_as, wanted_none}
 use Rattle.norec_world.proofs.Rooms.HeldRoom.{goes_no_more}
 use Rattle.norec_world.proofs.Engines.Intakes.{HasAnswered, HasTaken}
 use Rattle.norec_world.proofs.Attempts.TryEnds.{begun_or_not}
-use Rattle.norec_world.proofs.Common.{Actor, Answer, Asks, Attempt, Begin, Busy, Call, Cells, Code, Commit, Committed, Conflict, Core, Done, Ends, Full, IsMemory, MAX_OPEN_BLOCKS, Props, RecordsReply, Refusal, Replied, Reply, Rows, Rules, State, Step, Waits, active_of, in_transaction, refusal, reply as machine_reply, reply_cases, same_Some, stands_for}
+use Rattle.norec_world.proofs.Common.{Actor, Answer, Asks, Attempt, Begin, Busy, Call, Cells, Code, Commit, Committed, Conflict, Core, Done, Ends, Full, IsMemory, Props, RecordsReply, Refusal, Replied, Reply, Rows, Rules, State, Step, Waits, active_of, in_transaction, refusal, reply as machine_reply, reply_cases, same_Some, stands_for}
 
 -- ## The replies of the plain machine
 
@@ -29,13 +29,13 @@ begin_may props room depth false None = tt
 begin_may props room depth true (Some why) = tt
 begin_may props room depth false (Some why) = tt
 
-commit_done : (s : State) → 0 < length s.blocks → machine_reply MAX_OPEN_BLOCKS s Commit ≡ Done
-commit_done s some = ap (λ (b : Bool). reply_unless (or_else (unless b Outside) None) Done) (lt-ltb 0 (length s.blocks) some)
+commit_done : (deepest : ℕ) (s : State) → 0 < length s.blocks → machine_reply deepest s Commit ≡ Done
+commit_done deepest s some = ap (λ (b : Bool). reply_unless (or_else (unless b Outside) None) Done) (lt-ltb 0 (length s.blocks) some)
 
-machine_may : (s : State) (call : Call) (again : Bool) → MayReply (length s.blocks) call (recoded call again (machine_reply MAX_OPEN_BLOCKS s call))
-machine_may s (Begin props room) again = begin_may props room (length s.blocks) again (refusal MAX_OPEN_BLOCKS s (Begin props room))
-machine_may s Commit again = λ some. commit_done s some
-machine_may s call again = tt
+machine_may : (deepest : ℕ) (s : State) (call : Call) (again : Bool) → MayReply (length s.blocks) call (recoded call again (machine_reply deepest s call))
+machine_may deepest s (Begin props room) again = begin_may props room (length s.blocks) again (refusal deepest s (Begin props room))
+machine_may deepest s Commit again = λ some. commit_done deepest s some
+machine_may deepest s call again = tt
 
 stands_deep : (c : Core) (m : List ℕ) → length (stands_for c m).blocks ≡ length c.blocks
 stands_deep c m = by_mode c.irrevocable
@@ -45,8 +45,8 @@ stands_deep c m = by_mode c.irrevocable
     by_mode false = length-over c.blocks c.arena m
 
 module _ (mid new : Core) (call : Call) (r : Replied) where
-  by_state : (m : List ℕ) (again : Bool) → r ≡ recoded call again (machine_reply MAX_OPEN_BLOCKS (stands_for mid m) call) → MayReply (length mid.blocks) call r
-  by_state m again is = subst (λ (d : ℕ). MayReply d call r) (stands_deep mid m) (subst (MayReply (length (stands_for mid m).blocks) call) (sym is) (machine_may (stands_for mid m) call again))
+  by_state : (m : List ℕ) (again : Bool) → r ≡ recoded call again (machine_reply mid.depth (stands_for mid m) call) → MayReply (length mid.blocks) call r
+  by_state m again is = subst (λ (d : ℕ). MayReply d call r) (stands_deep mid m) (subst (MayReply (length (stands_for mid m).blocks) call) (sym is) (machine_may mid.depth (stands_for mid m) call again))
 
   -- as an engine replies
   pub engine_may : mid.doing ≡ Some call → IsSettled new → Ends mid (Reply r) new → MayReply (length mid.blocks) call r
@@ -57,8 +57,8 @@ module _ (mid new : Core) (call : Call) (r : Replied) where
   ]
     where
       by_call : (c : Call) → r ≡ reply_held mid c → MayReply (length mid.blocks) c r
-      by_call (Begin props room) is = subst (λ (d : ℕ). MayReply d (Begin props room) r) (stands_deep mid (replicate mid.words 0)) (subst (MayReply (length (stands_for mid (replicate mid.words 0)).blocks) (Begin props room)) (sym is) (machine_may (stands_for mid (replicate mid.words 0)) (Begin props room) false))
-      by_call Commit is = subst (λ (d : ℕ). MayReply d Commit r) (stands_deep mid (replicate mid.words 0)) (subst (MayReply (length (stands_for mid (replicate mid.words 0)).blocks) Commit) (sym is) (machine_may (stands_for mid (replicate mid.words 0)) Commit false))
+      by_call (Begin props room) is = subst (λ (d : ℕ). MayReply d (Begin props room) r) (stands_deep mid (replicate mid.words 0)) (subst (MayReply (length (stands_for mid (replicate mid.words 0)).blocks) (Begin props room)) (sym is) (machine_may mid.depth (stands_for mid (replicate mid.words 0)) (Begin props room) false))
+      by_call Commit is = subst (λ (d : ℕ). MayReply d Commit r) (stands_deep mid (replicate mid.words 0)) (subst (MayReply (length (stands_for mid (replicate mid.words 0)).blocks) Commit) (sym is) (machine_may mid.depth (stands_for mid (replicate mid.words 0)) Commit false))
       by_call c is = tt
 
 -- ## Room
@@ -76,7 +76,7 @@ told_going false may few free room some = absurd (cc)
 
 -- a call that makes its transaction irrevocable tells the room that it asks for
 told_as_asked : (c : Core) (call : Call) → IsSome (irrevocable_room c call) → going_room call ≡ Some (unwrap_or (irrevocable_room c call) 0)
-told_as_asked c (Begin props room) some = told_going props.goes_irrevocable (may_go c.blocks props) (nat_lt (length c.blocks) MAX_OPEN_BLOCKS) (not c.irrevocable) room some
+told_as_asked c (Begin props room) some = told_going props.goes_irrevocable (may_go c.blocks props) (nat_lt (length c.blocks) c.depth) (not c.irrevocable) room some
 told_as_asked c (Mode room) some = ap (λ (n : ℕ). Some n) (sym (told_if _ room some))
 told_as_asked c call some = absurd (cc)
 

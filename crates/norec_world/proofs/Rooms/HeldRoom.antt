@@ -14,21 +14,21 @@ use Rattle.norec_core.specs.Proceeds.{IsSettled}
 use Rattle.norec_core.specs.Effects.{actions_after, room_left}
 use Rattle.norec_core.proofs.Replies.ActionCounts.{LeavesActions, registers}
 use Rattle.norec_world.specs.ActionRoom.{HasRoomFor, counted, goes_in, is_held}
-use Rattle.norec_world.proofs.Common.{Actor, Answer, Busy, Call, Code, Committed, Conflict, ConflictsIn, Core, Done, Ends, Enters, Full, MAX_OPEN_BLOCKS, Refused, Replied, RepliesHeld, Reply, State, cases_Bool, in_transaction, refusal, reply_cases, rests, stands_for}
+use Rattle.norec_world.proofs.Common.{Actor, Answer, Busy, Call, Code, Committed, Conflict, ConflictsIn, Core, Done, Ends, Enters, Full, Refused, Replied, RepliesHeld, Reply, State, cases_Bool, in_transaction, refusal, reply_cases, rests, stands_for}
 
 -- ## Whether a transaction is held
 
-pub goes_same : (c d : Core) (call : Call) → c.blocks ≡ d.blocks → c.irrevocable ≡ d.irrevocable → irrevocable_room c call ≡ irrevocable_room d call
-goes_same c d (Begin props room) b h = λ i. irrevocable_room (record c { blocks = b i; irrevocable = h i }) (Begin props room)
-goes_same c d (Mode room) b h = λ i. irrevocable_room (record c { blocks = b i; irrevocable = h i }) (Mode room)
-goes_same c d call b h = refl
+pub goes_same : (c d : Core) (call : Call) → c.depth ≡ d.depth → c.blocks ≡ d.blocks → c.irrevocable ≡ d.irrevocable → irrevocable_room c call ≡ irrevocable_room d call
+goes_same c d (Begin props room) deep b h = λ i. irrevocable_room (record c { depth = deep i; blocks = b i; irrevocable = h i }) (Begin props room)
+goes_same c d (Mode room) deep b h = λ i. irrevocable_room (record c { blocks = b i; irrevocable = h i }) (Mode room)
+goes_same c d call deep b h = refl
 
-pub goes_in_same : (c d : Core) (doing : Option Call) → c.blocks ≡ d.blocks → c.irrevocable ≡ d.irrevocable → goes_in c doing ≡ goes_in d doing
-goes_in_same c d None b h = refl
-goes_in_same c d (Some call) b h = goes_same c d call b h
+pub goes_in_same : (c d : Core) (doing : Option Call) → c.depth ≡ d.depth → c.blocks ≡ d.blocks → c.irrevocable ≡ d.irrevocable → goes_in c doing ≡ goes_in d doing
+goes_in_same c d None deep b h = refl
+goes_in_same c d (Some call) deep b h = goes_same c d call deep b h
 
-pub held_same : (c d : Core) → c.blocks ≡ d.blocks → c.irrevocable ≡ d.irrevocable → c.doing ≡ d.doing → is_held c ≡ is_held d
-held_same c d b h doing = λ i. h i || is_some ((goes_in_same c d c.doing b h ∙ ap (goes_in d) doing) i)
+pub held_same : (c d : Core) → c.depth ≡ d.depth → c.blocks ≡ d.blocks → c.irrevocable ≡ d.irrevocable → c.doing ≡ d.doing → is_held c ≡ is_held d
+held_same c d deep b h doing = λ i. h i || is_some ((goes_in_same c d c.doing deep b h ∙ ap (goes_in d) doing) i)
 
 or_false : (b : Bool) → (b || false) ≡ b
 or_false true = refl
@@ -51,10 +51,10 @@ some_is (Some x) s = refl
 
 -- ## The same room
 
-pub same_room : {P : Type 0} (c d : Core) (a : Actor P) → c.blocks ≡ d.blocks → c.irrevocable ≡ d.irrevocable → c.doing ≡ d.doing → c.room ≡ d.room → c.actions ≡ d.actions → HasRoomFor c a → HasRoomFor d a
-same_room c d a b h doing room acts has = λ held some.
+pub same_room : {P : Type 0} (c d : Core) (a : Actor P) → c.depth ≡ d.depth → c.blocks ≡ d.blocks → c.irrevocable ≡ d.irrevocable → c.doing ≡ d.doing → c.room ≡ d.room → c.actions ≡ d.actions → HasRoomFor c a → HasRoomFor d a
+same_room c d a deep b h doing room acts has = λ held some.
     (let n : counted c ≡ counted d = (λ i. if in_transaction (record c { blocks = b i }) then total (acts i) else 0) in
-    let both = has (held_same c d b h doing ∙ held) (omega arith) in
+    let both = has (held_same c d deep b h doing ∙ held) (omega arith) in
     ((let x = both.0 in omega arith), (let x = both.1 in omega arith)))
 
 -- ## A call comes
@@ -73,7 +73,7 @@ two_off false b room = refl
 -- an irrevocable transaction does not become so
 pub goes_no_more : (c : Core) (call : Call) → c.irrevocable ≡ true → irrevocable_room c call ≡ None
 goes_no_more c (Begin props room) h =
-    (λ i. if props.goes_irrevocable && may_go c.blocks props && nat_lt (length c.blocks) MAX_OPEN_BLOCKS && not (h i) then Some room else None) ∙ three_off props.goes_irrevocable (may_go c.blocks props) (nat_lt (length c.blocks) MAX_OPEN_BLOCKS) room
+    (λ i. if props.goes_irrevocable && may_go c.blocks props && nat_lt (length c.blocks) c.depth && not (h i) then Some room else None) ∙ three_off props.goes_irrevocable (may_go c.blocks props) (nat_lt (length c.blocks) c.depth) room
 goes_no_more c (Mode room) h = (λ i. if in_transaction c && not (stays_revocable c.blocks) && not (h i) then Some room else None) ∙ two_off (in_transaction c) (not (stays_revocable c.blocks)) room
 goes_no_more c call h = refl
 
@@ -90,7 +90,7 @@ came_room c call again a a' has more more' made held some = by_room (irrevocable
         ((let x = both.0 in omega arith), (let x = both.1 in omega arith)))
     by_room None is =
         (let given : unwrap_or (irrevocable_room c call) c.room ≡ c.room = ap (λ (o : Option ℕ). unwrap_or o c.room) is in
-        let none : is_some (irrevocable_room (came c call again) call) ≡ false = ap (is_some {T = ℕ}) (goes_same (came c call again) c call refl refl ∙ is) in
+        let none : is_some (irrevocable_room (came c call again) call) ≡ false = ap (is_some {T = ℕ}) (goes_same (came c call again) c call refl refl refl ∙ is) in
         let was : c.irrevocable ≡ true = sym (or_false c.irrevocable) ∙ (ap (λ (b : Bool). c.irrevocable || b) (sym none) ∙ held) in
         let both = has (held_as c was) (omega arith) in
         ((let x = both.0 in omega arith), (let x = both.1 in omega arith)))
@@ -119,8 +119,8 @@ cancel_refused true true outer = (IsIrrevocable, refl)
 cancel_refused true false outer = (NoAbort, refl)
 cancel_refused false may outer = (Outside, refl)
 
-abort_refused : (s : State) (outer : Bool) → s.irrevocable ≡ true → (why : Refusal) × (refusal MAX_OPEN_BLOCKS s (Abort outer) ≡ Some why)
-abort_refused s outer h =
+abort_refused : (deepest : ℕ) (s : State) (outer : Bool) → s.irrevocable ≡ true → (why : Refusal) × (refusal deepest s (Abort outer) ≡ Some why)
+abort_refused deepest s outer h =
     let may = not (if outer then keeps_any s.blocks else keeps_innermost s.blocks) in
     let x = cancel_refused (is_open s) may outer in
     (x.0, (λ i. or_else (or_else (unless (is_open s) Outside) (or_else (unless may NoAbort) (unless (not (h i)) IsIrrevocable))) None) ∙ x.1)
@@ -130,7 +130,7 @@ abort_runs : (mid new : Core) (outer : Bool) (r : Replied) → RepliesHeld mid (
 abort_runs mid new outer r g =
     let s = stands_for mid (replicate mid.words 0) in
     let held : s.irrevocable ≡ true = ap (λ (b : Bool). (state_in b mid.writes mid.blocks mid.arena mid.actions (replicate mid.words 0)).irrevocable) g.irrevocable in
-    let x = abort_refused s outer held in
+    let x = abort_refused mid.depth s outer held in
     let is : r ≡ Refused x.0 = g.reply_is ∙ ap (λ (o : Option Refusal). reply_unless o (Code 24)) x.1 in
     ap (λ (c : Core). c.actions.ran) g.stays ∙ ap (λ (y : Replied). (actions_after mid (Abort outer) y).ran) is
 

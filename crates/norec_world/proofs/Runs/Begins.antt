@@ -1,7 +1,7 @@
 -- An actor's run between two tries: calls outside a transaction, and begins.
 use Rattle.std.proofs.Common.{◌≡◌, ◌⊎◌, ℕ, suc, ◌/◌, ◌<◌, ◌≤◌, Bool, true, false, List, [], Option, None, Some, refl, sym, true≢false, ap, subst, ◌∙◌, arith, is_some, inl, inr}
 use Rattle.user_actions.specs.Actions.{Actions}
-use Rattle.norec_world.proofs.Common.{Actor, Agrees, Answer, Attempt, Begin, Between, Busy, Call, Cells, Committed, Conflict, ConflictsIn, Core, CountsTry, Enters, Full, IsBeforeTry, IsInTry, IsMemory, IsRun, LeadsTo, MAX_OPEN_BLOCKS, Obeys, Props, Ready, Refusal, Replied, Replies, RepliesHeld, Reply, Row, Rows, Rules, State, active_of, after, alone, backed, begin_of, begins_at, bytes_at, ending_of, in_transaction, inside_all, is_inside, opened, outside, recoded, refusal, reply, reply_cases, same_Some, stands_for, state_over, state_then, with_opened, words_at, breaks_of}
+use Rattle.norec_world.proofs.Common.{Actor, Agrees, Answer, Attempt, Begin, Between, Busy, Call, Cells, Committed, Conflict, ConflictsIn, Core, CountsTry, Enters, Full, IsBeforeTry, IsInTry, IsMemory, IsRun, LeadsTo, Obeys, Props, Ready, Refusal, Replied, Replies, RepliesHeld, Reply, Row, Rows, Rules, State, active_of, after, alone, backed, begin_of, begins_at, bytes_at, ending_of, in_transaction, inside_all, is_inside, opened, outside, recoded, refusal, reply, reply_cases, same_Some, stands_for, state_over, state_then, with_opened, words_at, breaks_of}
 use Rattle.itm_model.specs.Machine.{answer, in_arena, or_else, reply_unless, unless}
 use Rattle.itm_types.specs.declared.call.Refusal.TheVariants.{NoIrrevocable}
 use Rattle.norec_core.specs.Core.{may_go}
@@ -18,52 +18,52 @@ use Rattle.tx_runs.proofs.Tries.{begin_call}
 use Rattle.norec_world.proofs.Attempts.TryEnds.{none_pending, next_try, begun_or_not, plain_reply}
 use Rattle.norec_world.proofs.Commits.SeenMemories.{HasSeen, memory_at, same_at}
 use Rattle.norec_world.proofs.Engines.Intakes.{HasAnswered, half_same, still_going}
-use Rattle.norec_world.proofs.Attempts.OpenTries.{begin_leaves, begin_may, held_served, stands_outside, try_begins, try_begins_held}
+use Rattle.norec_world.proofs.Attempts.OpenTries.{begin_leaves, begin_may, held_served, outermost_refusal, stands_outside, try_begins, try_begins_held}
 use Rattle.norec_world.proofs.Engines.HeldCalls.{stands_arena}
 
 -- a begin that may go is accepted outside a transaction
-pub may_begin : (arena : List ℕ) (props : Props) (room : ℕ) → may_go [] props ≡ true → refusal MAX_OPEN_BLOCKS (outside [] arena) (Begin props room) ≡ None
-may_begin arena props room may = ap (λ (b : Bool). or_else (or_else (unless b NoIrrevocable) None) None) may
+pub may_begin : (deepest : ℕ) (arena : List ℕ) (props : Props) (room : ℕ) → 0 < deepest → may_go [] props ≡ true → refusal deepest (outside [] arena) (Begin props room) ≡ None
+may_begin deepest arena props room deep may = outermost_refusal deepest deep (may_go [] props) ∙ ap (λ (b : Bool). or_else (or_else (unless b NoIrrevocable) None) None) may
 
 module _ {P : Type 0} (rules : Rules P) (laws : Obeys rules) where
-  pub led_before : {n : ℕ} {b : Between P} {a : Actor P} → IsBeforeTry rules n b a → begins_at rules b ≡ begin_of rules MAX_OPEN_BLOCKS a.player a.engine.arena
-  led_before {b = b} {a = a} k = led rules laws k.calls b.player b.arena a.player a.engine.arena k.leads
+  pub led_before : {deepest n : ℕ} {b : Between P} {a : Actor P} → IsBeforeTry rules deepest n b a → begins_at rules deepest b ≡ begin_of rules deepest a.player a.engine.arena
+  led_before {deepest = deepest} {b = b} {a = a} k = led rules laws deepest k.calls b.player b.arena a.player a.engine.arena k.leads
 
 -- such a call is served with no memory
-same_outside : (writes : List Row) (arena : List ℕ) (actions : Actions) (m : List ℕ) (c : Call)
-    → (reply MAX_OPEN_BLOCKS (state_over writes [] arena actions m) c ≡ reply MAX_OPEN_BLOCKS (outside [] arena) c)
-    × ((after MAX_OPEN_BLOCKS (state_over writes [] arena actions m) c).arena ≡ (after MAX_OPEN_BLOCKS (outside [] arena) c).arena)
-same_outside writes arena actions m (Begin props room) = (refl, same_arena (refusal MAX_OPEN_BLOCKS (outside [] arena) (Begin props room)) _ _ _ _ refl (opened_arena _ arena props ∙ sym (opened_arena [] arena props)))
-same_outside writes arena actions m (Load width at) = (refl, same_arena (in_arena (outside [] arena) at (size_of width)) _ _ _ _ refl refl)
-same_outside writes arena actions m (Save at value) = (refl, same_arena (in_arena (outside [] arena) at (size_of value.width)) _ _ _ _ refl refl)
-same_outside writes arena actions m c = (refl, refl)
+same_outside : (deepest : ℕ) (writes : List Row) (arena : List ℕ) (actions : Actions) (m : List ℕ) (c : Call)
+    → (reply deepest (state_over writes [] arena actions m) c ≡ reply deepest (outside [] arena) c)
+    × ((after deepest (state_over writes [] arena actions m) c).arena ≡ (after deepest (outside [] arena) c).arena)
+same_outside deepest writes arena actions m (Begin props room) = (refl, same_arena (refusal deepest (outside [] arena) (Begin props room)) _ _ _ _ refl (opened_arena _ arena props ∙ sym (opened_arena [] arena props)))
+same_outside deepest writes arena actions m (Load width at) = (refl, same_arena (in_arena (outside [] arena) at (size_of width)) _ _ _ _ refl refl)
+same_outside deepest writes arena actions m (Save at value) = (refl, same_arena (in_arena (outside [] arena) at (size_of value.width)) _ _ _ _ refl refl)
+same_outside deepest writes arena actions m c = (refl, refl)
 
 -- a begin that opens no block is refused
-plainly : (mid : Core) (c : Call) (again : Bool) (r : Replied) (why : Option Refusal) → is_inside (blocks_after mid c r) ≡ false → why ≡ refusal MAX_OPEN_BLOCKS (outside [] mid.arena) c → r ≡ recoded c again (reply_unless why (answer (outside [] mid.arena) c))
-    → (stays_outside MAX_OPEN_BLOCKS mid.arena c ≡ true) × (r ≡ reply_unless why (answer (outside [] mid.arena) c))
-plainly mid (Begin props room) true r None shut is e = absurd (true≢false (ap (λ (x : Replied). is_inside (blocks_after mid (Begin props room) x)) (sym e) ∙ shut))
-plainly mid (Begin props room) false r None shut is e = absurd (true≢false (ap (λ (x : Replied). is_inside (blocks_after mid (Begin props room) x)) (sym e) ∙ shut))
-plainly mid (Begin props room) true r (Some why) shut is e = (ap is_some (sym is), e)
-plainly mid (Begin props room) false r (Some why) shut is e = (ap is_some (sym is), e)
-plainly mid c again r why shut is e = (refl, e)
+plainly : (deepest : ℕ) (mid : Core) (c : Call) (again : Bool) (r : Replied) (why : Option Refusal) → is_inside (blocks_after mid c r) ≡ false → why ≡ refusal deepest (outside [] mid.arena) c → r ≡ recoded c again (reply_unless why (answer (outside [] mid.arena) c))
+    → (stays_outside deepest mid.arena c ≡ true) × (r ≡ reply_unless why (answer (outside [] mid.arena) c))
+plainly deepest mid (Begin props room) true r None shut is e = absurd (true≢false (ap (λ (x : Replied). is_inside (blocks_after mid (Begin props room) x)) (sym e) ∙ shut))
+plainly deepest mid (Begin props room) false r None shut is e = absurd (true≢false (ap (λ (x : Replied). is_inside (blocks_after mid (Begin props room) x)) (sym e) ∙ shut))
+plainly deepest mid (Begin props room) true r (Some why) shut is e = (ap is_some (sym is), e)
+plainly deepest mid (Begin props room) false r (Some why) shut is e = (ap is_some (sym is), e)
+plainly deepest mid c again r why shut is e = (refl, e)
 
 -- the engine's reply to it, and its arena then
 served_outside : (mid new : Core) (c : Call) (r : Replied) (m : List ℕ) → Replies mid c r new → in_transaction mid ≡ false → in_transaction new ≡ false → IsMemory mid.words m → Agrees m new.log
-    → (stays_outside MAX_OPEN_BLOCKS mid.arena c ≡ true) × (r ≡ reply MAX_OPEN_BLOCKS (outside [] mid.arena) c) × (new.arena ≡ (after MAX_OPEN_BLOCKS (outside [] mid.arena) c).arena)
+    → (stays_outside mid.depth mid.arena c ≡ true) × (r ≡ reply mid.depth (outside [] mid.arena) c) × (new.arena ≡ (after mid.depth (outside [] mid.arena) c).arena)
 served_outside mid new c r m g shut closed mem agrees =
-    let same = same_outside mid.writes mid.arena mid.actions m c in
+    let same = same_outside mid.depth mid.writes mid.arena mid.actions m c in
     let stands = stands_outside mid shut g.revocable m in
-    let so = plainly mid c mid.again r (refusal MAX_OPEN_BLOCKS (outside [] mid.arena) c) (sym (ap is_inside g.blocks) ∙ closed) refl
-    (g.reply_is m mem agrees ∙ (ap (λ (s : State). recoded c mid.again (reply MAX_OPEN_BLOCKS s c)) stands ∙ ap (recoded c mid.again) same.0)) in (
+    let so = plainly mid.depth mid c mid.again r (refusal mid.depth (outside [] mid.arena) c) (sym (ap is_inside g.blocks) ∙ closed) refl
+    (g.reply_is m mem agrees ∙ (ap (λ (s : State). recoded c mid.again (reply mid.depth s c)) stands ∙ ap (recoded c mid.again) same.0)) in (
       so.0,
       so.1,
-      sym (stands_arena new m) ∙ (ap (λ (s : State). s.arena) (g.meets m mem agrees) ∙ (ap (λ (s : State). (after MAX_OPEN_BLOCKS s c).arena) stands ∙ same.1)),
+      sym (stands_arena new m) ∙ (ap (λ (s : State). s.arena) (g.meets m mem agrees) ∙ (ap (λ (s : State). (after mid.depth s c).arena) stands ∙ same.1)),
     )
 
 module _ {P : Type 0} {rules : Rules P} (laws : Obeys rules) {first : Between P} {base : List ℕ} {cells cells' : Cells} {r : Rows} (r1 : Rows) {mid : Core} (a last : Actor P) (call : Call)
-    (seen : HasSeen base cells cells' r mid a.engine) (run : IsRun rules first base (cells.clock / 2) r (record a { engine = mid })) (revocable : mid.irrevocable ≡ false) where
+    (seen : HasSeen mid.depth base cells cells' r mid a.engine) (run : IsRun rules first mid.depth base (cells.clock / 2) r (record a { engine = mid })) (revocable : mid.irrevocable ≡ false) where
   -- where the actor stands before the answer
-  before : in_transaction mid ≡ false → a.status ≡ Ready → (b : Between P) × (now_at rules first base r.ended a.thread ≡ Some b) × IsBeforeTry rules (cells.clock / 2) b (record a { engine = mid })
+  before : in_transaction mid ≡ false → a.status ≡ Ready → (b : Between P) × (now_at rules first mid.depth base r.ended a.thread ≡ Some b) × IsBeforeTry rules mid.depth (cells.clock / 2) b (record a { engine = mid })
   before outside ready = run.between outside (still_going ready) (still_going ready)
 
   -- ## A reply outside a transaction
@@ -72,7 +72,7 @@ module _ {P : Type 0} {rules : Rules P} (laws : Obeys rules) {first : Between P}
     by_case : Replies mid call reply a.engine ⊎ Enters mid call reply a.engine ⊎ RepliesHeld mid call reply a.engine
     by_case = reply_cases mid a.engine call reply m.taken.doing m.ends
 
-    outside_runs : in_transaction last.engine ≡ false → r1.ended ≡ r.ended → IsRun rules first base (cells.clock / 2) r1 last
+    outside_runs : in_transaction last.engine ≡ false → r1.ended ≡ r.ended → IsRun rules first mid.depth base (cells.clock / 2) r1 last
     outside_runs closed ended =
         let t = before m.taken.was_is m.answered.status in
         let k = t.2 in
@@ -81,11 +81,11 @@ module _ {P : Type 0} {rules : Rules P} (laws : Obeys rules) {first : Between P}
         -- its memory is the words as they are: nothing is logged
         let served = served_outside mid a.engine call reply cells'.words g m.taken.was_is shut (sym m.taken.words, m.taken.tied.fit) (subst (Agrees cells'.words) (sym (m.taken.tied.settled.closed shut).0) tt) in
         record {
-          run = run_same rules first base (cells.clock / 2) r.ended r1.ended a.thread last.thread ended m.settled.thread run.run;
+          run = run_same rules first mid.depth base (cells.clock / 2) r.ended r1.ended a.thread last.thread ended m.settled.thread run.run;
           inside = λ o. absurd (true≢false (sym o ∙ closed));
           between = λ o gave_up starved. (
             t.0,
-            (λ i. now_at rules first base (ended i) (m.settled.thread i)) ∙ t.1,
+            (λ i. now_at rules first mid.depth base (ended i) (m.settled.thread i)) ∙ t.1,
             record {
               calls = suc k.calls;
               leads = (a.player, mid.arena, call, k.leads, m.answered.in_call.asks, served.0, m.told.1 ∙ ap (rules.answered a.player) served.1, ap (λ (c : Core). c.arena) m.settled.engine ∙ served.2);
@@ -101,16 +101,16 @@ module _ {P : Type 0} {rules : Rules P} (laws : Obeys rules) {first : Between P}
       | inl g ↦
           (let g' : Replies mid (Begin props room) reply a.engine = subst (λ (c : Call). Replies mid c reply a.engine) is g in
           let late : a.engine.snapshot / 2 ≤ cells.clock / 2 = (let half = m.taken.moves.keeps g.unfreed in let reached = m.taken.tied.settled.reached in let late = m.taken.tied.late in omega arith) in
-          let words : List ℕ = words_at base r.ended (a.engine.snapshot / 2) in
-          begin_may mid props room reply words m.taken.was_is revocable (sym (ap is_inside g'.blocks) ∙ now) (g'.reply_is words (memory_at seen (a.engine.snapshot / 2) late) (seen.now now)))
+          let words : List ℕ = words_at mid.depth base r.ended (a.engine.snapshot / 2) in
+          begin_may mid props room reply words (subst (λ (d : ℕ). 0 < d) (ap (λ (c : Core). c.depth) g'.stays) m.taken.tied.settled.deep) m.taken.was_is revocable (sym (ap is_inside g'.blocks) ∙ now) (g'.reply_is words (memory_at seen (a.engine.snapshot / 2) late) (seen.now now)))
       | inr (inl g) ↦
           (let g' : Enters mid (Begin props room) reply a.engine = subst (λ (c : Call). Enters mid c reply a.engine) is g in
-          begin_may mid props room reply [] m.taken.was_is revocable (sym (inside_all (blocks_after mid (Begin props room) reply)) ∙ (sym (ap (λ (c : Core). is_inside c.blocks) g'.stays) ∙ now)) (g'.reply_is []))
+          begin_may mid props room reply [] (subst (λ (d : ℕ). 0 < d) (ap (λ (c : Core). c.depth) g'.stays) m.taken.tied.settled.deep) m.taken.was_is revocable (sym (inside_all (blocks_after mid (Begin props room) reply)) ∙ (sym (ap (λ (c : Core). is_inside c.blocks) g'.stays) ∙ now)) (g'.reply_is []))
       | inr (inr g) ↦ absurd (true≢false (sym g.irrevocable ∙ revocable))
     ]
 
     -- an accepted begin
-    begin_runs : (row : Attempt) → a.pending ≡ Some row → (props : Props) (room : ℕ) → call ≡ Begin props room → in_transaction last.engine ≡ true → r1 ≡ with_opened (record row { at = last.engine.snapshot / 2 }) r → IsRun rules first base (cells.clock / 2) r1 last
+    begin_runs : (row : Attempt) → a.pending ≡ Some row → (props : Props) (room : ℕ) → call ≡ Begin props room → in_transaction last.engine ≡ true → r1 ≡ with_opened (record row { at = last.engine.snapshot / 2 }) r → IsRun rules first mid.depth base (cells.clock / 2) r1 last
     begin_runs row pending props room is opened rows =
         let now : in_transaction a.engine ≡ true = ap in_transaction (sym m.settled.engine) ∙ opened in
         let late = seen.opens m.taken.was_is now in
@@ -126,11 +126,11 @@ module _ {P : Type 0} {rules : Rules P} (laws : Obeys rules) {first : Between P}
         let tries : t.0.tries < row.nth = (let nth = q.nth in let fewer = k.tries in omega arith) in
         let began : row.began ≤ a.engine.snapshot / 2 = (let early = p.0 in omega arith) in
         let comes = p.4 (subst (λ (x : Props). may_go [] x ≡ true) (sym props_same) (accepted props room is now)) in
-        let try : IsInTry rules (words_at base r.ended (cells.clock / 2)) t.0 (record row { at = at }) (rules.answered a.player reply) a.engine =
+        let try : IsInTry rules mid.depth (words_at mid.depth base r.ended (cells.clock / 2)) t.0 (record row { at = at }) (rules.answered a.player reply) a.engine =
         elim by_case [
           | inl g ↦
               try_begins rules _ t.0 row a.player mid a.engine props room reply comes p.1 props_same p.2 p.3 tries m.taken.was_is (m.taken.empty refl) p.5 p.6 began revocable
-              (subst (λ (c : Call). Replies mid c reply a.engine) is g) (words_at base r.ended (a.engine.snapshot / 2)) (memory_at seen (a.engine.snapshot / 2) k_late) (seen.now now) now at
+              (subst (λ (c : Call). Replies mid c reply a.engine) is g) (words_at mid.depth base r.ended (a.engine.snapshot / 2)) (memory_at seen (a.engine.snapshot / 2) k_late) (seen.now now) now at
           | inr (inl g) ↦
               try_begins_held rules _ t.0 row a.player mid a.engine props room reply comes p.1 props_same p.2 p.3 tries m.taken.was_is (m.taken.empty refl) p.5 p.6 began revocable
               (subst (λ (c : Call). Enters mid c reply a.engine) is g) now at
@@ -138,15 +138,15 @@ module _ {P : Type 0} {rules : Rules P} (laws : Obeys rules) {first : Between P}
         ] in
         let free : active_of row.thread r.active ≡ None = ap (λ (u : ℕ). active_of u r.active) q.thread ∙ m.answered.kept.row in
         record {
-          run = run_same rules first base (cells.clock / 2) r.ended r1.ended a.thread last.thread ended m.settled.thread run.run;
+          run = run_same rules first mid.depth base (cells.clock / 2) r.ended r1.ended a.thread last.thread ended m.settled.thread run.run;
           inside = λ o. (
             t.0,
             record row { at = at },
-            (λ i. now_at rules first base (ended i) (m.settled.thread i)) ∙ t.1,
+            (λ i. now_at rules first mid.depth base (ended i) (m.settled.thread i)) ∙ t.1,
             ap (λ (u : ℕ). active_of u r1.active) (m.settled.thread ∙ sym q.thread) ∙ (ap (λ (x : Rows). active_of row.thread x.active) rows ∙ opened_here (record row { at = at }) r.active free),
-            subst (λ (xs : List Attempt). IsInTry rules (words_at base xs (cells.clock / 2)) t.0 (record row { at = at }) last.player last.engine) (sym ended)
-                (subst (λ (c : Core). IsInTry rules (words_at base r.ended (cells.clock / 2)) t.0 (record row { at = at }) last.player c) (sym m.settled.engine)
-                (subst (λ (x : P). IsInTry rules (words_at base r.ended (cells.clock / 2)) t.0 (record row { at = at }) x a.engine) (sym m.told.1) try)),
+            subst (λ (xs : List Attempt). IsInTry rules mid.depth (words_at mid.depth base xs (cells.clock / 2)) t.0 (record row { at = at }) last.player last.engine) (sym ended)
+                (subst (λ (c : Core). IsInTry rules mid.depth (words_at mid.depth base r.ended (cells.clock / 2)) t.0 (record row { at = at }) last.player c) (sym m.settled.engine)
+                (subst (λ (x : P). IsInTry rules mid.depth (words_at mid.depth base r.ended (cells.clock / 2)) t.0 (record row { at = at }) x a.engine) (sym m.told.1) try)),
             m.told.2 ∙ (λ i. again_after (opened i) (pending i) a.again),
             q.nth ∙ sym m.told.3,
           );
@@ -154,7 +154,7 @@ module _ {P : Type 0} {rules : Rules P} (laws : Obeys rules) {first : Between P}
         }
 
     -- of no open transaction
-    reply_shut : IsRun rules first base (cells.clock / 2) r1 last
+    reply_shut : IsRun rules first mid.depth base (cells.clock / 2) r1 last
     reply_shut = elim (begun_or_not reply m) [
       | inl b ↦ (let c = begin_call call (sym (m.answered.in_call.begins refl) ∙ ap is_some b.1) in begin_runs b.0 b.1 c.0 c.1 c.2 b.2 b.3)
       | inr n ↦ outside_runs n.0 (ap (λ (x : Rows). x.ended) n.1)
@@ -162,7 +162,7 @@ module _ {P : Type 0} {rules : Rules P} (laws : Obeys rules) {first : Between P}
 
     -- an accepted begin that goes irrevocable: the words are the memory of its position
     pub begin_holds : in_transaction last.engine ≡ true → a.engine.irrevocable ≡ true → (row : Attempt) → active_of last.thread r1.active ≡ Some row
-        → (stands_for a.engine cells'.words ≡ alone MAX_OPEN_BLOCKS (bytes_at base r.ended (cells.clock / 2)) row) × (row.ran ≡ a.engine.actions.ran)
+        → (stands_for a.engine cells'.words ≡ alone mid.depth (bytes_at mid.depth base r.ended (cells.clock / 2)) row) × (row.ran ≡ a.engine.actions.ran)
     begin_holds now_open irrevocable row found = elim by_case [
       | inl g ↦ absurd (true≢false (sym irrevocable ∙ (ap (λ (c : Core). c.irrevocable) g.stays ∙ g.revocable)))
       | inr (inl g) ↦ elim (begun_or_not reply m) [
@@ -176,7 +176,7 @@ module _ {P : Type 0} {rules : Rules P} (laws : Obeys rules) {first : Between P}
         now = ap in_transaction (sym m.settled.engine) ∙ now_open
 
         entered : Enters mid call reply a.engine → (row' : Attempt) → a.pending ≡ Some row' → r1 ≡ with_opened (record row' { at = last.engine.snapshot / 2 }) r
-            → (stands_for a.engine cells'.words ≡ alone MAX_OPEN_BLOCKS (bytes_at base r.ended (cells.clock / 2)) row) × (row.ran ≡ a.engine.actions.ran)
+            → (stands_for a.engine cells'.words ≡ alone mid.depth (bytes_at mid.depth base r.ended (cells.clock / 2)) row) × (row.ran ≡ a.engine.actions.ran)
         entered g row' pending rows =
             let c = begin_call call (sym (m.answered.in_call.begins refl) ∙ ap is_some pending) in
             let g' : Enters mid (Begin c.0 c.1) reply a.engine = subst (λ (x : Call). Enters mid x reply a.engine) c.2 g in
@@ -191,11 +191,11 @@ module _ {P : Type 0} {rules : Rules P} (laws : Obeys rules) {first : Between P}
             let half = m.taken.moves.keeps g.unfreed in
             let props_same : row'.props ≡ c.0 = m.answered.in_call.props row' c.0 c.1 pending c.2 in
             let tries : t.0.tries < row'.nth = (let nth = q.nth in let fewer = k.tries in omega arith) in
-            let position : List ℕ = words_at base r.ended (cells.clock / 2) in
+            let position : List ℕ = words_at mid.depth base r.ended (cells.clock / 2) in
             let l : cells.clock / 2 ≤ cells.clock / 2 = omega arith in
             let fits : IsMemory mid.words position = memory_at seen (cells.clock / 2) l in
             let nothing : Agrees position mid.log = subst (Agrees position) (sym (seen.unlogged m.taken.was_is)) tt in
-            let words : cells'.words ≡ backed mid position = (seen.loaded g.unfreed).held g.held g.revocable ∙ ap (λ (n : ℕ). backed mid (words_at base r.ended n)) half in
+            let words : cells'.words ≡ backed mid position = (seen.loaded g.unfreed).held g.held g.revocable ∙ ap (λ (n : ℕ). backed mid (words_at mid.depth base r.ended n)) half in
             let late = seen.opens m.taken.was_is now in
             let began : row'.began ≤ a.engine.snapshot / 2 = (let early = p.0 in omega arith) in
             let comes = p.4 (subst (λ (x : Props). may_go [] x ≡ true) (sym props_same) (accepted c.0 c.1 c.2 now)) in
@@ -205,27 +205,27 @@ module _ {P : Type 0} {rules : Rules P} (laws : Obeys rules) {first : Between P}
               ap (stands_for a.engine) words
                   ∙ (g'.meets position fits nothing
                   ∙ (leaves
-                  ∙ ((ap (λ (bytes : List ℕ). state_then MAX_OPEN_BLOCKS (breaks_of row'.restarts) (opened bytes mid.arena row'.props) row'.calls.list) (same_at seen (cells.clock / 2) l) ∙ ap (λ (arena : List ℕ). state_then MAX_OPEN_BLOCKS (breaks_of row'.restarts) (opened (bytes_at base r.ended (cells.clock / 2)) arena row'.props) row'.calls.list) (sym p.1)) ∙ ap (alone MAX_OPEN_BLOCKS (bytes_at base r.ended (cells.clock / 2))) same))),
+                  ∙ ((ap (λ (bytes : List ℕ). state_then mid.depth (breaks_of row'.restarts) (opened bytes mid.arena row'.props) row'.calls.list) (same_at seen (cells.clock / 2) l) ∙ ap (λ (arena : List ℕ). state_then mid.depth (breaks_of row'.restarts) (opened (bytes_at mid.depth base r.ended (cells.clock / 2)) arena row'.props) row'.calls.list) (sym p.1)) ∙ ap (alone mid.depth (bytes_at mid.depth base r.ended (cells.clock / 2))) same))),
               ap (λ (x : Attempt). x.ran) (sym same) ∙ try.ran,
             )
 
   -- ## A begin came to nothing
 
   nothing_runs : r1.ended ≡ r.ended → last.thread ≡ a.thread → last.player ≡ a.player → last.engine.arena ≡ mid.arena → in_transaction mid ≡ false → in_transaction last.engine ≡ false → a.status ≡ Ready → CountsTry a last → last.pending ≡ None
-      → IsRun rules first base (cells.clock / 2) r1 last
+      → IsRun rules first mid.depth base (cells.clock / 2) r1 last
   nothing_runs ended thread player arena outside closed ready counts none =
       let t = before outside ready in
       let k = t.2 in
       record {
-        run = run_same rules first base (cells.clock / 2) r.ended r1.ended a.thread last.thread ended thread run.run;
+        run = run_same rules first mid.depth base (cells.clock / 2) r.ended r1.ended a.thread last.thread ended thread run.run;
         inside = λ o. absurd (true≢false (sym o ∙ closed));
         between = λ o gave_up starved. (
           t.0,
-          (λ i. now_at rules first base (ended i) (thread i)) ∙ t.1,
+          (λ i. now_at rules first mid.depth base (ended i) (thread i)) ∙ t.1,
           record {
             calls = k.calls;
-            leads = subst (λ (q : P). LeadsTo rules k.calls t.0.player t.0.arena q last.engine.arena) (sym player)
-                (subst (LeadsTo rules k.calls t.0.player t.0.arena a.player) (sym arena) k.leads);
+            leads = subst (λ (q : P). LeadsTo rules mid.depth k.calls t.0.player t.0.arena q last.engine.arena) (sym player)
+                (subst (LeadsTo rules mid.depth k.calls t.0.player t.0.arena a.player) (sym arena) k.leads);
             again = counts.again ∙ k.again;
             tries = (let more = (next_try counts ready gave_up).1 in let fewer = k.tries in omega arith);
             pending = λ x e. absurd (let z = sym none ∙ e in cc);
@@ -233,7 +233,7 @@ module _ {P : Type 0} {rules : Rules P} (laws : Obeys rules) {first : Between P}
         );
       }
 
-  pub shut_runs : (answer : Answer) → HasAnswered rules false cells cells' r r1 mid a last call answer → IsRun rules first base (cells.clock / 2) r1 last
+  pub shut_runs : (answer : Answer) → HasAnswered rules false cells cells' r r1 mid a last call answer → IsRun rules first mid.depth base (cells.clock / 2) r1 last
   shut_runs (Reply reply) m = reply_shut reply m
   shut_runs (Busy clock) m =
       nothing_runs (ap (λ (x : Rows). x.ended) m.told.0) m.settled.thread m.told.1 (ap (λ (c : Core). c.arena) (m.settled.engine ∙ m.ends.stays)) m.taken.was_is (ap in_transaction m.settled.engine ∙ m.answered.fits.1) m.answered.status m.told.2 m.told.3
@@ -241,7 +241,7 @@ module _ {P : Type 0} {rules : Rules P} (laws : Obeys rules) {first : Between P}
       let lost : IsLost mid clock word a.engine = subst (λ (b : Bool). ConflictsIn b mid clock word a.engine) m.taken.was_is m.ends in
       nothing_runs (ap (λ (x : Rows). x.ended) m.told.0) m.settled.thread m.told.1 (ap (λ (c : Core). c.arena) (m.settled.engine ∙ lost.stays)) m.taken.was_is (ap in_transaction m.settled.engine ∙ m.answered.fits.1) m.answered.status m.told.2 m.told.3
   shut_runs (Full at) m = record {
-    run = run_same rules first base (cells.clock / 2) r.ended r1.ended a.thread last.thread (ap (λ (x : Rows). x.ended) m.told.0) m.settled.thread run.run;
+    run = run_same rules first mid.depth base (cells.clock / 2) r.ended r1.ended a.thread last.thread (ap (λ (x : Rows). x.ended) m.told.0) m.settled.thread run.run;
     inside = λ o. absurd (true≢false (sym o ∙ (ap in_transaction m.settled.engine ∙ m.answered.fits.1)));
     between = λ o gave_up starved. absurd (gave_up (ap ending_of m.told.1));
   }

@@ -1,7 +1,7 @@
 -- A value or a call was taken in, and what the engine gave is recorded: the actor's run goes on, and the words are still those that the commits left.
 use Rattle.tx_attempts.specs.Kept.{grown, spent}
 use Rattle.std.proofs.Common.{◌≡◌, ℕ, suc, ◌+◌, ◌/◌, ◌≤◌, ◌==◌, Bool, true, false, List, [], ◌∷◌, ◌++◌, Option, None, Some, refl, sym, true≢false, ap, subst, ◌∙◌, arith, eq-eqb, append-nil, inl, inr}
-use Rattle.norec_world.proofs.Common.{Actor, Agrees, Answer, Answers, AreCounted, AreLaid, Asks, Attempt, Between, Busy, Call, Cells, Committed, Conflict, Core, Done, Full, IsDone, IsHeld, IsRun, Loaded, MAX_OPEN_BLOCKS, Next, NoMemory, Obeys, RecordsReply, Replied, Reply, Rows, Rules, Sees, StandsIn, State, Step, Tells, Waits, active_of, after, alone, backed, bytes_at, committed_at, cond-true, ending_of, frees, in_transaction, is_open, memory_left, opened, reply_cases, rests, same_Some, stands_for, words_at}
+use Rattle.norec_world.proofs.Common.{Actor, Agrees, Answer, Answers, AreCounted, AreLaid, Asks, Attempt, Between, Busy, Call, Cells, Committed, Conflict, Core, Done, Full, IsDone, IsHeld, IsRun, Loaded, Next, NoMemory, Obeys, RecordsReply, Replied, Reply, Rows, Rules, Sees, StandsIn, State, Step, Tells, Waits, active_of, after, alone, backed, bytes_at, committed_at, cond-true, ending_of, frees, in_transaction, is_open, memory_left, opened, reply_cases, rests, same_Some, stands_for, words_at}
 use Rattle.tx_attempts.specs.declared.attempt.Outcome.TheVariants as outcomes
 use Rattle.norec_world.proofs.Attempts.OpenTries.{try_asks}
 use Rattle.norec_world.proofs.Commits.LaidWords.{laid_more, laid_on}
@@ -21,31 +21,31 @@ use Rattle.norec_world.proofs.Engines.Intakes.{HasAnswered, HasTaken, answered, 
 use Rattle.norec_world.proofs.Attempts.TryEnds.{begun_or_not}
 use Rattle.norec_world.proofs.Attempts.AnswerEndings.{not_starved}
 
-module _ {P : Type 0} (rules : Rules P) (first : Between P) (base : List ℕ) where
+module _ {P : Type 0} (rules : Rules P) (first : Between P) (deepest : ℕ) (base : List ℕ) where
   -- what is true of the actor then; the words are laid as soon as its attempts are counted
   pub record HasRun (cells : Cells) (r : Rows) (last : Actor P) : Type 0 where
-    pub run : IsRun rules first base (cells.clock / 2) r last
-    pub sees : Sees (words_at base r.ended) cells last.engine
-    pub held : last.engine.irrevocable ≡ true → (row : Attempt) → active_of last.thread r.active ≡ Some row → IsHeld (bytes_at base r.ended (cells.clock / 2)) cells.words row last.engine
-    pub laid : AreCounted cells.clock r.ended → AreLaid base cells r
+    pub run : IsRun rules first deepest base (cells.clock / 2) r last
+    pub sees : Sees (words_at deepest base r.ended) cells last.engine
+    pub held : last.engine.irrevocable ≡ true → (row : Attempt) → active_of last.thread r.active ≡ Some row → IsHeld deepest (bytes_at deepest base r.ended (cells.clock / 2)) cells.words row last.engine
+    pub laid : AreCounted cells.clock r.ended → AreLaid deepest base cells r
     pub fed : ending_of last.status ≡ Some NoMemory → ⊥
 
 module _ {P : Type 0} {rules : Rules P} (laws : Obeys rules) {first : Between P} {base : List ℕ} (was : Bool) {cells cells' : Cells} {r : Rows} {mid : Core} (a : Actor P) (call : Call)
-    (seen : HasSeen base cells cells' r mid a.engine) (run : IsRun rules first base (cells.clock / 2) r (record a { engine = mid })) where
+    (seen : HasSeen mid.depth base cells cells' r mid a.engine) (run : IsRun rules first mid.depth base (cells.clock / 2) r (record a { engine = mid })) where
   -- no commit is done
-  laid_still : (r1 : Rows) (more : List Attempt) → r1.ended ≡ r.ended ++ more → cells'.clock / 2 ≡ cells.clock / 2 → mid.freed ≡ false → AreCounted cells'.clock r1.ended → AreLaid base cells' r1
+  laid_still : (r1 : Rows) (more : List Attempt) → r1.ended ≡ r.ended ++ more → cells'.clock / 2 ≡ cells.clock / 2 → mid.freed ≡ false → AreCounted cells'.clock r1.ended → AreLaid mid.depth base cells' r1
   laid_still r1 more ended half unfreed counted =
-      laid_on base cells cells' r r1 seen.laid counted half seen.long (bytes_stay seen.laid more ended) (seen.even unfreed)
+      laid_on mid.depth base cells cells' r r1 seen.laid counted half seen.long (bytes_stay seen.laid more ended) (seen.even unfreed)
 
   -- ## The call goes on
 
-  waits_on : (step : Step) → HasTaken rules was cells cells' r mid a call (Asks step) → HasHeld base cells cells' r a.thread mid a.engine call (Asks step) → HasRun rules first base cells' r (record a { status = Waits call step })
+  waits_on : (step : Step) → HasTaken rules was cells cells' r mid a call (Asks step) → HasHeld mid.depth base cells cells' r a.thread mid a.engine call (Asks step) → HasRun rules first mid.depth base cells' r (record a { status = Waits call step })
   waits_on step t held =
       let g = t.proceeds in
       let opens : in_transaction a.engine ≡ in_transaction mid = ap in_transaction g.stays in
       let half = t.moves.keeps g.unfreed in
       record {
-        run = subst (λ (k : ℕ). IsRun rules first base k r (record a { status = Waits call step })) (sym half) (record {
+        run = subst (λ (k : ℕ). IsRun rules first mid.depth base k r (record a { status = Waits call step })) (sym half) (record {
           run = run.run;
           inside = λ o.
               (let x = run.inside (sym opens ∙ o) in
@@ -57,17 +57,17 @@ module _ {P : Type 0} {rules : Rules P} (laws : Obeys rules) {first : Between P}
               (x.0, x.1, before_on x.2 a.engine (Waits call step) (ap (λ (c : Core). c.arena) g.stays) (ap (λ (c : Core). c.again) g.stays)));
         });
         sees = record {
-          loaded = subst (Loaded (words_at base r.ended) cells') (sym g.stays) (let l = seen.loaded g.unfreed in record { fresh = l.fresh; held = l.held; got = l.got });
+          loaded = subst (Loaded (words_at mid.depth base r.ended) cells') (sym g.stays) (let l = seen.loaded g.unfreed in record { fresh = l.fresh; held = l.held; got = l.got });
           logged = seen.now;
         };
         held = λ irrevocable row active.
             (let before : mid.irrevocable ≡ true = sym (ap (λ (c : Core). c.irrevocable) g.stays) ∙ irrevocable in
-            subst (λ (k : ℕ). IsHeld (bytes_at base r.ended k) cells'.words row a.engine) (sym half) (record {
+            subst (λ (k : ℕ). IsHeld mid.depth (bytes_at mid.depth base r.ended k) cells'.words row a.engine) (sym half) (record {
               still_open = held.still_open before row active;
               mode = held.mode before row active;
               ran = held.ran before row active;
-              stands = subst (λ (w : Option Step). StandsIn w a.engine.doing a.engine cells'.words (alone MAX_OPEN_BLOCKS (bytes_at base r.ended (cells.clock / 2)) row)) (sym (ap (λ (c : Core). c.waits) g.stays))
-                  (subst (λ (o : Option Call). StandsIn (Some step) o a.engine cells'.words (alone MAX_OPEN_BLOCKS (bytes_at base r.ended (cells.clock / 2)) row)) (sym (ap (λ (c : Core). c.doing) g.stays ∙ t.doing)) (held.comes before row active));
+              stands = subst (λ (w : Option Step). StandsIn mid.depth w a.engine.doing a.engine cells'.words (alone mid.depth (bytes_at mid.depth base r.ended (cells.clock / 2)) row)) (sym (ap (λ (c : Core). c.waits) g.stays))
+                  (subst (λ (o : Option Call). StandsIn mid.depth (Some step) o a.engine cells'.words (alone mid.depth (bytes_at mid.depth base r.ended (cells.clock / 2)) row)) (sym (ap (λ (c : Core). c.doing) g.stays ∙ t.doing)) (held.comes before row active));
               got = held.got before;
             }));
         laid = laid_still r [] (sym (append-nil r.ended)) half g.unfreed;
@@ -77,16 +77,16 @@ module _ {P : Type 0} {rules : Rules P} (laws : Obeys rules) {first : Between P}
   -- ## The call is answered
 
   module _ (r1 : Rows) (last : Actor P) (more : List Attempt) (ended : r1.ended ≡ r.ended ++ more) where
-    to_now : cells'.clock / 2 ≡ cells.clock / 2 → IsRun rules first base (cells.clock / 2) r1 last → IsRun rules first base (cells'.clock / 2) r1 last
-    to_now half x = subst (λ (k : ℕ). IsRun rules first base k r1 last) (sym half) x
+    to_now : cells'.clock / 2 ≡ cells.clock / 2 → IsRun rules first mid.depth base (cells.clock / 2) r1 last → IsRun rules first mid.depth base (cells'.clock / 2) r1 last
+    to_now half x = subst (λ (k : ℕ). IsRun rules first mid.depth base k r1 last) (sym half) x
 
-    open_runs : (answer : Answer) → HasAnswered rules true cells cells' r r1 mid a last call answer → HasHeld base cells cells' r a.thread mid a.engine call (Answers answer) → IsRun rules first base (cells'.clock / 2) r1 last
+    open_runs : (answer : Answer) → HasAnswered rules true cells cells' r r1 mid a last call answer → HasHeld mid.depth base cells cells' r a.thread mid a.engine call (Answers answer) → IsRun rules first mid.depth base (cells'.clock / 2) r1 last
     open_runs (Reply reply) m held = by_open (in_transaction last.engine) refl m.told
       where
         half : cells'.clock / 2 ≡ cells.clock / 2
         half = half_same m refl
 
-        by_open : (now : Bool) → in_transaction last.engine ≡ now → RecordsReply rules true now r r1 a last call reply → IsRun rules first base (cells'.clock / 2) r1 last
+        by_open : (now : Bool) → in_transaction last.engine ≡ now → RecordsReply rules true now r r1 a last call reply → IsRun rules first mid.depth base (cells'.clock / 2) r1 last
         by_open true o told = to_now half (reply_runs laws r1 a last call seen run reply m held o told)
         by_open false o told = cancel_runs laws r1 a last call seen run (cells'.clock / 2) (clock_grows m.taken.moves) (bytes_stay seen.laid more ended) m.taken.was_is reply m o told
             (omega (arith, half, m.taken.tied.settled.reached, m.taken.tied.late))
@@ -98,7 +98,7 @@ module _ {P : Type 0} {rules : Rules P} (laws : Obeys rules) {first : Between P}
         full_runs laws r1 a last call seen run (cells'.clock / 2) (clock_grows m.taken.moves) (bytes_stay seen.laid more ended) m.taken.was_is at m held
         (omega (arith, (run.inside m.taken.was_is).4.began, seen.up m.taken.was_is)) (omega (arith, m.taken.tied.settled.reached, m.taken.tied.late, clock_grows m.taken.moves, m.taken.moves.keeps m.ends.unfreed))
 
-    runs_on : (b : Bool) (answer : Answer) → HasAnswered rules b cells cells' r r1 mid a last call answer → HasHeld base cells cells' r a.thread mid a.engine call (Answers answer) → IsRun rules first base (cells'.clock / 2) r1 last
+    runs_on : (b : Bool) (answer : Answer) → HasAnswered rules b cells cells' r r1 mid a last call answer → HasHeld mid.depth base cells cells' r a.thread mid a.engine call (Answers answer) → IsRun rules first mid.depth base (cells'.clock / 2) r1 last
     runs_on true answer m held = open_runs answer m held
     runs_on false answer m held = to_now (half_same m (shut_frees answer m)) (shut_runs laws r1 a last call seen run (held.shut m.taken.was_is) answer m)
       where
@@ -112,20 +112,20 @@ module _ {P : Type 0} {rules : Rules P} (laws : Obeys rules) {first : Between P}
     open_ended false (Reply reply) m o = elim (begun_or_not reply m) [ inl b ↦ ap (λ (x : Rows). x.ended) b.3 | inr n ↦ ap (λ (x : Rows). x.ended) n.1 ]
     open_ended b answer m o = absurd (true≢false (sym o ∙ m.answered.fits.1))
 
-    sees_on : (answer : Answer) → HasAnswered rules was cells cells' r r1 mid a last call answer → Sees (words_at base r1.ended) cells' last.engine
+    sees_on : (answer : Answer) → HasAnswered rules was cells cells' r r1 mid a last call answer → Sees (words_at mid.depth base r1.ended) cells' last.engine
     sees_on answer m =
         let rest = rests mid a.engine answer m.ends in
-        subst (Sees (words_at base r1.ended) cells') (sym m.settled.engine) (record {
+        subst (Sees (words_at mid.depth base r1.ended) cells') (sym m.settled.engine) (record {
           loaded = record {
-            fresh = λ even same f. subst (Agrees (words_at base r1.ended (cells'.clock / 2))) (sym rest.fresh) tt;
+            fresh = λ even same f. subst (Agrees (words_at mid.depth base r1.ended (cells'.clock / 2))) (sym rest.fresh) tt;
             held = λ h revocable. absurd (true≢false (sym h ∙ (rest.holds ∙ revocable)));
             got = λ h revocable. absurd (true≢false (sym h ∙ (rest.holds ∙ revocable)));
           };
-          logged = λ o. subst (λ (rows : List Attempt). Agrees (words_at base rows (a.engine.snapshot / 2)) a.engine.log) (sym (open_ended was answer m o)) (seen.now o);
+          logged = λ o. subst (λ (rows : List Attempt). Agrees (words_at mid.depth base rows (a.engine.snapshot / 2)) a.engine.log) (sym (open_ended was answer m o)) (seen.now o);
         })
 
     -- a writer's commit: its row's memory is what its stores have made of the words
-    laid_freed : (at : ℕ) → HasAnswered rules true cells cells' r r1 mid a last call (Committed at true) → HasHeld base cells cells' r a.thread mid a.engine call (Answers (Committed at true)) → AreCounted cells'.clock r1.ended → AreLaid base cells' r1
+    laid_freed : (at : ℕ) → HasAnswered rules true cells cells' r r1 mid a last call (Committed at true) → HasHeld mid.depth base cells cells' r a.thread mid a.engine call (Answers (Committed at true)) → AreCounted cells'.clock r1.ended → AreLaid mid.depth base cells' r1
     laid_freed at m held counted =
         let freed : mid.freed ≡ true = m.ends.freed in
         let x = m.taken.moves.frees freed in
@@ -141,14 +141,14 @@ module _ {P : Type 0} {rules : Rules P} (laws : Obeys rules) {first : Between P}
         let left_so = commit_memory laws r1 a last call seen run (cells'.clock / 2) up (bytes_stay seen.laid more ended) inside at true m held refl in
         let found_row : committed_at r1.ended (cells.clock / 2) ≡ Some row =
         ap (λ (x : List Attempt). committed_at x (cells.clock / 2)) rows
-        ∙ (found_later r.ended (row ∷ []) (cells.clock / 2) (none_next base cells.clock r.ended seen.laid.counted (cells.clock / 2) (let l : cells.clock / 2 ≤ cells.clock / 2 = omega arith in l)) ∙ cond-true (at == cells.clock / 2) (Some row) None (eq-eqb at (cells.clock / 2) position)) in
+        ∙ (found_later r.ended (row ∷ []) (cells.clock / 2) (none_next mid.depth base cells.clock r.ended seen.laid.counted (cells.clock / 2) (let l : cells.clock / 2 ≤ cells.clock / 2 = omega arith in l)) ∙ cond-true (at == cells.clock / 2) (Some row) None (eq-eqb at (cells.clock / 2) position)) in
         let next_is : cells.clock / 2 + 1 ≡ suc (cells.clock / 2) = omega arith in
-        laid_more base cells cells' r r1 seen.laid counted (omega arith) seen.long m.taken.tied.fit (bytes_stay seen.laid more ended)
-        (ap (bytes_at base r1.ended) next_is
-        ∙ (ap (memory_left MAX_OPEN_BLOCKS (bytes_at base r1.ended (cells.clock / 2))) found_row
-        ∙ (ap (λ (k : ℕ). (alone MAX_OPEN_BLOCKS (bytes_at base r1.ended k) row).memory) (sym position) ∙ left_so)))
+        laid_more mid.depth base cells cells' r r1 seen.laid counted (omega arith) seen.long m.taken.tied.fit (bytes_stay seen.laid more ended)
+        (ap (bytes_at mid.depth base r1.ended) next_is
+        ∙ (ap (memory_left mid.depth (bytes_at mid.depth base r1.ended (cells.clock / 2))) found_row
+        ∙ (ap (λ (k : ℕ). (alone mid.depth (bytes_at mid.depth base r1.ended k) row).memory) (sym position) ∙ left_so)))
 
-    laid_answered : (b : Bool) (answer : Answer) → HasAnswered rules b cells cells' r r1 mid a last call answer → HasHeld base cells cells' r a.thread mid a.engine call (Answers answer) → AreCounted cells'.clock r1.ended → AreLaid base cells' r1
+    laid_answered : (b : Bool) (answer : Answer) → HasAnswered rules b cells cells' r r1 mid a last call answer → HasHeld mid.depth base cells cells' r a.thread mid a.engine call (Answers answer) → AreCounted cells'.clock r1.ended → AreLaid mid.depth base cells' r1
     laid_answered true (Committed at true) m held = laid_freed at m held
     laid_answered false (Committed at true) m held = absurd (let f : false ≡ true = m.answered.fits.0 in cc)
     laid_answered b answer m held = laid_still r1 more ended (half_same m refl) (unfreed m refl)
@@ -156,47 +156,47 @@ module _ {P : Type 0} {rules : Rules P} (laws : Obeys rules) {first : Between P}
     -- ### In an irrevocable transaction
 
     -- it goes on with its calls alone, as the words stand
-    stands_held : (memory : List ℕ) (row : Attempt) → in_transaction a.engine ≡ true → a.engine.irrevocable ≡ true → stands_for a.engine cells'.words ≡ alone MAX_OPEN_BLOCKS memory row → row.ran ≡ a.engine.actions.ran → a.engine.waits ≡ None → IsHeld memory cells'.words row a.engine
+    stands_held : (memory : List ℕ) (row : Attempt) → in_transaction a.engine ≡ true → a.engine.irrevocable ≡ true → stands_for a.engine cells'.words ≡ alone mid.depth memory row → row.ran ≡ a.engine.actions.ran → a.engine.waits ≡ None → IsHeld mid.depth memory cells'.words row a.engine
     stands_held memory row inside irrevocable stands ran waits = record {
       still_open = ap is_open (sym stands) ∙ stands_open a.engine cells'.words inside;
       mode = ap (λ (s : State). s.irrevocable) (sym stands) ∙ (stands_mode a.engine cells'.words ∙ irrevocable);
       ran = ran ∙ (ap (λ (x : Actions). x.ran) (sym (stands_actions a.engine cells'.words)) ∙ ap (λ (s : State). s.actions.ran) stands);
-      stands = subst (λ (w : Option Step). StandsIn w a.engine.doing a.engine cells'.words (alone MAX_OPEN_BLOCKS memory row)) (sym waits) stands;
+      stands = subst (λ (w : Option Step). StandsIn mid.depth w a.engine.doing a.engine cells'.words (alone mid.depth memory row)) (sym waits) stands;
       got = λ word value e. absurd (let none = sym waits ∙ e in cc);
     }
 
     -- a reply within it, or that of the call that made it so
-    held_stands : (reply : Replied) (m : HasAnswered rules true cells cells' r r1 mid a last call (Reply reply)) → HasHeld base cells cells' r a.thread mid a.engine call (Answers (Reply reply)) → a.engine.irrevocable ≡ true
-        → stands_for a.engine cells'.words ≡ after MAX_OPEN_BLOCKS (alone MAX_OPEN_BLOCKS (bytes_at base r.ended (cells.clock / 2)) (run.inside m.taken.was_is).1) call
+    held_stands : (reply : Replied) (m : HasAnswered rules true cells cells' r r1 mid a last call (Reply reply)) → HasHeld mid.depth base cells cells' r a.thread mid a.engine call (Answers (Reply reply)) → a.engine.irrevocable ≡ true
+        → stands_for a.engine cells'.words ≡ after mid.depth (alone mid.depth (bytes_at mid.depth base r.ended (cells.clock / 2)) (run.inside m.taken.was_is).1) call
     held_stands reply m held irrevocable = elim (reply_cases mid a.engine call reply m.taken.doing m.ends) [
       | inl g ↦ absurd (true≢false (sym irrevocable ∙ (ap (λ (c : Core). c.irrevocable) g.stays ∙ g.revocable)))
       | inr (inl g) ↦
           (let t = run.inside m.taken.was_is in
           let half = m.taken.moves.keeps g.unfreed in
-          let position : List ℕ = words_at base r.ended (cells.clock / 2) in
+          let position : List ℕ = words_at mid.depth base r.ended (cells.clock / 2) in
           let fits = position_fits laws r1 a last call seen run in
           let bytes = position_bytes laws r1 a last call seen run in
           let same = held_position laws r1 a last call seen run m.taken.tied (ap (λ (c : Core). c.holds) g.stays ∙ g.held) (ap (λ (c : Core). c.clock) g.stays) half g.taken in
-          let agrees : Agrees position mid.log = subst (λ (k : ℕ). Agrees (words_at base r.ended k) mid.log) same (seen.logged m.taken.was_is) in
-          let words : cells'.words ≡ backed mid position = (seen.loaded g.unfreed).held g.held g.revocable ∙ ap (λ (n : ℕ). backed mid (words_at base r.ended n)) half in
+          let agrees : Agrees position mid.log = subst (λ (k : ℕ). Agrees (words_at mid.depth base r.ended k) mid.log) same (seen.logged m.taken.was_is) in
+          let words : cells'.words ≡ backed mid position = (seen.loaded g.unfreed).held g.held g.revocable ∙ ap (λ (n : ℕ). backed mid (words_at mid.depth base r.ended n)) half in
           ap (stands_for a.engine) words
           ∙ (g.meets position fits agrees
-          ∙ ap (λ (s : State). after MAX_OPEN_BLOCKS s call) (stands_led laws t.4 (bytes_at base r.ended (cells.clock / 2)) position g.revocable m.taken.was_is fits bytes agrees ∙ sym (alone_led laws (of_block t.4) (bytes_at base r.ended (cells.clock / 2))))))
+          ∙ ap (λ (s : State). after mid.depth s call) (stands_led laws t.4 (bytes_at mid.depth base r.ended (cells.clock / 2)) position g.revocable m.taken.was_is fits bytes agrees ∙ sym (alone_led laws mid.depth (of_block t.4) (bytes_at mid.depth base r.ended (cells.clock / 2))))))
       | inr (inr g) ↦ (held.comes g.irrevocable (run.inside m.taken.was_is).1 (run.inside m.taken.was_is).3).0
     ]
 
     abbrev HeldOn : Type 0
-    HeldOn = last.engine.irrevocable ≡ true → (row : Attempt) → active_of last.thread r1.active ≡ Some row → IsHeld (bytes_at base r1.ended (cells'.clock / 2)) cells'.words row last.engine
+    HeldOn = last.engine.irrevocable ≡ true → (row : Attempt) → active_of last.thread r1.active ≡ Some row → IsHeld mid.depth (bytes_at mid.depth base r1.ended (cells'.clock / 2)) cells'.words row last.engine
 
-    held_on : (b : Bool) (answer : Answer) → HasAnswered rules b cells cells' r r1 mid a last call answer → HasHeld base cells cells' r a.thread mid a.engine call (Answers answer) → HeldOn
+    held_on : (b : Bool) (answer : Answer) → HasAnswered rules b cells cells' r r1 mid a last call answer → HasHeld mid.depth base cells cells' r a.thread mid a.engine call (Answers answer) → HeldOn
     held_on b answer m held irrevocable row active =
         let now : a.engine.irrevocable ≡ true = ap (λ (c : Core). c.irrevocable) (sym m.settled.engine) ∙ irrevocable in
         let inside : in_transaction a.engine ≡ true = (m.taken.tied.settled.holder (m.taken.tied.settled.irrevocable now).0).0 in
         let idle = (rests mid a.engine answer m.ends).idle in
-        subst (λ (c : Core). IsHeld (bytes_at base r1.ended (cells'.clock / 2)) cells'.words row c) (sym m.settled.engine) (by_answer b answer m held now inside idle)
+        subst (λ (c : Core). IsHeld mid.depth (bytes_at mid.depth base r1.ended (cells'.clock / 2)) cells'.words row c) (sym m.settled.engine) (by_answer b answer m held now inside idle)
       where
-        by_answer : (b : Bool) (answer : Answer) → HasAnswered rules b cells cells' r r1 mid a last call answer → HasHeld base cells cells' r a.thread mid a.engine call (Answers answer) → a.engine.irrevocable ≡ true → in_transaction a.engine ≡ true → a.engine.waits ≡ None
-            → IsHeld (bytes_at base r1.ended (cells'.clock / 2)) cells'.words row a.engine
+        by_answer : (b : Bool) (answer : Answer) → HasAnswered rules b cells cells' r r1 mid a last call answer → HasHeld mid.depth base cells cells' r a.thread mid a.engine call (Answers answer) → a.engine.irrevocable ≡ true → in_transaction a.engine ≡ true → a.engine.waits ≡ None
+            → IsHeld mid.depth (bytes_at mid.depth base r1.ended (cells'.clock / 2)) cells'.words row a.engine
         by_answer true (Reply reply) m held now inside idle =
             let t = run.inside m.taken.was_is in
             let half = half_same m refl in
@@ -205,19 +205,19 @@ module _ {P : Type 0} {rules : Rules P} (laws : Obeys rules) {first : Between P}
             let here : active_of last.thread r1.active ≡ Some (with_call t.1) = ap (λ (k : ℕ). active_of k r1.active) m.settled.thread ∙ (ap (λ (x : Rows). active_of a.thread x.active) told.0 ∙ changed_here a.thread with_call r.active t.1 (λ x. refl) t.3) in
             let same : with_call t.1 ≡ row = same_Some _ _ (sym here ∙ active) in
             let s = held_stands reply m held now in
-            let memory : bytes_at base r.ended (cells.clock / 2) ≡ bytes_at base r1.ended (cells'.clock / 2) = λ i. bytes_at base (sym (ap (λ (x : Rows). x.ended) told.0) i) (sym half i) in
-            subst (λ (x : Attempt). IsHeld (bytes_at base r1.ended (cells'.clock / 2)) cells'.words x a.engine) same
-            (subst (λ (bytes : List ℕ). IsHeld bytes cells'.words (with_call t.1) a.engine) memory
-            (stands_held (bytes_at base r.ended (cells.clock / 2)) (with_call t.1) inside now (s ∙ sym (state_whole t.1.restarts (opened (bytes_at base r.ended (cells.clock / 2)) t.1.arena t.1.props) t.1.calls.list (record { call = call; reply = reply }) t.4.restarts))
+            let memory : bytes_at mid.depth base r.ended (cells.clock / 2) ≡ bytes_at mid.depth base r1.ended (cells'.clock / 2) = λ i. bytes_at mid.depth base (sym (ap (λ (x : Rows). x.ended) told.0) i) (sym half i) in
+            subst (λ (x : Attempt). IsHeld mid.depth (bytes_at mid.depth base r1.ended (cells'.clock / 2)) cells'.words x a.engine) same
+            (subst (λ (bytes : List ℕ). IsHeld mid.depth bytes cells'.words (with_call t.1) a.engine) memory
+            (stands_held (bytes_at mid.depth base r.ended (cells.clock / 2)) (with_call t.1) inside now (s ∙ sym (state_whole mid.depth t.1.restarts (opened (bytes_at mid.depth base r.ended (cells.clock / 2)) t.1.arena t.1.props) t.1.calls.list (record { call = call; reply = reply }) t.4.restarts))
             (ap (λ (c : Core). c.actions.ran) m.settled.engine) idle))
         by_answer false (Reply reply) m held now inside idle =
             let half = half_same m refl in
             let s = begin_holds laws r1 a last call seen run (held.shut m.taken.was_is) reply m (ap in_transaction m.settled.engine ∙ inside) now row active in
-            let memory : bytes_at base r.ended (cells.clock / 2) ≡ bytes_at base r1.ended (cells'.clock / 2) = λ i. bytes_at base (sym (open_ended false (Reply reply) m inside) i) (sym half i) in
-            subst (λ (bytes : List ℕ). IsHeld bytes cells'.words row a.engine) memory (stands_held (bytes_at base r.ended (cells.clock / 2)) row inside now s.0 s.1 idle)
+            let memory : bytes_at mid.depth base r.ended (cells.clock / 2) ≡ bytes_at mid.depth base r1.ended (cells'.clock / 2) = λ i. bytes_at mid.depth base (sym (open_ended false (Reply reply) m inside) i) (sym half i) in
+            subst (λ (bytes : List ℕ). IsHeld mid.depth bytes cells'.words row a.engine) memory (stands_held (bytes_at mid.depth base r.ended (cells.clock / 2)) row inside now s.0 s.1 idle)
         by_answer b answer m held now inside idle = absurd (true≢false (sym inside ∙ m.answered.fits.1))
 
-    answers_on : (answer : Answer) → HasAnswered rules was cells cells' r r1 mid a last call answer → HasHeld base cells cells' r a.thread mid a.engine call (Answers answer) → HasRun rules first base cells' r1 last
+    answers_on : (answer : Answer) → HasAnswered rules was cells cells' r r1 mid a last call answer → HasHeld mid.depth base cells cells' r a.thread mid a.engine call (Answers answer) → HasRun rules first mid.depth base cells' r1 last
     answers_on answer m held = record {
       run = runs_on was answer m held;
       sees = sees_on answer m;
@@ -228,7 +228,7 @@ module _ {P : Type 0} {rules : Rules P} (laws : Obeys rules) {first : Between P}
 
     -- ## Either
 
-    pub runs_recorded : (what : Next) → HasTaken rules was cells cells' r mid a call what → HasHeld base cells cells' r a.thread mid a.engine call what → IsDone rules was r r1 a last call what → Tells rules was r r1 a last call what → HasRun rules first base cells' r1 last
+    pub runs_recorded : (what : Next) → HasTaken rules was cells cells' r mid a call what → HasHeld mid.depth base cells cells' r a.thread mid a.engine call what → IsDone rules was r r1 a last call what → Tells rules was r r1 a last call what → HasRun rules first mid.depth base cells' r1 last
     runs_recorded (Asks step) t held done tells =
-        subst (λ (x : Rows). HasRun rules first base cells' x last) (sym done.1) (subst (HasRun rules first base cells' r) (sym done.0) (waits_on step t held))
+        subst (λ (x : Rows). HasRun rules first mid.depth base cells' x last) (sym done.1) (subst (HasRun rules first mid.depth base cells' r) (sym done.0) (waits_on step t held))
     runs_recorded (Answers answer) t held done tells = answers_on answer (record { taken = t; answered = answered t; ends = t.proceeds; told = tells; settled = done }) held

@@ -1,6 +1,6 @@
 -- The actors' runs: one's event leaves the others', and together they are the headline.
-use Rattle.std.proofs.Common.{◌≡◌, ◌≢◌, inl, inr, ℕ, ◌+◌, ◌/◌, ◌%◌, ◌≤◌, Bool, true, false, List, [], ◌∷◌, ◌++◌, length, length-set, replicate, None, Some, slice_get, slice_set, refl, sym, ap, subst, ◌∙◌, arith, nat_lt}
-use Rattle.norec_world.proofs.Common.{Actor, Agrees, AllFit, AreActors, AreLaid, AreOfActors, AreOpaque, AreOpen, AreRunning, AreTied, Attempt, Between, Cells, ChangesOwn, ClocksOn, Core, Got, HasRead, HasRow, IsHeld, IsMemory, IsRunOf, IsTied, IsTryAt, IsWorld, KeepsOthers, MAX_OPEN_BLOCKS, Obeys, Ready, Rows, Rules, RunsFrom, StandsIn, State, World, active_of, alone, append-nil, attempts_of, backed, observed, begins_at, bytes_at, bytes_of, cases_Bool, count_at, count_committed, first_of, in_transaction, is_open, le-ltb, of_thread, one_where, opened, opening, run_after, same_Some, state_then, words_at, words_of, write_at, slice_get_within, breaks_of}
+use Rattle.std.proofs.Common.{◌≡◌, ◌≢◌, inl, inr, ℕ, ◌/◌, ◌%◌, ◌≤◌, Bool, true, false, List, [], ◌∷◌, ◌++◌, length, length-set, replicate, None, Some, slice_get, slice_set, refl, sym, ap, subst, ◌∙◌, arith, nat_lt}
+use Rattle.norec_world.proofs.Common.{Actor, Agrees, AllFit, AreActors, AreLaid, AreOfActors, AreOpaque, AreOpen, AreRunning, AreTied, Attempt, Between, Cells, ChangesOwn, ClocksOn, Core, Got, HasRead, HasRow, IsHeld, IsMemory, IsRunOf, IsTied, IsTryAt, IsWorld, KeepsOthers, Obeys, Ready, Rows, Rules, RunsFrom, StandsIn, State, World, active_of, alone, append-nil, attempts_of, backed, observed, begins_at, bytes_at, bytes_of, cases_Bool, count_at, count_committed, first_of, in_transaction, is_open, le-ltb, of_thread, one_where, opened, opening, run_after, same_Some, state_then, words_at, words_of, write_at, slice_get_within, breaks_of}
 use Rattle.tx_attempts.specs.declared.attempt.Outcome.TheVariants as outcomes
 use Rattle.itm_types.proofs.WordLists.{words_of-bytes_of}
 use Rattle.norec_world.specs.Runs.{StillRuns}
@@ -22,13 +22,14 @@ use Rattle.norec_world.proofs.Attempts.ThreadAttempts.{of_actors_active, of_acto
 module _ {P : Type 0} (rules : Rules P) (laws : Obeys rules) where
   -- ## Another one's event
 
-  pub other_runs : (first : Between P) (base : List ℕ) (cells cells' : Cells) (r r' : Rows) (thread : ℕ) (b : Actor P) → AreLaid base cells r → IsTied cells b.engine → ChangesOwn thread r r' → (b.thread ≡ thread → ⊥)
-      → cells.clock ≤ cells'.clock → (b.engine.holds ≡ true → cells' ≡ cells) → RunsFrom rules first base cells r b → RunsFrom rules first base cells' r' b
-  other_runs first base cells cells' r r' thread b laid tied own apart later held x =
+  pub other_runs : (first : Between P) (deepest : ℕ) (base : List ℕ) (cells cells' : Cells) (r r' : Rows) (thread : ℕ) (b : Actor P) → AreLaid deepest base cells r → IsTied cells b.engine → ChangesOwn thread r r' → (b.thread ≡ thread → ⊥)
+      → cells.clock ≤ cells'.clock → (b.engine.holds ≡ true → cells' ≡ cells) → RunsFrom rules first deepest base cells r b → RunsFrom rules first deepest base cells' r' b
+  other_runs first deepest base cells cells' r r' thread b laid tied own apart later held x =
       record {
+        depth = x.depth;
         runs = record {
-          run = subst (IsRunOf rules MAX_OPEN_BLOCKS (cells'.clock / 2) (bytes_at base r'.ended) (Some first)) (sym rows) on.0;
-          inside = λ o. (let t = x.runs.inside o in (t.0, t.1, now ∙ t.2, own.others b.thread apart ∙ t.3, try_moved laws (words_at base r'.ended (cells'.clock / 2)) (λ i. ap words_of (memory_held i)) t.4, t.5, t.6));
+          run = subst (IsRunOf rules deepest (cells'.clock / 2) (bytes_at deepest base r'.ended) (Some first)) (sym rows) on.0;
+          inside = λ o. (let t = x.runs.inside o in (t.0, t.1, now ∙ t.2, own.others b.thread apart ∙ t.3, try_moved laws (words_at deepest base r'.ended (cells'.clock / 2)) (λ i. ap words_of (memory_held i)) t.4, t.5, t.6));
           between = λ o gave_up starved.
               (let t = x.runs.between o gave_up starved in let k = t.2 in (
                 t.0,
@@ -40,19 +41,19 @@ module _ {P : Type 0} (rules : Rules P) (laws : Obeys rules) where
           loaded = record {
             fresh = λ even same f.
                 (let clock : cells'.clock ≡ cells.clock = (let late = tied.late in omega arith) in
-                let words : words_at base r'.ended (cells'.clock / 2) ≡ words_at base r.ended (cells.clock / 2) = ap (λ (k : ℕ). words_at base r'.ended (k / 2)) clock ∙ ap words_of (bytes_stay laid own.more own.ended (cells.clock / 2) (let l : cells.clock / 2 ≤ cells.clock / 2 = omega arith in l)) in
+                let words : words_at deepest base r'.ended (cells'.clock / 2) ≡ words_at deepest base r.ended (cells.clock / 2) = ap (λ (k : ℕ). words_at deepest base r'.ended (k / 2)) clock ∙ ap words_of (bytes_stay laid own.more own.ended (cells.clock / 2) (let l : cells.clock / 2 ≤ cells.clock / 2 = omega arith in l)) in
                 subst (λ (m : List ℕ). Agrees m b.engine.fresh) (sym words) (s.loaded.fresh (ap (λ (k : ℕ). k % 2) (sym clock) ∙ even) (same ∙ clock) f));
             held = λ h revocable.
                 (let is = held h in
                 ap (λ (c : Cells). c.words) is ∙ (s.loaded.held h revocable ∙ (ap (λ (m : List ℕ). backed b.engine m) (ap words_of (sym (bytes_stay laid own.more own.ended (cells.clock / 2) (let l : cells.clock / 2 ≤ cells.clock / 2 = omega arith in l))))
-                ∙ ap (λ (c : Cells). backed b.engine (words_at base r'.ended (c.clock / 2))) (sym is))));
+                ∙ ap (λ (c : Cells). backed b.engine (words_at deepest base r'.ended (c.clock / 2))) (sym is))));
             got = λ h revocable. subst (λ (c : Cells). Got b.engine.got (slice_get c.words (write_at b.engine.writes b.engine.done).word)) (sym (held h)) (s.loaded.got h revocable);
           };
           logged = λ o. subst (λ (m : List ℕ). Agrees m b.engine.log) (sym (ap words_of (bytes_stay laid own.more own.ended (b.engine.snapshot / 2) (let reached = tied.settled.reached in let late = tied.late in omega arith)))) (s.logged o);
         });
         held = λ i row f.
-            subst (λ (bytes : List ℕ). IsHeld bytes cells'.words row b.engine) (sym (memory_held i))
-            (subst (λ (c : Cells). IsHeld (bytes_at base r.ended (cells.clock / 2)) c.words row b.engine) (sym (held (holds_it i))) (x.held i row (sym (own.others b.thread apart) ∙ f)));
+            subst (λ (bytes : List ℕ). IsHeld deepest bytes cells'.words row b.engine) (sym (memory_held i))
+            (subst (λ (c : Cells). IsHeld deepest (bytes_at deepest base r.ended (cells.clock / 2)) c.words row b.engine) (sym (held (holds_it i))) (x.held i row (sym (own.others b.thread apart) ∙ f)));
         starved = x.starved;
         reads = λ o row e. x.reads o row (sym (own.others b.thread apart) ∙ e);
         fed = λ true_room. (let f = x.fed true_room in record { moves = f.moves; comes = f.comes; within = λ h row e. f.within h row (sym (own.others b.thread apart) ∙ e); fed = f.fed });
@@ -62,36 +63,36 @@ module _ {P : Type 0} (rules : Rules P) (laws : Obeys rules) where
       holds_it : b.engine.irrevocable ≡ true → b.engine.holds ≡ true
       holds_it i = (tied.settled.irrevocable i).0
 
-      memory_held : b.engine.irrevocable ≡ true → bytes_at base r'.ended (cells'.clock / 2) ≡ bytes_at base r.ended (cells.clock / 2)
-      memory_held i = ap (λ (c : Cells). bytes_at base r'.ended (c.clock / 2)) (held (holds_it i)) ∙ bytes_stay laid own.more own.ended (cells.clock / 2) (let l : cells.clock / 2 ≤ cells.clock / 2 = omega arith in l)
+      memory_held : b.engine.irrevocable ≡ true → bytes_at deepest base r'.ended (cells'.clock / 2) ≡ bytes_at deepest base r.ended (cells.clock / 2)
+      memory_held i = ap (λ (c : Cells). bytes_at deepest base r'.ended (c.clock / 2)) (held (holds_it i)) ∙ bytes_stay laid own.more own.ended (cells.clock / 2) (let l : cells.clock / 2 ≤ cells.clock / 2 = omega arith in l)
 
       rows : of_thread b.thread r'.ended ≡ of_thread b.thread r.ended
       rows =
           ap (of_thread b.thread) own.ended ∙ (of_thread_more b.thread r.ended own.more
           ∙ (ap (λ (l : List Attempt). of_thread b.thread r.ended ++ l) (of_thread_none b.thread thread own.more own.mine (λ e. apart (sym e))) ∙ append-nil (of_thread b.thread r.ended)))
 
-      on : IsRunOf rules MAX_OPEN_BLOCKS (cells'.clock / 2) (bytes_at base r'.ended) (Some first) (of_thread b.thread r.ended)
-          × (run_after rules (bytes_at base r'.ended) (Some first) (of_thread b.thread r.ended) ≡ run_after rules (bytes_at base r.ended) (Some first) (of_thread b.thread r.ended))
-      on = run_still rules (cells.clock / 2) (cells'.clock / 2) (bytes_at base r.ended) (bytes_at base r'.ended) (omega (arith, later)) (bytes_stay laid own.more own.ended) (Some first) (of_thread b.thread r.ended) x.runs.run
+      on : IsRunOf rules deepest (cells'.clock / 2) (bytes_at deepest base r'.ended) (Some first) (of_thread b.thread r.ended)
+          × (run_after rules deepest (bytes_at deepest base r'.ended) (Some first) (of_thread b.thread r.ended) ≡ run_after rules deepest (bytes_at deepest base r.ended) (Some first) (of_thread b.thread r.ended))
+      on = run_still rules deepest (cells.clock / 2) (cells'.clock / 2) (bytes_at deepest base r.ended) (bytes_at deepest base r'.ended) (omega (arith, later)) (bytes_stay laid own.more own.ended) (Some first) (of_thread b.thread r.ended) x.runs.run
 
-      now : run_after rules (bytes_at base r'.ended) (Some first) (of_thread b.thread r'.ended) ≡ run_after rules (bytes_at base r.ended) (Some first) (of_thread b.thread r.ended)
-      now = ap (run_after rules (bytes_at base r'.ended) (Some first)) rows ∙ on.1
+      now : run_after rules deepest (bytes_at deepest base r'.ended) (Some first) (of_thread b.thread r'.ended) ≡ run_after rules deepest (bytes_at deepest base r.ended) (Some first) (of_thread b.thread r.ended)
+      now = ap (run_after rules deepest (bytes_at deepest base r'.ended) (Some first)) rows ∙ on.1
 
   -- ## The headline
 
   module _ (w : World P) (sound : AreActors rules w.cells w.attempts w.actors) (open_rows : AreOpen w.attempts.active) (long : length w.actors ≡ length w.opening)
       (running : AreRunning rules w) where
-    shown_still : (k : ℕ) → k ≤ w.cells.clock / 2 → bytes_at w.base (attempts_of w) k ≡ bytes_at w.base w.attempts.ended k
-    shown_still k l = bytes_still w.base w.cells.clock w.attempts.ended running.laid.counted w.attempts.active k l
+    shown_still : (k : ℕ) → k ≤ w.cells.clock / 2 → bytes_at w.depth w.base (attempts_of w) k ≡ bytes_at w.depth w.base w.attempts.ended k
+    shown_still k l = bytes_still w.depth w.base w.cells.clock w.attempts.ended running.laid.counted w.attempts.active k l
 
     -- of an open attempt: its calls are made alone on the memory of its position, and its actions are those of the state that they lead to
     open_parts : (place : ℕ) (p : P) (a : Actor P) (e : slice_get w.opening place ≡ Some p) (f : slice_get w.actors place ≡ Some a) (o : in_transaction a.engine ≡ true)
         → let t = (running.each place p a e f).runs.inside o in let k : ℕ = a.engine.snapshot / 2 in
-        IsMadeAlone rules t.0 t.4.start t.1 (bytes_at w.base (attempts_of w) k) × (a.engine.actions.ran ≡ (state_then MAX_OPEN_BLOCKS (breaks_of t.1.restarts) (opened (bytes_at w.base (attempts_of w) k) t.4.start.arena t.4.start.props) t.1.calls.list).actions.ran)
-        × ((state_then MAX_OPEN_BLOCKS (breaks_of t.1.restarts) (opened (bytes_at w.base (attempts_of w) k) t.4.start.arena t.4.start.props) t.1.calls.list).irrevocable ≡ a.engine.irrevocable)
+        IsMadeAlone rules w.depth t.0 t.4.start t.1 (bytes_at w.depth w.base (attempts_of w) k) × (a.engine.actions.ran ≡ (state_then w.depth (breaks_of t.1.restarts) (opened (bytes_at w.depth w.base (attempts_of w) k) t.4.start.arena t.4.start.props) t.1.calls.list).actions.ran)
+        × ((state_then w.depth (breaks_of t.1.restarts) (opened (bytes_at w.depth w.base (attempts_of w) k) t.4.start.arena t.4.start.props) t.1.calls.list).irrevocable ≡ a.engine.irrevocable)
     open_parts place p a e f o = elim (cases_Bool a.engine.irrevocable) [ inl i ↦ held_so i | inr r ↦ open_so r ]
       where
-        x : RunsFrom rules (first_of p w.arena) w.base w.cells w.attempts a
+        x : RunsFrom rules (first_of p w.arena) w.depth w.base w.cells w.attempts a
         x = running.each place p a e f
 
         tied : IsTied w.cells a.engine
@@ -100,32 +101,32 @@ module _ {P : Type 0} (rules : Rules P) (laws : Obeys rules) where
         k_late : a.engine.snapshot / 2 ≤ w.cells.clock / 2
         k_late = (let reached = tied.settled.reached in let late = tied.late in omega arith)
 
-        words : words_at w.base (attempts_of w) (a.engine.snapshot / 2) ≡ words_at w.base w.attempts.ended (a.engine.snapshot / 2)
+        words : words_at w.depth w.base (attempts_of w) (a.engine.snapshot / 2) ≡ words_at w.depth w.base w.attempts.ended (a.engine.snapshot / 2)
         words = ap words_of (shown_still (a.engine.snapshot / 2) k_late)
 
-        memory : IsMemory a.engine.words (words_at w.base (attempts_of w) (a.engine.snapshot / 2))
+        memory : IsMemory a.engine.words (words_at w.depth w.base (attempts_of w) (a.engine.snapshot / 2))
         memory = (let fits = running.laid.memories.fits (a.engine.snapshot / 2) k_late in subst (IsMemory a.engine.words) (sym words) (fits.0 ∙ sym tied.words, fits.1))
 
-        same : bytes_of (words_at w.base (attempts_of w) (a.engine.snapshot / 2)) ≡ bytes_at w.base (attempts_of w) (a.engine.snapshot / 2)
+        same : bytes_of (words_at w.depth w.base (attempts_of w) (a.engine.snapshot / 2)) ≡ bytes_at w.depth w.base (attempts_of w) (a.engine.snapshot / 2)
         same = ap bytes_of words ∙ (running.laid.memories.same (a.engine.snapshot / 2) k_late ∙ sym (shown_still (a.engine.snapshot / 2) k_late))
 
-        agrees : Agrees (words_at w.base (attempts_of w) (a.engine.snapshot / 2)) a.engine.log
+        agrees : Agrees (words_at w.depth w.base (attempts_of w) (a.engine.snapshot / 2)) a.engine.log
         agrees = subst (λ (m : List ℕ). Agrees m a.engine.log) (sym words) (x.sees.logged o)
 
-        open_so : a.engine.irrevocable ≡ false → IsMadeAlone rules (x.runs.inside o).0 (x.runs.inside o).4.start (x.runs.inside o).1 (bytes_at w.base (attempts_of w) (a.engine.snapshot / 2))
-            × (a.engine.actions.ran ≡ (state_then MAX_OPEN_BLOCKS (breaks_of (x.runs.inside o).1.restarts) (opened (bytes_at w.base (attempts_of w) (a.engine.snapshot / 2)) (x.runs.inside o).4.start.arena (x.runs.inside o).4.start.props) (x.runs.inside o).1.calls.list).actions.ran)
-            × ((state_then MAX_OPEN_BLOCKS (breaks_of (x.runs.inside o).1.restarts) (opened (bytes_at w.base (attempts_of w) (a.engine.snapshot / 2)) (x.runs.inside o).4.start.arena (x.runs.inside o).4.start.props) (x.runs.inside o).1.calls.list).irrevocable ≡ a.engine.irrevocable)
+        open_so : a.engine.irrevocable ≡ false → IsMadeAlone rules w.depth (x.runs.inside o).0 (x.runs.inside o).4.start (x.runs.inside o).1 (bytes_at w.depth w.base (attempts_of w) (a.engine.snapshot / 2))
+            × (a.engine.actions.ran ≡ (state_then w.depth (breaks_of (x.runs.inside o).1.restarts) (opened (bytes_at w.depth w.base (attempts_of w) (a.engine.snapshot / 2)) (x.runs.inside o).4.start.arena (x.runs.inside o).4.start.props) (x.runs.inside o).1.calls.list).actions.ran)
+            × ((state_then w.depth (breaks_of (x.runs.inside o).1.restarts) (opened (bytes_at w.depth w.base (attempts_of w) (a.engine.snapshot / 2)) (x.runs.inside o).4.start.arena (x.runs.inside o).4.start.props) (x.runs.inside o).1.calls.list).irrevocable ≡ a.engine.irrevocable)
         open_so r =
-            let m : List ℕ = words_at w.base (attempts_of w) (a.engine.snapshot / 2) in
-            let stands = stands_led laws (x.runs.inside o).4 (bytes_at w.base (attempts_of w) (a.engine.snapshot / 2)) m r o memory same agrees in (
-              made_so laws (x.runs.inside o).4 (bytes_at w.base (attempts_of w) (a.engine.snapshot / 2)) m r o memory same agrees,
+            let m : List ℕ = words_at w.depth w.base (attempts_of w) (a.engine.snapshot / 2) in
+            let stands = stands_led laws (x.runs.inside o).4 (bytes_at w.depth w.base (attempts_of w) (a.engine.snapshot / 2)) m r o memory same agrees in (
+              made_so laws (x.runs.inside o).4 (bytes_at w.depth w.base (attempts_of w) (a.engine.snapshot / 2)) m r o memory same agrees,
               ap (λ (y : Actions). y.ran) (sym (stands_actions a.engine m)) ∙ ap (λ (y : State). y.actions.ran) stands,
               ap (λ (y : State). y.irrevocable) (sym stands) ∙ stands_mode a.engine m,
             )
 
-        held_so : a.engine.irrevocable ≡ true → IsMadeAlone rules (x.runs.inside o).0 (x.runs.inside o).4.start (x.runs.inside o).1 (bytes_at w.base (attempts_of w) (a.engine.snapshot / 2))
-            × (a.engine.actions.ran ≡ (state_then MAX_OPEN_BLOCKS (breaks_of (x.runs.inside o).1.restarts) (opened (bytes_at w.base (attempts_of w) (a.engine.snapshot / 2)) (x.runs.inside o).4.start.arena (x.runs.inside o).4.start.props) (x.runs.inside o).1.calls.list).actions.ran)
-            × ((state_then MAX_OPEN_BLOCKS (breaks_of (x.runs.inside o).1.restarts) (opened (bytes_at w.base (attempts_of w) (a.engine.snapshot / 2)) (x.runs.inside o).4.start.arena (x.runs.inside o).4.start.props) (x.runs.inside o).1.calls.list).irrevocable ≡ a.engine.irrevocable)
+        held_so : a.engine.irrevocable ≡ true → IsMadeAlone rules w.depth (x.runs.inside o).0 (x.runs.inside o).4.start (x.runs.inside o).1 (bytes_at w.depth w.base (attempts_of w) (a.engine.snapshot / 2))
+            × (a.engine.actions.ran ≡ (state_then w.depth (breaks_of (x.runs.inside o).1.restarts) (opened (bytes_at w.depth w.base (attempts_of w) (a.engine.snapshot / 2)) (x.runs.inside o).4.start.arena (x.runs.inside o).4.start.props) (x.runs.inside o).1.calls.list).actions.ran)
+            × ((state_then w.depth (breaks_of (x.runs.inside o).1.restarts) (opened (bytes_at w.depth w.base (attempts_of w) (a.engine.snapshot / 2)) (x.runs.inside o).4.start.arena (x.runs.inside o).4.start.props) (x.runs.inside o).1.calls.list).irrevocable ≡ a.engine.irrevocable)
         held_so i =
             let t = x.runs.inside o in
             let h = x.held i t.1 t.3 in
@@ -133,20 +134,20 @@ module _ {P : Type 0} (rules : Rules P) (laws : Obeys rules) where
             let half : a.engine.snapshot / 2 ≡ w.cells.clock / 2 = omega (arith, tied.holder holds, (tied.settled.holder holds).1, tied.settled.even) in
             let top : w.cells.clock / 2 ≤ w.cells.clock / 2 = omega arith in
             let fits = running.laid.memories.fits (w.cells.clock / 2) top in
-            let shown : bytes_at w.base (attempts_of w) (a.engine.snapshot / 2) ≡ bytes_at w.base w.attempts.ended (w.cells.clock / 2) = ap (bytes_at w.base (attempts_of w)) half ∙ shown_still (w.cells.clock / 2) top in (
-              made_held laws t.4 (bytes_at w.base (attempts_of w) (a.engine.snapshot / 2)) i (fits.0 ∙ sym tied.words, fits.1) (running.laid.memories.same (w.cells.clock / 2) top ∙ sym shown) (ap (λ (bytes : List ℕ). is_open (alone MAX_OPEN_BLOCKS bytes t.1)) shown ∙ h.still_open),
-              sym t.4.ran ∙ (h.ran ∙ (ap (λ (bytes : List ℕ). (alone MAX_OPEN_BLOCKS bytes t.1).actions.ran) (sym shown) ∙ ap (λ (y : State). y.actions.ran) (alone_led laws (of_block t.4) (bytes_at w.base (attempts_of w) (a.engine.snapshot / 2))))),
-              ap (λ (y : State). y.irrevocable) (sym (alone_led laws (of_block t.4) (bytes_at w.base (attempts_of w) (a.engine.snapshot / 2)))) ∙ (ap (λ (bytes : List ℕ). (alone MAX_OPEN_BLOCKS bytes t.1).irrevocable) shown ∙ (h.mode ∙ sym i)),
+            let shown : bytes_at w.depth w.base (attempts_of w) (a.engine.snapshot / 2) ≡ bytes_at w.depth w.base w.attempts.ended (w.cells.clock / 2) = ap (bytes_at w.depth w.base (attempts_of w)) half ∙ shown_still (w.cells.clock / 2) top in (
+              made_held laws t.4 (bytes_at w.depth w.base (attempts_of w) (a.engine.snapshot / 2)) i (fits.0 ∙ sym tied.words, fits.1) (running.laid.memories.same (w.cells.clock / 2) top ∙ sym shown) (ap (λ (bytes : List ℕ). is_open (alone w.depth bytes t.1)) shown ∙ h.still_open),
+              sym t.4.ran ∙ (h.ran ∙ (ap (λ (bytes : List ℕ). (alone w.depth bytes t.1).actions.ran) (sym shown) ∙ ap (λ (y : State). y.actions.ran) (alone_led laws w.depth (of_block t.4) (bytes_at w.depth w.base (attempts_of w) (a.engine.snapshot / 2))))),
+              ap (λ (y : State). y.irrevocable) (sym (alone_led laws w.depth (of_block t.4) (bytes_at w.depth w.base (attempts_of w) (a.engine.snapshot / 2)))) ∙ (ap (λ (bytes : List ℕ). (alone w.depth bytes t.1).irrevocable) shown ∙ (h.mode ∙ sym i)),
             )
 
     of_actor : (place : ℕ) (p : P) (a : Actor P) → slice_get w.opening place ≡ Some p → slice_get w.actors place ≡ Some a
-        → IsRunOf rules MAX_OPEN_BLOCKS (w.cells.clock / 2) (bytes_at w.base (attempts_of w)) (Some (first_of p w.arena)) (of_thread place (attempts_of w))
+        → IsRunOf rules w.depth (w.cells.clock / 2) (bytes_at w.depth w.base (attempts_of w)) (Some (first_of p w.arena)) (of_thread place (attempts_of w))
     of_actor place p a e f =
         let x = running.each place p a e f in
         let s = sound.each place a f in
-        let on = run_still rules (w.cells.clock / 2) (w.cells.clock / 2) (bytes_at w.base w.attempts.ended) (bytes_at w.base (attempts_of w)) (let l : w.cells.clock / 2 ≤ w.cells.clock / 2 = omega arith in l) shown_still
+        let on = run_still rules w.depth (w.cells.clock / 2) (w.cells.clock / 2) (bytes_at w.depth w.base w.attempts.ended) (bytes_at w.depth w.base (attempts_of w)) (let l : w.cells.clock / 2 ≤ w.cells.clock / 2 = omega arith in l) shown_still
         (Some (first_of p w.arena)) (of_thread a.thread w.attempts.ended) x.runs.run in
-        subst (λ (t : ℕ). IsRunOf rules MAX_OPEN_BLOCKS (w.cells.clock / 2) (bytes_at w.base (attempts_of w)) (Some (first_of p w.arena)) (of_thread t (attempts_of w))) s.thread
+        subst (λ (t : ℕ). IsRunOf rules w.depth (w.cells.clock / 2) (bytes_at w.depth w.base (attempts_of w)) (Some (first_of p w.arena)) (of_thread t (attempts_of w))) s.thread
         (elim (cases_Bool (in_transaction a.engine)) [
           | inl o ↦
               (let tied = s.sound.tied in
@@ -158,20 +159,20 @@ module _ {P : Type 0} (rules : Rules P) (laws : Obeys rules) where
               let at : row.at ≡ k = x.reads o row t.3 in
               let early = t.4.began in
               let parts = open_parts place p a e f o in
-              let try = try_stops laws (of_block t.4) (w.cells.clock / 2) (bytes_at w.base (attempts_of w)) k outcomes.Unfinished a.engine.actions.ran refl parts.0 parts.0.still_open early k_late parts.1 (λ f. absurd (cc)) in
+              let try = try_stops laws w.depth (of_block t.4) (w.cells.clock / 2) (bytes_at w.depth w.base (attempts_of w)) k outcomes.Unfinished a.engine.actions.ran refl parts.0 parts.0.still_open early k_late parts.1 (λ f. absurd (cc)) in
               let as_it_is : record row { at = k; ran = a.engine.actions.ran; outcome = outcomes.Unfinished } ≡ row = λ i. record row { at = (sym at) i; ran = (sym t.4.ran) i; outcome = (sym unfinished) i } in
-              let here : IsTryAt rules MAX_OPEN_BLOCKS (w.cells.clock / 2) (bytes_at w.base (attempts_of w)) t.0 (begins_at rules t.0) row =
-              subst (λ (y : _). IsTryAt rules MAX_OPEN_BLOCKS (w.cells.clock / 2) (bytes_at w.base (attempts_of w)) t.0 y row) (sym t.4.begins)
-              (subst (IsTryAt rules MAX_OPEN_BLOCKS (w.cells.clock / 2) (bytes_at w.base (attempts_of w)) t.0 (Some t.4.start)) as_it_is try) in
-              let more = run_more rules (w.cells.clock / 2) (bytes_at w.base (attempts_of w)) (Some (first_of p w.arena)) (of_thread a.thread w.attempts.ended) t.0 row on.0 (on.1 ∙ t.2) here in
+              let here : IsTryAt rules w.depth (w.cells.clock / 2) (bytes_at w.depth w.base (attempts_of w)) t.0 (begins_at rules w.depth t.0) row =
+              subst (λ (y : _). IsTryAt rules w.depth (w.cells.clock / 2) (bytes_at w.depth w.base (attempts_of w)) t.0 y row) (sym t.4.begins)
+              (subst (IsTryAt rules w.depth (w.cells.clock / 2) (bytes_at w.depth w.base (attempts_of w)) t.0 (Some t.4.start)) as_it_is try) in
+              let more = run_more rules w.depth (w.cells.clock / 2) (bytes_at w.depth w.base (attempts_of w)) (Some (first_of p w.arena)) (of_thread a.thread w.attempts.ended) t.0 row on.0 (on.1 ∙ t.2) here in
               let rows : of_thread a.thread (attempts_of w) ≡ of_thread a.thread w.attempts.ended ++ row ∷ [] =
               of_thread_more a.thread w.attempts.ended w.attempts.active ∙ ap (λ (l : List Attempt). of_thread a.thread w.attempts.ended ++ l) (open_one 0 a.thread w.attempts.active row open_rows.by_actor t.3) in
-              subst (IsRunOf rules MAX_OPEN_BLOCKS (w.cells.clock / 2) (bytes_at w.base (attempts_of w)) (Some (first_of p w.arena))) (sym rows) more.0)
+              subst (IsRunOf rules w.depth (w.cells.clock / 2) (bytes_at w.depth w.base (attempts_of w)) (Some (first_of p w.arena))) (sym rows) more.0)
           | inr shut ↦
               (let none : HasRow false w.attempts a.thread = subst (λ (b : Bool). HasRow b w.attempts a.thread) shut s.sound.kept.row in
               let rows : of_thread a.thread (attempts_of w) ≡ of_thread a.thread w.attempts.ended =
               of_thread_more a.thread w.attempts.ended w.attempts.active ∙ (ap (λ (l : List Attempt). of_thread a.thread w.attempts.ended ++ l) (open_none 0 a.thread w.attempts.active open_rows.by_actor none) ∙ append-nil (of_thread a.thread w.attempts.ended)) in
-              subst (IsRunOf rules MAX_OPEN_BLOCKS (w.cells.clock / 2) (bytes_at w.base (attempts_of w)) (Some (first_of p w.arena))) (sym rows) on.0)
+              subst (IsRunOf rules w.depth (w.cells.clock / 2) (bytes_at w.depth w.base (attempts_of w)) (Some (first_of p w.arena))) (sym rows) on.0)
         ])
 
     player_at : (place : ℕ) (a : Actor P) → slice_get w.actors place ≡ Some a → (p : P) × (slice_get w.opening place ≡ Some p)
@@ -179,7 +180,7 @@ module _ {P : Type 0} (rules : Rules P) (laws : Obeys rules) where
 
     -- an open attempt's player alone is irrevocable where its engine is
     mode_of : (place : ℕ) (a : Actor P) (row : Attempt) → slice_get w.actors place ≡ Some a → active_of place w.attempts.active ≡ Some row
-        → (alone MAX_OPEN_BLOCKS (bytes_at w.base (attempts_of w) row.at) row).irrevocable ≡ a.engine.irrevocable
+        → (alone w.depth (bytes_at w.depth w.base (attempts_of w) row.at) row).irrevocable ≡ a.engine.irrevocable
     mode_of place a row e some =
         let here = player_at place a e in
         let own = sound.each place a e in
@@ -188,9 +189,9 @@ module _ {P : Type 0} (rules : Rules P) (laws : Obeys rules) where
         let x = running.each place here.0 a here.1 e in
         let t = x.runs.inside o in
         let same : t.1 ≡ row = same_Some _ _ (sym t.3 ∙ mine) in
-        ap (λ (j : ℕ). (alone MAX_OPEN_BLOCKS (bytes_at w.base (attempts_of w) j) row).irrevocable) (x.reads o row mine)
-        ∙ (ap (λ (y : Attempt). (alone MAX_OPEN_BLOCKS (bytes_at w.base (attempts_of w) (a.engine.snapshot / 2)) y).irrevocable) (sym same)
-        ∙ (ap (λ (y : State). y.irrevocable) (alone_led laws (of_block t.4) (bytes_at w.base (attempts_of w) (a.engine.snapshot / 2))) ∙ (open_parts place here.0 a here.1 e o).2))
+        ap (λ (j : ℕ). (alone w.depth (bytes_at w.depth w.base (attempts_of w) j) row).irrevocable) (x.reads o row mine)
+        ∙ (ap (λ (y : Attempt). (alone w.depth (bytes_at w.depth w.base (attempts_of w) (a.engine.snapshot / 2)) y).irrevocable) (sym same)
+        ∙ (ap (λ (y : State). y.irrevocable) (alone_led laws w.depth (of_block t.4) (bytes_at w.depth w.base (attempts_of w) (a.engine.snapshot / 2))) ∙ (open_parts place here.0 a here.1 e o).2))
 
     -- who holds the clock has an open attempt, at the last position
     held_row : (place : ℕ) (a : Actor P) → slice_get w.actors place ≡ Some a → a.engine.holds ≡ true → (row : Attempt) × (active_of place w.attempts.active ≡ Some row) × (row.at ≡ w.cells.clock / 2)
@@ -246,7 +247,7 @@ module _ {P : Type 0} (rules : Rules P) (laws : Obeys rules) where
           let top : w.cells.clock / 2 ≤ w.cells.clock / 2 = omega arith in
           let here = there_is w.opening place (omega (arith, long)) in
           let mine : active_of a.thread w.attempts.active ≡ Some row = ap (λ (t : ℕ). active_of t w.attempts.active) (sound.each place a e).thread ∙ some in
-          subst (λ (bytes : List ℕ). StandsIn a.engine.waits a.engine.doing a.engine w.cells.words (alone MAX_OPEN_BLOCKS bytes row)) (sym (shown_still (w.cells.clock / 2) top)) ((running.each place here.0 a here.1 e).held i row mine).stands);
+          subst (λ (bytes : List ℕ). StandsIn w.depth a.engine.waits a.engine.doing a.engine w.cells.words (alone w.depth bytes row)) (sym (shown_still (w.cells.clock / 2) top)) ((running.each place here.0 a here.1 e).held i row mine).stands);
     }
 
   pub world_opaque : (w : World P) → IsWorld rules w → AreOpaque rules (observed w)
@@ -266,11 +267,11 @@ module _ {P : Type 0} (rules : Rules P) (laws : Obeys rules) where
     player : (p : P) × (slice_get w.opening i ≡ Some p)
     player = there_is w.opening i (let l = slice_get_within w.actors i got here in omega (arith, kept.long))
 
-    went : AreLaid w.base cells' r' × RunsFrom rules (first_of player.0 w.arena) w.base cells' r' new
-    went = runs (first_of player.0 w.arena) w.base kept.running.laid (kept.running.each i player.0 got player.1 here)
+    went : AreLaid w.depth w.base cells' r' × RunsFrom rules (first_of player.0 w.arena) w.depth w.base cells' r' new
+    went = runs (first_of player.0 w.arena) w.depth w.base kept.running.laid (kept.running.each i player.0 got player.1 here)
 
     -- what its transaction has read is of one memory
-    pub has_read : IsTied cells' new.engine → HasRead w.base r' new
+    pub has_read : IsTied cells' new.engine → HasRead w.depth w.base r' new
     has_read tied o =
         let k_late : new.engine.snapshot / 2 ≤ cells'.clock / 2 = (let reached = tied.settled.reached in let late = tied.late in omega arith) in
         let fits = went.0.memories.fits (new.engine.snapshot / 2) k_late in
@@ -289,34 +290,35 @@ module _ {P : Type 0} (rules : Rules P) (laws : Obeys rules) where
       each = each_after;
     }
       where
-        each_after : (place : ℕ) (p : P) (a : Actor P) → slice_get w.opening place ≡ Some p → slice_get (slice_set w.actors i new) place ≡ Some a → RunsFrom rules (first_of p w.arena) w.base cells' r' a
+        each_after : (place : ℕ) (p : P) (a : Actor P) → slice_get w.opening place ≡ Some p → slice_get (slice_set w.actors i new) place ≡ Some a → RunsFrom rules (first_of p w.arena) w.depth w.base cells' r' a
         each_after place p a e f = elim (set_place w.actors i got new here place a f) [
           | inl h ↦
               (let same_player : player.0 ≡ p = (let z : Some player.0 ≡ Some p = sym player.1 ∙ (ap (slice_get w.opening) h.0 ∙ e) in cc) in
-              subst (λ (x : Actor P). RunsFrom rules (first_of p w.arena) w.base cells' r' x) (sym h.1)
-              (subst (λ (q : P). RunsFrom rules (first_of q w.arena) w.base cells' r' new) same_player went.1))
+              subst (λ (x : Actor P). RunsFrom rules (first_of p w.arena) w.depth w.base cells' r' x) (sym h.1)
+              (subst (λ (q : P). RunsFrom rules (first_of q w.arena) w.depth w.base cells' r' new) same_player went.1))
           | inr h ↦
               (let b = kept.actors.each place a h.1 in
-              other_runs (first_of p w.arena) w.base w.cells cells' w.attempts r' got.thread a kept.running.laid b.sound.tied others.own
+              other_runs (first_of p w.arena) w.depth w.base w.cells cells' w.attempts r' got.thread a kept.running.laid b.sound.tied others.own
               (λ same. h.0 (sym mine ∙ (sym same ∙ b.thread))) clocks.late (others_held place a h.0 h.1) (kept.running.each place p a e h.1))
         ]
 
   -- ## Beginnings
 
   -- an actor that has made no call
-  pub fresh_runs : (cells : Cells) (r : Rows) (a : Actor P) (base : List ℕ) (size patience max_commits : ℕ) → a.engine ≡ opening (length cells.words) (replicate size 0) patience max_commits → r.ended ≡ [] → a.nth ≡ 1 → a.again ≡ false → a.pending ≡ None → a.status ≡ Ready
-      → RunsFrom rules (first_of a.player size) base cells r a
-  fresh_runs cells r a base size patience max_commits is none first anew nothing ready =
+  pub fresh_runs : (cells : Cells) (r : Rows) (a : Actor P) (deepest : ℕ) (base : List ℕ) (size patience max_commits : ℕ) → a.engine ≡ opening (length cells.words) (replicate size 0) patience max_commits deepest → r.ended ≡ [] → a.nth ≡ 1 → a.again ≡ false → a.pending ≡ None → a.status ≡ Ready
+      → RunsFrom rules (first_of a.player size) deepest base cells r a
+  fresh_runs cells r a deepest base size patience max_commits is none first anew nothing ready =
       let shut : in_transaction a.engine ≡ false = ap in_transaction is in
       let free : a.engine.holds ≡ false = ap (λ (c : Core). c.holds) is in
       let rows : of_thread a.thread r.ended ≡ [] = ap (of_thread a.thread) none in
       record {
+        depth = ap (λ (c : Core). c.depth) is;
         runs = record {
-          run = subst (IsRunOf rules MAX_OPEN_BLOCKS (cells.clock / 2) (bytes_at base r.ended) (Some (first_of a.player size))) (sym rows) tt;
+          run = subst (IsRunOf rules deepest (cells.clock / 2) (bytes_at deepest base r.ended) (Some (first_of a.player size))) (sym rows) tt;
           inside = λ o. absurd (let z = sym o ∙ shut in cc);
           between = λ o gave_up starved. (
             first_of a.player size,
-            ap (run_after rules (bytes_at base r.ended) (Some (first_of a.player size))) rows,
+            ap (run_after rules deepest (bytes_at deepest base r.ended) (Some (first_of a.player size))) rows,
             record {
               calls = 0;
               leads = (refl, ap (λ (c : Core). c.arena) is);
@@ -328,7 +330,7 @@ module _ {P : Type 0} (rules : Rules P) (laws : Obeys rules) where
         };
         sees = record {
           loaded = record {
-            fresh = λ even same f. subst (Agrees (words_at base r.ended (cells.clock / 2))) (sym (ap (λ (c : Core). c.fresh) is)) tt;
+            fresh = λ even same f. subst (Agrees (words_at deepest base r.ended (cells.clock / 2))) (sym (ap (λ (c : Core). c.fresh) is)) tt;
             held = λ h. absurd (let z = sym h ∙ free in cc);
             got = λ h. absurd (let z = sym h ∙ free in cc);
           };
@@ -341,8 +343,8 @@ module _ {P : Type 0} (rules : Rules P) (laws : Obeys rules) where
       }
 
 -- no commit has been done
-pub laid_first : (base : List ℕ) (cells : Cells) (r : Rows) → base ≡ bytes_of cells.words → AllFit cells.words → cells.clock ≡ 0 → r.ended ≡ [] → AreLaid base cells r
-laid_first base cells r is fit zero_clock none =
+pub laid_first : (deepest : ℕ) (base : List ℕ) (cells : Cells) (r : Rows) → base ≡ bytes_of cells.words → AllFit cells.words → cells.clock ≡ 0 → r.ended ≡ [] → AreLaid deepest base cells r
+laid_first deepest base cells r is fit zero_clock none =
     let words : words_of base ≡ cells.words = ap words_of is ∙ words_of-bytes_of cells.words fit in
     record {
       counted = record {
@@ -350,10 +352,10 @@ laid_first base cells r is fit zero_clock none =
         each = λ position. ap (count_at position) none ∙ (sym (ap one_where (le-ltb position 0 (omega arith))) ∙ ap (λ (k : ℕ). one_where (nat_lt position (k / 2))) (sym zero_clock));
       };
       memories = record {
-        fits = λ k l. subst (λ (j : ℕ). IsMemory (length cells.words) (words_at base r.ended j)) (sym (at_zero k l)) (subst (IsMemory (length cells.words)) (sym words) (refl, fit));
-        same = λ k l. subst (λ (j : ℕ). bytes_of (words_at base r.ended j) ≡ bytes_at base r.ended j) (sym (at_zero k l)) (ap bytes_of words ∙ sym is);
+        fits = λ k l. subst (λ (j : ℕ). IsMemory (length cells.words) (words_at deepest base r.ended j)) (sym (at_zero k l)) (subst (IsMemory (length cells.words)) (sym words) (refl, fit));
+        same = λ k l. subst (λ (j : ℕ). bytes_of (words_at deepest base r.ended j) ≡ bytes_at deepest base r.ended j) (sym (at_zero k l)) (ap bytes_of words ∙ sym is);
       };
-      free = λ even. sym words ∙ ap (λ (k : ℕ). words_at base r.ended (k / 2)) (sym zero_clock);
+      free = λ even. sym words ∙ ap (λ (k : ℕ). words_at deepest base r.ended (k / 2)) (sym zero_clock);
     }
   where
     at_zero : (k : ℕ) → k ≤ cells.clock / 2 → k ≡ 0

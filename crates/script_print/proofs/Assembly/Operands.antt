@@ -1,8 +1,9 @@
 -- What operands are that were read: their ranges.
 use Rattle.std.proofs.Common.{◌≡◌, ℕ, ◌*◌, ◌%◌, ◌^◌, ◌<◌, ◌≤◌, true, cond, leb, ltb, eqb, ◌&&◌, List, length, Result, Ok, Err, refl, arith, subst, inl, inr}
-use Rattle.std.proofs.lemmas.Bool.{and_parts, leb-true, eqb-true, eqb-false, not-true}
+use Rattle.std.proofs.lemmas.Bool.{and_parts, leb-true, ltb-false, eqb-true, eqb-false, not-true}
 use Rattle.hex.specs.Hex.{IsBytes}
 use Rattle.itm_types.specs.declared.limits.TheConstants.{MAX_MEMORY}
+use Rattle.script_fields.specs.declared.hex_digits.TheConstants.{MAX_INIT_DIGITS}
 use Rattle.script_fields.specs.declared.fault.AsmKind.{AsmKind}
 use Rattle.script_fields.specs.declared.fault.AsmKind.TheVariants as kinds
 use Rattle.script_fields.specs.declared.literal.Literal.{Literal}
@@ -58,14 +59,18 @@ hex_form f h =
     let some = eqb-false (length f) 0 (not-true _ (and_parts _ _ h).0) in
     (d.2, omega (arith, d.1, some))
 
--- bytes that were read for the memory: at least one
-digits_form : (f bytes : List ℕ) → digits f ≡ Ok bytes → IsBytes bytes × (1 ≤ length bytes)
+-- bytes that were read for the memory: at least one, and of no more digits than a line may have
+digits_form : (f bytes : List ℕ) → digits f ≡ Ok bytes → IsBytes bytes × (1 ≤ length bytes) × (2 * length bytes ≤ MAX_INIT_DIGITS)
 unfolding digits
 digits_form f bytes e =
-    elim (chosen (is_hex f) (cond (ltb (2 * MAX_MEMORY) (length f)) (Err kinds.Range) (Ok (decoded f))) (Err kinds.Operand) (Ok bytes) e) [
-      | inl hex ↦ elim (chosen (ltb (2 * MAX_MEMORY) (length f)) (Err kinds.Range) (Ok (decoded f)) (Ok bytes) hex.1) [
+    elim (chosen (is_hex f) (cond (ltb MAX_INIT_DIGITS (length f)) (Err kinds.Range) (Ok (decoded f))) (Err kinds.Operand) (Ok bytes) e) [
+      | inl hex ↦ elim (chosen (ltb MAX_INIT_DIGITS (length f)) (Err kinds.Range) (Ok (decoded f)) (Ok bytes) hex.1) [
         | inl many ↦ absurd cc
-        | inr few ↦ let is : decoded f ≡ bytes = cc in subst (λ (bs : List ℕ). IsBytes bs × (1 ≤ length bs)) is (hex_form f hex.0)
+        | inr few ↦
+            let is : decoded f ≡ bytes = cc in
+            let form = hex_form f hex.0 in
+            let most = ltb-false MAX_INIT_DIGITS (length f) few.0 in
+            subst (λ (bs : List ℕ). IsBytes bs × (1 ≤ length bs) × (2 * length bs ≤ MAX_INIT_DIGITS)) is (form.0, form.1, omega (arith, (decode_of-hex f hex.0).1, most))
       ]
       | inr bad ↦ absurd cc
     ]
@@ -159,7 +164,7 @@ limit_of_form low high fs n e =
     let read = bind_ok (one fs >>= number) (within low high) n e in
     within_form low high read.0 n read.2
 
-pub init_of_form : (fs : List (List ℕ)) (x : ℕ × List ℕ) → init_of fs ≡ Ok x → IsBytes x.1 × (1 ≤ length x.1)
+pub init_of_form : (fs : List (List ℕ)) (x : ℕ × List ℕ) → init_of fs ≡ Ok x → IsBytes x.1 × (1 ≤ length x.1) × (2 * length x.1 ≤ MAX_INIT_DIGITS)
 unfolding init_of
 init_of_form fs x e =
     let read = bind_ok (two fs) (λ y. both (number y.0) (digits y.1)) x e in

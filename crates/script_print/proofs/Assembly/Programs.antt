@@ -5,7 +5,7 @@ use Rattle.std.specs.Option.{IfSome, unwrap_or}
 use Rattle.std.specs.Str.Lines.{lines}
 use Rattle.std.proofs.lemmas.Bool.{ltb-true}
 use Rattle.itm_types.specs.Limits.{AreWithin}
-use Rattle.itm_types.specs.declared.limits.TheConstants.{MAX_ARENA, MAX_PATIENCE, MAX_RETRIES, MAX_COMMITS}
+use Rattle.itm_types.specs.declared.limits.TheConstants.{MAX_ARENA, MAX_PATIENCE, MAX_RETRIES, MAX_COMMITS, MAX_DEPTH, USUAL_DEPTH}
 use Rattle.script_fields.specs.declared.fault.AsmKind.TheVariants as faults
 use Rattle.script_fields.proofs.FirstLines.{chosen}
 use Rattle.script_program.specs.declared.limits.TheConstants.{MAX_TEXT}
@@ -38,6 +38,7 @@ limits_within b h = record {
   patience = or_else (λ n. (1 ≤ n) × (n ≤ MAX_PATIENCE)) b.patience 8 h.patience (omega arith, omega arith);
   retries = or_else (λ n. n ≤ MAX_RETRIES) b.retries 100 h.retries (omega arith);
   commits = or_else (λ n. (1 ≤ n) × (n ≤ MAX_COMMITS)) b.commits MAX_COMMITS h.commits (omega arith, omega arith);
+  depth = or_else (λ n. (1 ≤ n) × (n ≤ MAX_DEPTH)) b.depth USUAL_DEPTH h.depth (omega arith, omega arith);
 }
 
 -- ## The program

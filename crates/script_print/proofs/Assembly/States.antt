@@ -3,7 +3,7 @@ use Rattle.std.proofs.Common.{◌≡◌, ℕ, ◌+◌, ◌≤◌, ltb, leb, List
 use Rattle.std.specs.Option.{IfSome}
 use Rattle.std.specs.List.{AllByRecursion}
 use Rattle.std.proofs.lemmas.Bool.{ltb-false, leb-true}
-use Rattle.itm_types.specs.declared.limits.TheConstants.{MAX_ARENA, MAX_PATIENCE, MAX_RETRIES, MAX_COMMITS, MAX_ACTORS}
+use Rattle.itm_types.specs.declared.limits.TheConstants.{MAX_ARENA, MAX_PATIENCE, MAX_RETRIES, MAX_COMMITS, MAX_ACTORS, MAX_DEPTH}
 use Rattle.script_fields.specs.declared.fault.AsmKind.{AsmKind}
 use Rattle.script_fields.specs.declared.fault.AsmKind.TheVariants as kinds
 use Rattle.script_fields.specs.declared.fault.AsmFault.{AsmFault}
@@ -38,6 +38,7 @@ pub record AreBounds (b : Bounds) : Type 0 where
   pub patience : IfSome b.patience (λ n. (1 ≤ n) × (n ≤ MAX_PATIENCE))
   pub retries : IfSome b.retries (λ n. n ≤ MAX_RETRIES)
   pub commits : IfSome b.commits (λ n. (1 ≤ n) × (n ≤ MAX_COMMITS))
+  pub depth : IfSome b.depth (λ n. (1 ≤ n) × (n ≤ MAX_DEPTH))
 
 -- what is kept after each line
 pub record IsSound (s : State) : Type 0 where
@@ -51,7 +52,7 @@ pub initial_sound : IsSound initial
 unfolding thread_total instruction_total
 initial_sound = record {
   memory = tt;
-  limits = record { arena = tt; patience = tt; retries = tt; commits = tt };
+  limits = record { arena = tt; patience = tt; retries = tt; commits = tt; depth = tt };
   schedule = record { few = omega arith; each = tt; in_lines = refl };
   sections = record { ended = tt; said = tt; levels = record { after = refl; starts = tt }; threads = omega arith; instructions = omega arith };
 }
@@ -80,7 +81,7 @@ laid_sound s t n fs x (Some m) h k read e =
       | inl within ↦
           let is : record s { memory = Some (record m { inits = m.inits ++ record { at = x.0; bytes = x.1 } ∷ [] }) } ≡ t = cc in
           let bytes = init_of_form fs x read in
-          let init : IsInit m.size (record { at = x.0; bytes = x.1 }) = (bytes.0, (bytes.1, leb-true _ _ within.0)) in
+          let init : IsInit m.size (record { at = x.0; bytes = x.1 }) = (bytes.0, bytes.1, bytes.2, leb-true _ _ within.0) in
           subst IsSound is (record {
             memory = (k.0, all_append (IsInit m.size) m.inits (record { at = x.0; bytes = x.1 } ∷ []) k.1 (init, tt));
             limits = h.limits;

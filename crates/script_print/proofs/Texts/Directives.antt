@@ -1,11 +1,11 @@
 -- The lines of sizes, limits and bytes say them.
-use Rattle.std.proofs.Common.{◌≡◌, ℕ, ◌+◌, ◌≤◌, true, false, List, [], ◌∷◌, ◌++◌, length, map, Option, Some, None, Ok, refl, sym, ap, ◌∙◌, arith, append_assoc}
-use Rattle.std.specs.Prelude.{codes}
+use Rattle.std.proofs.Common.{◌≡◌, ℕ, ◌+◌, ◌≤◌, true, false, List, [], ◌∷◌, ◌++◌, length, map, Option, Some, None, Ok, refl, sym, ap, ◌∙◌, arith, append_assoc, inl, inr}
+use Rattle.std.specs.Prelude.{codes, unwrap_or, ◌==◌, if◌then◌else◌}
 use Rattle.std.specs.List.{AllByRecursion}
-use Rattle.std.proofs.lemmas.Bool.{le-leb}
+use Rattle.std.proofs.lemmas.Bool.{cases_eq, eq-eqb, le-leb, ne_eqb}
 use Rattle.std.proofs.lemmas.List.{append-nil}
 use Rattle.itm_types.specs.Limits.{AreWithin}
-use Rattle.itm_types.specs.declared.limits.TheConstants.{MAX_MEMORY, MAX_ARENA, MAX_PATIENCE, MAX_RETRIES, MAX_COMMITS}
+use Rattle.itm_types.specs.declared.limits.TheConstants.{MAX_MEMORY, MAX_ARENA, MAX_PATIENCE, MAX_RETRIES, MAX_COMMITS, MAX_DEPTH, USUAL_DEPTH}
 use Rattle.script_fields.proofs.SpelledShapes.{size_of_again, limit_of_again, init_of_again}
 use Rattle.script_asm.specs.declared.state.State.{State}
 use Rattle.script_asm.specs.declared.words.Word.TheVariants as words
@@ -15,7 +15,7 @@ use Rattle.script_asm.specs.Standing.{has_begun, may_stand}
 use Rattle.script_asm.specs.Directives.{laid_in}
 use Rattle.script_asm.specs.Words.{word_of}
 use Rattle.script_asm.specs.Assembly.{obeyed, said, initial}
-use Rattle.script_print.specs.Printing.{number_fields, limit_lines, init_fields}
+use Rattle.script_print.specs.Printing.{number_fields, depth_lines, limit_lines, init_fields}
 use Rattle.script_print.proofs.Printable.{IsInit}
 use Rattle.script_print.proofs.Texts.Lines.{all_said, said_next}
 
@@ -48,27 +48,54 @@ commits_said : (s : State) (n k : ℕ) → may_stand s words.Commits ≡ true �
 unfolding word_of obeyed
 commits_said s n k may low high = rw (may, limit_of_again 1 MAX_COMMITS k low high (omega arith)) refl
 
+depth_said : (s : State) (n k : ℕ) → may_stand s words.Depth ≡ true → 1 ≤ k → k ≤ MAX_DEPTH → said s n (number_fields (codes ".depth") k) ≡ Ok (record s { limits = record s.limits { depth = Some k } })
+unfolding word_of obeyed
+depth_said s n k may low high = rw (may, limit_of_again 1 MAX_DEPTH k low high (omega arith)) refl
+
 -- ## All of them
 
 -- after the lines of sizes and limits so far
 abbrev sized : ℕ → State
 sized size = with_memory initial (empty size)
 
-abbrev bounded : ℕ → Option ℕ → Option ℕ → Option ℕ → Option ℕ → State
-bounded size arena patience retries commits = record (sized size) { limits = record { arena = arena; patience = patience; retries = retries; commits = commits } }
+abbrev bounded : ℕ → Option ℕ → Option ℕ → Option ℕ → Option ℕ → Option ℕ → State
+bounded size arena patience retries commits depth = record (sized size) { limits = record { arena = arena; patience = patience; retries = retries; commits = commits; depth = depth } }
+
+-- the depth that is said
+abbrev said_depth : ℕ → Option ℕ
+said_depth depth = if depth == USUAL_DEPTH then None else Some depth
+
+pub depth_again : (depth : ℕ) → unwrap_or (said_depth depth) USUAL_DEPTH ≡ depth
+depth_again depth =
+    elim (cases_eq depth USUAL_DEPTH) [
+      | inl usual ↦ rw (eq-eqb depth USUAL_DEPTH usual) (sym usual)
+      | inr other ↦ rw (ne_eqb depth USUAL_DEPTH other) refl
+    ]
+
+-- after the line of the depth, or none
+depth_lines_said : (size : ℕ) (arena patience retries commits : Option ℕ) (n k : ℕ) → 1 ≤ k → k ≤ MAX_DEPTH
+    → all_said (bounded size arena patience retries commits None) n (depth_lines k) ≡ Ok (bounded size arena patience retries commits (said_depth k))
+depth_lines_said size arena patience retries commits n k low high =
+    let before = bounded size arena patience retries commits None in
+    let after = bounded size arena patience retries commits (Some k) in
+    elim (cases_eq k USUAL_DEPTH) [
+      | inl usual ↦ rw (eq-eqb k USUAL_DEPTH usual) refl
+      | inr other ↦ rw (ne_eqb k USUAL_DEPTH other) (said_next (number_fields (codes ".depth") k) [] before after n (depth_said before n k refl low high))
+    ]
 
 -- after all of them
 abbrev pub with_limits : Listing → State
-with_limits p = bounded p.memory.size (Some p.arena) (Some p.limits.patience) (Some p.limits.retries) (Some p.limits.max_commits)
+with_limits p = bounded p.memory.size (Some p.arena) (Some p.limits.patience) (Some p.limits.retries) (Some p.limits.max_commits) (said_depth p.limits.depth)
 
 pub limits_said : (p : Listing) (n : ℕ) → IsSize p.memory.size → p.arena ≤ MAX_ARENA → AreWithin p.limits → all_said initial n (limit_lines p) ≡ Ok (with_limits p)
 limits_said p n size arena within =
     let m = p.memory.size in
     let l = p.limits in
-    let one = bounded m (Some p.arena) None None None in
-    let two = bounded m (Some p.arena) (Some l.patience) None None in
-    let three = bounded m (Some p.arena) (Some l.patience) (Some l.retries) None in
-    let last = number_fields (codes ".commits") l.max_commits ∷ [] in
+    let one = bounded m (Some p.arena) None None None None in
+    let two = bounded m (Some p.arena) (Some l.patience) None None None in
+    let three = bounded m (Some p.arena) (Some l.patience) (Some l.retries) None None in
+    let four = bounded m (Some p.arena) (Some l.patience) (Some l.retries) (Some l.max_commits) None in
+    let last = number_fields (codes ".commits") l.max_commits ∷ depth_lines l.depth in
     let fourth = number_fields (codes ".retries") l.retries ∷ last in
     let third = number_fields (codes ".patience") l.patience ∷ fourth in
     let second = number_fields (codes ".arena") p.arena ∷ third in
@@ -76,14 +103,15 @@ limits_said p n size arena within =
     ∙ said_next (number_fields (codes ".arena") p.arena) third (sized m) one (n + 1) (arena_said (sized m) (n + 1) p.arena refl arena)
     ∙ said_next (number_fields (codes ".patience") l.patience) fourth one two (n + 1 + 1) (patience_said one (n + 1 + 1) l.patience refl within.patience.0 within.patience.1)
     ∙ said_next (number_fields (codes ".retries") l.retries) last two three (n + 1 + 1 + 1) (retries_said two (n + 1 + 1 + 1) l.retries refl within.retries)
-    ∙ said_next (number_fields (codes ".commits") l.max_commits) [] three (with_limits p) (n + 1 + 1 + 1 + 1) (commits_said three (n + 1 + 1 + 1 + 1) l.max_commits refl within.commits.0 within.commits.1)
+    ∙ said_next (number_fields (codes ".commits") l.max_commits) (depth_lines l.depth) three four (n + 1 + 1 + 1 + 1) (commits_said three (n + 1 + 1 + 1 + 1) l.max_commits refl within.commits.0 within.commits.1)
+    ∙ depth_lines_said m (Some p.arena) (Some l.patience) (Some l.retries) (Some l.max_commits) (n + 1 + 1 + 1 + 1 + 1) l.depth within.depth.0 within.depth.1
 
 -- ## Bytes of the memory
 
 init_said : (s : State) (n : ℕ) (m : Shared) (i : Placed) → has_begun s ≡ false → m.size ≤ MAX_MEMORY → IsInit m.size i → said (with_memory s m) n (init_fields i) ≡ Ok (with_memory s (record m { inits = m.inits ++ i ∷ [] }))
 unfolding word_of obeyed laid_in
 init_said s n m i early few h =
-    rw (early, init_of_again i.at i.bytes (omega (arith, h.1.1)) h.0 h.1.0 (omega (arith, h.1.1)), le-leb (i.at + length i.bytes) m.size h.1.1) refl
+    rw (early, init_of_again i.at i.bytes (omega (arith, h.3)) h.0 h.1 h.2, le-leb (i.at + length i.bytes) m.size h.3) refl
 
 pub inits_said : (inits : List Placed) (s : State) (n : ℕ) (m : Shared) → has_begun s ≡ false → m.size ≤ MAX_MEMORY → AllByRecursion (IsInit m.size) inits
     → all_said (with_memory s m) n (map init_fields inits) ≡ Ok (with_memory s (record m { inits = m.inits ++ inits }))

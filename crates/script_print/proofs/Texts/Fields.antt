@@ -6,7 +6,7 @@ use Rattle.std.proofs.lemmas.Bool.{cases_eq, eq-eqb, ne_eqb}
 use Rattle.std.proofs.lemmas.List.Concat.{flat_map-cons}
 use Rattle.std.proofs.lemmas.List.Sums.{sum_by-cons}
 use Rattle.itm_types.specs.Limits.{AreWithin}
-use Rattle.itm_types.specs.declared.limits.TheConstants.{MAX_MEMORY, MAX_ARENA, MAX_ACTORS}
+use Rattle.itm_types.specs.declared.limits.TheConstants.{MAX_MEMORY, MAX_ARENA, MAX_ACTORS, MAX_DEPTH, USUAL_DEPTH}
 use Rattle.itm_entries.specs.declared.entry.Control.{Control}
 use Rattle.itm_entries.specs.declared.entry.Control.TheVariants as controls
 use Rattle.itm_entries.specs.declared.entry.Entry.TheVariants as entries
@@ -19,7 +19,7 @@ use Rattle.script_program.specs.declared.instruction.Instruction.TheVariants as 
 use Rattle.script_program.specs.declared.schedule.Item.{Item}
 use Rattle.script_program.specs.Listing.{Listing, Placed, Part}
 use Rattle.script_program.specs.Sizes.{IsSize}
-use Rattle.script_print.specs.Printing.{instruction_fields, number_fields, limit_lines, init_fields, item_fields, thread_fields, part_lines, program_lines}
+use Rattle.script_print.specs.Printing.{instruction_fields, number_fields, depth_lines, limit_lines, init_fields, item_fields, thread_fields, part_lines, program_lines}
 use Rattle.script_print.proofs.Printable.{IsSaid, IsInit, IsItem, IsPart, IsPrintable, threads_in}
 use Rattle.script_print.proofs.Texts.Words.{operation_field, load_field, save_field, entry_field}
 use Rattle.script_print.proofs.Texts.Lines.{AreFields}
@@ -64,6 +64,13 @@ instruction_field (code.Fill hint to byte size) h = (entry_field (entries.Fill h
 number_field : (word : List ℕ) (n : ℕ) → IsField word → n < 2 ^ 64 → AllByRecursion IsField (number_fields word n)
 number_field word n h small = (h, (decimal_field n small, tt))
 
+depth_field : (depth : ℕ) → depth ≤ MAX_DEPTH → AreFields (depth_lines depth)
+depth_field depth few =
+    elim (cases_eq depth USUAL_DEPTH) [
+      | inl usual ↦ rw (eq-eqb depth USUAL_DEPTH usual) tt
+      | inr other ↦ rw (ne_eqb depth USUAL_DEPTH other) (number_field (codes ".depth") depth (lit< tt, refl) (omega arith), tt)
+    ]
+
 limit_field : (p : Listing) → IsSize p.memory.size → p.arena ≤ MAX_ARENA → AreWithin p.limits → AreFields (limit_lines p)
 limit_field p size arena within = (
   number_field (codes ".memory") p.memory.size (lit< tt, refl) (omega arith),
@@ -73,14 +80,14 @@ limit_field p size arena within = (
       number_field (codes ".patience") p.limits.patience (lit< tt, refl) (omega arith),
       (
         number_field (codes ".retries") p.limits.retries (lit< tt, refl) (omega arith),
-        (number_field (codes ".commits") p.limits.max_commits (lit< tt, refl) (omega arith), tt),
+        (number_field (codes ".commits") p.limits.max_commits (lit< tt, refl) (omega arith), depth_field p.limits.depth within.depth.1),
       ),
     ),
   ),
 )
 
 init_field : (size : ℕ) (i : Placed) → size ≤ MAX_MEMORY → IsInit size i → AllByRecursion IsField (init_fields i)
-init_field size i few h = ((lit< tt, refl), (decimal_field i.at (omega (arith, h.1.1)), (hex_field i.bytes h.0 h.1.0, tt)))
+init_field size i few h = ((lit< tt, refl), (decimal_field i.at (omega (arith, h.3)), (hex_field i.bytes h.0 h.1, tt)))
 
 thread_field : (count : ℕ) → count ≤ MAX_ACTORS → AllByRecursion IsField (thread_fields count)
 thread_field count few =

@@ -18,7 +18,7 @@ use Rattle.script_print.specs.Printing.{limit_lines, init_fields, item_fields, p
 use Rattle.script_print.proofs.Printable.{IsItem, IsPrintable, threads_in}
 use Rattle.script_print.proofs.Texts.Lines.{all_said, lines_said, lines_made, said_on}
 use Rattle.script_print.proofs.Texts.Fields.{program_field}
-use Rattle.script_print.proofs.Texts.Directives.{with_memory, with_limits, limits_said, inits_said}
+use Rattle.script_print.proofs.Texts.Directives.{with_memory, with_limits, depth_again, limits_said, inits_said}
 use Rattle.script_print.proofs.Texts.Items.{with_items, items_said}
 use Rattle.script_print.proofs.Texts.Sections.{with_sections, parts_said}
 
@@ -68,7 +68,7 @@ unfolding end_of
 ends_well p places t h some parts =
     let threads : thread_total t ≡ threads_in p.parts = total t ∙ ap threads_in parts in
     let named : stray_of (thread_total t) p.schedule places ≡ None = ap (λ (n : ℕ). stray_of n p.schedule places) threads ∙ no_stray (threads_in p.parts) p.schedule places h.schedule in
-    rw (lt-ltb 0 t.count some, named) (ap (λ (parts : List Part). Ok (record p { parts = parts })) parts)
+    rw (lt-ltb 0 t.count some, named) (ap (λ (depth : ℕ). Ok (record p { limits = record p.limits { depth = depth }; parts = parts_of t })) (depth_again p.limits.depth) ∙ ap (λ (parts : List Part). Ok (record p { parts = parts })) parts)
 
 -- ## The text
 

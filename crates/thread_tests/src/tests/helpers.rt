@@ -5,7 +5,8 @@ ghost use Rattle.shared_words.specs.Passes.{Owns, view_of, cells_of};
 
 use itm_runtime::Thread;
 use itm_types::{
-    Call, Datum, ENTERED, Limits, MAX_COMMITS, Props, ReadHint, Reply, Value, Width, WriteHint,
+    Call, Datum, ENTERED, Limits, MAX_COMMITS, Props, ReadHint, Reply, USUAL_DEPTH, Value, Width,
+    WriteHint,
 };
 use norec_core::Answer;
 use shared_words::{Pass, Words, WordsFault};
@@ -82,9 +83,10 @@ pub(super) fn thread(
         patience,
         retries: 0,
         max_commits: MAX_COMMITS,
+        depth: USUAL_DEPTH,
     };
     let arena = Arena::new(alloc, arena)?;
-    Ok(Thread::new(alloc, words, pass, arena, limits))
+    Thread::new(alloc, words, pass, arena, limits)
 }
 
 pub(super) fn read(at: u64) -> Call {

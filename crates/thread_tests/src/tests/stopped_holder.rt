@@ -10,7 +10,7 @@ use crate::tests::helpers::{
     write,
 };
 use itm_runtime::Thread;
-use itm_types::{Call, Datum, Limits, MAX_COMMITS, Step, Width, WriteHint};
+use itm_types::{Call, Datum, Limits, MAX_COMMITS, Step, USUAL_DEPTH, Width, WriteHint};
 use norec_core::{Answer, Next};
 use norec_engine::Engine;
 use shared_words::{Pass, Words};
@@ -94,8 +94,9 @@ fn engine(alloc: Global) -> Result<Engine, AllocError> {
         patience: 8,
         retries: 0,
         max_commits: MAX_COMMITS,
+        depth: USUAL_DEPTH,
     };
-    Ok(Engine::new(alloc, 4, Arena::new(alloc, 0)?, limits))
+    Engine::new(alloc, 4, Arena::new(alloc, 0)?, limits)
 }
 
 /// A block begins.

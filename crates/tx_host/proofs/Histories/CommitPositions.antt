@@ -2,7 +2,6 @@
 use Rattle.std.proofs.Common.{inl, inr, ◌≡◌, ℕ, zero, suc, ◌+◌, ◌<◌, ◌≤◌, ◌==◌, ◌&&◌, Bool, true, false, cond, if◌then◌else◌, List, [], ◌∷◌, ◌++◌, length, sym, refl, ap, ◌∙◌, subst, arith, eqb-true}
 use Rattle.std.proofs.lemmas.Bool.{cases_Bool}
 use Rattle.std.proofs.lemmas.List.Sums.{sum_by-cons}
-use Rattle.itm_types.specs.declared.limits.TheConstants.{MAX_OPEN_BLOCKS}
 use Rattle.itm_types.specs.Memory.{bytes_of}
 use Rattle.shared_words.specs.declared.view.View.{View}
 use Rattle.shared_words.specs.Views.{times}
@@ -43,24 +42,24 @@ both_true : (a b : Bool) → (a && b) ≡ true → (a ≡ true) × (b ≡ true)
 both_true true b e = (refl, e)
 both_true false b e = absurd (cc)
 
-pub left_both : (v : View) (xs ys : List Attempt) → AreLeft v xs → AreLeft v ys → AreLeft v (xs ++ ys)
-left_both v [] ys l m = m
-left_both v (x ∷ xs) ys l m = (l.0, left_both v xs ys l.1 m)
+pub left_both : (deepest : ℕ) (v : View) (xs ys : List Attempt) → AreLeft deepest v xs → AreLeft deepest v ys → AreLeft deepest v (xs ++ ys)
+left_both deepest v [] ys l m = m
+left_both deepest v (x ∷ xs) ys l m = (l.0, left_both deepest v xs ys l.1 m)
 
 -- the attempt that committed next leaves the next bytes
-left_next : (v : View) (k : ℕ) (xs : List Attempt) → AreLeft v xs → 0 < count_at k xs → memory_left MAX_OPEN_BLOCKS (bytes_at v k) (committed_at xs k) ≡ bytes_at v (suc k)
-left_next v k [] l c = absurd (omega arith)
-left_next v k (x ∷ xs) l c = elim (cases_Bool (is_at k x)) [
+left_next : (deepest : ℕ) (v : View) (k : ℕ) (xs : List Attempt) → AreLeft deepest v xs → 0 < count_at k xs → memory_left deepest (bytes_at v k) (committed_at xs k) ≡ bytes_at v (suc k)
+left_next deepest v k [] l c = absurd (omega arith)
+left_next deepest v k (x ∷ xs) l c = elim (cases_Bool (is_at k x)) [
   | inl e ↦ simp e
       (let is = both_true (is_committed x.outcome) (x.at == k) e in
       let at : x.at ≡ k = eqb-true x.at k is.1 in
-      subst (λ (n : ℕ). (alone MAX_OPEN_BLOCKS (bytes_at v n) x).memory ≡ bytes_at v (suc n)) at (sym (l.0 is.0).leaves))
-  | inr e ↦ simp e (left_next v k xs l.1 (let f = simp e at c in omega arith))
+      subst (λ (n : ℕ). (alone deepest (bytes_at v n) x).memory ≡ bytes_at v (suc n)) at (sym (l.0 is.0).leaves))
+  | inr e ↦ simp e (left_next deepest v k xs l.1 (let f = simp e at c in omega arith))
 ]
 
 -- where each position that was seen is that of one attempt, the bytes that they leave are those of the commits
-pub memory_is : (v : View) (opening : List ℕ) (xs : List Attempt) → opening ≡ bytes_of v.base → AreLeft v xs → ((k : ℕ) → k < length v.seen → count_at k xs ≡ 1) → (k : ℕ) → k ≤ length v.seen → memory_after MAX_OPEN_BLOCKS opening xs k ≡ bytes_at v k
-memory_is v opening xs base left once zero few = base
-memory_is v opening xs base left once (suc k) few =
-    ap (λ (m : List ℕ). memory_left MAX_OPEN_BLOCKS m (committed_at xs k)) (memory_is v opening xs base left once k (omega arith))
-    ∙ left_next v k xs left (let one = once k (omega arith) in omega arith)
+pub memory_is : (deepest : ℕ) (v : View) (opening : List ℕ) (xs : List Attempt) → opening ≡ bytes_of v.base → AreLeft deepest v xs → ((k : ℕ) → k < length v.seen → count_at k xs ≡ 1) → (k : ℕ) → k ≤ length v.seen → memory_after deepest opening xs k ≡ bytes_at v k
+memory_is deepest v opening xs base left once zero few = base
+memory_is deepest v opening xs base left once (suc k) few =
+    ap (λ (m : List ℕ). memory_left deepest m (committed_at xs k)) (memory_is deepest v opening xs base left once k (omega arith))
+    ∙ left_next deepest v k xs left (let one = once k (omega arith) in omega arith)

@@ -1,7 +1,6 @@
 -- What makes the history of a run legal.
 use Rattle.std.proofs.Common.{◌≡◌, ℕ, ◌+◌, ◌≤◌, Bool, false, ◌&&◌, All, List, [], ◌∷◌, ◌++◌, length, Option, None, Some, refl, ap, ◌∙◌, arith}
 use Rattle.std.proofs.lemmas.List.Elements.{All-append, All-nil}
-use Rattle.itm_types.specs.declared.limits.TheConstants.{MAX_OPEN_BLOCKS}
 use Rattle.shared_words.specs.declared.view.View.{View}
 use Rattle.script_program.specs.Listing.{Listing}
 use Rattle.script_vm.specs.Threads.{Thread, thread_rules}
@@ -13,7 +12,6 @@ use Rattle.tx_attempts.specs.Counts.{one_where}
 use Rattle.tx_attempts.specs.Opacity.{Between, IsRunOf, after_try}
 use Rattle.tx_history.specs.declared.history.History.{History}
 use Rattle.tx_history.specs.Versions.{depth_of}
-use Rattle.tx_history.specs.declared.history.Version.TheVariants.{One}
 use Rattle.tx_history.specs.Legal.{count_holding, is_holding, is_unfinished, memory_at}
 use Rattle.tx_runs.specs.Runs.{begins_at}
 use Rattle.tx_history.proofs.Runs.AloneRuns.{IsPlaced, of_run}
@@ -40,29 +38,29 @@ holds_not NoMemory b n = refl
 holds_not Unfinished b n = ap one_where (n refl)
 
 -- each attempt is one alone on the memory of its position
-pub all_placed : (p : Listing) (v : View) (n : ℕ) (ds : List Done) → Numbered (Did p v) n ds → All (IsPlaced thread_rules MAX_OPEN_BLOCKS (length v.seen) (bytes_at v)) (attempts_in ds)
-all_placed p v n [] t = All-nil (IsPlaced thread_rules MAX_OPEN_BLOCKS (length v.seen) (bytes_at v))
+pub all_placed : (p : Listing) (v : View) (n : ℕ) (ds : List Done) → Numbered (Did p v) n ds → All (IsPlaced thread_rules p.limits.depth (length v.seen) (bytes_at v)) (attempts_in ds)
+all_placed p v n [] t = All-nil (IsPlaced thread_rules p.limits.depth (length v.seen) (bytes_at v))
 all_placed p v n (d ∷ ds) t =
-    All-append (IsPlaced thread_rules MAX_OPEN_BLOCKS (length v.seen) (bytes_at v)) d.attempts (attempts_in ds)
-    (of_run thread_rules MAX_OPEN_BLOCKS (length v.seen) (bytes_at v) (Some (first_of p.arena (code_of p n))) d.attempts t.0.course.run)
+    All-append (IsPlaced thread_rules p.limits.depth (length v.seen) (bytes_at v)) d.attempts (attempts_in ds)
+    (of_run thread_rules p.limits.depth (length v.seen) (bytes_at v) (Some (first_of p (code_of p n))) d.attempts t.0.course.run)
     (all_placed p v (n + 1) ds t.1)
 
-module _ (h : History) (v : View) (same : (k : ℕ) → k ≤ length v.seen → memory_at h k ≡ bytes_at v k) (version : h.version ≡ One) where
-  none_holds : (b : Option (Between Thread)) (xs : List Attempt) → IsRunOf thread_rules MAX_OPEN_BLOCKS (length v.seen) (bytes_at v) b xs → AreHeld v false xs → count_holding h xs ≡ 0
+module _ (p : Listing) (h : History) (v : View) (same : (k : ℕ) → k ≤ length v.seen → memory_at h k ≡ bytes_at v k) (allows : depth_of h.version ≡ p.limits.depth) where
+  none_holds : (b : Option (Between Thread)) (xs : List Attempt) → IsRunOf thread_rules p.limits.depth (length v.seen) (bytes_at v) b xs → AreHeld p.limits.depth v false xs → count_holding h xs ≡ 0
   none_holds b [] run held = refl
   none_holds None (x ∷ xs) run held = absurd run
   none_holds (Some b) (x ∷ xs) run held =
-      let few : x.at ≤ length v.seen = at_most thread_rules (length v.seen) (bytes_at v) b (begins_at thread_rules b) x run.0 in
+      let few : x.at ≤ length v.seen = at_most thread_rules p.limits.depth (length v.seen) (bytes_at v) b (begins_at thread_rules p.limits.depth b) x run.0 in
       let first : one_where (is_holding h x) ≡ 0 =
-      holds_not x.outcome (alone (depth_of h.version) (memory_at h x.at) x).irrevocable (λ e. (λ i. (alone (depth_of (version i)) (same x.at few i) x).irrevocable) ∙ held.0 e) in
-      let rest = none_holds (after_try thread_rules MAX_OPEN_BLOCKS (bytes_at v) b (begins_at thread_rules b) x) xs run.1 held.1 in
+      holds_not x.outcome (alone (depth_of h.version) (memory_at h x.at) x).irrevocable (λ e. (λ i. (alone (allows i) (same x.at few i) x).irrevocable) ∙ held.0 e) in
+      let rest = none_holds (after_try thread_rules p.limits.depth (bytes_at v) b (begins_at thread_rules p.limits.depth b) x) xs run.1 held.1 in
       omega arith
 
   -- none holds the clock
-  pub all_free : (p : Listing) (n : ℕ) (ds : List Done) → Numbered (Did p v) n ds → count_holding h (attempts_in ds) ≡ 0
-  all_free p n [] t = refl
-  all_free p n (d ∷ ds) t =
+  pub all_free : (n : ℕ) (ds : List Done) → Numbered (Did p v) n ds → count_holding h (attempts_in ds) ≡ 0
+  all_free n [] t = refl
+  all_free n (d ∷ ds) t =
       let both = holding_both h d.attempts (attempts_in ds) in
-      let first = none_holds (Some (first_of p.arena (code_of p n))) d.attempts t.0.course.run t.0.held in
-      let rest = all_free p (n + 1) ds t.1 in
+      let first = none_holds (Some (first_of p (code_of p n))) d.attempts t.0.course.run t.0.held in
+      let rest = all_free (n + 1) ds t.1 in
       omega arith

@@ -1,25 +1,25 @@
 -- The history of a run on threads is within the limits of a run, where its program is.
-use Rattle.std.proofs.Common.{◌≡◌, ℕ, zero, suc, ◌+◌, ◌-◌, ◌<◌, ◌≤◌, All, List, [], ◌∷◌, ◌++◌, length, get_or, Some, slice_get, refl, sym, subst, arith}
+use Rattle.std.proofs.Common.{◌≡◌, ℕ, zero, suc, ◌+◌, ◌<◌, ◌≤◌, All, List, [], ◌∷◌, length, Some, slice_get, refl, sym, subst, arith}
 use Rattle.std.proofs.lemmas.List.{length-replicate}
 use Rattle.std.proofs.lemmas.List.Elements.{All-nil, All-cons, All-head, All-tail, All-append}
-use Rattle.itm_types.specs.declared.limits.TheConstants.{MAX_ACTORS, MAX_ARENA, MAX_OPEN_BLOCKS, MAX_RETRIES}
-use Rattle.script_program.specs.declared.instruction.Instruction.{Instruction}
-use Rattle.script_program.specs.Listing.{Listing, opening_of, threads_of}
+use Rattle.itm_types.specs.declared.limits.TheConstants.{MAX_ARENA, MAX_RETRIES}
+use Rattle.script_program.specs.Listing.{Listing, threads_of}
 use Rattle.script_vm.specs.Threads.{thread_rules}
 use Rattle.tx_attempts.specs.declared.attempt.Attempt.{Attempt}
 use Rattle.tx_attempts.specs.Attempts.{of_thread}
 use Rattle.tx_history.specs.declared.history.Version.{Version}
-use Rattle.tx_history.specs.declared.history.Version.TheVariants.{One}
+use Rattle.tx_history.specs.declared.history.Version.TheVariants.{One, Two, Three}
 use Rattle.tx_runs.specs.Unbroken.{AreUnbroken}
 use Rattle.tx_history.specs.Bounds.{AreLimited, HasArenaWidth, IsLimited, IsMemorySize}
 use Rattle.tx_history.specs.Legal.{memory_at}
-use Rattle.tx_runs.specs.declared.ending.End.{End}
+use Rattle.tx_history.specs.Versions.{MayTell, thread_limit}
 use Rattle.tx_worker.specs.Positions.{AreOwn}
 use Rattle.tx_history.proofs.Runs.LimitedRuns.{IsOwn, own_run}
 use Rattle.tx_host.specs.declared.report.Report.{Report}
 use Rattle.tx_host.specs.Courses.{IsCourse, first_of}
 use Rattle.tx_host.specs.Limits.{IsLimitedListing}
 use Rattle.tx_host.specs.Reports.{Ran, by_number, commits_of}
+use Rattle.tx_host.specs.Versions.{version_of}
 use Rattle.tx_host.proofs.Histories.ScriptWidths.{script_widths}
 
 there_is : {A : Type 0} (xs : List A) (i : ℕ) → i < length xs → (x : A) × (slice_get xs i ≡ Some x)
@@ -32,34 +32,40 @@ by_threads : (Q : Attempt → Type 0) (k n : ℕ) (all : List Attempt) → ((thr
 by_threads Q k zero all each = All-nil Q
 by_threads Q k (suc n) all each = All-append Q (of_thread k all) (by_number (k + 1) n all) (each k (omega arith)) (by_threads Q (k + 1) n all (λ thread l. each thread (omega arith)))
 
+-- a version tells of an attempt in which no block ran again
+none_told : (version : Version) (a : Attempt) → a.restarts ≡ [] → MayTell version a.restarts
+none_told One a none = none
+none_told Two a none = tt
+none_told (Three depth) a none = tt
+
 -- the attempts of a thread with this number and so many tries of a block at most
-limited_each : (thread tries k : ℕ) → thread < MAX_ACTORS → tries ≤ MAX_RETRIES + 1 → k ≤ MAX_ARENA → (xs : List Attempt) → AreOwn thread tries xs → All (IsOwn HasArenaWidth k) xs → AreUnbroken xs → All (IsLimited One) xs
-limited_each thread tries k t n l [] own all none = All-nil (IsLimited One)
-limited_each thread tries k t n l (x ∷ xs) own all none =
-    All-cons (IsLimited One) x xs
+limited_each : (version : Version) (thread tries k : ℕ) → thread ≤ thread_limit version → tries ≤ MAX_RETRIES + 1 → k ≤ MAX_ARENA → (xs : List Attempt) → AreOwn thread tries xs → All (IsOwn HasArenaWidth k) xs → AreUnbroken xs → All (IsLimited version) xs
+limited_each version thread tries k t n l [] own all none = All-nil (IsLimited version)
+limited_each version thread tries k t n l (x ∷ xs) own all none =
+    All-cons (IsLimited version) x xs
     (let is : IsOwn HasArenaWidth k x = All-head (IsOwn HasArenaWidth k) x xs all in
     record {
-      thread = (let same = own.0 in omega arith);
+      thread = subst (λ (m : ℕ). m ≤ thread_limit version) (sym own.0) t;
       nth = (is.nth, (let few = own.1 in omega arith));
       arena = (let same = is.arena in omega arith);
       widths = is.calls;
-      restarts = none.0;
+      restarts = none_told version x none.0;
     })
-    (limited_each thread tries k t n l xs own.2 (All-tail (IsOwn HasArenaWidth k) x xs all) none.1)
+    (limited_each version thread tries k t n l xs own.2 (All-tail (IsOwn HasArenaWidth k) x xs all) none.1)
 
 module _ (p : Listing) (r : Report) (ran : Ran p r) (limits : IsLimitedListing p) where
-  limited_thread : (thread : ℕ) → thread < length (threads_of p) → All (IsLimited One) (of_thread thread r.history.attempts)
+  limited_thread : (thread : ℕ) → thread < length (threads_of p) → All (IsLimited (version_of p)) (of_thread thread r.history.attempts)
   limited_thread thread l =
       let code = there_is (threads_of p) thread l in
       let end = there_is r.ends.items thread (subst (λ (n : ℕ). thread < n) (sym ran.count) l) in
       let course : IsCourse p (commits_of r) (memory_at r.history) thread code.0 end.0 (of_thread thread r.history.attempts) = ran.threads thread code.0 end.0 code.1 end.1 in
-      limited_each thread (p.limits.retries + 1) p.arena (let few = limits.threads in omega arith) (let few = limits.retries in omega arith) limits.arena
+      limited_each (version_of p) thread (p.limits.retries + 1) p.arena (let few = limits.threads in omega arith) (let few = limits.retries in omega arith) limits.arena
       (of_thread thread r.history.attempts) course.own
-      (own_run thread_rules HasArenaWidth script_widths MAX_OPEN_BLOCKS p.arena (commits_of r) (memory_at r.history) (Some (first_of p.arena code.0)) (of_thread thread r.history.attempts) (length-replicate p.arena 0) course.run) course.unbroken
+      (own_run thread_rules HasArenaWidth script_widths p.limits.depth p.arena (commits_of r) (memory_at r.history) (Some (first_of p code.0)) (of_thread thread r.history.attempts) (length-replicate p.arena 0) course.run) course.unbroken
 
   pub limited_report : AreLimited r.history
   limited_report = record {
-    memory = subst (λ (v : Version). IsMemorySize v (length r.history.memory)) (sym ran.version) (subst (λ (bytes : List ℕ). IsMemorySize One (length bytes)) (sym ran.memory) limits.memory);
+    memory = subst (λ (v : Version). IsMemorySize v (length r.history.memory)) (sym ran.version) (subst (λ (bytes : List ℕ). IsMemorySize (version_of p) (length bytes)) (sym ran.memory) limits.memory);
     attempts = subst (λ (v : Version). All (IsLimited v) r.history.attempts) (sym ran.version)
-        (subst (All (IsLimited One)) (sym ran.by_thread) (by_threads (IsLimited One) 0 (length (threads_of p)) r.history.attempts (λ thread l. limited_thread thread (omega arith))));
+        (subst (All (IsLimited (version_of p))) (sym ran.by_thread) (by_threads (IsLimited (version_of p)) 0 (length (threads_of p)) r.history.attempts (λ thread l. limited_thread thread (omega arith))));
   }

@@ -79,9 +79,9 @@ module _ (p : Listing) (v : View) where
       let same : 0 + i ≡ i = omega arith in
       (r.0, subst (λ k. Did p v k r.0) same r.1, r.2, subst (λ k. of_thread k (attempts_in ds) ≡ r.0.attempts) same r.3)
 
-  pub all_left : (n : ℕ) (ds : List Done) → Numbered (Did p v) n ds → AreLeft v (attempts_in ds)
+  pub all_left : (n : ℕ) (ds : List Done) → Numbered (Did p v) n ds → AreLeft p.limits.depth v (attempts_in ds)
   all_left n [] t = tt
-  all_left n (d ∷ ds) t = left_both v d.attempts (attempts_in ds) t.0.left (all_left (n + 1) ds t.1)
+  all_left n (d ∷ ds) t = left_both p.limits.depth v d.attempts (attempts_in ds) t.0.left (all_left (n + 1) ds t.1)
 
 pub ends_count : (ds : List Done) → length (ends_in ds) ≡ length ds
 ends_count [] = refl

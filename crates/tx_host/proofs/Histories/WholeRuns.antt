@@ -12,11 +12,8 @@ use Rattle.script_program.specs.declared.instruction.Instruction.{Instruction}
 use Rattle.script_program.specs.Listing.{Listing, opening_of, threads_of}
 use Rattle.script_vm.specs.Threads.{thread_rules}
 use Rattle.tx_attempts.specs.declared.attempt.Attempt.{Attempt}
-use Rattle.itm_types.specs.declared.limits.TheConstants.{MAX_OPEN_BLOCKS}
 use Rattle.tx_attempts.specs.Attempts.{memory_after, of_thread}
 use Rattle.tx_attempts.specs.Counts.{count_at, count_committed, one_where}
-use Rattle.tx_history.specs.declared.history.Version.{Version}
-use Rattle.tx_history.specs.declared.history.Version.TheVariants.{One}
 use Rattle.tx_history.specs.Versions.{depth_of}
 use Rattle.tx_history.specs.Legal.{IsAlone, IsLegal, count_holding, memory_at}
 use Rattle.tx_history.proofs.Runs.AloneRuns.{IsPlaced}
@@ -28,13 +25,14 @@ use Rattle.tx_host.specs.Courses.{IsCourse}
 use Rattle.tx_host.specs.Joins.{Gathers, attempts_in, ends_in}
 use Rattle.tx_host.specs.Reports.{Ran, by_number}
 use Rattle.tx_host.specs.Starts.{code_of}
+use Rattle.tx_host.specs.Versions.{version_of}
 use Rattle.tx_host.proofs.Histories.CommitPositions.{committed_count, count_times, memory_is}
 use Rattle.tx_host.proofs.Passes.Courses.{course_still}
 use Rattle.tx_host.proofs.Histories.LegalRuns.{all_free, all_placed}
 use Rattle.tx_host.proofs.Histories.PositionTotals.{count_is}
 use Rattle.tx_host.proofs.Histories.ThreadAttempts.{all_left, all_own, all_stand, ends_count}
 
-module _ (p : Listing) (r : Report) (start now : View) (all : List Done) (opens : start ≡ opening start.base) (from : bytes_of start.base ≡ r.history.memory) (begun : r.history.memory ≡ opening_of p) (gathered : Gathers start p now all) (closed : EndsWith now r.history.clock r.history.bytes) (attempts : r.history.attempts ≡ attempts_in all) (ends_are : r.ends.items ≡ ends_in all) (version : r.history.version ≡ One) where
+module _ (p : Listing) (r : Report) (start now : View) (all : List Done) (opens : start ≡ opening start.base) (from : bytes_of start.base ≡ r.history.memory) (begun : r.history.memory ≡ opening_of p) (gathered : Gathers start p now all) (closed : EndsWith now r.history.clock r.history.bytes) (attempts : r.history.attempts ≡ attempts_in all) (ends_are : r.ends.items ≡ ends_in all) (version : r.history.version ≡ version_of p) (allows : depth_of (version_of p) ≡ p.limits.depth) where
   abbrev rows : List Attempt
   rows = r.history.attempts
 
@@ -59,11 +57,14 @@ module _ (p : Listing) (r : Report) (start now : View) (all : List Done) (opens 
     | inr l ↦ no_other k l ∙ sym (ap one_where (le-ltb k n l))
   ]) ∙ ap (λ (m : ℕ). one_where (nat_lt k m)) (sym commits_are)
 
-  left : AreLeft now rows
-  left = subst (AreLeft now) (sym attempts) (all_left p now 0 all gathered.joins.workers)
+  left : AreLeft p.limits.depth now rows
+  left = subst (AreLeft p.limits.depth now) (sym attempts) (all_left p now 0 all gathered.joins.workers)
+
+  deepest_is : depth_of r.history.version ≡ p.limits.depth
+  deepest_is = ap depth_of version ∙ allows
 
   memory_same : (k : ℕ) → k ≤ n → memory_at r.history k ≡ bytes_at now k
-  memory_same k few = ap (λ (x : Version). memory_after (depth_of x) r.history.memory rows k) version ∙ memory_is now r.history.memory rows (sym from ∙ sym (ap bytes_of gathered.joins.base)) left once k few
+  memory_same k few = ap (λ (deepest : ℕ). memory_after deepest r.history.memory rows k) deepest_is ∙ memory_is p.limits.depth now r.history.memory rows (sym from ∙ sym (ap bytes_of gathered.joins.base)) left once k few
 
   bytes_are : r.history.bytes ≡ memory_at r.history (count_committed rows)
   bytes_are =
@@ -76,14 +77,14 @@ module _ (p : Listing) (r : Report) (start now : View) (all : List Done) (opens 
       let its_code : code_of p number ≡ code = get_or_from_slice_get (threads_of p) number code [] code_is in
       let its_rows : d.0.attempts ≡ of_thread number rows = sym d.3 ∙ ap (of_thread number) (sym attempts) in
       let course : IsCourse p (count_committed rows) (memory_at r.history) number (code_of p number) d.0.end d.0.attempts =
-      course_still n (count_committed rows) (bytes_at now) (memory_at r.history) (let e = commits_are in omega arith) memory_same p number (code_of p number) d.0.end d.0.attempts d.1.course in
+      course_still p n (count_committed rows) (bytes_at now) (memory_at r.history) (let e = commits_are in omega arith) memory_same number (code_of p number) d.0.end d.0.attempts d.1.course in
       subst (λ (q : List Instruction × End × List Attempt). IsCourse p (count_committed rows) (memory_at r.history) number q.0 q.1 q.2) (λ i. (its_code i, d.2 i, its_rows i)) course
 
   stands_by : rows ≡ by_number 0 (length (threads_of p)) rows
   stands_by = subst (λ (q : List Attempt × ℕ). q.0 ≡ by_number 0 q.1 q.0) (λ i. (sym attempts i, gathered.count i)) (all_stand p now all gathered.joins.workers)
 
-  placed : All (IsPlaced thread_rules MAX_OPEN_BLOCKS n (bytes_at now)) rows
-  placed = subst (All (IsPlaced thread_rules MAX_OPEN_BLOCKS n (bytes_at now))) (sym attempts) (all_placed p now 0 all gathered.joins.workers)
+  placed : All (IsPlaced thread_rules p.limits.depth n (bytes_at now)) rows
+  placed = subst (All (IsPlaced thread_rules p.limits.depth n (bytes_at now))) (sym attempts) (all_placed p now 0 all gathered.joins.workers)
 
   clock_is : r.history.clock ≡ 2 * count_committed rows
   clock_is = closed.clock_is ∙ ap (λ (m : ℕ). 2 * m) (sym commits_are)
@@ -92,12 +93,12 @@ module _ (p : Listing) (r : Report) (start now : View) (all : List Done) (opens 
   legal = record {
     positions = counted;
     others = λ k d l. subst (λ (m : ℕ). (get_or rows k d).at ≤ m) (sym commits_are) (placed k d l).1;
-    alone = λ k d l. subst (λ (x : Version). IsAlone (depth_of x) (memory_at r.history (get_or rows k d).at) (get_or rows k d)) (sym version)
-        (subst (λ (m : List ℕ). IsAlone MAX_OPEN_BLOCKS m (get_or rows k d)) (sym (memory_same (get_or rows k d).at (placed k d l).1)) (placed k d l).0);
+    alone = λ k d l. subst (λ (deepest : ℕ). IsAlone deepest (memory_at r.history (get_or rows k d).at) (get_or rows k d)) (sym deepest_is)
+        (subst (λ (m : List ℕ). IsAlone p.limits.depth m (get_or rows k d)) (sym (memory_same (get_or rows k d).at (placed k d l).1)) (placed k d l).0);
     final = inl (record {
       clock = clock_is;
       bytes = bytes_are;
-      holding = ap (count_holding r.history) attempts ∙ all_free r.history now memory_same version p 0 all gathered.joins.workers;
+      holding = ap (count_holding r.history) attempts ∙ all_free p r.history now memory_same deepest_is 0 all gathered.joins.workers;
     });
   }
 

@@ -1,6 +1,5 @@
 -- A thread's course over more commits.
 use Rattle.std.proofs.Common.{◌≡◌, inl, inr, ⊎_elim, ℕ, ◌≤◌, List, [], ◌∷◌, ◌++◌, Option, None, Some, subst, ◌∙◌}
-use Rattle.itm_types.specs.declared.limits.TheConstants.{MAX_OPEN_BLOCKS}
 use Rattle.script_program.specs.declared.instruction.Instruction.{Instruction}
 use Rattle.script_program.specs.Listing.{Listing}
 use Rattle.script_vm.specs.Threads.{Thread, thread_rules}
@@ -14,49 +13,50 @@ use Rattle.tx_runs.proofs.RunLists.{run_still}
 use Rattle.tx_host.specs.Courses.{EndsBy, IsCourse, IsOver, IsOverWithin, first_of}
 
 -- the first attempts of a run are one
-pub run_before : {P : Type 0} (rules : Rules P) (n : ℕ) (memory : ℕ → List ℕ) (b : Option (Between P)) (xs ys : List Attempt) → IsRunOf rules MAX_OPEN_BLOCKS n memory b (xs ++ ys) → IsRunOf rules MAX_OPEN_BLOCKS n memory b xs
-run_before rules n memory b [] ys r = tt
-run_before rules n memory None (x ∷ xs) ys r = absurd r
-run_before rules n memory (Some b) (x ∷ xs) ys r = (r.0, run_before rules n memory (after_try rules MAX_OPEN_BLOCKS memory b (begins_at rules b) x) xs ys r.1)
+pub run_before : {P : Type 0} (rules : Rules P) (deepest n : ℕ) (memory : ℕ → List ℕ) (b : Option (Between P)) (xs ys : List Attempt) → IsRunOf rules deepest n memory b (xs ++ ys) → IsRunOf rules deepest n memory b xs
+run_before rules deepest n memory b [] ys r = tt
+run_before rules deepest n memory None (x ∷ xs) ys r = absurd r
+run_before rules deepest n memory (Some b) (x ∷ xs) ys r = (r.0, run_before rules deepest n memory (after_try rules deepest memory b (begins_at rules deepest b) x) xs ys r.1)
 
 -- an attempt of a run saw no more commits than there were
-pub at_most : {P : Type 0} (rules : Rules P) (n : ℕ) (memory : ℕ → List ℕ) (b : Between P) (o : Option (Beginning P)) (a : Attempt) → IsTryAt rules MAX_OPEN_BLOCKS n memory b o a → a.at ≤ n
-at_most rules n memory b None a t = absurd t
-at_most rules n memory b (Some start) a t = t.3.no_newer
+pub at_most : {P : Type 0} (rules : Rules P) (deepest n : ℕ) (memory : ℕ → List ℕ) (b : Between P) (o : Option (Beginning P)) (a : Attempt) → IsTryAt rules deepest n memory b o a → a.at ≤ n
+at_most rules deepest n memory b None a t = absurd t
+at_most rules deepest n memory b (Some start) a t = t.3.no_newer
 
-module _ (n n' : ℕ) (memory memory' : ℕ → List ℕ) (later : n ≤ n') (same : (k : ℕ) → k ≤ n → memory' k ≡ memory k) where
-  over_still : (first : Between Thread) (xs : List Attempt) → IsRunOf thread_rules MAX_OPEN_BLOCKS n memory (Some first) xs → IsOver memory first xs → IsOver memory' first xs
+module _ (deepest n n' : ℕ) (memory memory' : ℕ → List ℕ) (later : n ≤ n') (same : (k : ℕ) → k ≤ n → memory' k ≡ memory k) where
+  over_still : (first : Between Thread) (xs : List Attempt) → IsRunOf thread_rules deepest n memory (Some first) xs → IsOver deepest memory first xs → IsOver deepest memory' first xs
   over_still first xs run o = record {
     between = o.between;
-    now_is = (run_still thread_rules n n' memory memory' later same (Some first) xs run).1 ∙ o.now_is;
+    now_is = (run_still thread_rules deepest n n' memory memory' later same (Some first) xs run).1 ∙ o.now_is;
     none = o.none;
   }
 
-  within_still : (first : Between Thread) (xs : List Attempt) → IsRunOf thread_rules MAX_OPEN_BLOCKS n memory (Some first) xs → IsOverWithin memory first xs → IsOverWithin memory' first xs
+  within_still : (first : Between Thread) (xs : List Attempt) → IsRunOf thread_rules deepest n memory (Some first) xs → IsOverWithin deepest memory first xs → IsOverWithin deepest memory' first xs
   within_still first xs run o =
-      let before = run_before thread_rules n memory (Some first) o.before (o.last ∷ []) (subst (IsRunOf thread_rules MAX_OPEN_BLOCKS n memory (Some first)) o.attempts_are run) in
+      let before = run_before thread_rules deepest n memory (Some first) o.before (o.last ∷ []) (subst (IsRunOf thread_rules deepest n memory (Some first)) o.attempts_are run) in
       record {
         before = o.before;
         last = o.last;
         attempts_are = o.attempts_are;
         unfinished = o.unfinished;
         between = o.between;
-        now_is = (run_still thread_rules n n' memory memory' later same (Some first) o.before before).1 ∙ o.now_is;
+        now_is = (run_still thread_rules deepest n n' memory memory' later same (Some first) o.before before).1 ∙ o.now_is;
         start = o.start;
         begins = o.begins;
         none = o.none;
       }
 
-  ends_still : (first : Between Thread) (end : End) (xs : List Attempt) → IsRunOf thread_rules MAX_OPEN_BLOCKS n memory (Some first) xs → EndsBy memory first end xs → EndsBy memory' first end xs
+  ends_still : (first : Between Thread) (end : End) (xs : List Attempt) → IsRunOf thread_rules deepest n memory (Some first) xs → EndsBy deepest memory first end xs → EndsBy deepest memory' first end xs
   ends_still first Finished xs run e = ⊎_elim (λ o. inl (over_still first xs run o)) (λ o. inr (within_still first xs run o)) e
   ends_still first GaveUp xs run e = tt
   ends_still first NoMemory xs run e = tt
 
-  pub course_still : (p : Listing) (number : ℕ) (code : List Instruction) (end : End) (xs : List Attempt) → IsCourse p n memory number code end xs → IsCourse p n' memory' number code end xs
-  course_still p number code end xs c = record {
-    run = (run_still thread_rules n n' memory memory' later same (Some (first_of p.arena code)) xs c.run).0;
+module _ (p : Listing) (n n' : ℕ) (memory memory' : ℕ → List ℕ) (later : n ≤ n') (same : (k : ℕ) → k ≤ n → memory' k ≡ memory k) where
+  pub course_still : (number : ℕ) (code : List Instruction) (end : End) (xs : List Attempt) → IsCourse p n memory number code end xs → IsCourse p n' memory' number code end xs
+  course_still number code end xs c = record {
+    run = (run_still thread_rules p.limits.depth n n' memory memory' later same (Some (first_of p code)) xs c.run).0;
     since = c.since;
     own = c.own;
     unbroken = c.unbroken;
-    ends = ends_still (first_of p.arena code) end xs c.run c.ends;
+    ends = ends_still p.limits.depth n n' memory memory' later same (first_of p code) end xs c.run c.ends;
   }

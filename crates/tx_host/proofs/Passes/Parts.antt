@@ -23,13 +23,13 @@ module _ (s v w : View) (same : v ≡ record s { share = v.share }) (cut : w ≡
 
 -- a thread over a part that was cut is fresh
 pub is_fresh : (s v : View) (theirs : Pass) (p : Listing) (number : ℕ) (t : Standing) (player : Thread) → v ≡ record s { share = v.share } → view_of theirs ≡ cut_right v → t.pass ≡ theirs → (words : ℕ) (arena : List ℕ) (size : ℕ) (limits : Limits)
-    → t.engine ≡ opening words arena limits.patience limits.max_commits → arena ≡ replicate size 0 → size ≡ p.arena → limits ≡ p.limits → player ≡ script_opening (code_of p number) → IsFresh p s.base number t player
+    → t.engine ≡ opening words arena limits.patience limits.max_commits limits.depth → arena ≡ replicate size 0 → size ≡ p.arena → limits ≡ p.limits → player ≡ script_opening p.limits.depth (code_of p number) → IsFresh p s.base number t player
 is_fresh s v theirs p number t player same cut pass words arena size limits engine zeros sized within plays =
     let now : view_of t.pass ≡ cut_right v = ap view_of pass ∙ cut in
     record {
       player_is = plays;
       words = words;
-      engine_is = engine ∙ (λ i. opening words ((zeros ∙ ap (λ (n : ℕ). replicate n 0) sized) i) (within i).patience (within i).max_commits);
+      engine_is = engine ∙ (λ i. opening words ((zeros ∙ ap (λ (n : ℕ). replicate n 0) sized) i) (within i).patience (within i).max_commits (within i).depth);
       base_is = ap (λ (z : View). z.base) now ∙ ap (λ (z : View). z.base) same;
       mine = ap (λ (z : View). z.mine) now;
       share = ap (λ (z : View). z.share) now;

@@ -1,6 +1,5 @@
 -- What a worker did, as a later view has it.
 use Rattle.std.proofs.Common.{◌≡◌, ⊎_elim, inl, inr, ℕ, ◌+◌, ◌/◌, Bool, false, true≢false, List, [], ◌∷◌, ◌++◌, length, Option, None, Some, Result, Ok, Err, IfOk, sym, ap, subst, ◌∙◌}
-use Rattle.itm_types.specs.declared.limits.TheConstants.{MAX_OPEN_BLOCKS}
 use Rattle.norec_core.specs.Core.{Core}
 use Rattle.shared_words.specs.declared.pass.Pass.{Pass}
 use Rattle.shared_words.specs.declared.view.View.{View}
@@ -19,7 +18,7 @@ use Rattle.tx_runs.specs.declared.ending.End.{End}
 use Rattle.tx_runs.specs.declared.ending.End.TheVariants.{Finished, GaveUp, NoMemory}
 use Rattle.tx_runs.specs.Runs.{begins_at}
 use Rattle.tx_worker.specs.declared.worked.Worked.{Worked}
-use Rattle.tx_worker.specs.Positions.{AreOwn, AreSince, bytes_at, positions}
+use Rattle.tx_worker.specs.Positions.{AreLeft, AreOwn, AreSince, bytes_at, positions}
 use Rattle.tx_worker.specs.Progress.{Course}
 use Rattle.tx_worker.specs.Works.{AreHeld, EndsAs, IsBack, IsFinished, Works, course_of, is_held, view_left}
 use Rattle.tx_worker.proofs.Runs.LaterCommits.{IsLater, all_left_in, bytes_in, seen_in}
@@ -32,19 +31,19 @@ use Rattle.tx_host.proofs.Passes.Courses.{at_most, course_still}
 
 -- ## A later view
 
-held_later : (v w : View) → IsLater v w → (b : Option (Between Thread)) (xs : List Attempt) → IsRunOf thread_rules MAX_OPEN_BLOCKS (length v.seen) (bytes_at v) b xs → AreHeld v false xs → AreHeld w false xs
-held_later v w later b [] run h = tt
-held_later v w later None (x ∷ xs) run h = absurd run
-held_later v w later (Some b) (x ∷ xs) run h = (
-  λ e. ap (λ (m : List ℕ). (alone MAX_OPEN_BLOCKS m x).irrevocable) (bytes_in v w later x.at (at_most thread_rules (length v.seen) (bytes_at v) b (begins_at thread_rules b) x run.0)) ∙ h.0 e,
-  held_later v w later (after_try thread_rules MAX_OPEN_BLOCKS (bytes_at v) b (begins_at thread_rules b) x) xs run.1 h.1,
+held_later : (deepest : ℕ) (v w : View) → IsLater v w → (b : Option (Between Thread)) (xs : List Attempt) → IsRunOf thread_rules deepest (length v.seen) (bytes_at v) b xs → AreHeld deepest v false xs → AreHeld deepest w false xs
+held_later deepest v w later b [] run h = tt
+held_later deepest v w later None (x ∷ xs) run h = absurd run
+held_later deepest v w later (Some b) (x ∷ xs) run h = (
+  λ e. ap (λ (m : List ℕ). (alone deepest m x).irrevocable) (bytes_in v w later x.at (at_most thread_rules deepest (length v.seen) (bytes_at v) b (begins_at thread_rules deepest b) x run.0)) ∙ h.0 e,
+  held_later deepest v w later (after_try thread_rules deepest (bytes_at v) b (begins_at thread_rules deepest b) x) xs run.1 h.1,
 )
 
 pub did_later : (p : Listing) (v w : View) → IsLater v w → (k : ℕ) (d : Done) → Did p v k d → Did p w k d
 did_later p v w later k d did = record {
-  course = course_still (length v.seen) (length w.seen) (bytes_at v) (bytes_at w) (seen_in v w later) (bytes_in v w later) p k (code_of p k) d.end d.attempts did.course;
-  left = all_left_in v w later d.attempts did.left;
-  held = held_later v w later (Some (first_of p.arena (code_of p k))) d.attempts did.course.run did.held;
+  course = course_still p (length v.seen) (length w.seen) (bytes_at v) (bytes_at w) (seen_in v w later) (bytes_in v w later) k (code_of p k) d.end d.attempts did.course;
+  left = all_left_in p.limits.depth v w later d.attempts did.left;
+  held = held_later p.limits.depth v w later (Some (first_of p (code_of p k))) d.attempts did.course.run did.held;
 }
 
 -- what the joined view has seen goes on from what either had
@@ -74,7 +73,10 @@ module _ (words : Words) (base : List ℕ) (p : Listing) (n : ℕ) (w : WorksOn)
   done : IsFinished thread_rules w.words.now course w.start.value.engine.max_commits kept.0 r
   done = kept.1.finished
 
-  first_is : course.first ≡ first_of p.arena (code_of p n)
+  depth_is : course.depth ≡ p.limits.depth
+  depth_is = ap (λ (e : Core). e.depth) is.fresh.engine_is
+
+  first_is : course.first ≡ first_of p (code_of p n)
   first_is i = record { player = is.fresh.player_is i; arena = (is.fresh.engine_is i).arena; again = false; tries = 0 }
 
   pub its_base : left_view.base ≡ base
@@ -89,7 +91,7 @@ module _ (words : Words) (base : List ℕ) (p : Listing) (n : ℕ) (w : WorksOn)
   known_is : course.known ≡ 0
   known_is = ap (λ (e : Core). e.snapshot / 2) is.fresh.engine_is
 
-  ends_by : (end : End) → EndsAs thread_rules course w.start.value.engine.max_commits kept.0 end left_view r.attempts → EndsBy (bytes_at left_view) course.first end r.attempts
+  ends_by : (end : End) → EndsAs thread_rules course w.start.value.engine.max_commits kept.0 end left_view r.attempts → EndsBy course.depth (bytes_at left_view) course.first end r.attempts
   ends_by Finished e = ⊎_elim
       (λ o. inl (record { between = o.between; now_is = o.now_is; none = o.none }))
       (λ o. inr (record {
@@ -109,11 +111,11 @@ module _ (words : Words) (base : List ℕ) (p : Listing) (n : ℕ) (w : WorksOn)
 
   course_is : IsCourse p (length left_view.seen) (bytes_at left_view) n (code_of p n) r.end r.attempts
   course_is = record {
-    run = subst (λ (b : Between Thread). IsRunOf thread_rules MAX_OPEN_BLOCKS (length left_view.seen) (bytes_at left_view) (Some b) r.attempts) first_is done.runs.run;
+    run = subst (λ (q : ℕ × Between Thread). IsRunOf thread_rules q.0 (length left_view.seen) (bytes_at left_view) (Some q.1) r.attempts) (λ i. (depth_is i, first_is i)) done.runs.run;
     since = subst (λ (k : ℕ). AreSince k r.attempts) known_is done.runs.since;
     own = subst (λ (q : ℕ × ℕ). AreOwn q.0 (q.1 + 1) r.attempts) (λ i. (is.number_is i, is.retries_are i)) done.runs.own;
     unbroken = done.runs.unbroken;
-    ends = subst (λ (b : Between Thread). EndsBy (bytes_at left_view) b r.end r.attempts) first_is (ends_by r.end done.ends);
+    ends = subst (λ (q : ℕ × Between Thread). EndsBy q.0 (bytes_at left_view) q.1 r.end r.attempts) (λ i. (depth_is i, first_is i)) (ends_by r.end done.ends);
   }
 
   pub its_back : IsBack words r.pass
@@ -123,6 +125,6 @@ module _ (words : Words) (base : List ℕ) (p : Listing) (n : ℕ) (w : WorksOn)
   pub did_its : is_held r.pass ≡ false → Did p left_view n (record { attempts = r.attempts; end = r.end })
   did_its free = record {
     course = course_is;
-    left = done.runs.left;
-    held = subst (λ (b : Bool). AreHeld left_view b r.attempts) free done.held;
+    left = subst (λ (deepest : ℕ). AreLeft deepest left_view r.attempts) depth_is done.runs.left;
+    held = subst (λ (q : ℕ × Bool). AreHeld q.0 left_view q.1 r.attempts) (λ i. (depth_is i, free i)) done.held;
   }

@@ -1,7 +1,6 @@
 -- An outermost begin.
 use Rattle.std.proofs.Common.{◌≡◌, ℕ, ◌/◌, ◌<◌, ◌≤◌, Bool, true, false, true≢false, if◌then◌else◌, List, [], ◌++◌, length, Option, None, Some, refl, sym, ap, subst, ◌∙◌, arith}
 use Rattle.itm_types.specs.Memory.{IsMemory, bytes_of}
-use Rattle.itm_types.specs.declared.limits.TheConstants.{MAX_OPEN_BLOCKS}
 use Rattle.itm_types.specs.declared.call.Call.{Call}
 use Rattle.itm_types.specs.declared.call.Call.TheVariants.{Begin}
 use Rattle.itm_types.specs.declared.call.Props.{Props}
@@ -37,6 +36,10 @@ use Rattle.tx_worker.specs.Tallies.{Tally, begun, tried}
 
 -- ## The plain machine
 
+-- no block is open
+abbrev no_block : List ℕ → List ℕ → State
+no_block memory arena = outside memory arena
+
 -- a block that has just opened has no actions
 opened_none : (memory arena : List ℕ) (props : Props) → (opened memory arena props).actions ≡ no_actions
 opened_none memory arena props = by_props props.goes_irrevocable
@@ -51,23 +54,23 @@ told_begun props room true = refl
 told_begun props room false = refl
 
 -- an outermost begin that opens a block is not refused, and is answered so
-pub record IsEntered (arena : List ℕ) (props : Props) (room : ℕ) (again : Bool) (r : Replied) : Type 0 where
-  pub accepted : refusal MAX_OPEN_BLOCKS (outside [] arena) (Begin props room) ≡ None
+pub record IsEntered (deepest : ℕ) (arena : List ℕ) (props : Props) (room : ℕ) (again : Bool) (r : Replied) : Type 0 where
+  pub accepted : refusal deepest (outside [] arena) (Begin props room) ≡ None
   pub reply_is : r ≡ begin_code again
 
-entered_out : (arena : List ℕ) (actions : Actions) (m : List ℕ) (props : Props) (room : ℕ) (again : Bool) (r : Replied) → r ≡ recoded (Begin props room) again (reply MAX_OPEN_BLOCKS (shut_state arena actions m) (Begin props room))
-    → is_open (after MAX_OPEN_BLOCKS (shut_state arena actions m) (Begin props room)) ≡ true → IsEntered arena props room again r
-entered_out arena actions m props room again r e now = by_refusal (refusal MAX_OPEN_BLOCKS (outside [] arena) (Begin props room)) refl e now
+entered_out : (deepest : ℕ) (arena : List ℕ) (actions : Actions) (m : List ℕ) (props : Props) (room : ℕ) (again : Bool) (r : Replied) → r ≡ recoded (Begin props room) again (reply deepest (shut_state arena actions m) (Begin props room))
+    → is_open (after deepest (shut_state arena actions m) (Begin props room)) ≡ true → IsEntered deepest arena props room again r
+entered_out deepest arena actions m props room again r e now = by_refusal (refusal deepest (outside [] arena) (Begin props room)) refl e now
   where
-    by_refusal : (why : Option Refusal) → refusal MAX_OPEN_BLOCKS (outside [] arena) (Begin props room) ≡ why → r ≡ recoded (Begin props room) again (reply_unless why (Code 5))
-        → is_open (after_unless why (shut_state arena actions m) (opened (shut_state arena actions m).memory arena props)) ≡ true → IsEntered arena props room again r
+    by_refusal : (why : Option Refusal) → refusal deepest (outside [] arena) (Begin props room) ≡ why → r ≡ recoded (Begin props room) again (reply_unless why (Code 5))
+        → is_open (after_unless why (shut_state arena actions m) (opened (shut_state arena actions m).memory arena props)) ≡ true → IsEntered deepest arena props room again r
     by_refusal None is e now = record { accepted = is; reply_is = e ∙ told_begun props room again }
     by_refusal (Some why) is e now = absurd (true≢false (sym now))
 
 -- the state that it leaves
-entered_leaves : (arena : List ℕ) (actions : Actions) (m : List ℕ) (props : Props) (room : ℕ) → refusal MAX_OPEN_BLOCKS (outside [] arena) (Begin props room) ≡ None
-    → after MAX_OPEN_BLOCKS (shut_state arena actions m) (Begin props room) ≡ opened (bytes_of m) arena props
-entered_leaves arena actions m props room accepted = ap (λ (o : Option Refusal). after_unless o (shut_state arena actions m) (opened (bytes_of m) arena props)) accepted
+entered_leaves : (deepest : ℕ) (arena : List ℕ) (actions : Actions) (m : List ℕ) (props : Props) (room : ℕ) → refusal deepest (outside [] arena) (Begin props room) ≡ None
+    → after deepest (shut_state arena actions m) (Begin props room) ≡ opened (bytes_of m) arena props
+entered_leaves deepest arena actions m props room accepted = ap (λ (o : Option Refusal). after_unless o (shut_state arena actions m) (opened (bytes_of m) arena props)) accepted
 
 -- ## A served begin
 
@@ -82,17 +85,17 @@ full_begin s v e at served = omega (arith, served.tells.full, served.tells.close
 module _ (s : Start) (v : View) (e : Core) (before : Stands s.view s.engine) (outside : in_transaction s.engine ≡ false) where
   -- an accepted one leaves this block open, over each memory that its reply speaks of
   module _ (props : Props) (room : ℕ) (is : s.call ≡ Begin props room) (r : Replied) (served : Served s (Reply r) v e) (now : in_transaction e ≡ true) where
-    entered : IsEntered s.engine.arena props room s.again r
+    entered : IsEntered s.engine.depth s.engine.arena props room s.again r
     entered =
-        entered_out s.engine.arena s.engine.actions (came_over s v e) props room s.again r
-        (answered_outside s v e before outside r served ∙ ap (λ (c : Call). recoded c s.again (reply MAX_OPEN_BLOCKS (shut_state s.engine.arena s.engine.actions (came_over s v e)) c)) is)
-        (sym (ap is_open (left_outside s v e before outside r served ∙ ap (after MAX_OPEN_BLOCKS (shut_state s.engine.arena s.engine.actions (came_over s v e))) is)) ∙ stands_open e (left_over v e) now)
+        entered_out s.engine.depth s.engine.arena s.engine.actions (came_over s v e) props room s.again r
+        (answered_outside s v e before outside r served ∙ ap (λ (c : Call). recoded c s.again (reply s.engine.depth (shut_state s.engine.arena s.engine.actions (came_over s v e)) c)) is)
+        (sym (ap is_open (left_outside s v e before outside r served ∙ ap (after s.engine.depth (shut_state s.engine.arena s.engine.actions (came_over s v e))) is)) ∙ stands_open e (left_over v e) now)
 
     leaves : {m left : List ℕ} → Meets s r e m left → stands_for e left ≡ opened (bytes_of m) s.engine.arena props
     leaves {m} meets =
         meets.state
-        ∙ ((λ i. after MAX_OPEN_BLOCKS (stands_outside before outside m i) (is i))
-        ∙ entered_leaves s.engine.arena s.engine.actions m props room entered.accepted)
+        ∙ ((λ i. after s.engine.depth (stands_outside before outside m i) (is i))
+        ∙ entered_leaves s.engine.depth s.engine.arena s.engine.actions m props room entered.accepted)
 
     -- over each memory that the attempt may have read
     begins_over : (m : List ℕ) → MayReadIn e.irrevocable v e m → stands_for e (stood e.irrevocable v m) ≡ opened (bytes_of m) s.engine.arena props
@@ -133,8 +136,8 @@ module _ {P : Type 0} {rules : Rules P} (laws : Obeys rules) (c : Course P) (s :
 
   -- ## It came to nothing, and is tried again
 
-  tries_again : Went s.view v → v.mine ≡ s.view.mine → in_transaction e ≡ false → s.view.looks < v.looks → IsUndone s e → t.nth ≤ c.retries → IsRunning rules c v e (tried t t.player t.ended)
-  tries_again went mine shut looks undone_so few =
+  tries_again : Went s.view v → v.mine ≡ s.view.mine → in_transaction e ≡ false → s.view.looks < v.looks → IsUndone s e → e.depth ≡ s.engine.depth → t.nth ≤ c.retries → IsRunning rules c v e (tried t t.player t.ended)
+  tries_again went mine shut looks undone_so same few =
       let nested = nested_outside running outside in
       let later = run_later rules c s.view v went t.ended running.has_run in
       let k = was.before in
@@ -145,6 +148,7 @@ module _ {P : Type 0} {rules : Rules P} (laws : Obeys rules) (c : Course P) (s :
         tries = omega arith;
         nested = subst (λ (b : Bool). IsNested rules b t.player) (sym shut) nested;
         depth = nested.deep ∙ sym (ap length (none_inside e.blocks shut));
+        deepest = same ∙ running.deepest;
         inside = λ now. absurd (true≢false (sym now ∙ shut));
         outside = λ now. record {
           between = was.between;
@@ -152,7 +156,7 @@ module _ {P : Type 0} {rules : Rules P} (laws : Obeys rules) (c : Course P) (s :
           now_is = later.1 ∙ was.now_is;
           before = record {
             calls = k.calls;
-            leads = subst (LeadsTo rules k.calls was.between.player was.between.arena t.player) (sym (nothing_left s v e before outside undone_so)) k.leads;
+            leads = subst (LeadsTo rules c.depth k.calls was.between.player was.between.arena t.player) (sym (nothing_left s v e before outside undone_so)) k.leads;
             again = k.again;
             tries = (let fewer = k.tries in omega arith);
           };
@@ -161,10 +165,10 @@ module _ {P : Type 0} {rules : Rules P} (laws : Obeys rules) (c : Course P) (s :
       }
 
   pub lost : (clock : ℕ) (word : Option ℕ) → Served s (Conflict clock word) v e → t.nth ≤ c.retries → IsRunning rules c v e (tried t t.player t.ended)
-  lost clock word served few = tries_again served.went served.mine served.tells.closes.closed served.tells.looks served.tells.undone few
+  lost clock word served few = tries_again served.went served.mine served.tells.closes.closed served.tells.looks served.tells.undone served.limits.2 few
 
   pub busy : (clock : ℕ) → Served s (Busy clock) v e → t.nth ≤ c.retries → IsRunning rules c v e (tried t t.player t.ended)
-  busy clock served few = tries_again served.went served.mine served.tells.closes.closed served.tells.looks served.tells.undone few
+  busy clock served few = tries_again served.went served.mine served.tells.closes.closed served.tells.looks served.tells.undone served.limits.2 few
 
   -- ## It is accepted
 
@@ -172,12 +176,15 @@ module _ {P : Type 0} {rules : Rules P} (laws : Obeys rules) (c : Course P) (s :
     told : r ≡ begin_code was.between.again
     told = (entered s v e before outside props room is r served now).reply_is ∙ ap begin_code (again ∙ was.before.again)
 
-    tries_block : IsTry rules was.between (begun c.number (known_after c.known t.ended) props s.engine.arena t) (rules.answered t.player r) v e
+    accepted : refusal c.depth (no_block [] s.engine.arena) (Begin props room) ≡ None
+    accepted = subst (λ (deepest : ℕ). refusal deepest (no_block [] s.engine.arena) (Begin props room) ≡ None) running.deepest (entered s v e before outside props room is r served now).accepted
+
+    tries_block : IsTry rules c.depth was.between (begun c.number (known_after c.known t.ended) props s.engine.arena t) (rules.answered t.player r) v e
     tries_block = record {
       of_block = record {
         start = record { player = t.player; arena = s.engine.arena; props = props };
-        begins = led rules laws was.before.calls was.between.player was.between.arena t.player s.engine.arena was.before.leads
-            ∙ begin_here rules laws t.player s.engine.arena props room (asks ∙ ap (λ (x : Call). Some x) is) (entered s v e before outside props room is r served now).accepted;
+        begins = led rules laws c.depth was.before.calls was.between.player was.between.arena t.player s.engine.arena was.before.leads
+            ∙ begin_here rules laws c.depth t.player s.engine.arena props room (asks ∙ ap (λ (x : Call). Some x) is) accepted;
         arena = refl;
         props = refl;
         tries = was.before.tries;
@@ -202,6 +209,7 @@ module _ {P : Type 0} {rules : Rules P} (laws : Obeys rules) (c : Course P) (s :
           tries = running.tries;
           nested = subst (λ (b : Bool). IsNested rules b (rules.answered t.player r)) (sym now) played.nested;
           depth = laws.nests t.player s.call r asks ∙ (deep ∙ sym (begins_one s v e before outside props room is r served now));
+          deepest = served.limits.2 ∙ running.deepest;
           inside = λ o. record {
             between = was.between;
             row = begun c.number (known_after c.known t.ended) props s.engine.arena t;

@@ -75,7 +75,7 @@ module _ {P : Type 0} {rules : Rules P} (laws : Obeys rules) {words : Words} {c 
     few = k.same.few;
     known = known ∙ (k.same.known ∙ ap (known_after c.known) (sym kept));
     over = subst AreOver (sym kept) k.same.over;
-    bounds = ap (λ (t : Standing). bounds_of t.engine) is ∙ ((λ i. record { max_commits = served.limits.0 i; patience = served.limits.1 i }) ∙ k.same.bounds);
+    bounds = ap (λ (t : Standing). bounds_of t.engine) is ∙ ((λ i. record { max_commits = served.limits.0 i; patience = served.limits.1 i; depth = served.limits.2 i }) ∙ k.same.bounds);
   }
 
   nested : IsNested rules false old.player

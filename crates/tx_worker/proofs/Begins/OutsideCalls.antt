@@ -2,7 +2,6 @@
 use Rattle.std.proofs.Common.{◌≡◌, ℕ, suc, ◌&&◌, not, nat_lt, Bool, true, false, true≢false, if◌then◌else◌, List, [], length, is_some, Option, None, Some, refl, sym, ap, subst, ◌∙◌, arith}
 use Rattle.itm_types.specs.Access.{size_of}
 use Rattle.itm_types.specs.Calls.{is_begin}
-use Rattle.itm_types.specs.declared.limits.TheConstants.{MAX_OPEN_BLOCKS}
 use Rattle.itm_types.specs.declared.call.Call.{Call}
 use Rattle.itm_types.specs.declared.call.Call.TheVariants.{Begin, Commit, Copy, Fill, Load, Log, LogBytes, Mode, Read, Save, Write, CommitAction, UndoAction}
 use Rattle.itm_types.specs.declared.call.Props.{Props}
@@ -56,40 +55,40 @@ told_refused props room true why = refl
 told_refused props room false why = refl
 
 -- a call that leaves no block open is answered as on no memory at all, and leaves that arena
-pub record StaysOut (arena : List ℕ) (c : Call) (r : Replied) (left : State) : Type 0 where
-  pub begins_none : stays_outside MAX_OPEN_BLOCKS arena c ≡ true
-  pub reply_is : r ≡ reply MAX_OPEN_BLOCKS (outside [] arena) c
-  pub arena_is : left.arena ≡ (after MAX_OPEN_BLOCKS (outside [] arena) c).arena
+pub record StaysOut (deepest : ℕ) (arena : List ℕ) (c : Call) (r : Replied) (left : State) : Type 0 where
+  pub begins_none : stays_outside deepest arena c ≡ true
+  pub reply_is : r ≡ reply deepest (outside [] arena) c
+  pub arena_is : left.arena ≡ (after deepest (outside [] arena) c).arena
   pub depth : depth_after 0 c r ≡ 0
 
 -- the plain state of an engine outside a transaction
 abbrev pub shut_state : List ℕ → Actions → List ℕ → State
 shut_state arena actions m = state_over [] [] arena actions m
 
-module _ (arena : List ℕ) (actions : Actions) (m : List ℕ) where
+module _ (deepest : ℕ) (arena : List ℕ) (actions : Actions) (m : List ℕ) where
   -- no other call than a begin opens a block
-  pub still_shut : (c : Call) → is_begin c ≡ false → is_open (after MAX_OPEN_BLOCKS (shut_state arena actions m) c) ≡ false
+  pub still_shut : (c : Call) → is_begin c ≡ false → is_open (after deepest (shut_state arena actions m) c) ≡ false
   still_shut (Begin props room) other = absurd (cc)
   still_shut (Load width at) other = either_way is_open (in_arena (shut_state arena actions m) at (size_of width)) _ _ refl
   still_shut (Save at value) other = either_way is_open (in_arena (shut_state arena actions m) at (size_of value.width)) _ _ refl
   still_shut c other = refl
 
-  refused_out : (props : Props) (room : ℕ) (again : Bool) (r : Replied) (why : Option Refusal) → refusal MAX_OPEN_BLOCKS (outside [] arena) (Begin props room) ≡ why → r ≡ recoded (Begin props room) again (reply_unless why (Code 5))
+  refused_out : (props : Props) (room : ℕ) (again : Bool) (r : Replied) (why : Option Refusal) → refusal deepest (outside [] arena) (Begin props room) ≡ why → r ≡ recoded (Begin props room) again (reply_unless why (Code 5))
       → is_open (after_unless why (shut_state arena actions m) (opened (shut_state arena actions m).memory arena props)) ≡ false
-      → StaysOut arena (Begin props room) r (after MAX_OPEN_BLOCKS (shut_state arena actions m) (Begin props room))
+      → StaysOut deepest arena (Begin props room) r (after deepest (shut_state arena actions m) (Begin props room))
   refused_out props room again r None is e shut = absurd (true≢false (sym (ap (nat_lt 0) (opened_one (shut_state arena actions m).memory arena props)) ∙ shut))
   refused_out props room again r (Some why) is e shut =
       let told : r ≡ Refused why = e ∙ told_refused props room again why in
       record {
         begins_none = ap is_some is;
         reply_is = told ∙ sym (ap (λ (o : Option Refusal). reply_unless o (Code 5)) is);
-        arena_is = same_arena (refusal MAX_OPEN_BLOCKS (outside [] arena) (Begin props room)) _ _ _ _ refl (opened_arena _ arena props ∙ sym (opened_arena [] arena props));
+        arena_is = same_arena (refusal deepest (outside [] arena) (Begin props room)) _ _ _ _ refl (opened_arena _ arena props ∙ sym (opened_arena [] arena props));
         depth = ap (depth_after 0 (Begin props room)) told;
       }
 
-  pub stays_out : (c : Call) (again : Bool) (r : Replied) → r ≡ recoded c again (reply MAX_OPEN_BLOCKS (shut_state arena actions m) c) → is_open (after MAX_OPEN_BLOCKS (shut_state arena actions m) c) ≡ false
-      → StaysOut arena c r (after MAX_OPEN_BLOCKS (shut_state arena actions m) c)
-  stays_out (Begin props room) again r e shut = refused_out props room again r (refusal MAX_OPEN_BLOCKS (outside [] arena) (Begin props room)) refl e shut
+  pub stays_out : (c : Call) (again : Bool) (r : Replied) → r ≡ recoded c again (reply deepest (shut_state arena actions m) c) → is_open (after deepest (shut_state arena actions m) c) ≡ false
+      → StaysOut deepest arena c r (after deepest (shut_state arena actions m) c)
+  stays_out (Begin props room) again r e shut = refused_out props room again r (refusal deepest (outside [] arena) (Begin props room)) refl e shut
   stays_out (Load width at) again r e shut = record { begins_none = refl; reply_is = e; arena_is = same_arena (in_arena (outside [] arena) at (size_of width)) _ _ _ _ refl refl; depth = refl }
   stays_out (Save at value) again r e shut = record { begins_none = refl; reply_is = e; arena_is = same_arena (in_arena (outside [] arena) at (size_of value.width)) _ _ _ _ refl refl; depth = refl }
   stays_out c again r e shut = record { begins_none = refl; reply_is = e; arena_is = refl; depth = ap (depth_after 0 c) e }
@@ -110,14 +109,14 @@ stands_outside {e = e} stands shut m = λ i. state_in (revocable_outside stands 
 
 module _ (s : Start) (v : View) (e : Core) (before : Stands s.view s.engine) (outside : in_transaction s.engine ≡ false) where
   -- the plain machine's state and reply, with no block open before
-  pub left_outside : (r : Replied) → Served s (Reply r) v e → stands_for e (left_over v e) ≡ after MAX_OPEN_BLOCKS (shut_state s.engine.arena s.engine.actions (came_over s v e)) s.call
-  left_outside r served = served.tells.here.state ∙ ap (λ (x : State). after MAX_OPEN_BLOCKS x s.call) (stands_outside before outside (came_over s v e))
+  pub left_outside : (r : Replied) → Served s (Reply r) v e → stands_for e (left_over v e) ≡ after s.engine.depth (shut_state s.engine.arena s.engine.actions (came_over s v e)) s.call
+  left_outside r served = served.tells.here.state ∙ ap (λ (x : State). after s.engine.depth x s.call) (stands_outside before outside (came_over s v e))
 
-  pub answered_outside : (r : Replied) → Served s (Reply r) v e → r ≡ recoded s.call s.again (reply MAX_OPEN_BLOCKS (shut_state s.engine.arena s.engine.actions (came_over s v e)) s.call)
+  pub answered_outside : (r : Replied) → Served s (Reply r) v e → r ≡ recoded s.call s.again (reply s.engine.depth (shut_state s.engine.arena s.engine.actions (came_over s v e)) s.call)
   answered_outside r served =
       served.tells.here.reply_is
-      ∙ (λ i. recoded s.call (s.again && not (outside i)) (reply MAX_OPEN_BLOCKS (stands_outside before outside (came_over s v e) i) s.call))
-      ∙ ap (λ (b : Bool). recoded s.call b (reply MAX_OPEN_BLOCKS (shut_state s.engine.arena s.engine.actions (came_over s v e)) s.call)) (all_of s.again)
+      ∙ (λ i. recoded s.call (s.again && not (outside i)) (reply s.engine.depth (stands_outside before outside (came_over s v e) i) s.call))
+      ∙ ap (λ (b : Bool). recoded s.call b (reply s.engine.depth (shut_state s.engine.arena s.engine.actions (came_over s v e)) s.call)) (all_of s.again)
     where
       all_of : (b : Bool) → (b && not false) ≡ b
       all_of true = refl
@@ -156,7 +155,7 @@ module _ (s : Start) (v : View) (e : Core) (before : Stands s.view s.engine) (ou
     stays_shut r served = by_open (in_transaction e) refl
       where
         by_open : (b : Bool) → in_transaction e ≡ b → b ≡ false
-        by_open true now = absurd (true≢false (sym (stands_open e (left_over v e) now) ∙ (ap is_open (left_outside r served) ∙ still_shut s.engine.arena s.engine.actions (came_over s v e) s.call other)))
+        by_open true now = absurd (true≢false (sym (stands_open e (left_over v e) now) ∙ (ap is_open (left_outside r served) ∙ still_shut s.engine.depth s.engine.arena s.engine.actions (came_over s v e) s.call other)))
         by_open false now = refl
 
     -- nor is memory refused to it
@@ -191,7 +190,9 @@ module _ {P : Type 0} {rules : Rules P} (laws : Obeys rules) (c : Course P) (s :
       let nested = nested_outside running outside in
       let later = run_later rules c s.view v served.went t.ended running.has_run in
       let left = left_outside s v e before outside r served in
-      let plain = stays_out s.engine.arena s.engine.actions (came_over s v e) s.call s.again r (answered_outside s v e before outside r served) (sym (ap is_open left) ∙ stands_shut e (left_over v e) shut) in
+      let replied : StaysOut s.engine.depth s.engine.arena s.call r (after s.engine.depth (shut_state s.engine.arena s.engine.actions (came_over s v e)) s.call) =
+      stays_out s.engine.depth s.engine.arena s.engine.actions (came_over s v e) s.call s.again r (answered_outside s v e before outside r served) (sym (ap is_open left) ∙ stands_shut e (left_over v e) shut) in
+      let plain = subst (λ (deepest : ℕ). StaysOut deepest s.engine.arena s.call r (after s.engine.depth (shut_state s.engine.arena s.engine.actions (came_over s v e)) s.call)) running.deepest replied in
       let played = plays rules laws t.player s.call r asks false false nested (ap (λ (n : ℕ). depth_after n s.call r) nested.deep ∙ plain.depth) in
       record {
         has_run = later.0;
@@ -200,6 +201,7 @@ module _ {P : Type 0} {rules : Rules P} (laws : Obeys rules) (c : Course P) (s :
         tries = running.tries;
         nested = subst (λ (b : Bool). IsNested rules b (rules.answered t.player r)) (sym shut) played.nested;
         depth = played.nested.deep ∙ sym (ap length (none_inside e.blocks shut));
+        deepest = served.limits.2 ∙ running.deepest;
         inside = λ now. absurd (true≢false (sym now ∙ shut));
         outside = λ now. record {
           between = was.between;

@@ -1,6 +1,5 @@
 -- A call that wants the clock takes it where it is served.
 use Rattle.std.proofs.Common.{◌≡◌, ◌≢◌, ℕ, ◌&&◌, ◌||◌, Bool, true, false, not, nat_lt, List, [], ◌∷◌, length, None, Some, is_some, if◌then◌else◌, refl, sym, true≢false, ap, ◌∙◌}
-use Rattle.itm_types.specs.declared.limits.TheConstants.{MAX_OPEN_BLOCKS}
 use Rattle.itm_types.specs.declared.call.Call.{Call}
 use Rattle.itm_types.specs.declared.call.Call.TheVariants.{Begin, Commit, Mode}
 use Rattle.itm_types.specs.declared.call.Props.{Props}
@@ -33,16 +32,16 @@ told_under false room e = absurd (true≢false (sym e))
 
 -- ## On the plain machine
 
-module _ (s : State) (inside : is_open s ≡ true) (revocable : s.irrevocable ≡ false) where
-  mode_takes : (room : ℕ) → keeps_revocable s.blocks ≡ false → takes_clock (after MAX_OPEN_BLOCKS s (Mode room)) ≡ true
+module _ (deepest : ℕ) (s : State) (inside : is_open s ≡ true) (revocable : s.irrevocable ≡ false) where
+  mode_takes : (room : ℕ) → keeps_revocable s.blocks ≡ false → takes_clock (after deepest s (Mode room)) ≡ true
   mode_takes room free =
-      let none : refusal MAX_OPEN_BLOCKS s (Mode room) ≡ None = λ i. or_else (or_else (unless (inside i) Outside) (unless (not (free i)) NoIrrevocable)) None in
+      let none : refusal deepest s (Mode room) ≡ None = λ i. or_else (or_else (unless (inside i) Outside) (unless (not (free i)) NoIrrevocable)) None in
       ap (λ (why : _). takes_clock (after_unless why s (irrevocable_from s))) none ∙ ap (λ (b : Bool). takes_clock (if b then s else made_irrevocable s)) revocable
 
-  begin_takes : (props : Props) (room : ℕ) → props.goes_irrevocable ≡ true → not (props.goes_irrevocable && (props.no_irrevocable || keeps_revocable s.blocks)) ≡ true → nat_lt (length s.blocks) MAX_OPEN_BLOCKS ≡ true
-      → takes_clock (after MAX_OPEN_BLOCKS s (Begin props room)) ≡ true
+  begin_takes : (props : Props) (room : ℕ) → props.goes_irrevocable ≡ true → not (props.goes_irrevocable && (props.no_irrevocable || keeps_revocable s.blocks)) ≡ true → nat_lt (length s.blocks) deepest ≡ true
+      → takes_clock (after deepest s (Begin props room)) ≡ true
   begin_takes props room goes may few =
-      let none : refusal MAX_OPEN_BLOCKS s (Begin props room) ≡ None = λ i. or_else (or_else (unless (may i) NoIrrevocable) (unless (few i) TooDeep)) None in
+      let none : refusal deepest s (Begin props room) ≡ None = λ i. or_else (or_else (unless (may i) NoIrrevocable) (unless (few i) TooDeep)) None in
       ap (λ (why : _). takes_clock (after_unless why s (effect s (Begin props room)))) none
       ∙ (λ i. takes_clock (if (inside i) then (if (goes i) then (if (revocable i) then pushed s props else made_irrevocable (pushed s props)) else pushed s props) else opened s.memory s.arena props))
 
@@ -66,26 +65,26 @@ wants_revocable c settled Commit w = by_mode c.irrevocable refl
 wants_revocable c settled (Mode room) w = no_true c.irrevocable (both_true (in_transaction c && not (stays_revocable c.blocks)) _ (told_under (in_transaction c && not (stays_revocable c.blocks) && not c.irrevocable) room w)).1
 wants_revocable c settled (Begin props room) w =
     no_true c.irrevocable
-    (both_true (props.goes_irrevocable && may_go c.blocks props && nat_lt (length c.blocks) MAX_OPEN_BLOCKS) _
-    (told_under (props.goes_irrevocable && may_go c.blocks props && nat_lt (length c.blocks) MAX_OPEN_BLOCKS && not c.irrevocable) room w)).1
+    (both_true (props.goes_irrevocable && may_go c.blocks props && nat_lt (length c.blocks) c.depth) _
+    (told_under (props.goes_irrevocable && may_go c.blocks props && nat_lt (length c.blocks) c.depth && not c.irrevocable) room w)).1
 wants_revocable c settled call w = absurd (true≢false (sym w))
 
 module _ (c : Core) (m : List ℕ) (revocable : c.irrevocable ≡ false) (inside : in_transaction c ≡ true) where
   keeps_stood : keeps_revocable (stands_for c m).blocks ≡ stays_revocable c.blocks
   keeps_stood = ap (λ (b : Bool). keeps_revocable (state_in b c.writes c.blocks c.arena c.actions m).blocks) revocable ∙ keeps_over c.blocks c.arena m
 
-  pub wants_taking : (call : Call) → WantsClock c (Some call) → takes_clock (after MAX_OPEN_BLOCKS (stands_for c m) call) ≡ true
+  pub wants_taking : (call : Call) → WantsClock c (Some call) → takes_clock (after c.depth (stands_for c m) call) ≡ true
   wants_taking Commit w =
-      ap (λ (b : Bool). takes_clock (after MAX_OPEN_BLOCKS (state_in b c.writes c.blocks c.arena c.actions m) Commit)) revocable
-      ∙ (ap takes_clock (commits c.writes c.blocks c.arena c.actions m w.0) ∙ some_rows c.writes w.1)
+      ap (λ (b : Bool). takes_clock (after c.depth (state_in b c.writes c.blocks c.arena c.actions m) Commit)) revocable
+      ∙ (ap takes_clock (commits c.depth c.writes c.blocks c.arena c.actions m w.0) ∙ some_rows c.writes w.1)
   wants_taking (Mode room) w =
       let all = told_under (in_transaction c && not (stays_revocable c.blocks) && not c.irrevocable) room w in
       let free = no_true (stays_revocable c.blocks) (both_true (in_transaction c) _ (both_true (in_transaction c && not (stays_revocable c.blocks)) _ all).0).1 in
-      mode_takes (stands_for c m) (stands_open c m inside) (stands_mode c m ∙ revocable) room (keeps_stood ∙ free)
+      mode_takes c.depth (stands_for c m) (stands_open c m inside) (stands_mode c m ∙ revocable) room (keeps_stood ∙ free)
   wants_taking (Begin props room) w =
-      let all = told_under (props.goes_irrevocable && may_go c.blocks props && nat_lt (length c.blocks) MAX_OPEN_BLOCKS && not c.irrevocable) room w in
-      let served = both_true (props.goes_irrevocable && may_go c.blocks props) _ (both_true (props.goes_irrevocable && may_go c.blocks props && nat_lt (length c.blocks) MAX_OPEN_BLOCKS) _ all).0 in
+      let all = told_under (props.goes_irrevocable && may_go c.blocks props && nat_lt (length c.blocks) c.depth && not c.irrevocable) room w in
+      let served = both_true (props.goes_irrevocable && may_go c.blocks props) _ (both_true (props.goes_irrevocable && may_go c.blocks props && nat_lt (length c.blocks) c.depth) _ all).0 in
       let may = both_true props.goes_irrevocable _ served.0 in
-      begin_takes (stands_for c m) (stands_open c m inside) (stands_mode c m ∙ revocable) props room may.0
-      (ap (λ (b : Bool). not (props.goes_irrevocable && (props.no_irrevocable || b))) keeps_stood ∙ may.1) (ap (λ (n : ℕ). nat_lt n MAX_OPEN_BLOCKS) (stands_blocks c m) ∙ served.1)
+      begin_takes c.depth (stands_for c m) (stands_open c m inside) (stands_mode c m ∙ revocable) props room may.0
+      (ap (λ (b : Bool). not (props.goes_irrevocable && (props.no_irrevocable || b))) keeps_stood ∙ may.1) (ap (λ (n : ℕ). nat_lt n c.depth) (stands_blocks c m) ∙ served.1)
   wants_taking call w = absurd (true≢false (sym w))

@@ -1,6 +1,5 @@
 -- Over a call of an open transaction no action that has run is lost, and there are no more actions in all than before, but for one that is registered.
 use Rattle.std.proofs.Common.{◌≡◌, ℕ, Bool, true, false, if◌then◌else◌, List, [], ◌∷◌, ◌++◌, Option, None, Some, refl, sym, ap, subst, ◌∙◌, arith, append-nil, append_assoc, length-append}
-use Rattle.itm_types.specs.declared.limits.TheConstants.{MAX_OPEN_BLOCKS}
 use Rattle.itm_types.specs.declared.call.Action.{Action}
 use Rattle.itm_types.specs.declared.call.Call.{Call}
 use Rattle.itm_types.specs.declared.call.Call.TheVariants.{Abort, Begin, Commit, CommitAction, Copy, Mode, UndoAction}
@@ -106,8 +105,8 @@ effect_runs s (CommitAction action) o = commit_more s.actions action
 effect_runs s (UndoAction action) o = undo_more s action
 effect_runs s c o = still (registers c) s.actions
 
-pub plain_runs : (s : State) (c : Call) → is_open s ≡ true → RunsOn (registers c) s.actions (after MAX_OPEN_BLOCKS s c).actions
-plain_runs s c o = by_refusal (refusal MAX_OPEN_BLOCKS s c)
+pub plain_runs : (deepest : ℕ) (s : State) (c : Call) → is_open s ≡ true → RunsOn (registers c) s.actions (after deepest s c).actions
+plain_runs deepest s c o = by_refusal (refusal deepest s c)
   where
     by_refusal : (why : Option Refusal) → RunsOn (registers c) s.actions (after_unless why s (effect s c)).actions
     by_refusal None = effect_runs s c o
@@ -117,10 +116,10 @@ plain_runs s c o = by_refusal (refusal MAX_OPEN_BLOCKS s c)
 
 module _ (s : Start) (v : View) (e : Core) (before : Stands s.view s.engine) (inside : in_transaction s.engine ≡ true) where
   -- over some memory it leaves the plain machine's actions
-  plainly : (c : Call) (m : List ℕ) → e.actions ≡ (after MAX_OPEN_BLOCKS (stands_for s.engine m) c).actions → RunsOn (registers c) s.engine.actions e.actions
+  plainly : (c : Call) (m : List ℕ) → e.actions ≡ (after s.engine.depth (stands_for s.engine m) c).actions → RunsOn (registers c) s.engine.actions e.actions
   plainly c m is =
       subst (RunsOn (registers c) s.engine.actions) (sym is)
-      (subst (λ (a : Actions). RunsOn (registers c) a (after MAX_OPEN_BLOCKS (stands_for s.engine m) c).actions) (stands_actions s.engine m) (plain_runs (stands_for s.engine m) c (stands_open s.engine m inside)))
+      (subst (λ (a : Actions). RunsOn (registers c) a (after s.engine.depth (stands_for s.engine m) c).actions) (stands_actions s.engine m) (plain_runs s.engine.depth (stands_for s.engine m) c (stands_open s.engine m inside)))
 
   rolled : IsUndone s e → RunsOn (registers s.call) s.engine.actions e.actions
   rolled undone_so =

@@ -1,6 +1,5 @@
 -- What a call of an open transaction found, over each memory that the attempt may have read once it is answered.
 use Rattle.std.proofs.Common.{inl, inr, ◌≡◌, ℕ, ◌/◌, ◌&&◌, Bool, true, false, not, List, [], ◌∷◌, length, refl, sym, true≢false, ap, subst, ◌∙◌, arith}
-use Rattle.itm_types.specs.declared.limits.TheConstants.{MAX_OPEN_BLOCKS}
 use Rattle.itm_types.specs.declared.call.Reply.{Reply as Replied}
 use Rattle.itm_types.specs.Memory.{Agrees, IsMemory}
 use Rattle.itm_model.specs.Machine.{is_open, reply}
@@ -66,7 +65,7 @@ module _ (s : Start) (v : View) (e : Core) (before : Stands s.view s.engine) (st
         let m : List ℕ = stood s.engine.irrevocable s.view (memory_of v (e.snapshot / 2)) in
         let left : List ℕ = stood e.irrevocable v (memory_of v (e.snapshot / 2)) in
         sym (ap (λ (x : State). x.irrevocable) (sym met_here.state) ∙ stands_mode e left)
-        ∙ stays_irrevocable (stands_for s.engine m) s.call (stands_open s.engine m inside) (stands_mode s.engine m ∙ was) (ap is_open (sym met_here.state) ∙ stands_open e left o)
+        ∙ stays_irrevocable s.engine.depth (stands_for s.engine m) s.call (stands_open s.engine m inside) (stands_mode s.engine m ∙ was) (ap is_open (sym met_here.state) ∙ stands_open e left o)
 
     pub told_before : in_transaction e ≡ true → (m : List ℕ) → MayRead v e m
         → MayRead s.view s.engine m × Meets s r e (stood s.engine.irrevocable s.view m) (stood e.irrevocable v m)
@@ -94,16 +93,16 @@ module _ (s : Start) (v : View) (e : Core) (before : Stands s.view s.engine) (st
   -- ## The reply
 
   module _ (r : Replied) (first_time : s.again ≡ false) (m left : List ℕ) (told : Meets s r e m left) where
-    pub told_plain : r ≡ reply MAX_OPEN_BLOCKS (stands_for s.engine m) s.call
+    pub told_plain : r ≡ reply s.engine.depth (stands_for s.engine m) s.call
     told_plain =
-        let plain : Replied = reply MAX_OPEN_BLOCKS (stands_for s.engine m) s.call in
+        let plain : Replied = reply s.engine.depth (stands_for s.engine m) s.call in
         told.reply_is ∙ (ap (λ (b : Bool). recoded s.call (b && not (in_transaction s.engine)) plain) first_time ∙ told_plainly s.call plain)
 
     -- as many blocks are open then as the call and its reply say
     pub depth_told : length e.blocks ≡ depth_after (length s.engine.blocks) s.call r
     depth_told =
         sym (stands_blocks e left) ∙ (ap (λ (x : State). length x.blocks) told.state
-        ∙ (depth_then (stands_for s.engine m) s.call r (can_go_back s.engine m) (ap is_code told_plain) (λ code. told_plain) ∙ ap (λ (n : ℕ). depth_after n s.call r) (stands_blocks s.engine m)))
+        ∙ (depth_then s.engine.depth (stands_for s.engine m) s.call r (can_go_back s.engine m) (ap is_code told_plain) (λ code. told_plain) ∙ ap (λ (n : ℕ). depth_after n s.call r) (stands_blocks s.engine m)))
       where
         saved_over : (bs : List Frame) (arena m : List ℕ) → AllSaved (blocks_over bs arena m)
         saved_over [] arena m = tt

@@ -1,6 +1,5 @@
 -- A run over commits that were seen later, and with one attempt more.
 use Rattle.std.proofs.Common.{◌≡◌, ℕ, zero, suc, ◌+◌, ◌≤◌, Bool, true, false, if◌then◌else◌, List, [], ◌∷◌, ◌++◌, length, take, Some, refl, sym, ap, ◌∙◌, arith, length-append, append_assoc}
-use Rattle.itm_types.specs.declared.limits.TheConstants.{MAX_OPEN_BLOCKS}
 use Rattle.itm_types.specs.Memory.{bytes_of}
 use Rattle.shared_words.specs.declared.view.View.{View}
 use Rattle.shared_words.specs.Commits.{StartsWith, after, memory_at}
@@ -41,19 +40,19 @@ bytes_in v w l k few = ap bytes_of (memory_in v w l k few)
 pub seen_in : (v w : View) → IsLater v w → length v.seen ≤ length w.seen
 seen_in v w l = (let n = ap length l.grows.1 ∙ length-append v.seen l.grows.0 in omega arith)
 
-pub left_in : (v w : View) → IsLater v w → (a : Attempt) → IsLeft v a → IsLeft w a
-left_in v w later a l =
+pub left_in : (deepest : ℕ) (v w : View) → IsLater v w → (a : Attempt) → IsLeft deepest v a → IsLeft deepest w a
+left_in deepest v w later a l =
     let seen = l.seen in
     let more = seen_in v w later in
     let at : bytes_at w a.at ≡ bytes_at v a.at = bytes_in v w later a.at (omega arith) in
     record {
       seen = omega arith;
-      leaves = bytes_in v w later (suc a.at) (omega arith) ∙ (l.leaves ∙ ap (λ (m : List ℕ). (alone MAX_OPEN_BLOCKS m a).memory) (sym at));
+      leaves = bytes_in v w later (suc a.at) (omega arith) ∙ (l.leaves ∙ ap (λ (m : List ℕ). (alone deepest m a).memory) (sym at));
     }
 
-pub all_left_in : (v w : View) → IsLater v w → (xs : List Attempt) → AreLeft v xs → AreLeft w xs
-all_left_in v w later [] l = tt
-all_left_in v w later (x ∷ xs) l = (λ c. left_in v w later x (l.0 c), all_left_in v w later xs l.1)
+pub all_left_in : (deepest : ℕ) (v w : View) → IsLater v w → (xs : List Attempt) → AreLeft deepest v xs → AreLeft deepest w xs
+all_left_in deepest v w later [] l = tt
+all_left_in deepest v w later (x ∷ xs) l = (λ c. left_in deepest v w later x (l.0 c), all_left_in deepest v w later xs l.1)
 
 pub memory_later : (v w : View) → Went v w → (k : ℕ) → k ≤ length v.seen → memory_of w k ≡ memory_of v k
 memory_later v w went = memory_in v w (later_of v w went)
@@ -74,9 +73,9 @@ went_on u v w a b = record {
 
 -- ## One attempt more
 
-left_more : (v : View) (xs : List Attempt) (a : Attempt) → AreLeft v xs → (is_committed a.outcome ≡ true → IsLeft v a) → AreLeft v (xs ++ a ∷ [])
-left_more v [] a l h = (h, tt)
-left_more v (x ∷ xs) a l h = (l.0, left_more v xs a l.1 h)
+left_more : (deepest : ℕ) (v : View) (xs : List Attempt) (a : Attempt) → AreLeft deepest v xs → (is_committed a.outcome ≡ true → IsLeft deepest v a) → AreLeft deepest v (xs ++ a ∷ [])
+left_more deepest v [] a l h = (h, tt)
+left_more deepest v (x ∷ xs) a l h = (l.0, left_more deepest v xs a l.1 h)
 
 since_more : (known : ℕ) (xs : List Attempt) (a : Attempt) → AreSince known xs → a.began ≡ known_after known xs → AreSince known (xs ++ a ∷ [])
 since_more known [] a s e = (e, tt)
@@ -108,21 +107,21 @@ module _ {P : Type 0} (rules : Rules P) (c : Course P) where
   run_later v w went xs h =
       let more = seen_later v w went in
       let known = h.known in
-      let still = run_still rules (length v.seen) (length w.seen) (bytes_at v) (bytes_at w) more (bytes_later v w went) (Some c.first) xs h.run in (
-        record { went = went_on c.view v w h.went went; run = still.0; left = all_left_in v w (later_of v w went) xs h.left; since = h.since; known = omega arith; own = h.own; unbroken = h.unbroken },
+      let still = run_still rules c.depth (length v.seen) (length w.seen) (bytes_at v) (bytes_at w) more (bytes_later v w went) (Some c.first) xs h.run in (
+        record { went = went_on c.view v w h.went went; run = still.0; left = all_left_in c.depth v w (later_of v w went) xs h.left; since = h.since; known = omega arith; own = h.own; unbroken = h.unbroken },
         still.1,
       )
 
   -- with one attempt more
-  pub run_with : (v : View) (xs : List Attempt) (b : Between P) (a : Attempt) → HasRun rules c v xs → now_at rules c v xs ≡ Some b → IsTryAt rules MAX_OPEN_BLOCKS (length v.seen) (bytes_at v) b (begins_at rules b) a
-      → (is_committed a.outcome ≡ true → IsLeft v a) → a.began ≡ known_after c.known xs → known_by a ≤ length v.seen → a.thread ≡ c.number → a.nth ≤ c.retries + 1 → a.restarts ≡ []
-      → HasRun rules c v (xs ++ a ∷ []) × (now_at rules c v (xs ++ a ∷ []) ≡ after_try rules MAX_OPEN_BLOCKS (bytes_at v) b (begins_at rules b) a)
+  pub run_with : (v : View) (xs : List Attempt) (b : Between P) (a : Attempt) → HasRun rules c v xs → now_at rules c v xs ≡ Some b → IsTryAt rules c.depth (length v.seen) (bytes_at v) b (begins_at rules c.depth b) a
+      → (is_committed a.outcome ≡ true → IsLeft c.depth v a) → a.began ≡ known_after c.known xs → known_by a ≤ length v.seen → a.thread ≡ c.number → a.nth ≤ c.retries + 1 → a.restarts ≡ []
+      → HasRun rules c v (xs ++ a ∷ []) × (now_at rules c v (xs ++ a ∷ []) ≡ after_try rules c.depth (bytes_at v) b (begins_at rules c.depth b) a)
   run_with v xs b a h now try left began known thread nth none =
-      let more = run_more rules (length v.seen) (bytes_at v) (Some c.first) xs b a h.run now try in (
+      let more = run_more rules c.depth (length v.seen) (bytes_at v) (Some c.first) xs b a h.run now try in (
         record {
           went = h.went;
           run = more.0;
-          left = left_more v xs a h.left left;
+          left = left_more c.depth v xs a h.left left;
           since = since_more c.known xs a h.since began;
           known = (let k = known_more c.known xs a in omega arith);
           own = own_more c.number (c.retries + 1) xs a h.own thread nth;

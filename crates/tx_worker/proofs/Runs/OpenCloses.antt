@@ -1,6 +1,5 @@
 -- The open attempt's block ends with its last call.
 use Rattle.std.proofs.Common.{◌≡◌, ℕ, suc, ◌/◌, ◌<◌, ◌≤◌, Bool, true, false, if◌then◌else◌, List, [], ◌∷◌, ◌++◌, length, map, Some, refl, sym, true≢false, ap, subst, ◌∙◌, arith, append_assoc}
-use Rattle.itm_types.specs.declared.limits.TheConstants.{MAX_OPEN_BLOCKS}
 use Rattle.itm_types.specs.declared.call.Reply.{Reply as Replied}
 use Rattle.itm_model.specs.Machine.{after, reply}
 use Rattle.itm_model.specs.State.{State}
@@ -38,19 +37,19 @@ ran_done outcomes.ReadOnly s e = refl
 ran_done outcomes.Cancelled s e = refl
 ran_done outcome s e = absurd (true≢false (sym e))
 
-follows_done : {P : Type 0} (rules : Rules P) (outcome : Outcome) (p : P) (a : Attempt) (s : State) → is_done outcome ≡ true
-    → follows rules MAX_OPEN_BLOCKS outcome p a s ≡ Some (record { player = answered_all rules.answered p (map (λ (x : CallRecord). x.reply) a.calls.list); arena = s.arena; again = false; tries = 0 })
-follows_done rules outcomes.Committed p a s e = refl
-follows_done rules outcomes.ReadOnly p a s e = refl
-follows_done rules outcomes.Cancelled p a s e = refl
-follows_done rules outcome p a s e = absurd (true≢false (sym e))
+follows_done : {P : Type 0} (rules : Rules P) (deepest : ℕ) (outcome : Outcome) (p : P) (a : Attempt) (s : State) → is_done outcome ≡ true
+    → follows rules deepest outcome p a s ≡ Some (record { player = answered_all rules.answered p (map (λ (x : CallRecord). x.reply) a.calls.list); arena = s.arena; again = false; tries = 0 })
+follows_done rules deepest outcomes.Committed p a s e = refl
+follows_done rules deepest outcomes.ReadOnly p a s e = refl
+follows_done rules deepest outcomes.Cancelled p a s e = refl
+follows_done rules deepest outcome p a s e = absurd (true≢false (sym e))
 
 module _ {P : Type 0} {rules : Rules P} (laws : Obeys rules) (c : Course P) (s : Start) (t : Tally P) (v : View) (e : Core) (running : IsRunning rules c s.view s.engine t) (went : Went s.view v)
     (asks : rules.next_call t.player ≡ Some s.call) (inside : in_transaction s.engine ≡ true) (r : Replied) (read : MayRead s.view s.engine (memory_of v (e.snapshot / 2)))
-    (replied : r ≡ reply MAX_OPEN_BLOCKS (stands_for s.engine (stood s.engine.irrevocable s.view (memory_of v (e.snapshot / 2)))) s.call) where
+    (replied : r ≡ reply c.depth (stands_for s.engine (stood s.engine.irrevocable s.view (memory_of v (e.snapshot / 2)))) s.call) where
   -- the plain state that the call leaves
   abbrev pub last : State
-  last = after MAX_OPEN_BLOCKS (stands_for s.engine (stood s.engine.irrevocable s.view (memory_of v (e.snapshot / 2)))) s.call
+  last = after c.depth (stands_for s.engine (stood s.engine.irrevocable s.view (memory_of v (e.snapshot / 2)))) s.call
 
   -- the block is over with this outcome
   pub record Closes (outcome : Outcome) : Type 0 where
@@ -65,6 +64,7 @@ module _ {P : Type 0} {rules : Rules P} (laws : Obeys rules) (c : Course P) (s :
     pub leaves : is_committed outcome ≡ true → (e.snapshot / 2 < length v.seen) × (bytes_at v (suc (e.snapshot / 2)) ≡ last.memory)
     pub mine : v.mine ≡ s.view.mine ++ (if is_committed outcome then e.snapshot / 2 ∷ [] else [])
     pub depth : length e.blocks ≡ depth_after (length s.engine.blocks) s.call r
+    pub deepest : e.depth ≡ s.engine.depth
 
   module _ (outcome : Outcome) (closes : Closes outcome) where
     abbrev final : Attempt
@@ -73,23 +73,23 @@ module _ {P : Type 0} {rules : Rules P} (laws : Obeys rules) (c : Course P) (s :
     stands_led : stands_for s.engine (stood s.engine.irrevocable s.view (memory_of v (e.snapshot / 2))) ≡ led laws c t s.view v s.engine running inside went (bytes_at v (e.snapshot / 2))
     stands_led = stood_led laws c t s.view v s.engine running inside went (memory_of v (e.snapshot / 2)) read
 
-    made : IsMadeAlone rules (running.inside inside).between (running.inside inside).try.of_block.start (running.inside inside).row (bytes_at v (e.snapshot / 2))
+    made : IsMadeAlone rules c.depth (running.inside inside).between (running.inside inside).try.of_block.start (running.inside inside).row (bytes_at v (e.snapshot / 2))
     made = made_open laws c t s.view v s.engine running inside went (memory_of v (e.snapshot / 2)) read
 
-    replied_led : r ≡ reply MAX_OPEN_BLOCKS (led laws c t s.view v s.engine running inside went (bytes_at v (e.snapshot / 2))) s.call
-    replied_led = replied ∙ ap (λ (x : State). reply MAX_OPEN_BLOCKS x s.call) stands_led
+    replied_led : r ≡ reply c.depth (led laws c t s.view v s.engine running inside went (bytes_at v (e.snapshot / 2))) s.call
+    replied_led = replied ∙ ap (λ (x : State). reply c.depth x s.call) stands_led
 
-    last_led : last ≡ after MAX_OPEN_BLOCKS (led laws c t s.view v s.engine running inside went (bytes_at v (e.snapshot / 2))) s.call
-    last_led = ap (λ (x : State). after MAX_OPEN_BLOCKS x s.call) stands_led
+    last_led : last ≡ after c.depth (led laws c t s.view v s.engine running inside went (bytes_at v (e.snapshot / 2))) s.call
+    last_led = ap (λ (x : State). after c.depth x s.call) stands_led
 
-    left_last : alone MAX_OPEN_BLOCKS (bytes_at v (e.snapshot / 2)) final ≡ last
-    left_last = closing_left laws (running.inside inside).try.of_block (bytes_at v (e.snapshot / 2)) s.call r made asks replied_led (e.snapshot / 2) outcome e.actions.ran ∙ sym last_led
+    left_last : alone c.depth (bytes_at v (e.snapshot / 2)) final ≡ last
+    left_last = closing_left laws c.depth (running.inside inside).try.of_block (bytes_at v (e.snapshot / 2)) s.call r made asks replied_led (e.snapshot / 2) outcome e.actions.ran ∙ sym last_led
 
-    is_try : IsTryAt rules MAX_OPEN_BLOCKS (length v.seen) (bytes_at v) (running.inside inside).between (Some (running.inside inside).try.of_block.start) final
+    is_try : IsTryAt rules c.depth (length v.seen) (bytes_at v) (running.inside inside).between (Some (running.inside inside).try.of_block.start) final
     is_try =
         let began = (running.inside inside).try.began in
         let older = closes.older in
-        try_closes laws (running.inside inside).try.of_block (bytes_at v (e.snapshot / 2)) s.call r made asks replied_led (length v.seen) (bytes_at v) (e.snapshot / 2) outcome e.actions.ran refl (omega arith) closes.newer
+        try_closes laws c.depth (running.inside inside).try.of_block (bytes_at v (e.snapshot / 2)) s.call r made asks replied_led (length v.seen) (bytes_at v) (e.snapshot / 2) outcome e.actions.ran refl (omega arith) closes.newer
         (subst (EndsAs outcome) last_led closes.ends) closes.by
         (ap (λ (x : Actions). x.ran) closes.actions ∙ (sym (ran_done outcome last closes.done) ∙ ap (ran_of outcome) last_led)) (never_full outcome closes.done)
 
@@ -97,7 +97,7 @@ module _ {P : Type 0} {rules : Rules P} (laws : Obeys rules) (c : Course P) (s :
     known true is = (let l = (closes.leaves is).0 in omega arith)
     known false is = closes.newer
 
-    run_closed : HasRun rules c v (t.ended ++ final ∷ []) × (now_at rules c v (t.ended ++ final ∷ []) ≡ after_try rules MAX_OPEN_BLOCKS (bytes_at v) (running.inside inside).between (Some (running.inside inside).try.of_block.start) final)
+    run_closed : HasRun rules c v (t.ended ++ final ∷ []) × (now_at rules c v (t.ended ++ final ∷ []) ≡ after_try rules c.depth (bytes_at v) (running.inside inside).between (Some (running.inside inside).try.of_block.start) final)
     run_closed =
         run_ended laws c t s.view v s.engine running inside went final is_try
         (λ is. record { seen = (closes.leaves is).0; leaves = (closes.leaves is).1 ∙ ap (λ (x : State). x.memory) (sym left_last) })
@@ -109,8 +109,8 @@ module _ {P : Type 0} {rules : Rules P} (laws : Obeys rules) (c : Course P) (s :
         let first : P = rules.answered h.try.of_block.start.player (begin_code h.between.again) in
         let player : answered_all rules.answered first (map (λ (x : CallRecord). x.reply) (h.row.calls.list ++ record { call = s.call; reply = r } ∷ [])) ≡ rules.answered t.player r =
         player_snoc rules.answered first h.row.calls.list (record { call = s.call; reply = r }) ∙ ap (λ (q : P). rules.answered q r) (sym h.try.of_block.player) in
-        let arena : (alone MAX_OPEN_BLOCKS (bytes_at v (e.snapshot / 2)) final).arena ≡ e.arena = ap (λ (x : State). x.arena) left_last ∙ sym closes.arena in
-        run_closed.1 ∙ (follows_done rules outcome first final (alone MAX_OPEN_BLOCKS (bytes_at v (e.snapshot / 2)) final) closes.done
+        let arena : (alone c.depth (bytes_at v (e.snapshot / 2)) final).arena ≡ e.arena = ap (λ (x : State). x.arena) left_last ∙ sym closes.arena in
+        run_closed.1 ∙ (follows_done rules c.depth outcome first final (alone c.depth (bytes_at v (e.snapshot / 2)) final) closes.done
         ∙ (λ i. Some (record { player = player i; arena = arena i; again = false; tries = 0 })))
 
     pub closes_running : IsRunning rules c v e (closed t (rules.answered t.player r) (ending_as outcome (e.snapshot / 2) e.actions.ran (with_call s.call r e.actions.ran (running.inside inside).row)))
@@ -123,6 +123,7 @@ module _ {P : Type 0} {rules : Rules P} (laws : Obeys rules) (c : Course P) (s :
           tries = omega arith;
           nested = nested_now rules laws t.player s.call r asks s.engine e running.depth closes.depth running.nested;
           depth = depth_now rules laws t.player s.call r asks s.engine e running.depth closes.depth;
+          deepest = closes.deepest ∙ running.deepest;
           inside = λ o. absurd (true≢false (sym o ∙ closes.shut));
           outside = λ o. record {
             between = record { player = rules.answered t.player r; arena = e.arena; again = false; tries = 0 };

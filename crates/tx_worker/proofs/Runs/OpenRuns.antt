@@ -1,6 +1,5 @@
 -- A run whose open attempt is over, or is told as it stands.
 use Rattle.std.proofs.Common.{◌≡◌, ℕ, suc, ◌≤◌, Bool, true, false, if◌then◌else◌, List, [], ◌∷◌, ◌++◌, length, Some, refl, sym, true≢false, ap, subst, ◌∙◌, arith, append-nil}
-use Rattle.itm_types.specs.declared.limits.TheConstants.{MAX_OPEN_BLOCKS}
 use Rattle.itm_types.specs.declared.call.Call.{Call}
 use Rattle.itm_types.specs.declared.call.Ran.{Ran}
 use Rattle.itm_types.specs.declared.call.Reply.{Reply as Replied}
@@ -69,35 +68,35 @@ positions_same xs a e = positions_more xs a ∙ (ap (λ (b : Bool). positions xs
 module _ {P : Type 0} {rules : Rules P} (laws : Obeys rules) (c : Course P) (t : Tally P) (u v : View) (e : Core) (running : IsRunning rules c u e t) (inside : in_transaction e ≡ true) (went : Went u v) where
   -- what its calls led to
   abbrev pub led : List ℕ → State
-  led memory = state_then MAX_OPEN_BLOCKS (breaks_of (running.inside inside).row.restarts) (opened memory (running.inside inside).try.of_block.start.arena (running.inside inside).try.of_block.start.props) (running.inside inside).row.calls.list
+  led memory = state_then c.depth (breaks_of (running.inside inside).row.restarts) (opened memory (running.inside inside).try.of_block.start.arena (running.inside inside).try.of_block.start.props) (running.inside inside).row.calls.list
 
   module _ (m : List ℕ) (read : MayRead u e m) where
     pub stood_led : stands_for e (stood e.irrevocable u m) ≡ led (bytes_of m)
     stood_led = ((running.inside inside).try.each m read).1
 
-    pub made_open : IsMadeAlone rules (running.inside inside).between (running.inside inside).try.of_block.start (running.inside inside).row (bytes_of m)
+    pub made_open : IsMadeAlone rules c.depth (running.inside inside).between (running.inside inside).try.of_block.start (running.inside inside).row (bytes_of m)
     made_open = record {
       alone = ((running.inside inside).try.each m read).0;
       still_open = ap is_open (sym stood_led) ∙ stands_open e (stood e.irrevocable u m) inside;
-      again = none_again (running.inside inside).row (bytes_of m) (running.inside inside).try.restarts;
+      again = none_again c.depth (running.inside inside).row (bytes_of m) (running.inside inside).try.restarts;
     }
 
     -- by its own fields
-    pub alone_stood : alone MAX_OPEN_BLOCKS (bytes_of m) (running.inside inside).row ≡ stands_for e (stood e.irrevocable u m)
-    alone_stood = alone_led laws (running.inside inside).try.of_block (bytes_of m) ∙ sym stood_led
+    pub alone_stood : alone c.depth (bytes_of m) (running.inside inside).row ≡ stands_for e (stood e.irrevocable u m)
+    alone_stood = alone_led laws c.depth (running.inside inside).try.of_block (bytes_of m) ∙ sym stood_led
 
   -- the run with it
-  pub run_ended : (a : Attempt) → IsTryAt rules MAX_OPEN_BLOCKS (length v.seen) (bytes_at v) (running.inside inside).between (Some (running.inside inside).try.of_block.start) a → (is_committed a.outcome ≡ true → IsLeft v a) → known_by a ≤ length v.seen
+  pub run_ended : (a : Attempt) → IsTryAt rules c.depth (length v.seen) (bytes_at v) (running.inside inside).between (Some (running.inside inside).try.of_block.start) a → (is_committed a.outcome ≡ true → IsLeft c.depth v a) → known_by a ≤ length v.seen
       → a.began ≡ (running.inside inside).row.began → a.thread ≡ (running.inside inside).row.thread → a.nth ≡ (running.inside inside).row.nth → a.restarts ≡ (running.inside inside).row.restarts
-      → HasRun rules c v (t.ended ++ a ∷ []) × (now_at rules c v (t.ended ++ a ∷ []) ≡ after_try rules MAX_OPEN_BLOCKS (bytes_at v) (running.inside inside).between (Some (running.inside inside).try.of_block.start) a)
+      → HasRun rules c v (t.ended ++ a ∷ []) × (now_at rules c v (t.ended ++ a ∷ []) ≡ after_try rules c.depth (bytes_at v) (running.inside inside).between (Some (running.inside inside).try.of_block.start) a)
   run_ended a try left known began thread nth restarts =
       let h = running.inside inside in
       let now = run_later rules c u v went t.ended running.has_run in
       let tries = running.tries in
       let same = h.nth in
-      let here : IsTryAt rules MAX_OPEN_BLOCKS (length v.seen) (bytes_at v) h.between (begins_at rules h.between) a = subst (λ (o : _). IsTryAt rules MAX_OPEN_BLOCKS (length v.seen) (bytes_at v) h.between o a) (sym h.try.of_block.begins) try in
+      let here : IsTryAt rules c.depth (length v.seen) (bytes_at v) h.between (begins_at rules c.depth h.between) a = subst (λ (o : _). IsTryAt rules c.depth (length v.seen) (bytes_at v) h.between o a) (sym h.try.of_block.begins) try in
       let more = run_with rules c v t.ended h.between a now.0 (now.1 ∙ h.now_is) here left (began ∙ h.began) known (thread ∙ h.thread) (omega arith) (restarts ∙ h.try.restarts) in
-      (more.0, more.1 ∙ ap (λ (o : _). after_try rules MAX_OPEN_BLOCKS (bytes_at v) h.between o a) h.try.of_block.begins)
+      (more.0, more.1 ∙ ap (λ (o : _). after_try rules c.depth (bytes_at v) h.between o a) h.try.of_block.begins)
 
   -- ## Without a commit
 
@@ -107,15 +106,15 @@ module _ {P : Type 0} {rules : Rules P} (laws : Obeys rules) (c : Course P) (t :
 
     pub stop_ended : EndsAs outcome (stands_for e (stood e.irrevocable u (memory_of v k))) → ran ≡ ran_of outcome (stands_for e (stood e.irrevocable u (memory_of v k)))
         → (running.inside inside).row.began ≤ k → k ≤ length v.seen
-        → (outcome ≡ outcomes.Full → LacksClock rules MAX_OPEN_BLOCKS (rules.answered (running.inside inside).try.of_block.start.player (begin_code (running.inside inside).between.again)) (running.inside inside).row (bytes_at v k))
+        → (outcome ≡ outcomes.Full → LacksClock rules c.depth (rules.answered (running.inside inside).try.of_block.start.player (begin_code (running.inside inside).between.again)) (running.inside inside).row (bytes_at v k))
         → HasRun rules c v (t.ended ++ ending_as outcome k ran (running.inside inside).row ∷ [])
-        × (now_at rules c v (t.ended ++ ending_as outcome k ran (running.inside inside).row ∷ []) ≡ after_try rules MAX_OPEN_BLOCKS (bytes_at v) (running.inside inside).between (Some (running.inside inside).try.of_block.start) (ending_as outcome k ran (running.inside inside).row))
+        × (now_at rules c v (t.ended ++ ending_as outcome k ran (running.inside inside).row ∷ []) ≡ after_try rules c.depth (bytes_at v) (running.inside inside).between (Some (running.inside inside).try.of_block.start) (ending_as outcome k ran (running.inside inside).row))
     stop_ended ends ran_is older newer full =
         let h = running.inside inside in
         let none = not_committed outcome undone in
         let stands = stood_led (memory_of v k) read in
         run_ended (ending_as outcome k ran h.row)
-        (try_stops laws h.try.of_block (length v.seen) (bytes_at v) k outcome ran undone (made_open (memory_of v k) read) (subst (EndsAs outcome) stands ends) older newer (ran_is ∙ ap (ran_of outcome) stands) full)
+        (try_stops laws c.depth h.try.of_block (length v.seen) (bytes_at v) k outcome ran undone (made_open (memory_of v k) read) (subst (EndsAs outcome) stands ends) older newer (ran_is ∙ ap (ran_of outcome) stands) full)
         (λ committed. absurd (true≢false (sym committed ∙ none))) (subst (λ (b : Bool). (if b then suc k else k) ≤ length v.seen) (sym none) newer) refl refl refl refl
 
     pub stop_mine : v.mine ≡ u.mine → v.mine ≡ c.view.mine ++ positions (t.ended ++ ending_as outcome k ran (running.inside inside).row ∷ [])

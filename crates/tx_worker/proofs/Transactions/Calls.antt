@@ -58,7 +58,7 @@ answers w o thread call answer k asks own stands served entry registered = recor
     few = k.same.few;
     known = k.same.known;
     over = k.same.over;
-    bounds = (λ i. record { max_commits = served.limits.0 i; patience = served.limits.1 i }) ∙ k.same.bounds;
+    bounds = (λ i. record { max_commits = served.limits.0 i; patience = served.limits.1 i; depth = served.limits.2 i }) ∙ k.same.bounds;
   };
   running = k.running;
   before = k.same.stands;

@@ -1,6 +1,5 @@
 -- A call of the open transaction is answered: it goes on, or is over.
 use Rattle.std.proofs.Common.{inl, inr, ◌≡◌, ℕ, suc, ◌/◌, Bool, true, false, if◌then◌else◌, List, [], ◌∷◌, ◌++◌, length, Some, refl, sym, true≢false, ap, subst, ◌∙◌, arith, append-nil}
-use Rattle.itm_types.specs.declared.limits.TheConstants.{MAX_OPEN_BLOCKS}
 use Rattle.itm_types.specs.declared.call.Call.{Call}
 use Rattle.itm_types.specs.declared.call.Call.TheVariants.{Abort, Commit}
 use Rattle.itm_types.specs.declared.call.Reply.{Reply as Replied}
@@ -35,10 +34,10 @@ use Rattle.tx_worker.specs.Progress.{Course, IsRunning, IsTry, MayRead, stood}
 use Rattle.tx_worker.specs.Tallies.{Tally, closed, ending_as, went_on, with_call}
 
 -- the commit of the outermost block ends its transaction
-pub commit_closes : (s : State) → length s.blocks ≡ 1 → is_open (after MAX_OPEN_BLOCKS s Commit) ≡ false
-commit_closes s one = by_blocks s.blocks one
+pub commit_closes : (deepest : ℕ) (s : State) → length s.blocks ≡ 1 → is_open (after deepest s Commit) ≡ false
+commit_closes deepest s one = by_blocks s.blocks one
   where
-    by_blocks : (bs : List Block) → length bs ≡ 1 → is_open (after MAX_OPEN_BLOCKS (record s { blocks = bs }) Commit) ≡ false
+    by_blocks : (bs : List Block) → length bs ≡ 1 → is_open (after deepest (record s { blocks = bs }) Commit) ≡ false
     by_blocks [] one = absurd (omega arith)
     by_blocks (b ∷ []) one = refl
     by_blocks (b ∷ p ∷ bs) one = absurd (omega (arith, one))
@@ -48,7 +47,7 @@ module _ {P : Type 0} {rules : Rules P} (laws : Obeys rules) (c : Course P) (s :
   -- ## It goes on
 
   module _ (r : Replied) (served : Served s (Reply r) v e) where
-    try_goes_on : in_transaction e ≡ true → IsTry rules (running.inside inside).between (with_call s.call r e.actions.ran (running.inside inside).row) (rules.answered t.player r) v e
+    try_goes_on : in_transaction e ≡ true → IsTry rules c.depth (running.inside inside).between (with_call s.call r e.actions.ran (running.inside inside).row) (rules.answered t.player r) v e
     try_goes_on o =
         let h = running.inside inside in
         let try = h.try in
@@ -69,10 +68,10 @@ module _ {P : Type 0} {rules : Rules P} (laws : Obeys rules) (c : Course P) (s :
               (let told = told_before s v e before stands inside r served o m read in
               let made = made_open laws c t s.view v s.engine running inside served.went m told.0 in
               let is = stood_led laws c t s.view v s.engine running inside served.went m told.0 in
-              let replied : r ≡ reply MAX_OPEN_BLOCKS (led laws c t s.view v s.engine running inside served.went (bytes_of m)) s.call =
-              told_plain s v e before stands inside r first_time (stood s.engine.irrevocable s.view m) (stood e.irrevocable v m) told.1 ∙ ap (λ (x : State). reply MAX_OPEN_BLOCKS x s.call) is in (
-                closing_alone laws try.of_block (bytes_of m) s.call r made asks replied,
-                told.1.state ∙ (ap (λ (x : State). after MAX_OPEN_BLOCKS x s.call) is ∙ sym (closing_state laws try.of_block (bytes_of m) s.call r made asks replied)),
+              let replied : r ≡ reply c.depth (led laws c t s.view v s.engine running inside served.went (bytes_of m)) s.call =
+              told_plain s v e before stands inside r first_time (stood s.engine.irrevocable s.view m) (stood e.irrevocable v m) told.1 ∙ (λ i. reply (running.deepest i) (is i) s.call) in (
+                closing_alone laws c.depth try.of_block (bytes_of m) s.call r made asks replied,
+                told.1.state ∙ ((λ i. after (running.deepest i) (is i) s.call) ∙ sym (closing_state laws c.depth try.of_block (bytes_of m) s.call r made asks replied)),
               ));
         }
 
@@ -90,6 +89,7 @@ module _ {P : Type 0} {rules : Rules P} (laws : Obeys rules) (c : Course P) (s :
           tries = running.tries;
           nested = nested_now rules laws t.player s.call r asks s.engine e running.depth depth_is running.nested;
           depth = depth_now rules laws t.player s.call r asks s.engine e running.depth depth_is;
+          deepest = served.limits.2 ∙ running.deepest;
           inside = λ o. record {
             between = h.between;
             row = with_call s.call r e.actions.ran h.row;
@@ -117,14 +117,17 @@ module _ {P : Type 0} {rules : Rules P} (laws : Obeys rules) (c : Course P) (s :
       met : Meets s r e from left
       met = met_here s v e before stands inside r served
 
-      replied_plain : r ≡ reply MAX_OPEN_BLOCKS (stands_for s.engine from) s.call
-      replied_plain = told_plain s v e before stands inside r first_time from left met
+      replied_plain : r ≡ reply c.depth (stands_for s.engine from) s.call
+      replied_plain = told_plain s v e before stands inside r first_time from left met ∙ ap (λ (deepest : ℕ). reply deepest (stands_for s.engine from) s.call) running.deepest
+
+      met_state : stands_for e left ≡ after c.depth (stands_for s.engine from) s.call
+      met_state = met.state ∙ ap (λ (deepest : ℕ). after deepest (stands_for s.engine from) s.call) running.deepest
 
       no_commit : s.call ≡ Commit → ⊥
       no_commit is = true≢false (sym (served.tells.still (ap is_abort is) inside) ∙ shut)
 
       aborts : (outer : Bool) × (s.call ≡ Abort outer) × (r ≡ Code 24)
-      aborts = elim (aborts_close (stands_for s.engine from) s.call (stands_open s.engine from inside) (ap is_open (sym met.state) ∙ stands_shut e left shut)) [
+      aborts = elim (aborts_close c.depth (stands_for s.engine from) s.call (stands_open s.engine from inside) (ap is_open (sym met_state) ∙ stands_shut e left shut)) [
         | inl commit ↦ absurd (no_commit commit)
         | inr abort ↦ (abort.0, abort.1, replied_plain ∙ abort.2)
       ]
@@ -149,15 +152,16 @@ module _ {P : Type 0} {rules : Rules P} (laws : Obeys rules) (c : Course P) (s :
           closes_running laws c s t v e running served.went asks inside r read replied_plain outcomes.Cancelled (record {
             done = refl;
             shut = shut;
-            ends = (ap is_open (sym met.state) ∙ stands_shut e left shut, ap (λ (x : State). x.wrote) (sym met.state) ∙ not_wrote);
+            ends = (ap is_open (sym met_state) ∙ stands_shut e left shut, ap (λ (x : State). x.wrote) (sym met_state) ∙ not_wrote);
             by = (calls, aborts.0, (λ i. calls ++ record { call = aborts.1 i; reply = aborts.2 i } ∷ []));
-            actions = sym (stands_actions e left) ∙ ap (λ (x : State). x.actions) met.state;
-            arena = sym (stands_arena e left) ∙ ap (λ (x : State). x.arena) met.state;
+            actions = sym (stands_actions e left) ∙ ap (λ (x : State). x.actions) met_state;
+            arena = sym (stands_arena e left) ∙ ap (λ (x : State). x.arena) met_state;
             older = omega arith;
             newer = omega arith;
             leaves = λ is. absurd (true≢false (sym is));
             mine = served.mine ∙ sym (append-nil s.view.mine);
             depth = depth_is;
+            deepest = served.limits.2;
           })
 
   -- ## It commits
@@ -171,16 +175,16 @@ module _ {P : Type 0} {rules : Rules P} (laws : Obeys rules) (c : Course P) (s :
         position_read s v e before stands inside (Committed at wrote) served
         (subst (λ (n : ℕ). Agrees (memory_of v n) s.engine.log) served.tells.closes.at_is (served.tells.closes.agrees inside))
 
-    done_plain : Done ≡ reply MAX_OPEN_BLOCKS (stands_for s.engine over) s.call
-    done_plain = commit_reply (stands_for s.engine over) (stands_open s.engine over inside) ∙ ap (reply MAX_OPEN_BLOCKS (stands_for s.engine over)) (sym served.tells.call)
+    done_plain : Done ≡ reply c.depth (stands_for s.engine over) s.call
+    done_plain = commit_reply c.depth (stands_for s.engine over) (stands_open s.engine over inside) ∙ ap (reply c.depth (stands_for s.engine over)) (sym served.tells.call)
 
-    last_is : after MAX_OPEN_BLOCKS (stands_for s.engine (came_over s v e)) Commit ≡ after MAX_OPEN_BLOCKS (stands_for s.engine over) s.call
-    last_is = λ i. after MAX_OPEN_BLOCKS (stands_for s.engine (came_stood s v e i)) (sym served.tells.call i)
+    last_is : after s.engine.depth (stands_for s.engine (came_over s v e)) Commit ≡ after c.depth (stands_for s.engine over) s.call
+    last_is = λ i. after (running.deepest i) (stands_for s.engine (came_stood s v e i)) (sym served.tells.call i)
 
-    is_shut : is_open (after MAX_OPEN_BLOCKS (stands_for s.engine over) s.call) ≡ false
+    is_shut : is_open (after c.depth (stands_for s.engine over) s.call) ≡ false
     is_shut =
-        ap (λ (call : Call). is_open (after MAX_OPEN_BLOCKS (stands_for s.engine over) call)) served.tells.call
-        ∙ commit_closes (stands_for s.engine over) (stands_blocks s.engine over ∙ served.tells.outermost)
+        ap (λ (call : Call). is_open (after c.depth (stands_for s.engine over) call)) served.tells.call
+        ∙ commit_closes c.depth (stands_for s.engine over) (stands_blocks s.engine over ∙ served.tells.outermost)
 
     depth_over : length e.blocks ≡ depth_after (length s.engine.blocks) s.call Done
     depth_over =
@@ -205,6 +209,7 @@ module _ {P : Type 0} {rules : Rules P} (laws : Obeys rules) (c : Course P) (s :
           leaves = λ yes. (omega arith, ap (λ (n : ℕ). bytes_at v (suc n)) (sym at_is) ∙ (next.1 ∙ ap (λ (x : State). x.memory) last_is));
           mine = served.mine ∙ (λ i. mine_if (is i) s.view.mine (at_is i));
           depth = depth_over;
+          deepest = served.limits.2;
         }
     by_wrote false is =
         let calls = (running.inside inside).row.calls.list in
@@ -222,6 +227,7 @@ module _ {P : Type 0} {rules : Rules P} (laws : Obeys rules) (c : Course P) (s :
           leaves = λ yes. absurd (true≢false (sym yes));
           mine = served.mine ∙ (ap (λ (w : Bool). mine_if w s.view.mine at) is ∙ sym (append-nil s.view.mine));
           depth = depth_over;
+          deepest = served.limits.2;
         }
 
     pub commits : IsRunning rules c v e (closed t (rules.answered t.player Done) (ending_as (if wrote then outcomes.Committed else outcomes.ReadOnly) (e.snapshot / 2) e.actions.ran (with_call s.call Done e.actions.ran (running.inside inside).row)))

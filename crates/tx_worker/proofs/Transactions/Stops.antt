@@ -1,6 +1,5 @@
 -- The open attempt ends without its block, or is told as it stands.
 use Rattle.std.proofs.Common.{◌≡◌, ℕ, ◌/◌, ◌≤◌, Bool, true, false, List, [], ◌∷◌, ◌++◌, length, map, Option, Some, refl, sym, true≢false, ap, subst, ◌∙◌, arith, append-nil, if◌then◌else◌}
-use Rattle.itm_types.specs.declared.limits.TheConstants.{MAX_OPEN_BLOCKS}
 use Rattle.itm_types.specs.Memory.{Agrees, IsMemory}
 use Rattle.itm_model.specs.Machine.{after, reply, undone}
 use Rattle.itm_model.specs.State.{State}
@@ -71,7 +70,7 @@ module _ {P : Type 0} {rules : Rules P} (laws : Obeys rules) (c : Course P) (s :
 
     conflict_ended : HasRun rules c v (t.ended ++ ending_as outcomes.Conflict (e.snapshot / 2) e.actions.ran (running.inside inside).row ∷ [])
         × (now_at rules c v (t.ended ++ ending_as outcomes.Conflict (e.snapshot / 2) e.actions.ran (running.inside inside).row ∷ [])
-        ≡ after_try rules MAX_OPEN_BLOCKS (bytes_at v) (running.inside inside).between (Some (running.inside inside).try.of_block.start) (ending_as outcomes.Conflict (e.snapshot / 2) e.actions.ran (running.inside inside).row))
+        ≡ after_try rules c.depth (bytes_at v) (running.inside inside).between (Some (running.inside inside).try.of_block.start) (ending_as outcomes.Conflict (e.snapshot / 2) e.actions.ran (running.inside inside).row))
     conflict_ended =
         let m : List ℕ = stood s.engine.irrevocable s.view position in
         let late = served.tells.closes.late inside in
@@ -93,7 +92,7 @@ module _ {P : Type 0} {rules : Rules P} (laws : Obeys rules) (c : Course P) (s :
         let shut = served.tells.closes.closed in
         let begun : rules.depth (rules.restarted t.player) ≡ 0 = running.nested.begun inside in
         let player : rules.restarted (answered_all rules.answered (rules.answered h.try.of_block.start.player (begin_code h.between.again)) (map (λ (x : CallRecord). x.reply) h.row.calls.list)) ≡ rules.restarted t.player = ap rules.restarted (sym h.try.of_block.player) in
-        let left : State = alone MAX_OPEN_BLOCKS (bytes_at v (e.snapshot / 2)) (ending_as outcomes.Conflict (e.snapshot / 2) e.actions.ran h.row) in
+        let left : State = alone c.depth (bytes_at v (e.snapshot / 2)) (ending_as outcomes.Conflict (e.snapshot / 2) e.actions.ran h.row) in
         let arena : (undone left).arena ≡ e.arena =
         ap (λ (x : State). (undone x).arena) (alone_stood laws c t s.view v s.engine running inside served.went position conflict_read)
         ∙ (ap (λ (x : State). x.arena) (sym (state_undone (Conflict clock word) served served.tells.revocable served.tells.undone)) ∙ stands_arena e position) in
@@ -108,6 +107,7 @@ module _ {P : Type 0} {rules : Rules P} (laws : Obeys rules) (c : Course P) (s :
             less = λ o. absurd (true≢false (sym o ∙ shut));
           };
           depth = begun ∙ sym (ap length (none_inside e.blocks shut));
+          deepest = served.limits.2 ∙ running.deepest;
           inside = λ o. absurd (true≢false (sym o ∙ shut));
           outside = λ o. record {
             between = record { player = rules.restarted t.player; arena = e.arena; again = true; tries = h.row.nth };
@@ -128,15 +128,15 @@ module _ {P : Type 0} {rules : Rules P} (laws : Obeys rules) (c : Course P) (s :
         position_read s v e before stands inside (Full at) served
         (subst (λ (n : ℕ). Agrees (memory_of v n) s.engine.log) served.tells.closes.at_is (served.tells.closes.agrees inside))
 
-    lacks : LacksClock rules MAX_OPEN_BLOCKS (rules.answered (running.inside inside).try.of_block.start.player (begin_code (running.inside inside).between.again)) (running.inside inside).row (bytes_at v (e.snapshot / 2))
+    lacks : LacksClock rules c.depth (rules.answered (running.inside inside).try.of_block.start.player (begin_code (running.inside inside).between.again)) (running.inside inside).row (bytes_at v (e.snapshot / 2))
     lacks =
         let m : List ℕ = stood s.engine.irrevocable s.view position in
         let stands_led = stood_led laws c t s.view v s.engine running inside served.went position full_read in
         let made = made_open laws c t s.view v s.engine running inside served.went position full_read in
-        lacks_clock laws (running.inside inside).try.of_block (bytes_at v (e.snapshot / 2)) s.call
-        (reply MAX_OPEN_BLOCKS (led laws c t s.view v s.engine running inside served.went (bytes_at v (e.snapshot / 2))) s.call) made asks refl
+        lacks_clock laws c.depth (running.inside inside).try.of_block (bytes_at v (e.snapshot / 2)) s.call
+        (reply c.depth (led laws c t s.view v s.engine running inside served.went (bytes_at v (e.snapshot / 2))) s.call) made asks refl
         (ap (λ (x : State). x.irrevocable) (sym stands_led) ∙ (stands_mode s.engine m ∙ full_revocable))
-        (ap (λ (x : State). takes_clock (after MAX_OPEN_BLOCKS x s.call)) (sym stands_led) ∙ wants_taking s.engine m full_revocable inside s.call served.tells.wants)
+        ((λ i. takes_clock (after (sym running.deepest i) (sym stands_led i) s.call)) ∙ wants_taking s.engine m full_revocable inside s.call served.tells.wants)
 
     pub full_run : HasRun rules c v (t.ended ++ ending_as outcomes.Full (e.snapshot / 2) e.actions.ran (running.inside inside).row ∷ [])
         × (v.mine ≡ c.view.mine ++ positions (t.ended ++ ending_as outcomes.Full (e.snapshot / 2) e.actions.ran (running.inside inside).row ∷ []))
@@ -189,7 +189,7 @@ module _ {P : Type 0} {rules : Rules P} (laws : Obeys rules) (c : Course P) (s :
       )
 
   -- and whether it is irrevocable, by its calls alone
-  pub unfinished_mode : (alone MAX_OPEN_BLOCKS (bytes_at s.view (s.engine.snapshot / 2)) (running.inside inside).row).irrevocable ≡ s.engine.irrevocable
+  pub unfinished_mode : (alone c.depth (bytes_at s.view (s.engine.snapshot / 2)) (running.inside inside).row).irrevocable ≡ s.engine.irrevocable
   unfinished_mode =
       ap (λ (x : State). x.irrevocable) (alone_stood laws c t s.view s.view s.engine running inside (still_went s.view) (memory_of s.view (s.engine.snapshot / 2)) (may_here s.view s.engine before inside))
       ∙ stands_mode s.engine (stood s.engine.irrevocable s.view (memory_of s.view (s.engine.snapshot / 2)))

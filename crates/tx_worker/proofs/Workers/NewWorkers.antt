@@ -63,6 +63,7 @@ module _ {P : Type 0} (rules : Rules P) (words : Words) (thread : Standing) (pla
         tries = omega arith;
         nested = subst (λ (i : Bool). IsNested rules i player) (sym outside) (record { deep = depth; begun = λ o. absurd (cc); less = λ o. absurd (cc) });
         depth = depth ∙ sym (none_open thread.engine.blocks outside);
+        deepest = refl;
         inside = λ i. absurd (true≢false (sym i ∙ outside));
         outside = λ o. record {
           between = record { player = player; arena = thread.engine.arena; again = false; tries = 0 };

@@ -1,6 +1,5 @@
 -- What a worker that has stopped leaves.
 use Rattle.std.proofs.Common.{true≢false, ◌≡◌, ℕ, zero, suc, ◌/◌, Bool, true, false, List, [], ◌∷◌, ◌++◌, None, Some, Result, Ok, Err, IfOk, IfErr, OnErr, refl, sym, ap, subst, ◌∙◌, inl, inr}
-use Rattle.itm_types.specs.declared.limits.TheConstants.{MAX_OPEN_BLOCKS}
 use Rattle.itm_types.specs.declared.call.Call.TheVariants.{Commit}
 use Rattle.norec_core.specs.Core.{in_transaction}
 use Rattle.norec_core.proofs.Engines.HeldStores.{shut_revocable}
@@ -52,22 +51,22 @@ parts words t (Err x) own stands same idle held still = record {
 
 -- ## Which attempts are irrevocable
 
-none_held : (v : View) (held : Bool) (xs : List Attempt) → AreOver xs → AreHeld v held xs
-none_held v held [] o = tt
-none_held v held (x ∷ xs) o = (λ e. absurd (o.0 e), none_held v held xs o.1)
+none_held : (deepest : ℕ) (v : View) (held : Bool) (xs : List Attempt) → AreOver xs → AreHeld deepest v held xs
+none_held deepest v held [] o = tt
+none_held deepest v held (x ∷ xs) o = (λ e. absurd (o.0 e), none_held deepest v held xs o.1)
 
-last_held : (v : View) (held : Bool) (xs : List Attempt) (a : Attempt) → AreOver xs → (alone MAX_OPEN_BLOCKS (bytes_at v a.at) a).irrevocable ≡ held → AreHeld v held (xs ++ a ∷ [])
-last_held v held [] a o is = (λ e. is, tt)
-last_held v held (x ∷ xs) a o is = (λ e. absurd (o.0 e), last_held v held xs a o.1 is)
+last_held : (deepest : ℕ) (v : View) (held : Bool) (xs : List Attempt) (a : Attempt) → AreOver xs → (alone deepest (bytes_at v a.at) a).irrevocable ≡ held → AreHeld deepest v held (xs ++ a ∷ [])
+last_held deepest v held [] a o is = (λ e. is, tt)
+last_held deepest v held (x ∷ xs) a o is = (λ e. absurd (o.0 e), last_held deepest v held xs a o.1 is)
 
 module _ {P : Type 0} {rules : Rules P} (laws : Obeys rules) {words : Words} {c : Course P} {b : Bounds} {shuts : Bool} {end : End} (w : Worker P) (k : IsStopped rules words c b shuts end w) (result : Worked) (end_is : result.end ≡ end) (of_thread : Parts words w.thread result.pass) where
-  moved : (xs : List Attempt) → result.attempts ≡ xs → HasRun rules c (view_in w) xs → (view_in w).mine ≡ c.view.mine ++ positions xs → AreHeld (view_in w) w.thread.engine.irrevocable xs → EndsAs rules c b.max_commits shuts end (view_in w) xs
+  moved : (xs : List Attempt) → result.attempts ≡ xs → HasRun rules c (view_in w) xs → (view_in w).mine ≡ c.view.mine ++ positions xs → AreHeld c.depth (view_in w) w.thread.engine.irrevocable xs → EndsAs rules c b.max_commits shuts end (view_in w) xs
       → (w.thread.engine.irrevocable ≡ true → EndsOpen xs) → IsFinished rules words c b.max_commits shuts result
   moved xs is run mine held ended kept = record {
     back = of_thread.back;
     runs = subst (λ (x : View × List Attempt). HasRun rules c x.0 x.1) (λ i. (sym of_thread.view i, sym is i)) run;
     mine = ap (λ (v : View). v.mine) of_thread.view ∙ (mine ∙ ap (λ (ys : List Attempt). c.view.mine ++ positions ys) (sym is));
-    held = subst (λ (x : View × Bool × List Attempt). AreHeld x.0 x.1 x.2) (λ i. (sym of_thread.view i, sym of_thread.held i, sym is i)) held;
+    held = subst (λ (x : View × Bool × List Attempt). AreHeld c.depth x.0 x.1 x.2) (λ i. (sym of_thread.view i, sym of_thread.held i, sym is i)) held;
     kept = λ h. subst EndsOpen (sym is) (kept (sym of_thread.held ∙ h));
     ends = subst (λ (x : End × View × List Attempt). EndsAs rules c b.max_commits shuts x.0 x.1 x.2) (λ i. (sym end_is i, sym of_thread.view i, sym is i)) ended;
   }
@@ -80,17 +79,17 @@ module _ {P : Type 0} {rules : Rules P} (laws : Obeys rules) {words : Words} {c 
         inl (record {
           between = out.between;
           now_is = out.now_is;
-          none = led rules laws out.before.calls out.between.player out.between.arena w.player w.thread.engine.arena out.before.leads ∙ begins_none (rules.calls_left w.player) w.player w.thread.engine.arena s.1;
+          none = led rules laws c.depth out.before.calls out.between.player out.between.arena w.player w.thread.engine.arena out.before.leads ∙ begins_none (rules.calls_left w.player) w.player w.thread.engine.arena s.1;
         })
       where
-        begins_none : (n : ℕ) (p : P) (arena : List ℕ) → rules.next_call p ≡ None → begin_within rules MAX_OPEN_BLOCKS n p arena (rules.next_call p) ≡ None
+        begins_none : (n : ℕ) (p : P) (arena : List ℕ) → rules.next_call p ≡ None → begin_within rules c.depth n p arena (rules.next_call p) ≡ None
         begins_none zero p arena e = refl
-        begins_none (suc n) p arena e = ap (begin_within rules MAX_OPEN_BLOCKS (suc n) p arena) e
+        begins_none (suc n) p arena e = ap (begin_within rules c.depth (suc n) p arena) e
     over_so ends.GaveUp s = s
     over_so ends.NoMemory s = s
 
     pub finished_out : IsFinished rules words c b.max_commits shuts result
-    finished_out = moved w.ended.items is k.has_run k.mine (none_held (view_in w) w.thread.engine.irrevocable w.ended.items k.same.over) (over_so end k.stops) (λ i. absurd (true≢false (sym i ∙ shut_revocable w.thread.engine k.same.stands.settled (k.outside none))))
+    finished_out = moved w.ended.items is k.has_run k.mine (none_held c.depth (view_in w) w.thread.engine.irrevocable w.ended.items k.same.over) (over_so end k.stops) (λ i. absurd (true≢false (sym i ∙ shut_revocable w.thread.engine k.same.stands.settled (k.outside none))))
 
   -- one is, and is told as it stands
   module _ (o : OpenAttempt) (some : w.current ≡ Some o) (is : result.attempts ≡ w.ended.items ++ ending_as outcomes.Unfinished (w.thread.engine.snapshot / 2) o.ran.items (row_of w.number w.nth o) ∷ []) where
@@ -131,4 +130,4 @@ module _ {P : Type 0} {rules : Rules P} (laws : Obeys rules) {words : Words} {c 
         let run = unfinished_run laws c (start_of w.thread Commit false) (tally_of w) running k.same.stands inside in
         let mode = unfinished_mode laws c (start_of w.thread Commit false) (tally_of w) running k.same.stands inside in
         moved (w.ended.items ++ told ∷ []) is (subst (λ (a : Attempt). HasRun rules c (view_in w) (w.ended.items ++ a ∷ [])) told_is run.0) (run.1 ∙ ap (λ (a : Attempt). c.view.mine ++ positions (w.ended.items ++ a ∷ [])) told_is)
-        (last_held (view_in w) w.thread.engine.irrevocable w.ended.items told k.same.over (ap (λ (a : Attempt). (alone MAX_OPEN_BLOCKS (bytes_at (view_in w) (w.thread.engine.snapshot / 2)) a).irrevocable) (sym the_row) ∙ mode)) (within_so end k.stops) (λ i. (w.ended.items, told, refl, refl))
+        (last_held c.depth (view_in w) w.thread.engine.irrevocable w.ended.items told k.same.over (ap (λ (a : Attempt). (alone c.depth (bytes_at (view_in w) (w.thread.engine.snapshot / 2)) a).irrevocable) (sym the_row) ∙ mode)) (within_so end k.stops) (λ i. (w.ended.items, told, refl, refl))

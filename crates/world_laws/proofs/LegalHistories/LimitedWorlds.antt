@@ -4,9 +4,10 @@ use Rattle.std.proofs.lemmas.List.{length-replicate}
 use Rattle.std.proofs.lemmas.List.Elements.{All-nil, All-cons}
 use Rattle.tx_attempts.specs.declared.attempt.Attempt.{Attempt}
 use Rattle.tx_attempts.specs.Attempts.{of_thread}
-use Rattle.itm_types.specs.declared.limits.TheConstants.{MAX_OPEN_BLOCKS}
 use Rattle.tx_history.specs.Bounds.{AreLimited, HasArenaWidth, IsLimited}
-use Rattle.tx_history.specs.declared.history.Version.TheVariants.{One}
+use Rattle.tx_history.specs.declared.history.Version.{Version}
+use Rattle.tx_history.specs.declared.history.Version.TheVariants.{One, Two, Three}
+use Rattle.tx_history.specs.Versions.{MayTell, thread_limit}
 use Rattle.tx_runs.specs.Unbroken.{AreUnbroken}
 use Rattle.tx_player.specs.Rules.{Rules}
 use Rattle.norec_world.specs.Dates.{AreDated}
@@ -33,23 +34,29 @@ each_unbroken : (xs : List Attempt) → AreUnbroken xs → All (λ (a : Attempt)
 each_unbroken [] none = All-nil (λ (a : Attempt). a.restarts ≡ [])
 each_unbroken (x ∷ xs) none = All-cons (λ (a : Attempt). a.restarts ≡ []) x xs none.0 (each_unbroken xs none.1)
 
-module _ {P : Type 0} (rules : Rules P) (widths : HasArenaWidths rules) (w : World P) (opaque : AreOpaque rules (observed w)) where
+-- a version tells of an attempt in which no block ran again
+none_told : (version : Version) (a : Attempt) → a.restarts ≡ [] → MayTell version a.restarts
+none_told One a none = none
+none_told Two a none = tt
+none_told (Three depth) a none = tt
+
+module _ {P : Type 0} (rules : Rules P) (widths : HasArenaWidths rules) (version : Version) (w : World P) (opaque : AreOpaque rules (observed w)) where
   all_own : All (IsOwn HasArenaWidth w.arena) (attempts_of w)
   all_own = of_threads (IsOwn HasArenaWidth w.arena) (length w.opening) (attempts_of w) opaque.threads (λ thread l.
       (let p = there_is w.opening thread l in
-      own_run rules HasArenaWidth widths MAX_OPEN_BLOCKS w.arena (w.cells.clock / 2) (bytes_at w.base (attempts_of w)) (Some (first_of p.0 w.arena)) (of_thread thread (attempts_of w))
+      own_run rules HasArenaWidth widths w.depth w.arena (w.cells.clock / 2) (bytes_at w.depth w.base (attempts_of w)) (Some (first_of p.0 w.arena)) (of_thread thread (attempts_of w))
       (length-replicate w.arena 0) (opaque.runs thread p.0 p.1)))
 
-  limited_by : IsLimitedWorld w → (a : Attempt) → IsOwn HasArenaWidth w.arena a → a.thread < length w.opening → a.nth ≤ w.retries + 1 → a.restarts ≡ [] → IsLimited One a
+  limited_by : IsLimitedWorld version w → (a : Attempt) → IsOwn HasArenaWidth w.arena a → a.thread < length w.opening → a.nth ≤ w.retries + 1 → a.restarts ≡ [] → IsLimited version a
   limited_by h a own of few none = record {
     thread = (let most = h.actors in omega arith);
     nth = (own.nth, (let most = h.retries in omega arith));
     arena = (let most = h.arena in let same = own.arena in omega arith);
     widths = own.calls;
-    restarts = none;
+    restarts = none_told version a none;
   }
 
-  pub limited_world : IsLimitedWorld w → AreLimited (told_of w)
+  pub limited_world : IsLimitedWorld version w → AreLimited (told_of version w)
   limited_world h = record {
     memory = h.memory;
     attempts = λ k d l. limited_by h (get_or (attempts_of w) k d) (all_own k d l) (all_of_actors (length w.opening) (attempts_of w) opaque.threads k d l) (all_few w.retries [] (attempts_of w) opaque.dated k d l) (each_unbroken (attempts_of w) opaque.unbroken k d l);

@@ -67,6 +67,7 @@ opening_same v w v' w' s f g = record {
   arena = g.arena ∙ (s.arena ∙ sym f.arena);
   patience = g.patience ∙ (s.patience ∙ sym f.patience);
   max_commits = g.max_commits ∙ (s.max_commits ∙ sym f.max_commits);
+  depth = g.depth ∙ (s.depth ∙ sym f.depth);
   retries = g.retries ∙ (s.retries ∙ sym f.retries);
 }
 

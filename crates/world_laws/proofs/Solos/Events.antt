@@ -1,6 +1,6 @@
 -- An actor that has its world to itself goes on so over an event.
 use Rattle.std.proofs.Common.{◌≡◌, inl, inr, ℕ, ◌+◌, ◌/◌, ◌%◌, ◌≤◌, true, false, nat_lt, if◌then◌else◌, List, [], ◌∷◌, ◌++◌, Option, None, Some, refl, sym, ap, subst, ◌∙◌, arith, eq-eqb}
-use Rattle.norec_world.proofs.Common.{AreOfActors, Attempt, Beginning, Between, Continues, EndsAt, GoesOnAfter, IsBetween, IsRunOf, MAX_OPEN_BLOCKS, Outcome, Props, Rows, Rules, Tries, active_of, after_try, begin_of, begins, begins_at, between, bytes_at, current_of, ending_of, is_committed, is_done, of_thread, outrun, over, prior_of, run_after, runs, shut_out, turned_away, same_Some}
+use Rattle.norec_world.proofs.Common.{AreOfActors, Attempt, Beginning, Between, Continues, EndsAt, GoesOnAfter, IsBetween, IsRunOf, Outcome, Props, Rows, Rules, Tries, active_of, after_try, begin_of, begins, begins_at, between, bytes_at, current_of, ending_of, is_committed, is_done, of_thread, outrun, over, prior_of, run_after, runs, shut_out, turned_away, same_Some}
 use Rattle.norec_world.specs.declared.actor.Actor.{Actor}
 use Rattle.norec_world.specs.declared.actor.Status.TheVariants.{Ended}
 use Rattle.tx_runs.specs.declared.ending.End.{End}
@@ -31,22 +31,22 @@ sole_more n k [] a s f at d z = (subst (λ (j : ℕ). IsFirstTry j a) (sym s) f,
 sole_more n k (x ∷ xs) a s f at d z = (s.0, s.1, s.2, s.3, sole_more (n + one_if (is_committed x.outcome)) k xs a s.4 f at d z)
 
 -- the last attempt of a run did not begin after it read last
-module _ {P : Type 0} (rules : Rules P) (n : ℕ) (memory : ℕ → List ℕ) where
-  pub last_early : (b : Option (Between P)) (xs : List Attempt) (a : Attempt) → IsRunOf rules MAX_OPEN_BLOCKS n memory b (xs ++ a ∷ []) → a.began ≤ a.at
+module _ {P : Type 0} (rules : Rules P) (deepest n : ℕ) (memory : ℕ → List ℕ) where
+  pub last_early : (b : Option (Between P)) (xs : List Attempt) (a : Attempt) → IsRunOf rules deepest n memory b (xs ++ a ∷ []) → a.began ≤ a.at
   last_early None [] a r = absurd r
-  last_early (Some b) [] a r = (try_begun rules n memory b a (begin_of rules MAX_OPEN_BLOCKS b.player b.arena) r.0).2.3.no_older
+  last_early (Some b) [] a r = (try_begun rules deepest n memory b a (begin_of rules deepest b.player b.arena) r.0).2.3.no_older
   last_early None (x ∷ xs) a r = absurd r
-  last_early (Some b) (x ∷ xs) a r = last_early (after_try rules MAX_OPEN_BLOCKS memory b (begin_of rules MAX_OPEN_BLOCKS b.player b.arena) x) xs a r.1
+  last_early (Some b) (x ∷ xs) a r = last_early (after_try rules deepest memory b (begin_of rules deepest b.player b.arena) x) xs a r.1
 
 -- ## The event
 
-module _ {P : Type 0} (rules : Rules P) (max_commits : ℕ) (base : List ℕ) (begin : Between P) where
+module _ {P : Type 0} (rules : Rules P) (max_commits : ℕ) (deepest : ℕ) (base : List ℕ) (begin : Between P) where
   -- on its way, it goes on or has finished
-  stands_on : {n : ℕ} {past : List Attempt} {r : Rows} {a : Actor P} → IsOnWay rules max_commits base begin past n r a → (ending_of a.status ≡ Some Finished → (rules.next_call a.player ≡ None) × IsIdle a.engine)
-      → (ending_of a.status ≡ Some GaveUp → ⊥) → (ending_of a.status ≡ Some NoMemory → StandsSole rules max_commits base begin (Some NoMemory) past n r a) → StandsSole rules max_commits base begin (ending_of a.status) past n r a
+  stands_on : {n : ℕ} {past : List Attempt} {r : Rows} {a : Actor P} → IsOnWay rules max_commits deepest base begin past n r a → (ending_of a.status ≡ Some Finished → (rules.next_call a.player ≡ None) × IsIdle a.engine)
+      → (ending_of a.status ≡ Some GaveUp → ⊥) → (ending_of a.status ≡ Some NoMemory → StandsSole rules max_commits deepest base begin (Some NoMemory) past n r a) → StandsSole rules max_commits deepest base begin (ending_of a.status) past n r a
   stands_on {n} {past} {r} {a} way finishes goes_on starved = by_ending (ending_of a.status) refl
     where
-      by_ending : (o : Option End) → ending_of a.status ≡ o → StandsSole rules max_commits base begin o past n r a
+      by_ending : (o : Option End) → ending_of a.status ≡ o → StandsSole rules max_commits deepest base begin o past n r a
       by_ending None e = way
       by_ending (Some Finished) e = (let f = finishes e in (way, f.0, f.1))
       by_ending (Some GaveUp) e = absurd (goes_on e)
@@ -54,7 +54,7 @@ module _ {P : Type 0} (rules : Rules P) (max_commits : ℕ) (base : List ℕ) (b
 
   -- between two tries, its attempts so far have ended by their commits
   pub stands_between : (clock : ℕ) (past : List Attempt) (r : Rows) (a : Actor P) → a.thread ≡ 0 → r.ended ≡ past → IsBetween clock 1 r a → (ending_of a.status ≡ Some Finished → (rules.next_call a.player ≡ None) × IsIdle a.engine)
-      → StandsSole rules max_commits base begin (ending_of a.status) past (clock / 2) r a
+      → StandsSole rules max_commits deepest base begin (ending_of a.status) past (clock / 2) r a
   stands_between clock past r a mine ended b finishes =
       stands_on (record {
         ended = ended;
@@ -67,39 +67,39 @@ module _ {P : Type 0} (rules : Rules P) (max_commits : ℕ) (base : List ℕ) (b
   -- a block that is to begin goes on where its attempts have led
   pub record IsToBegin (r : Rows) (a : Actor P) (row : Attempt) : Type 0 where
     pub before : Between P
-    pub led : run_after rules (bytes_at base r.ended) (Some begin) (of_thread a.thread r.ended) ≡ Some before
+    pub led : run_after rules deepest (bytes_at deepest base r.ended) (Some begin) (of_thread a.thread r.ended) ≡ Some before
     pub start : Beginning P
-    pub begins : begins_at rules before ≡ Some start
+    pub begins : begins_at rules deepest before ≡ Some start
     pub props : start.props ≡ row.props
 
   continued : (n : ℕ) (row row' : Attempt) → Continues row row' → IsFirstTry n row → IsFirstTry n row'
   continued n row row' c f = record { thread = c.thread ∙ f.thread; nth = c.nth ∙ f.nth; began = c.began ∙ f.began }
 
-  module _ (clock clock' : ℕ) (r r' : Rows) (a a' : Actor P) (going : ending_of a.status ≡ None) (old : IsSole rules max_commits base begin clock r a) (here : a.thread ≡ 0) (mine : a'.thread ≡ 0) (limit : a.engine.max_commits ≡ max_commits)
+  module _ (clock clock' : ℕ) (r r' : Rows) (a a' : Actor P) (going : ending_of a.status ≡ None) (old : IsSole rules max_commits deepest base begin clock r a) (here : a.thread ≡ 0) (mine : a'.thread ≡ 0) (limit : a.engine.max_commits ≡ max_commits)
       (free : active_of a.thread r.active ≡ None → a.engine.holds ≡ false) (to_begin : (row : Attempt) → active_of a.thread r.active ≡ None → a.pending ≡ Some row → may_go [] row.props ≡ true → IsToBegin r a row)
       (seen : a'.engine.holds ≡ false → a'.engine.clock ≡ clock')
       (shut : active_of a'.thread r'.active ≡ None → clock' % 2 ≡ 0) (early : (row : Attempt) → r'.ended ≡ r.ended ++ row ∷ [] → row.began ≤ row.at) (finishes : ending_of a'.status ≡ Some Finished → (rules.next_call a'.player ≡ None) × IsIdle a'.engine) where
-    way : IsOnWay rules max_commits base begin old.past (clock / 2) r a
-    way = subst (λ (o : Option End). StandsSole rules max_commits base begin o old.past (clock / 2) r a) going old.stands
+    way : IsOnWay rules max_commits deepest base begin old.past (clock / 2) r a
+    way = subst (λ (o : Option End). StandsSole rules max_commits deepest base begin o old.past (clock / 2) r a) going old.stands
 
     -- no attempt has ended
-    goes_on : clock' / 2 ≡ clock / 2 → StandsSole rules max_commits base begin (ending_of a'.status) old.past (clock' / 2) r' a' → IsSole rules max_commits base begin clock' r' a'
+    goes_on : clock' / 2 ≡ clock / 2 → StandsSole rules max_commits deepest base begin (ending_of a'.status) old.past (clock' / 2) r' a' → IsSole rules max_commits deepest base begin clock' r' a'
     goes_on half s = record { past = old.past; commit = subst (AreSole 0 old.past) (sym half) old.commit; stands = s; seen = seen }
 
     now : (row : Attempt) → clock' / 2 ≡ clock / 2 → IsFirstTry (clock / 2) row → IsFirstTry (clock' / 2) row
     now row half f = subst (λ (k : ℕ). IsFirstTry k row) (sym half) f
 
-    stands_so : (end : End) → a'.status ≡ Ended end → StandsSole rules max_commits base begin (Some end) old.past (clock' / 2) r' a' → StandsSole rules max_commits base begin (ending_of a'.status) old.past (clock' / 2) r' a'
-    stands_so end is s = subst (λ (x : Option End). StandsSole rules max_commits base begin x old.past (clock' / 2) r' a') (sym (ap ending_of is)) s
+    stands_so : (end : End) → a'.status ≡ Ended end → StandsSole rules max_commits deepest base begin (Some end) old.past (clock' / 2) r' a' → StandsSole rules max_commits deepest base begin (ending_of a'.status) old.past (clock' / 2) r' a'
+    stands_so end is s = subst (λ (x : Option End). StandsSole rules max_commits deepest base begin x old.past (clock' / 2) r' a') (sym (ap ending_of is)) s
 
     -- its next block goes irrevocable, and has not begun
-    is_kept_out : (row : Attempt) → active_of a.thread r.active ≡ None → a.pending ≡ Some row → r'.ended ≡ r.ended → row.props.goes_irrevocable ≡ true → may_go [] row.props ≡ true → IsKeptOut rules max_commits base begin old.past r' a'
+    is_kept_out : (row : Attempt) → active_of a.thread r.active ≡ None → a.pending ≡ Some row → r'.ended ≡ r.ended → row.props.goes_irrevocable ≡ true → may_go [] row.props ≡ true → IsKeptOut rules max_commits deepest base begin old.past r' a'
     is_kept_out row none was same goes may =
         let k = to_begin row none was may in
         record {
           ended = same ∙ way.ended;
           before = k.before;
-          led = (λ i. run_after rules (bytes_at base (same i)) (Some begin) (of_thread ((mine ∙ sym here) i) (same i))) ∙ k.led;
+          led = (λ i. run_after rules deepest (bytes_at deepest base (same i)) (Some begin) (of_thread ((mine ∙ sym here) i) (same i))) ∙ k.led;
           start = k.start;
           begins = k.begins;
           goes = ap (λ (x : Props). x.goes_irrevocable) k.props ∙ goes;
@@ -116,7 +116,7 @@ module _ {P : Type 0} (rules : Rules P) (max_commits : ℕ) (base : List ℕ) (b
       ended : r'.ended ≡ old.past ++ t.row' ∷ []
       ended = t.ended ∙ ap (λ (l : List Attempt). l ++ t.row' ∷ []) way.ended
 
-      by_commit : is_done t.row'.outcome ≡ true → t.row'.at ≡ clock / 2 → clock / 2 + one_if (is_committed t.row'.outcome) ≡ clock' / 2 → IsBetween clock' 1 r' a' → IsSole rules max_commits base begin clock' r' a'
+      by_commit : is_done t.row'.outcome ≡ true → t.row'.at ≡ clock / 2 → clock / 2 + one_if (is_committed t.row'.outcome) ≡ clock' / 2 → IsBetween clock' 1 r' a' → IsSole rules max_commits deepest base begin clock' r' a'
       by_commit d at n b = record {
         past = old.past ++ t.row' ∷ [];
         commit = subst (AreSole 0 (old.past ++ t.row' ∷ [])) n (sole_more 0 (clock / 2) old.past t.row' old.commit first at d t.spent);
@@ -127,7 +127,7 @@ module _ {P : Type 0} (rules : Rules P) (max_commits : ℕ) (base : List ℕ) (b
       last : (outcome : Outcome) → t.row'.outcome ≡ outcome → clock' / 2 ≡ clock / 2 → EndsWith old.past (clock' / 2) outcome r'
       last outcome o half = record { row = t.row'; ended = ended; first = now t.row' half first; outcome_is = o; spent = t.spent }
 
-      by_outcome : (o : Outcome) → t.row'.outcome ≡ o → EndsAt a.engine.max_commits clock clock' t.row'.at o → GoesOnAfter o clock' (prior_of r a) r' a' → IsSole rules max_commits base begin clock' r' a'
+      by_outcome : (o : Outcome) → t.row'.outcome ≡ o → EndsAt a.engine.max_commits clock clock' t.row'.at o → GoesOnAfter o clock' (prior_of r a) r' a' → IsSole rules max_commits deepest base begin clock' r' a'
       by_outcome outcomes.Committed o at g =
           by_commit (ap is_done o) (omega (arith, at.0, at.1)) (omega (arith, at.0, at.1, ap (λ (x : Outcome). one_if (is_committed x)) o)) g
       by_outcome outcomes.ReadOnly o at g =
@@ -141,11 +141,11 @@ module _ {P : Type 0} (rules : Rules P) (max_commits : ℕ) (base : List ℕ) (b
           goes_on at.0 (stands_so NoMemory g.status (inl (g.none, inr (last outcomes.NoMemory o at.0))))
       by_outcome outcomes.Unfinished o at g = absurd at
 
-    pub sole_after : Tries clock (prior_of r a) clock' r' a' → IsSole rules max_commits base begin clock' r' a'
+    pub sole_after : Tries clock (prior_of r a) clock' r' a' → IsSole rules max_commits deepest base begin clock' r' a'
     sole_after (between t) =
         goes_on t.half (stands_between clock' old.past r' a' mine (t.ended ∙ way.ended) (subst (λ (n : ℕ). IsBetween clock' n r' a') way.nth t.between) finishes)
     sole_after (begins t) =
-        goes_on t.half (subst (λ (o : Option End). StandsSole rules max_commits base begin o old.past (clock' / 2) r' a') (sym t.on) (record {
+        goes_on t.half (subst (λ (o : Option End). StandsSole rules max_commits deepest base begin o old.past (clock' / 2) r' a') (sym t.on) (record {
           ended = t.ended ∙ way.ended;
           nth = t.tries ∙ way.nth;
           current = λ row e.
@@ -153,7 +153,7 @@ module _ {P : Type 0} (rules : Rules P) (max_commits : ℕ) (base : List ℕ) (b
               subst (IsFirstTry (clock' / 2)) same (now t.row t.half (way.current t.row (ap (λ (o : Option Attempt). current_of o a.pending) t.none ∙ t.was))));
         }))
     sole_after (runs t) =
-        let on : IsOnWay rules max_commits base begin old.past (clock' / 2) r' a' = record {
+        let on : IsOnWay rules max_commits deepest base begin old.past (clock' / 2) r' a' = record {
           ended = t.ended ∙ way.ended;
           nth = t.tries ∙ way.nth;
           current = λ row e.

@@ -1,5 +1,4 @@
 use Rattle.std.proofs.Common.{◌≡◌, ◌∷◌, sym, ap, ◌∙◌, true, length, ◌<◌, rules, Option, subst}
-use Rattle.itm_types.specs.declared.limits.TheConstants.{MAX_OPEN_BLOCKS}
 use Rattle.itm_types.specs.declared.call.Call.TheVariants.{Begin}
 use Rattle.norec_irrevocable.proofs.Replies.KeptStates.{begin_kept}
 use Rattle.nest_frames.specs.Nest.{begun}
@@ -16,9 +15,9 @@ use Rattle.norec_irrevocable.proofs.blocks.begin.Goals as goal
 
 pub returns-in-Some : goal.returns-in-Some
 returns-in-Some c = (let s = c.args.state.now in
-    refused_turn s (Begin c.args.props c.args.room) c.in-Some.why c.requires.held (λ m mem. begin_kept s.frames.blocks s.arena s.frames.actions m c.args.props c.args.room ∙ (sym c.begin_refusal-refused.ensures.refusal ∙ c.in-Some.is)) (begin_stage s c.args.props c.args.room c.requires.held.is_open) (begin_ending s c.args.props c.args.room) c.start_call.new.self c.start_call.ensures)
+    refused_turn s (Begin c.args.props c.args.room) c.in-Some.why c.requires.held (λ m mem. begin_kept s.frames.blocks s.arena s.frames.actions m s.frames.depth c.args.props c.args.room ∙ (sym c.begin_refusal-refused.ensures.refusal ∙ c.in-Some.is)) (begin_stage s c.args.props c.args.room c.requires.held.is_open) (begin_ending s c.args.props c.args.room) c.start_call.new.self c.start_call.ensures)
 
-served_so : (c : goal.After-enter) → (may_go c.args.state.now.frames.blocks c.args.props ≡ true) × (length c.args.state.now.frames.blocks < MAX_OPEN_BLOCKS)
+served_so : (c : goal.After-enter) → (may_go c.args.state.now.frames.blocks c.args.props ≡ true) × (length c.args.state.now.frames.blocks < c.args.state.now.frames.depth)
 served_so c = rw c.in-None.is at c.begin_refusal-refused.ensures.served
 
 entered : (c : goal.After-enter) → HasEntered c.args.state.now c.args.props (record c.start_call.new.self { frames = c.enter.new.self })
@@ -27,6 +26,7 @@ entered c = record {
   rows = ap (λ (w : Written). w.rows) c.enter.ensures.writes ∙ ap (λ (x : Data). x.frames.writes.rows) c.start_call.ensures;
   actions = c.enter.ensures.actions ∙ ap (λ (x : Data). x.frames.actions) c.start_call.ensures;
   room = c.enter.ensures.room ∙ ap (λ (x : Data). x.frames.room) c.start_call.ensures;
+  depth = c.enter.ensures.depth ∙ ap (λ (x : Data). x.frames.depth) c.start_call.ensures;
   others = ap (λ (x : Data). record x { frames = c.enter.new.self }) c.start_call.ensures;
 }
 

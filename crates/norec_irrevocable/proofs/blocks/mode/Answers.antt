@@ -11,7 +11,7 @@ use Rattle.norec_irrevocable.proofs.blocks.mode.Goals as goal
 
 pub returns-in-Some : goal.returns-in-Some
 returns-in-Some c = (let s = c.args.state.now in
-    refused_turn s (Mode c.args.room) c.in-Some.why c.requires.held (λ m mem. mode_kept s.frames.blocks s.arena s.frames.actions m c.args.room ∙ (sym c.mode_refusal-refused.ensures ∙ c.in-Some.is)) (mode_stage s c.args.room) (mode_ending s c.args.room) c.start_call.new.self c.start_call.ensures)
+    refused_turn s (Mode c.args.room) c.in-Some.why c.requires.held (λ m mem. mode_kept s.frames.blocks s.arena s.frames.actions m s.frames.depth c.args.room ∙ (sym c.mode_refusal-refused.ensures ∙ c.in-Some.is)) (mode_stage s c.args.room) (mode_ending s c.args.room) c.start_call.new.self c.start_call.ensures)
 
 pub returns-in-None : goal.returns-in-None
 returns-in-None c = record {

@@ -1,5 +1,4 @@
 use Rattle.std.proofs.Common.{◌≡◌, Bool, false, [], ℕ, length, drop, sym, ap, subst, ◌∙◌, rules}
-use Rattle.itm_types.specs.declared.limits.TheConstants.{MAX_OPEN_BLOCKS}
 use Rattle.itm_types.specs.declared.call.Call.TheVariants.{Copy}
 use Rattle.itm_types.specs.Memory.{IsMemory}
 use Rattle.itm_model.specs.Machine.{after}
@@ -38,7 +37,7 @@ returns-in-None c = record {
       let t = copy_comes s c.requires.held.is_open m mem k served in
       let same = ap (λ (x : Data). copied_each (kept x m) k (drop 0 (chunks_in k))) c.start_call.ensures ∙ t.0 in
       let there : IsMemory c.start_call.new.self.words m = subst (λ (n : ℕ). IsMemory n m) (sym (ap (λ (x : Data). x.words) c.start_call.ensures)) mem in
-      subst (λ (r : Reply). ComesTo (after MAX_OPEN_BLOCKS (kept s m) (Copy k)) r (next_of c.chunk_on.result c.chunk_on.new.state) (held_after c.chunk_on.result c.chunk_on.new.state) m) t.1
+      subst (λ (r : Reply). ComesTo (after s.frames.depth (kept s m) (Copy k)) r (next_of c.chunk_on.result c.chunk_on.new.state) (held_after c.chunk_on.result c.chunk_on.new.state) m) t.1
       (subst (λ (x : State). ComesTo x Done (next_of c.chunk_on.result c.chunk_on.new.state) (held_after c.chunk_on.result c.chunk_on.new.state) m) same ((c.chunk_on.ensures []).comes m there))));
   stays = search (rules, c.chunk_on.ensures []);
   order = search (rules, c.chunk_on.ensures []);

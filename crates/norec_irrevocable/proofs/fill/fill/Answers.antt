@@ -1,5 +1,4 @@
 use Rattle.std.proofs.Common.{◌≡◌, [], ℕ, ◌%◌, drop, false, sym, ap, subst, refl, ◌∙◌, rules}
-use Rattle.itm_types.specs.declared.limits.TheConstants.{MAX_OPEN_BLOCKS}
 use Rattle.itm_types.specs.declared.call.Call.TheVariants.{Fill}
 use Rattle.itm_types.specs.Memory.{IsMemory}
 use Rattle.itm_model.specs.Machine.{after}
@@ -38,7 +37,7 @@ returns-in-None c =
           let t = fill_comes s c.requires.held.is_open m mem a.hint a.to a.byte a.size l in
           let same = ap (λ (x : Data). filled_each (kept x m) a.to (a.byte % 256) (drop 0 (chunks_of Up a.size))) c.start_call.ensures ∙ t.0 in
           let there : IsMemory c.start_call.new.self.words m = subst (λ (n : ℕ). IsMemory n m) (sym (ap (λ (x : Data). x.words) c.start_call.ensures)) mem in
-          subst (λ (r : Reply). ComesTo (after MAX_OPEN_BLOCKS (kept s m) (Fill a.hint a.to a.byte a.size)) r (next_of c.fill_on.result c.fill_on.new.state) (held_after c.fill_on.result c.fill_on.new.state) m) t.1
+          subst (λ (r : Reply). ComesTo (after s.frames.depth (kept s m) (Fill a.hint a.to a.byte a.size)) r (next_of c.fill_on.result c.fill_on.new.state) (held_after c.fill_on.result c.fill_on.new.state) m) t.1
           (subst (λ (x : State). ComesTo x Done (next_of c.fill_on.result c.fill_on.new.state) (held_after c.fill_on.result c.fill_on.new.state) m) same ((c.fill_on.ensures []).comes m there))));
       stays = search (rules, c.fill_on.ensures []);
       order = search (rules, c.fill_on.ensures []);

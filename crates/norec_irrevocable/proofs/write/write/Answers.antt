@@ -1,5 +1,4 @@
 use Rattle.std.proofs.Common.{◌≡◌, ℕ, false, subst, sym, ap, refl, ◌∙◌, rules}
-use Rattle.itm_types.specs.declared.limits.TheConstants.{MAX_OPEN_BLOCKS}
 use Rattle.itm_types.specs.declared.call.Call.TheVariants.{Write}
 use Rattle.itm_types.specs.Access.{size_of}
 use Rattle.itm_types.specs.Memory.{IsMemory}
@@ -45,7 +44,7 @@ returns c =
           let t = write_comes s c.requires.held.is_open m mem a.hint v a.at l fit in
           let same = (λ i. kept (c.start_call.ensures i) (written m (pieces_of a.at (c.size-2.ensures.value i)) ((c.value_of-state.ensures.items ∙ c.deref-2.ensures.0) i))) ∙ t.0 in
           let there : IsMemory c.start_call.new.self.words m = subst (λ (n : ℕ). IsMemory n m) (sym (ap (λ (x : Data). x.words) c.start_call.ensures)) mem in
-          subst (λ (r : Reply). ComesTo (after MAX_OPEN_BLOCKS (kept s m) (Write a.hint a.at v)) r (next_of c.start.result c.start.new.state) (held_after c.start.result c.start.new.state) m) t.1
+          subst (λ (r : Reply). ComesTo (after s.frames.depth (kept s m) (Write a.hint a.at v)) r (next_of c.start.result c.start.new.state) (held_after c.start.result c.start.new.state) m) t.1
           (subst (λ (x : State). ComesTo x Done (next_of c.start.result c.start.new.state) (held_after c.start.result c.start.new.state) m) same ((c.start.ensures.goes v.bytes.items Idle (sym (c.value_of-state.ensures.items ∙ c.deref-2.ensures.0))).comes m there))));
       stays = search (rules, (c.start.ensures.goes c.args.value.now.bytes.items Idle (sym (c.value_of-state.ensures.items ∙ c.deref-2.ensures.0))));
       order = search (rules, (c.start.ensures.goes c.args.value.now.bytes.items Idle (sym (c.value_of-state.ensures.items ∙ c.deref-2.ensures.0))));

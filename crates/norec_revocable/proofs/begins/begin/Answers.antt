@@ -20,8 +20,8 @@ returns-in-Some c = record {
   sound = search rules;
   proceeds = (rw c.start_call.ensures (begin_denied c.args.state.now c.args.props c.args.room c.args.again c.in-Some.why c.requires.sound (sym c.begin_refusal.ensures.refusal ∙ c.in-Some.is)));
   stays = search rules;
-  order = denied_order c.args.state.now c.args.props c.args.room c.args.again c.in-Some.why (sym c.begin_refusal.ensures.refusal ∙ c.in-Some.is);
-  ends = denied_ends c.args.state.now c.args.props c.args.room c.args.again c.in-Some.why (sym c.begin_refusal.ensures.refusal ∙ c.in-Some.is);
+  order = denied_order c.args.state.now c.args.props c.args.room c.args.again c.in-Some.why c.requires.sound.bounds.deep (sym c.begin_refusal.ensures.refusal ∙ c.in-Some.is);
+  ends = denied_ends c.args.state.now c.args.props c.args.room c.args.again c.in-Some.why c.requires.sound.bounds.deep (sym c.begin_refusal.ensures.refusal ∙ c.in-Some.is);
   tries = search rules;
 }
 
@@ -58,6 +58,7 @@ returns-else-props c = record {
       let frames : c.enter.new.self ≡ (nested s props room again served.0 served.1).frames = (λ i. record {
         writes = (enter.writes ∙ ap (λ (d : Data). record d.frames.writes { inner = place_of d.frames.writes }) come) i;
         size = (enter.size ∙ ap (λ (d : Data). d.frames.size) come) i;
+        depth = (enter.depth ∙ ap (λ (d : Data). d.frames.depth) come) i;
         blocks = (enter.blocks ∙ ap (λ (d : Data). begun props d.frames.writes.rows d.frames.actions ∷ d.frames.blocks) come) i;
         actions = (enter.actions ∙ ap (λ (d : Data). d.frames.actions) come) i;
         room = (enter.room ∙ ap (λ (d : Data). d.frames.room) come) i;

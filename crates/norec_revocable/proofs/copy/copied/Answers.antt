@@ -1,4 +1,4 @@
-use Rattle.std.proofs.Common.{ℕ, List, length, refl, sym, ap, subst, ◌∙◌, arith, rules}
+use Rattle.std.proofs.Common.{ℕ, ◌<◌, List, length, refl, sym, ap, subst, ◌∙◌, arith, rules}
 use Rattle.itm_types.specs.Memory.{bytes_of, IsMemory, Agrees}
 use Rattle.write_set.specs.declared.row.Row.{Row}
 use Rattle.write_set.specs.Rows.{overlay, AreRows}
@@ -27,11 +27,11 @@ returns-clause-proceeds c log =
     may.source.has m mem agrees
     ∙ ap (λ (x : List ℕ). source_in k.pair s.arena (bytes_of x) k.from k.size) (ap (overlay m) served.reserved ∙ overlay_for k k.pair m before mem.1 fits.0) in
     let all = λ (m : List ℕ) (mem : IsMemory s.words m) (agrees : Agrees m s.log.rows).
-    copies before s.frames.blocks s.arena s.frames.actions m s.words k may.is_open.is_open mem fits.0 served.accepted s.buffer.items c.deliver.ensures.bytes (got m mem agrees) in
+    copies s.frames.depth before s.frames.blocks s.arena s.frames.actions m s.words k may.is_open.is_open mem fits.0 served.accepted s.buffer.items c.deliver.ensures.bytes (got m mem agrees) in
     rw c.deliver.ensures.frame (record {
       meets = λ m mem agrees. (λ i. state_over (c.deliver.ensures.rows i) (blocks i) (c.deliver.ensures.arena i) (c.deliver.ensures.actions i) m) ∙ (all m mem agrees).0;
       reply_is = λ m mem agrees. (all m mem agrees).1;
-      stays = ap (λ (n : ℕ). record (core (record s { arena = c.deliver.new.state.arena; frames = c.deliver.new.state.frames }) Idle) { room = n }) c.deliver.ensures.room_left;
+      stays = (λ i. record (core (record s { arena = c.deliver.new.state.arena; frames = c.deliver.new.state.frames }) Idle) { depth = c.deliver.ensures.depth i; room = c.deliver.ensures.room_left i });
       writes = λ m mem agrees. c.deliver.ensures.rows ∙ ap (writes_copied before k k.pair) (got m mem agrees);
       arena = λ m mem agrees. c.deliver.ensures.arena ∙ ap (arena_copied s.arena k k.pair) (got m mem agrees);
       free = refl;
@@ -61,6 +61,7 @@ returns-clause-goes c = record {
             commits = may.bounds.commits;
             small = may.bounds.small;
             sized = c.deliver.ensures.size ∙ (may.bounds.sized ∙ sym (ap (length {A = ℕ}) c.deliver.ensures.arena ∙ length-arena_copied s.words s.arena k s.buffer.items served.accepted served.sized));
+            deep = subst (λ (n : ℕ). 0 < n) (sym c.deliver.ensures.depth) may.bounds.deep;
             even = may.bounds.even;
           };
           reached = omega (arith, may.settled);

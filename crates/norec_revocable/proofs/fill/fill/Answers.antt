@@ -43,7 +43,7 @@ filled_turn c hint =
           let made = w.in_ok-reserve_range.ensures.rows ∙ (λ i. reserved_all s.frames.writes.rows (range_pieces to (chunks_of (w.new.ensures.direction i) (w.new.ensures.size i)))) in
           let is = some_filled s to byte size w.reserve_range.new.frames.writes.rows w.deref.result.now w.put_range.new.frames accepted made
           (w.deref.ensures.value ∙ w.in_ok-set_all.ensures) w.put_range.ensures.rows (w.put_range.ensures.blocks ∙ w.reserve_range.ensures.blocks)
-          (w.put_range.ensures.size ∙ w.reserve_range.ensures.size) (w.put_range.ensures.actions ∙ w.reserve_range.ensures.actions) (w.put_range.ensures.room ∙ w.reserve_range.ensures.room) in
+          (w.put_range.ensures.size ∙ w.reserve_range.ensures.size) (w.put_range.ensures.depth ∙ w.reserve_range.ensures.depth) (w.put_range.ensures.actions ∙ w.reserve_range.ensures.actions) (w.put_range.ensures.room ∙ w.reserve_range.ensures.room) in
           let sound = c.requires.sound in
           rw w.state-is (fill_turns s to byte size w.put_range.new.frames w.set_all.new.buffer sound is hint))
       | else-size-gt0 w ↦ (

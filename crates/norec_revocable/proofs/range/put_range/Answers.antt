@@ -12,7 +12,7 @@ use Rattle.norec_core.proofs.Accesses.Writings.{some_words}
 use Rattle.norec_revocable.proofs.range.put_range.Goals as goal
 
 pub loop-number-init : goal.loop-number-init
-loop-number-init c = record { rows = refl; words = refl; others = λ word may. may; blocks = refl; size = refl; actions = refl; room = refl }
+loop-number-init c = record { rows = refl; words = refl; others = λ word may. may; blocks = refl; size = refl; depth = refl; actions = refl; room = refl }
 
 pub put_all-requires-clause-room : goal.put_all-requires-clause-room
 put_all-requires-clause-room c =
@@ -52,6 +52,7 @@ loop-number-preserved c =
       others = λ word may. c.put_all.ensures.others word (i.others word may);
       blocks = c.put_all.ensures.blocks ∙ i.blocks;
       size = c.put_all.ensures.size ∙ i.size;
+      depth = c.put_all.ensures.depth ∙ i.depth;
       actions = c.put_all.ensures.actions ∙ i.actions;
       room = c.put_all.ensures.room ∙ i.room;
     }

@@ -11,6 +11,7 @@ invariant-loop-number l = record {
   others : KeepsRoom l.fn.frames.writes l.frames.writes;
   blocks : l.frames.blocks ≡ l.fn.frames.blocks;
   size : l.frames.size ≡ l.fn.frames.size;
+  depth : l.frames.depth ≡ l.fn.frames.depth;
   actions : l.frames.actions ≡ l.fn.frames.actions;
   room : l.frames.room ≡ l.fn.frames.room;
 }

@@ -22,6 +22,7 @@ loop-number-init c = record {
   inner = refl;
   blocks = refl;
   size = refl;
+  depth = refl;
   actions = refl;
   room = refl;
 }
@@ -55,6 +56,9 @@ returns-then-is_err-clause-blocks c = ap (λ (n : Nest). n.blocks) c.cut.ensures
 pub returns-then-is_err-clause-size : goal.returns-then-is_err-clause-size
 returns-then-is_err-clause-size c = ap (λ (n : Nest). n.size) c.cut.ensures.new ∙ (c.reserve_all.ensures.size ∙ c.loop-number.invariant.size)
 
+pub returns-then-is_err-clause-depth : goal.returns-then-is_err-clause-depth
+returns-then-is_err-clause-depth c = ap (λ (n : Nest). n.depth) c.cut.ensures.new ∙ (c.reserve_all.ensures.depth ∙ c.loop-number.invariant.depth)
+
 pub returns-then-is_err-clause-room : goal.returns-then-is_err-clause-room
 returns-then-is_err-clause-room c = ap (λ (n : Nest). n.room) c.cut.ensures.new ∙ (c.reserve_all.ensures.room ∙ c.loop-number.invariant.room)
 
@@ -82,6 +86,7 @@ loop-number-preserved c =
       inner = c.reserve_all.ensures.inner ∙ i.inner;
       blocks = c.reserve_all.ensures.blocks ∙ i.blocks;
       size = c.reserve_all.ensures.size ∙ i.size;
+      depth = c.reserve_all.ensures.depth ∙ i.depth;
       actions = c.reserve_all.ensures.actions ∙ i.actions;
       room = c.reserve_all.ensures.room ∙ i.room;
     }

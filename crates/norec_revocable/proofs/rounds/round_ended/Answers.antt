@@ -39,7 +39,7 @@ returns-in-Read c = record {
       record {
         asked = tt;
         sound = record {
-          bounds = record { patient = sound.bounds.patient; commits = sound.bounds.commits; small = sound.bounds.small; sized = sound.bounds.sized; even = omega (arith, c.if-is_steady.true, sound.in_phase.1) };
+          bounds = record { patient = sound.bounds.patient; commits = sound.bounds.commits; small = sound.bounds.small; sized = sound.bounds.sized; deep = sound.bounds.deep; even = omega (arith, c.if-is_steady.true, sound.in_phase.1) };
           reached = omega arith;
           in_phase = (
             record { is_open = o.is_open; log = o.log; writes = o.writes; rows = o.rows; frames = o.frames; tries = o.tries },

@@ -8,7 +8,7 @@ use Rattle.norec_core.proofs.Accesses.Writings.{put_all_more, some_words}
 use Rattle.norec_revocable.proofs.writes.put_all.Goals as goal
 
 pub loop-piece-init : goal.loop-piece-init
-loop-piece-init c = record { rows = refl; others = λ word may. may; words = refl; blocks = refl; size = refl; actions = refl; room = refl }
+loop-piece-init c = record { rows = refl; others = λ word may. may; words = refl; blocks = refl; size = refl; depth = refl; actions = refl; room = refl }
 
 pub put-requires : goal.put-requires
 put-requires c = record {
@@ -29,6 +29,7 @@ loop-piece-preserved c =
       words = c.put.ensures.words ∙ i.words;
       blocks = ap (λ (n : Nest). n.blocks) c.put.ensures.new ∙ i.blocks;
       size = ap (λ (n : Nest). n.size) c.put.ensures.new ∙ i.size;
+      depth = ap (λ (n : Nest). n.depth) c.put.ensures.new ∙ i.depth;
       actions = ap (λ (n : Nest). n.actions) c.put.ensures.new ∙ i.actions;
       room = ap (λ (n : Nest). n.room) c.put.ensures.new ∙ i.room;
     }

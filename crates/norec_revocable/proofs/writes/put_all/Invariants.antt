@@ -10,6 +10,7 @@ invariant-loop-piece l = record {
   words : map (λ r. r.word) l.frames.writes.rows ≡ map (λ r. r.word) l.fn.frames.writes.rows;
   blocks : l.frames.blocks ≡ l.fn.frames.blocks;
   size : l.frames.size ≡ l.fn.frames.size;
+  depth : l.frames.depth ≡ l.fn.frames.depth;
   actions : l.frames.actions ≡ l.fn.frames.actions;
   room : l.frames.room ≡ l.fn.frames.room;
 }

@@ -19,6 +19,7 @@ loop-piece-init c = record {
   others = λ word may. may;
   blocks = refl;
   size = refl;
+  depth = refl;
   actions = refl;
   room = refl;
 }
@@ -61,6 +62,11 @@ returns-then-is_err-clause-size c =
     let same = on_err c.reserve.result c.reserve.ensures.err (sym c.is_err.ensures.value ∙ c.if-is_err.true) in
     ap (λ (n : Nest). n.size) c.cut.ensures.new ∙ (ap (λ (n : Nest). n.size) same ∙ c.loop-piece.invariant.size)
 
+pub returns-then-is_err-clause-depth : goal.returns-then-is_err-clause-depth
+returns-then-is_err-clause-depth c =
+    let same = on_err c.reserve.result c.reserve.ensures.err (sym c.is_err.ensures.value ∙ c.if-is_err.true) in
+    ap (λ (n : Nest). n.depth) c.cut.ensures.new ∙ (ap (λ (n : Nest). n.depth) same ∙ c.loop-piece.invariant.depth)
+
 pub returns-then-is_err-clause-room : goal.returns-then-is_err-clause-room
 returns-then-is_err-clause-room c =
     let same = on_err c.reserve.result c.reserve.ensures.err (sym c.is_err.ensures.value ∙ c.if-is_err.true) in
@@ -87,6 +93,7 @@ loop-piece-preserved c =
       others = λ word may. c.reserve.ensures.others word (i.others word may);
       blocks = ap (λ (n : Nest). n.blocks) ok ∙ i.blocks;
       size = ap (λ (n : Nest). n.size) ok ∙ i.size;
+      depth = ap (λ (n : Nest). n.depth) ok ∙ i.depth;
       actions = ap (λ (n : Nest). n.actions) ok ∙ i.actions;
       room = ap (λ (n : Nest). n.room) ok ∙ i.room;
     }

@@ -2,9 +2,9 @@ use Rattle.std.proofs.Common.{◌≡◌, ℕ, ◌+◌, ◌*◌, ◌<◌, ◌≤�
 use Rattle.std.proofs.lemmas.Result.{err_from_is_err_and}
 use Rattle.write_set.specs.declared.row.Row.{Row}
 use Rattle.write_set.specs.Rows.{overlay, AreRows}
+use Rattle.norec_data.proofs.KeptBounds.{bounds_kept}
 use Rattle.norec_data.specs.View.{in_block}
 use Rattle.norec_revocable.specs.InPhases.{AreFrames}
-use Rattle.norec_data.specs.Bounds.{IsBounded}
 use Rattle.norec_core.specs.Stands.{is_some_row, state_over}
 use Rattle.norec_core.specs.Core.{is_inside}
 use Rattle.nest_frames.specs.Nest.{rows_of}
@@ -57,7 +57,7 @@ returns c = record {
       rw c.start_call.ensures (record {
         asked = tt;
         sound = record {
-          bounds = subst (λ (n : ℕ). IsBounded s.words s.limits s.snapshot n s.arena) (sym c.put_value.ensures.size) sound.bounds;
+          bounds = bounds_kept s c.put_value.new.frames c.put_value.ensures.size c.put_value.ensures.depth sound.bounds;
           reached = sound.reached;
           in_phase = (
             λ o. (
@@ -90,7 +90,7 @@ returns c = record {
       let within : c.args.at + size ≤ 8 * s.words = subst (λ (n : ℕ). c.args.at + n ≤ 8 * s.words) (c.from.ensures ∙ c.size.ensures.value) may.1 in
       let some : 0 < length ps = some_pieces c.args.at size (some_bytes value.width) in
       let all = λ (m : List ℕ) (mem : IsMemory s.words m).
-      writes s.frames.writes.rows s.frames.blocks s.arena s.frames.actions m s.words c.args.hint value c.args.at may.0 mem c.put_value.new.frames.writes.rows within
+      writes s.frames.depth s.frames.writes.rows s.frames.blocks s.arena s.frames.actions m s.words c.args.hint value c.args.at may.0 mem c.put_value.new.frames.writes.rows within
       (ap is_some_row rows ∙ some_put (reserved_all s.frames.writes.rows ps) ps bytes some)
       (ap (λ (xs : List Row). bytes_of (overlay m xs)) rows
       ∙ bytes_of-put_all m s.frames.writes.rows c.args.at size bytes mem.1 idle.0.rows (omega (arith, within, mem.0)) (omega (arith, c.size.ensures.value, c.size.ensures.most)) (subst AreBytes c.deref.ensures.0 c.put_value.ensures.bytes) value.sized) in

@@ -50,27 +50,27 @@ loop-player-preserved g c =
           (λ k less l. o.3.room k less (let none : count_pending o.0.pending ≡ 0 = ap count_pending o.2 in omega arith)) c.in_ok-actor.ensures.free);
       ended = c.in_ok-actor.ensures.ended ∙ i.ended;
       tries = λ place a e. elim (placed place a e) [
-        | inl h ↦ subst (IsFirst c.args.memory.now.clock c.args.terms.limits.patience c.args.terms.limits.max_commits c.args.terms.limits.retries c.start.new.recorded) (sym h.1) c.in_ok-actor.ensures.first
+        | inl h ↦ subst (IsFirst c.args.memory.now.clock c.args.terms.limits.patience c.args.terms.limits.max_commits c.args.terms.limits.retries c.args.terms.limits.depth c.start.new.recorded) (sym h.1) c.in_ok-actor.ensures.first
         | inr h ↦
-            first_still c.args.memory.now.clock c.args.terms.limits.patience c.args.terms.limits.max_commits c.args.terms.limits.retries c.loop-player.recorded c.start.new.recorded a
+            first_still c.args.memory.now.clock c.args.terms.limits.patience c.args.terms.limits.max_commits c.args.terms.limits.retries c.args.terms.limits.depth c.loop-player.recorded c.start.new.recorded a
             (own.others a.thread (other place a h.0 h.1)) (i.tries place a h.1)
       ];
       rest = sym here.1 ∙ ap (λ (k : ℕ). drop k c.into_iter-player-iterator.result.rest.items) (let e : suc (length before) ≡ length c.push.new.self.items = omega arith in e);
       runs = λ place p a e f. elim (placed place a f) [
         | inl h ↦
-            subst (λ (x : Actor g.row.P.Denot). RunsFrom g.P.Player (first_of p c.args.terms.arena) (bytes_of c.args.memory.now.words) c.args.memory.now c.start.new.recorded x) (sym h.1)
-            (subst (λ (q : g.row.P.Denot). RunsFrom g.P.Player (first_of q c.args.terms.arena) (bytes_of c.args.memory.now.words) c.args.memory.now c.start.new.recorded actor) (same_player place p h.0 e)
+            subst (λ (x : Actor g.row.P.Denot). RunsFrom g.P.Player (first_of p c.args.terms.arena) c.args.terms.limits.depth (bytes_of c.args.memory.now.words) c.args.memory.now c.start.new.recorded x) (sym h.1)
+            (subst (λ (q : g.row.P.Denot). RunsFrom g.P.Player (first_of q c.args.terms.arena) c.args.terms.limits.depth (bytes_of c.args.memory.now.words) c.args.memory.now c.start.new.recorded actor) (same_player place p h.0 e)
             (c.in_ok-actor.ensures.runs i.ended))
         | inr h ↦
-            other_runs g.P.Player g.met.P.Player.laws (first_of p c.args.terms.arena) (bytes_of c.args.memory.now.words) c.args.memory.now c.args.memory.now
-            c.loop-player.recorded c.start.new.recorded actor.thread a (laid_first (bytes_of c.args.memory.now.words) c.args.memory.now c.loop-player.recorded refl c.requires.fit c.requires.clock i.ended) (i.sound.each place a h.1).sound.tied own
+            other_runs g.P.Player g.met.P.Player.laws (first_of p c.args.terms.arena) c.args.terms.limits.depth (bytes_of c.args.memory.now.words) c.args.memory.now c.args.memory.now
+            c.loop-player.recorded c.start.new.recorded actor.thread a (laid_first c.args.terms.limits.depth (bytes_of c.args.memory.now.words) c.args.memory.now c.loop-player.recorded refl c.requires.fit c.requires.clock i.ended) (i.sound.each place a h.1).sound.tied own
             (other place a h.0 h.1) (let z : c.args.memory.now.clock ≤ c.args.memory.now.clock = omega arith in z) (λ x. refl) (i.runs place p a e h.1)
       ];
       starts = λ place p a e f. elim (placed place a f) [
         | inl h ↦
             (let Started : ℕ → g.row.P.Denot → Actor g.row.P.Denot → Type 0 =
             HasStarted g.P.Player c.args.memory.now.clock
-            (opening (length c.args.memory.now.words) (replicate c.args.terms.arena 0) c.args.terms.limits.patience c.args.terms.limits.max_commits) c.args.terms.limits.retries in
+            (opening (length c.args.memory.now.words) (replicate c.args.terms.arena 0) c.args.terms.limits.patience c.args.terms.limits.max_commits c.args.terms.limits.depth) c.args.terms.limits.retries in
             subst (Started place p) (sym h.1) (subst (λ (q : g.row.P.Denot). Started place q actor) (same_player place p h.0 e)
             (subst (λ (n : ℕ). Started n c.in-Some.player actor) (sym numbered ∙ (thread ∙ h.0)) c.in_ok-actor.ensures.starts)))
         | inr h ↦ i.starts place p a e h.1

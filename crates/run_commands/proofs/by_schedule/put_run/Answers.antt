@@ -21,7 +21,7 @@ returns-in_err-play-clause-played g c =
     let after = ap g.W.Write.contents (c.writer-1.given.1 name) in
     record {
       leads = none_ok _ c.from_residual.result c.from_residual.ensures.0;
-      stops = on_err c.from_residual.result (cut_as thread_rules c.args.items.now c.args.world.now c.play.new.world _ _ _ _ played.stops before after);
+      stops = on_err c.from_residual.result (cut_as thread_rules c.args.version c.args.items.now c.args.world.now c.play.new.world _ _ _ _ played.stops before after);
       commits = played.commits;
       opaque = played.opaque;
       tied = played.tied;
@@ -39,7 +39,7 @@ returns-clause-played g c =
     let played = c.in_ok-play.ensures.played in
     record {
       leads = on_any c.flush.result played.leads;
-      stops = on_err c.flush.result (cut_whole thread_rules c.args.items.now c.args.world.now c.play.new.world _ _ (Appends-kept _ _ _ _ whole c.flush.ensures.bytes) c.play.ensures.base played.leads);
+      stops = on_err c.flush.result (cut_whole thread_rules c.args.version c.args.items.now c.args.world.now c.play.new.world _ _ (Appends-kept _ _ _ _ whole c.flush.ensures.bytes) c.play.ensures.base played.leads);
       commits = played.commits;
       opaque = played.opaque;
       tied = played.tied;

@@ -4,4 +4,4 @@ use Rattle.script_vm.specs.Threads.{opening}
 use Rattle.run_commands.proofs.running.players.Given as goal
 
 abbrev pub invariant-loop-thread : goal.invariant-loop-thread
-invariant-loop-thread l = l.players.items ≡ map opening (take l.thread (threads_of l.program))
+invariant-loop-thread l = l.players.items ≡ map (opening l.program.limits.depth) (take l.thread (threads_of l.program))

@@ -3,7 +3,7 @@ use Rattle.std.specs.Prelude.{codes}
 use Rattle.std.proofs.lemmas.Result.{on_ok_weaker}
 use Rattle.itm_types.specs.declared.limits.Limits.{Limits}
 use Rattle.script_print.specs.Fields.{lines_text}
-use Rattle.script_print.specs.Printing.{number_fields}
+use Rattle.script_print.specs.Printing.{number_fields, depth_lines}
 use Rattle.script_print.proofs.Texts.LineTexts.{lines_put}
 use Rattle.script_print.proofs.whole.put_limits.Goals as goal
 
@@ -22,8 +22,10 @@ returns c =
     let of_arena : c.put_number-2.new.text.items ≡ c.put_number.new.text.items ++ lines_text (arena ∷ []) = rw c.arena.ensures.value at (c.in_ok-put_number-2.ensures {u = tt}) in
     let of_patience : c.put_number-3.new.text.items ≡ c.put_number-2.new.text.items ++ lines_text (patience ∷ []) = rw patient at (c.in_ok-put_number-3.ensures {u = tt}) in
     let of_retries : c.put_number-4.new.text.items ≡ c.put_number-3.new.text.items ++ lines_text (retries ∷ []) = rw retried at (c.in_ok-put_number-4.ensures {u = tt}) in
+    let of_commits : c.put_number-5.new.text.items ≡ c.put_number-4.new.text.items ++ lines_text (commits ∷ []) = rw c.limits-limits.ensures.value at (c.in_ok-put_number-5.ensures {u = tt}) in
     let first = lines_put old (memory ∷ []) (arena ∷ []) c.put_number.new.text.items c.put_number-2.new.text.items sized of_arena in
     let second = lines_put old (memory ∷ arena ∷ []) (patience ∷ []) c.put_number-2.new.text.items c.put_number-3.new.text.items first of_patience in
     let third = lines_put old (memory ∷ arena ∷ patience ∷ []) (retries ∷ []) c.put_number-3.new.text.items c.put_number-4.new.text.items second of_retries in
-    on_ok_weaker c.put_number-5.result (lines_put old (memory ∷ arena ∷ patience ∷ retries ∷ []) (commits ∷ []) c.put_number-4.new.text.items c.put_number-5.new.text.items third)
-    (rw c.limits-limits.ensures.value at c.put_number-5.ensures)
+    let fourth = lines_put old (memory ∷ arena ∷ patience ∷ retries ∷ []) (commits ∷ []) c.put_number-4.new.text.items c.put_number-5.new.text.items third of_commits in
+    on_ok_weaker c.put_depth.result (lines_put old (memory ∷ arena ∷ patience ∷ retries ∷ commits ∷ []) (depth_lines p.limits.depth) c.put_number-5.new.text.items c.put_depth.new.text.items fourth)
+    (rw c.limits-limits.ensures.value at c.put_depth.ensures)

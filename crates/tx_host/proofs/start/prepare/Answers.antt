@@ -15,12 +15,12 @@ loop-number-preserved c =
     let n : ℕ = c.loop-number.number in
     let first = c.split-theirs.ensures.first in
     let some : 0 < (view_of c.loop-number.pass).share = let q = old.parts in let s = c.requires.parts in let r = c.loop-number-test.true in let t = old.threads in omega arith in
-    let made : Ready = record { number = n; thread = c.new-thread.result; player = c.in_ok-player.player } in
+    let made : Ready = record { number = n; thread = c.in_ok-thread.thread; player = c.in_ok-player.player } in
     let here : IsReady c.args.words.now start.base p n made = record {
       number_is = refl;
-      own = subst (Owns c.args.words.now) (sym c.new-thread.ensures.pass) c.split-theirs.ensures.own.1;
-      stands = c.new-thread.ensures.stands;
-      fresh = is_fresh start (view_of c.loop-number.pass) c.split-theirs.result p n c.new-thread.result c.in_ok-player.player old.pass c.split-theirs.ensures.second c.new-thread.ensures.pass (cells_of c.args.words.now - 1) c.in_ok-arena.arena c.arena.result c.limits.result c.new-thread.ensures.engine c.in_ok-arena.ensures c.arena.ensures.value c.limits.ensures.value c.in_ok-player.ensures;
+      own = subst (Owns c.args.words.now) (sym c.in_ok-thread.ensures.pass) c.split-theirs.ensures.own.1;
+      stands = c.in_ok-thread.ensures.stands;
+      fresh = is_fresh start (view_of c.loop-number.pass) c.split-theirs.result p n c.in_ok-thread.thread c.in_ok-player.player old.pass c.split-theirs.ensures.second c.in_ok-thread.ensures.pass (cells_of c.args.words.now - 1) c.in_ok-arena.arena c.arena.result c.limits.result c.in_ok-thread.ensures.engine c.in_ok-arena.ensures c.arena.ensures.value c.limits.ensures.value c.in_ok-player.ensures;
     } in
     let many : 0 + length c.loop-number.all.items ≡ n = search rules in
     record {

@@ -1,7 +1,6 @@
-use Rattle.std.proofs.Common.{rules, ◌≡◌, List, ℕ, ◌∙◌, refl, sym}
+use Rattle.std.proofs.Common.{rules, ◌≡◌, List, ℕ, ◌∙◌, sym}
 use Rattle.itm_types.specs.Memory.{bytes_of}
 use Rattle.shared_words.specs.Passes.{view_of}
-use Rattle.tx_history.specs.declared.history.Version.TheVariants.{One}
 use Rattle.tx_host.specs.declared.report.Report.{Report}
 use Rattle.tx_host.proofs.Histories.LimitedReports.{limited_report}
 use Rattle.tx_host.proofs.Histories.WholeRuns.{ran}
@@ -15,10 +14,10 @@ returns-clause-ran g c =
     let kept : c.new-2.result ≡ before = search rules in
     let from : bytes_of start.base ≡ before = search rules in
     let report : Report = record {
-      history = record { version = One; memory = c.new-2.result; attempts = c.in-Ok-gather_all.attempts; clock = c.closed-clock.result.0; bytes = c.closed-clock.result.1 };
+      history = record { version = c.version_of.result; memory = c.new-2.result; attempts = c.in-Ok-gather_all.attempts; clock = c.closed-clock.result.0; bytes = c.closed-clock.result.1 };
       ends = c.in-Ok-gather_all.ends;
     } in
-    ran c.args.program.now report start (view_of c.in_ok-pass.pass) c.in_ok-pass.all.items words.first (from ∙ sym kept) (kept ∙ c.in-Ok.ensures.before) c.in_ok-pass.ensures.gathers c.closed-clock.ensures c.in-Ok-gather_all.ensures.attempts c.in-Ok-gather_all.ensures.ends refl
+    ran c.args.program.now report start (view_of c.in_ok-pass.pass) c.in_ok-pass.all.items words.first (from ∙ sym kept) (kept ∙ c.in-Ok.ensures.before) c.in_ok-pass.ensures.gathers c.closed-clock.ensures c.in-Ok-gather_all.ensures.attempts c.in-Ok-gather_all.ensures.ends c.version_of.ensures c.in-Ok.ensures.limits.depth
 
 pub returns-clause-limited : goal.returns-clause-limited
 returns-clause-limited g c = limited_report c.args.program.now _ (returns-clause-ran g c) c.in-Ok.ensures.limits

@@ -5,6 +5,7 @@ use Rattle.nest_frames.proofs.frames.Frames.cancel_all.Given as goal
 abbrev pub invariant-loop-self : goal.invariant-loop-self
 invariant-loop-self l = record {
   size : l.self.size ≡ l.fn.self.size;
+  depth : l.self.depth ≡ l.fn.self.depth;
   actions : actions_back l.self.blocks l.self.actions ≡ actions_back l.fn.self.blocks l.fn.self.actions;
   room : l.self.room ≡ l.fn.self.room;
   arena_size : length l.arena ≡ length l.fn.arena;

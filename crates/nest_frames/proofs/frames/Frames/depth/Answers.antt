@@ -14,7 +14,8 @@ pub returns-clause-few : goal.returns-clause-few
 returns-clause-few c =
     let f = c.self.inside in
     let blocks = ap (λ (v : Nest). length v.blocks) c.self.view_is in
-    omega (arith, c.len.ensures.value, c.len.ensures.fits, length-frames_of f.writes f.undo.olds f.moments.items, blocks)
+    let most = ap (λ (v : Nest). v.depth) c.self.view_is in
+    omega (arith, c.len.ensures.value, c.len.ensures.few, most, length-frames_of f.writes f.undo.olds f.moments.items, blocks)
 
 pub returns-clause-none : goal.returns-clause-none
 returns-clause-none c e =

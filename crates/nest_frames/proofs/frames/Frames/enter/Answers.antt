@@ -7,4 +7,5 @@ pub push-requires-2 : goal.push-requires-2
 push-requires-2 c =
     let f = c.self.inside in
     let blocks = ap (λ (v : Nest). length v.blocks) c.self.view_is in
-    (omega arith, omega (arith, c.requires, blocks, length-frames_of f.writes f.undo.olds f.moments.items))
+    let most = ap (λ (v : Nest). v.depth) c.self.view_is in
+    omega (arith, c.requires, blocks, most, length-frames_of f.writes f.undo.olds f.moments.items)

@@ -27,6 +27,7 @@ pub returns-clause-ok : goal.returns-clause-ok
 returns-clause-ok c = (λ i. record {
   writes = (c.self.view_is i).writes;
   size = (c.in_ok-log.ensures.size ∙ ap (λ (v : Nest). v.size) c.self.view_is) i;
+  depth = (c.self.view_is i).depth;
   blocks = blocks_are c i;
   actions = (c.self.view_is i).actions;
   room = (c.self.view_is i).room;

@@ -10,7 +10,7 @@ use Rattle.nest_frames.proofs.frames.Frames.reserve.Goals as goal
 pub returns-clause-ok : goal.returns-clause-ok
 returns-clause-ok c =
     let f = c.self.inside in
-    nest_written f.writes c.reserve.new.self _ f.undo.olds f.undo.size f.actions.room f.actions.actions f.moments.items c.self.invariant c.reserve.ensures.marks c.in_ok-reserve.ensures.ok
+    nest_written f.writes c.reserve.new.self _ f.undo.olds f.undo.size f.moments.most f.actions.room f.actions.actions f.moments.items c.self.invariant c.reserve.ensures.marks c.in_ok-reserve.ensures.ok
     ∙ ap (λ (v : Nest). record v { writes = reserve v.writes c.args.word }) c.self.view_is
 
 pub returns-in_err-reserve-clause-has_row : goal.returns-in_err-reserve-clause-has_row

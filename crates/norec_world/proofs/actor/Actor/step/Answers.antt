@@ -6,8 +6,8 @@ use Rattle.norec_world.specs.Sound.{IsDue}
 use Rattle.norec_world.proofs.Commits.CommitCounts.{counted_after}
 use Rattle.norec_world.proofs.Attempts.OthersAttempts.{others_twice}
 use Rattle.norec_world.proofs.Attempts.ReadPositions.{still_reads}
-use Rattle.norec_world.proofs.Runs.Calls.{step_runs}
-use Rattle.norec_world.proofs.Engines.SoundSteps.{step_acts, step_clocks, step_falls, step_on, step_taken, stepping, takes_in, IsStepping, rests}
+use Rattle.norec_world.proofs.Runs.Calls.{step_runs, still_at}
+use Rattle.norec_world.proofs.Engines.SoundSteps.{mid_step, same, step_acts, step_clocks, step_falls, step_on, step_taken, stepping, takes_in, IsStepping, rests}
 use Rattle.norec_world.proofs.Engines.Intakes.{due, now}
 use Rattle.norec_world.proofs.Attempts.TryCalls.{step_tries, step_unfinished}
 use Rattle.norec_world.proofs.actor.Actor.step.Goals as goal
@@ -69,9 +69,9 @@ returns g c =
       cells_are = λ step w. c.apply-seen.ensures.cells ∙ ap (cells_after c.args.memory.now) (let some : Some c.in-Waits.step ≡ Some step = sym (ap waiting_step c.in-Waits.is) ∙ w in let same : c.in-Waits.step ≡ step = cc in same);
       takes = takes_in m Ready refl x.engine tells told (record { thread = x.thread; retries = x.retries; nothing = λ e. (rests (x.sound c.proceed.ensures.acts) e).nothing });
       tries = tries;
-      runs = λ first base laid runs. (let own = others.own in
+      runs = still_at g.P.Player c.args.memory.now c.args.recorded.now c.args.self.now c.apply-seen.new.self c.follow.new.recorded last (mid_step m).depth (same m).depth (λ first base laid runs. (let own = others.own in
           step_runs g.met.P.Player.laws m Ready refl first base laid runs c.proceed.new.recorded last done tells c.follow.new.recorded told own.more own.ended
-          (counted_after c.args.memory.now.clock c.apply-seen.new.self.clock (prior_of c.args.recorded.now c.args.self.now) c.follow.new.recorded last tries laid.counted));
+          (counted_after c.args.memory.now.clock c.apply-seen.new.self.clock (prior_of c.args.recorded.now c.args.self.now) c.follow.new.recorded last tries laid.counted)));
       others = others;
       clocks = step_clocks m last.engine x.engine;
       unfinished = step_unfinished m Ready refl c.proceed.new.recorded last done tells;

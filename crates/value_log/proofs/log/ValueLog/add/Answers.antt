@@ -1,11 +1,14 @@
-use Rattle.std.proofs.Common.{◌≡◌, List, ℕ, None, length, slice_set, sym, ap, subst, ◌∙◌}
+use Rattle.std.proofs.Common.{◌≡◌, List, ℕ, None, length, slice_set, sym, ap, subst, ◌∙◌, arith}
 use Rattle.itm_types.specs.declared.row.LogRow.{LogRow}
 use Rattle.itm_types.specs.LogRows.{value_of, AreSingle}
 use Rattle.value_log.specs.Log.{Log}
 use Rattle.itm_types.proofs.LogRows.{single_push}
 use Rattle.value_log.specs.Index.{AllBelow, IsIndex}
-use Rattle.value_log.proofs.IndexedRows.{below_push, index_push, some_places, no_places}
+use Rattle.value_log.proofs.IndexedRows.{below_push, few_rows, index_push}
 use Rattle.value_log.proofs.log.ValueLog.add.Goals as goal
+
+pub note-requires : goal.note-requires
+note-requires c = omega (arith, c.len.ensures.value, few_rows c.self.inside.rows.items c.self.invariant.single c.self.invariant.below)
 
 pub invariant_of-self : goal.invariant_of-self
 invariant_of-self c =
@@ -19,10 +22,8 @@ invariant_of-self c =
     record {
       single = subst AreSingle (sym added) (single_push rows row kept.single first);
       below = subst AllBelow (sym added) (below_push rows row kept.below c.requires.word);
-      inline = λ none. c.push_reserved.ensures.capacity ∙ kept.inline (no_places places row.word c.len.result (sym c.note.ensures ∙ none));
-      indexed = λ some.
-          (let was = kept.indexed (some_places places row.word c.len.result (λ none. some (c.note.ensures ∙ none))) in
-          subst (λ (ps : List ℕ). IsIndex ps c.push_reserved.new.self.items) (sym noted) (subst (IsIndex (slice_set places row.word (length rows))) (sym added) (index_push places rows row was c.requires.word first)));
+      index = subst (λ (ps : List ℕ). IsIndex ps c.push_reserved.new.self.items) (sym noted)
+          (subst (IsIndex (slice_set places row.word (length rows))) (sym added) (index_push places rows row kept.index first));
     }
 
 pub returns-clause-single : goal.returns-clause-single

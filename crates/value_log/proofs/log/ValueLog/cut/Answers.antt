@@ -1,4 +1,4 @@
-use Rattle.std.proofs.Common.{sym, subst, ◌∙◌}
+use Rattle.std.proofs.Common.{sym, subst}
 use Rattle.itm_types.specs.LogRows.{AreSingle}
 use Rattle.itm_types.proofs.LogRows.{single_cut}
 use Rattle.value_log.specs.Index.{AllBelow, IsIndex}
@@ -14,6 +14,5 @@ invariant_of-self c =
     record {
       single = subst AreSingle (sym cut) (single_cut c.args.len rows kept.single);
       below = subst AllBelow (sym cut) (below_cut c.args.len rows kept.below);
-      inline = λ none. c.truncate.ensures.capacity ∙ kept.inline none;
-      indexed = λ some. subst (IsIndex places) (sym cut) (index_cut places c.args.len rows (kept.indexed some));
+      index = subst (IsIndex places) (sym cut) (index_cut places c.args.len rows kept.index);
     }

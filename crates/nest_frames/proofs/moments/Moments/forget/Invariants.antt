@@ -1,6 +1,6 @@
 use Rattle.std.proofs.Common.{◌≡◌, ◌++◌, map, take, drop}
-use Rattle.nest_frames.proofs.ForgottenMoments.{forgotten}
-use Rattle.nest_frames.proofs.frames.Frames.make_irrevocable.Given as goal
+use Rattle.nest_frames.specs.Moments.{forgotten}
+use Rattle.nest_frames.proofs.moments.Moments.forget.Given as goal
 
 abbrev pub invariant-loop-moment : goal.invariant-loop-moment
 invariant-loop-moment l = l.moment-items ≡ map forgotten (take l.moment-index l.initial.moment-items) ++ drop l.moment-index l.initial.moment-items

@@ -1,6 +1,6 @@
 use Rattle.std.proofs.Common.{take}
 use Rattle.value_log.specs.Index.{IsIndex}
-use Rattle.value_log.proofs.index.Index.of.Given as goal
+use Rattle.value_log.proofs.index.Index.cover.Given as goal
 
 abbrev pub invariant-loop-place : goal.invariant-loop-place
-invariant-loop-place l = IsIndex l.index.places.items (take l.place l.rows)
+invariant-loop-place l = IsIndex l.self.places.items (take l.place l.rows)

@@ -1,0 +1,81 @@
+-- Programs are within the limits of the version that tells of them.
+use Rattle.std.proofs.Common.{◌≡◌, ◌≢◌, ◌⊎◌, ◌==◌, inl, inr, nat_le, ◌&&◌, ◌∙◌, ℕ, suc, ◌<◌, ◌≤◌, Bool, true, false, if◌then◌else◌, length, refl, sym, true≢false, ap, subst, arith, eqb-true, leb-true}
+use Rattle.std.proofs.lemmas.Bool.{lt-leb, ne_eqb}
+use Rattle.itm_types.specs.Limits.{AreWithin}
+use Rattle.itm_types.specs.declared.limits.Depth.{Depth}
+use Rattle.itm_types.specs.declared.limits.TheConstants.{MAX_ACTORS, MAX_ARENA, MAX_DEPTH, USUAL_DEPTH}
+use Rattle.script_program.specs.Listing.{Listing, opening_of, threads_of}
+use Rattle.script_program.specs.Sizes.{IsSize}
+use Rattle.tx_history.specs.Bounds.{IsMemorySize}
+use Rattle.tx_history.specs.declared.history.TheConstants.{EARLY_ACTORS, EARLY_MEMORY}
+use Rattle.tx_history.specs.declared.history.Version.{Version}
+use Rattle.tx_history.specs.declared.history.Version.TheVariants.{One, Three}
+use Rattle.tx_history.specs.Depths.{depth_from}
+use Rattle.tx_history.specs.Versions.{depth_of, thread_limit}
+use Rattle.tx_history.proofs.SameDepths.{near_is, same_depth}
+use Rattle.tx_host.specs.Limits.{IsLimitedListing}
+use Rattle.tx_host.specs.Versions.{is_early, version_of}
+
+both_true : (x y : Bool) → (x && y) ≡ true → (x ≡ true) × (y ≡ true)
+both_true true y e = (refl, e)
+both_true false y e = absurd (true≢false (sym e))
+
+none_of : (x y z : Bool) → (x ≡ false) ⊎ (y ≡ false) ⊎ (z ≡ false) → (x && y && z) ≡ false
+none_of false y z e = refl
+none_of true false z e = refl
+none_of true true false e = refl
+none_of true true true (inl e) = absurd (true≢false e)
+none_of true true true (inr (inl e)) = absurd (true≢false e)
+none_of true true true (inr (inr e)) = absurd (true≢false e)
+
+module _ (p : Listing) where
+  abbrev chosen : Bool → Version
+  chosen early = if early then One else Three (depth_from p.limits.depth)
+
+  early_parts : is_early p ≡ true → (p.limits.depth ≡ USUAL_DEPTH) × (p.memory.size ≤ EARLY_MEMORY) × (length (threads_of p) ≤ EARLY_ACTORS)
+  early_parts e =
+      let all = both_true ((p.limits.depth == USUAL_DEPTH) && nat_le p.memory.size EARLY_MEMORY) (nat_le (length (threads_of p)) EARLY_ACTORS) e in
+      let first = both_true (p.limits.depth == USUAL_DEPTH) (nat_le p.memory.size EARLY_MEMORY) all.0 in
+      (eqb-true p.limits.depth USUAL_DEPTH first.0, leb-true p.memory.size EARLY_MEMORY first.1, leb-true (length (threads_of p)) EARLY_ACTORS all.1)
+
+  told_memory : IsSize p.memory.size → IsMemorySize (version_of p) p.memory.size
+  told_memory s = by_early (is_early p) refl
+    where
+      by_early : (b : Bool) → is_early p ≡ b → IsMemorySize (chosen b) p.memory.size
+      by_early true e = (s.0, (early_parts e).1, s.2)
+      by_early false e = s
+
+  told_threads : length (threads_of p) ≤ MAX_ACTORS → length (threads_of p) ≤ suc (thread_limit (version_of p))
+  told_threads few = by_early (is_early p) refl
+    where
+      by_early : (b : Bool) → is_early p ≡ b → length (threads_of p) ≤ suc (thread_limit (chosen b))
+      by_early true e = (let least = (early_parts e).2 in omega arith)
+      by_early false e = omega arith
+
+  told_depth : 0 < p.limits.depth → p.limits.depth ≤ MAX_DEPTH → depth_of (version_of p) ≡ p.limits.depth
+  told_depth some few = by_early (is_early p) refl
+    where
+      by_early : (b : Bool) → is_early p ≡ b → depth_of (chosen b) ≡ p.limits.depth
+      by_early true e = sym (early_parts e).0
+      by_early false e = near_is p.limits.depth (omega arith) few
+
+  -- a program that the first version does not tell of is told of by the third one, with its depth
+  pub told_by_three : (depth size threads : ℕ) (d : Depth) → depth ≡ p.limits.depth → size ≡ p.memory.size → threads ≡ length (threads_of p) → d.blocks ≡ depth
+      → ((depth ≡ USUAL_DEPTH) × (size ≤ EARLY_MEMORY) × (EARLY_ACTORS < threads)) ⊎ ((depth ≡ USUAL_DEPTH) × (EARLY_MEMORY < size)) ⊎ (depth ≢ USUAL_DEPTH) → Three d ≡ version_of p
+  told_by_three depth size threads d depth_is size_is threads_are same late =
+      ap Three (same_depth d (depth_from p.limits.depth) (same ∙ (depth_is ∙ sym (near_is p.limits.depth (let some = d.some in omega arith) (let few = d.few in omega arith)))))
+      ∙ sym (ap chosen (none_of (p.limits.depth == USUAL_DEPTH) (nat_le p.memory.size EARLY_MEMORY) (nat_le (length (threads_of p)) EARLY_ACTORS) (elim late [
+        | inl many ↦ (let more = many.2 in inr (inr (lt-leb (length (threads_of p)) EARLY_ACTORS (omega arith))))
+        | inr (inl large) ↦ (let more = large.1 in inr (inl (lt-leb p.memory.size EARLY_MEMORY (omega arith))))
+        | inr (inr other) ↦ inl (ne_eqb p.limits.depth USUAL_DEPTH (λ e. other (depth_is ∙ e)))
+      ])))
+
+  -- so each program is, whose memory has the size that it says
+  pub limited_listing : IsSize p.memory.size → length (opening_of p) ≡ p.memory.size → p.arena ≤ MAX_ARENA → AreWithin p.limits → length (threads_of p) ≤ MAX_ACTORS → IsLimitedListing p
+  limited_listing sized long small within few = record {
+    memory = subst (λ (n : ℕ). IsMemorySize (version_of p) n) (sym long) (told_memory sized);
+    arena = small;
+    retries = within.retries;
+    threads = told_threads few;
+    depth = told_depth within.depth.0 within.depth.1;
+  }
