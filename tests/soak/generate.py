@@ -39,6 +39,7 @@ class Maker:
         patience = self.random.randint(9, 100) if self.one_in(3) else self.random.randint(1, 8)
         lines += [f".patience {patience}"] if not self.one_in(20) else []
         lines += [f".retries {self.random.randint(0, 5)}"] if not self.one_in(20) else []
+        lines += [f".depth {self.random.choice([1, 2, 3, 15, 16, 17, 64])}"] if self.one_in(8) else []
         return lines + ([f".commits {self.random.randint(1, 6)}"] if self.one_in(5) else [])
 
     def inits(self):

@@ -32,8 +32,9 @@ class Attempt:
         yield "end"
 
 
-def text(opening, attempts, clock, final):
-    lines = ["itm-history 1", f"memory {opening.hex()}"]
+def text(script, attempts, clock, final):
+    version = script.version()
+    lines = [f"itm-history {version}", *[f"depth {script.depth}"] * (version == 3), f"memory {script.opening.hex()}"]
     for attempt in attempts:
         lines += attempt.lines()
     lines.append(f"final {clock} {final.hex()}")

@@ -45,7 +45,7 @@ class Transaction:
 
     def __init__(self, script, arena):
         self.patience, self.commits = script.patience, script.commits
-        self.machine = Machine(b"?" * len(script.opening), arena)
+        self.machine = Machine(b"?" * len(script.opening), arena, script.depth)
         self.snapshot = None  # the clock's value
         self.log = {}  # the words that were read, in the order of first reading
         self.rounds = 0  # that the call under way may still start

@@ -102,7 +102,7 @@ class Run:
     number at which of its calls that ask for memory."""
 
     def __init__(self, script, starving={}):
-        self.opening, self.events = bytes(script.opening), 0
+        self.script, self.opening, self.events = script, bytes(script.opening), 0
         self.cells = [0, *(self.opening[at : at + WORD] for at in range(0, len(self.opening), WORD))]
         self.attempts = []  # those that have ended, and at the end the others, by thread
         numbers = range(len(script.codes))
@@ -137,7 +137,7 @@ class Run:
     def answer(self):
         """The output, the errors and the exit status that tell of it."""
         clock, *words = self.cells
-        output = history.text(self.opening, self.attempts, clock, b"".join(words))
+        output = history.text(self.script, self.attempts, clock, b"".join(words))
         told = [it for it in self.threads if it.end in (GAVE_UP, STARVED)]
         errors = "".join(f"itmrun: thread {it.number} {it.end}\n" for it in told)
         return output.encode(), errors.encode(), 4 if told else 0

@@ -1,8 +1,10 @@
 """What a script says."""
 
 from entries import BEGIN, COMMIT
+from plain import DEEPEST
 
 ANY = float("inf")
+EARLY_MEMORY, EARLY_THREADS = 65536, 32  # the most that a history of the first version tells of
 
 
 def fields_of(text):
@@ -46,7 +48,7 @@ class Script:
     """The fields of a script that has no fault."""
 
     def __init__(self, text):
-        self.arena, self.patience, self.retries, self.commits = 0, 8, 100, (1 << 62) - 1
+        self.arena, self.patience, self.retries, self.commits, self.depth = 0, 8, 100, (1 << 62) - 1, DEEPEST
         self.items, codes = [], []
         for name, *operands in fields_of(text):
             if name == ".thread":
@@ -58,6 +60,11 @@ class Script:
         self.codes = [code for count, lines in codes for code in count * [Code(lines)]]
         # the threads that take the next steps, and how many each
         self.items = self.items or [(thread, ANY) for thread in range(len(self.codes))]
+
+    def version(self):
+        """That of its histories: the first one where it can tell of them."""
+        few = len(self.opening) <= EARLY_MEMORY and len(self.codes) <= EARLY_THREADS
+        return 1 if self.depth == DEEPEST and few else 3
 
     def directive(self, name, operands):
         if name == ".memory":

@@ -103,7 +103,6 @@ def legal(program, text):
     expect(answer == verdict.answer(verdict.LEGAL), "check answers", answer)
     try:
         history = verdict.read(text)
-        expect(history.version == 1, "line 1 tells version", history.version)
         return history, verdict.check(history)
     except verdict.Found as found:
         raise Wrong("the history is no legal one:", *found.args[0]) from found
@@ -111,7 +110,9 @@ def legal(program, text):
 
 def followed(script, history, machines, errors):
     """The threads of a script, as a history and the errors tell of them."""
-    expect(history.memory == script.opening, "line 2 has to be", script.opening.hex())
+    expect(history.version == script.version(), "line 1 tells version", history.version)
+    expect(history.depth == script.depth, "line 2 tells depth", history.depth)
+    expect(history.memory == script.opening, "the memory has to be", script.opening.hex())
     numbers = [it.thread for it in history.attempts]
     expect(numbers == sorted(numbers), "the tries do not stand by thread")
     expect(max(numbers, default=0) < len(script.codes), "there is no thread", max(numbers, default=0))
