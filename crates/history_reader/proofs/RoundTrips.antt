@@ -4,6 +4,6 @@ pub mod Fields
 pub mod Calls
 pub mod Spellings
 pub mod Lines
-pub mod Leading
+pub mod LeadingLines
 pub mod AttemptTexts
 pub mod Texts

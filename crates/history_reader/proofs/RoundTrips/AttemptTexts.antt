@@ -27,7 +27,7 @@ use Rattle.history_reader.specs.Replies.{is_five}
 use Rattle.history_reader.specs.Tellable.{IsEntry, IsRan, IsUndone, IsTold, IsAttempt}
 use Rattle.history_reader.specs.LineFields.{verb_text, verb_in, rest_of, arena_text, call_fields, ran_fields, restart_fields, undone_fields, head_fields, arena_fields}
 use Rattle.history_reader.proofs.BlocksAgain.{undone_is}
-use Rattle.history_reader.proofs.RoundTrips.Leading.{Leads, leads_on, line_leads, stays}
+use Rattle.history_reader.proofs.RoundTrips.LeadingLines.{Leads, leads_on, line_leads, stays}
 use Rattle.history_reader.proofs.RoundTrips.Spellings.{AreFields, call_are, ran_are, restart_are, undone_are, head_are, arena_are}
 use Rattle.history_reader.proofs.Exactness.Lines.{call_joined, ran_joined, restart_joined, undone_joined, head_joined, arena_joined}
 use Rattle.history_reader.proofs.RoundTrips.Lines.{says_again, head_in, head_says, arena_says, call_says, restart_says, undone_says, late, ran_says, end_says}

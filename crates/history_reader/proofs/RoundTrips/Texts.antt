@@ -17,7 +17,7 @@ use Rattle.history_reader.specs.Reading.{end_of, parts_say, read_of}
 use Rattle.history_reader.specs.Tellable.{IsAttempt, IsMemory, IsHistory}
 use Rattle.history_reader.specs.LineFields.{depth_fields, memory_fields, final_fields}
 use Rattle.history_reader.proofs.RoundTrips.AttemptTexts.{attempts_lead, between, between_lines}
-use Rattle.history_reader.proofs.RoundTrips.Leading.{Leads, leads_on, line_leads}
+use Rattle.history_reader.proofs.RoundTrips.LeadingLines.{Leads, leads_on, line_leads}
 use Rattle.history_reader.proofs.RoundTrips.Spellings.{AreFields, depth_are, memory_are, final_are}
 use Rattle.history_reader.proofs.Exactness.Lines.{depth_joined, memory_joined, final_joined}
 use Rattle.history_reader.proofs.RoundTrips.Lines.{says_again, depth_says, memory_says, final_says}

@@ -32,7 +32,6 @@ const CONFLICT: Answer = Answer::Conflict {
 };
 
 // The steps of the commit, in order: of the second word only half is written.
-
 const TAKE: Step = Step::Cas(0, 0, 1);
 
 const FIRST: Step = Step::Store(1, 5);
