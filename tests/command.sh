@@ -212,7 +212,7 @@ status=$?
 : >"$work/output"
 check 'closed output, and threads that give up' 5
 
-# as many threads as may be, each in its turn
+# as many threads as the first version tells of, each in its turn
 : >"$work/want_errors"
 {
     printf '.memory 8\n.thread 32\n'
@@ -226,7 +226,7 @@ BEGIN {
     print "final 64 " word(32)
 }' >"$work/want_output"
 run sched -
-check 'as many threads as may be' 0
+check 'as many threads as the first version tells of' 0
 
 # as many items as may be; all but the first one are passed over
 awk 'BEGIN {
@@ -270,7 +270,7 @@ BEGIN {
 run sched -
 check 'as many counting blocks as may be' 0
 
-# the largest memory
+# the largest memory of the first version
 awk 'BEGIN {
     print ".memory 65536\n.thread\nset r1 255\n_ITM_beginTransaction r0 -\n_ITM_WU8 65528 r1\n_ITM_RU8 r1 65529\n_ITM_commitTransaction"
 }' >"$work/input"
@@ -281,7 +281,7 @@ awk 'BEGIN {
     print "final 2 " rest "ff00000000000000"
 }' >"$work/want_output"
 run sched -
-check 'the largest memory' 0
+check 'the largest memory of the first version' 0
 
 # the largest text, and one byte more
 printf '.memory 8\n.thread\n;' >"$work/input"

@@ -66,6 +66,44 @@ run sched -
 check 'the largest memory, one event short' 0
 judge_largest 'the largest memory, one event short'
 
+# far_words SCRIPT HISTORY: a block that reads 40 words and writes 20 others, all beyond the 8,192th, from the last one
+# downwards, and what it leaves of the largest memory: more words than a log or a write set looks through
+far_words() {
+    awk -v script="$1" -v history="$2" 'BEGIN {
+        zero = "0000000000000000"; one = "0100000000000000"
+        print ".memory 1048576\n.thread\nset r1 1\n_ITM_beginTransaction r0 -" >script
+        print "itm-history 3\ndepth 16" >history
+        printf "memory " >history
+        for (i = 0; i < 131072; i++) printf zero >history
+        print "\nattempt 0 1 0 committed -\narena -" >history
+        for (i = 0; i < 60; i++) {
+            word = 131071 - 1021 * i
+            if (i % 3 < 2) {
+                print "_ITM_RU8 r2 " 8 * word >script
+                print "call _ITM_RU8 " 8 * word " = " zero >history
+            } else {
+                print "_ITM_WU8 " 8 * word " r1" >script
+                print "call _ITM_WU8 " 8 * word " " one " = ok" >history
+                written[word] = 1
+            }
+        }
+        print "_ITM_commitTransaction" >script
+        print "call _ITM_commitTransaction = ok\nend" >history
+        printf "final 2 " >history
+        for (i = 0; i < 131072; i++) printf i in written ? one : zero >history
+        print "" >history
+    }'
+}
+
+# as the schedule says, and on a thread
+for command in sched threads; do
+    : >"$work/want_errors"
+    far_words "$work/input" "$work/want_output"
+    run "$command" -
+    check "many far words, by $command" 0
+    judge_largest "many far words, by $command"
+done
+
 # the first version tells of 65,536 bytes, and the third one of a word more
 for bytes in 65536 65544; do
     : >"$work/want_errors"

@@ -130,11 +130,20 @@ for threads in 2 4; do
 done
 
 # as many threads as may be
-counters 32 1 >"$work/input"
-on_threads 'as many threads as may be' 32
+counters 64 1 >"$work/input"
+on_threads 'as many threads as may be' 64
+is 'as many threads as may be: their version' "$(head -n 1 "$work/output")" 'itm-history 3'
 
-# the same within so much address space: it is too little for the stacks of 32 threads, or for anything, or enough. Without
+# as many open blocks as may be
+grep -v '^\.schedule' "$root/tests/rows/sixty_five_begins.itm" >"$work/input"
+cp "$root/tests/rows/sixty_five_begins.history" "$work/want_output"
+: >"$work/want_errors"
+run threads -
+check 'as many open blocks as may be' 0
+
+# threads within so much address space: it is too little for the stacks of 32 threads, or for anything, or enough. Without
 # all threads nothing is written.
+counters 32 1 >"$work/input"
 refused=0
 for size in 30000 60000 120000 240000 480000; do
     (ulimit -v "$size" && exec "$root/crates/itmrun/out/itmrun" threads -) <"$work/input" >"$work/output" 2>"$work/errors"
