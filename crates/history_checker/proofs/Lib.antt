@@ -1,3 +1,4 @@
 pub mod Steps
 pub mod Legality
 pub mod Examples
+pub mod EarlyVerdicts

@@ -2,4 +2,5 @@ pub mod Texts
 pub mod Matches
 pub mod Replays
 pub mod Verdicts
+pub mod EarlyVerdicts
 pub mod Tables

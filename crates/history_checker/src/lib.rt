@@ -13,4 +13,4 @@ mod walk;
 mod whole;
 
 pub use verdict::{BadKind, Verdict};
-pub use whole::check;
+pub use whole::{check, early_versions};

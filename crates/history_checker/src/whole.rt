@@ -1,8 +1,11 @@
 //! Histories are checked.
 
-ghost use Rattle.std.specs.Prelude.{◌≡◌, ◌≤◌, ◌%◌, ◌↔◌, All, IfOk, length};
+ghost use Rattle.std.specs.Prelude.{◌≡◌, ◌⊎◌, ◌≤◌, ◌%◌, ◌↔◌, All, IfOk, length};
 ghost use Rattle.tx_history.specs.Legal.{IsLegal};
+ghost use Rattle.tx_history.specs.declared.history.History.{History};
+ghost use Rattle.tx_history.specs.declared.history.Version.TheVariants.{One, Two};
 ghost use Rattle.history_checker.specs.declared.verdict.Verdict.TheVariants.{Legal};
+ghost use Rattle.history_checker.specs.EarlyVerdicts.{early_verdict};
 ghost use Rattle.history_checker.specs.Verdicts.{verdict_of};
 
 use crate::endings::{final_verdict, told_fault};
@@ -45,3 +48,9 @@ pub fn check(alloc: Global, history: &History) -> Result<Verdict, AllocError>
     }
     Ok(final_verdict(history, count, &walked.told, &walked.base))
 }
+
+/// The verdict of a history of the first two versions is what it was before there were others: it is replayed with at most 16
+/// open blocks. Does nothing.
+pub fn early_versions()
+    ensures { (h : History) → (h.version ≡ One) ⊎ (h.version ≡ Two) → verdict_of h ≡ early_verdict h }
+{}

@@ -4,6 +4,6 @@ pub mod BlocksAgain
 pub mod RoundTrips
 pub mod Exactness
 pub mod Canon
-pub mod FirstLines
-pub mod FirstVersion
+pub mod EarlyLines
+pub mod EarlyVersions
 mod WorkedRestarts

@@ -1,5 +1,5 @@
 -- Digits as bytes, and values of a width.
-use Rattle.std.proofs.Common.{◌≡◌, ℕ, ◌*◌, ◌<◌, ◌/◌, ◌%◌, ◌≤◌, true, eqb, not, ◌&&◌, leb, List, length, take, replicate, Result, Ok, Err, refl, ◌∙◌, arith, inl, inr}
+use Rattle.std.proofs.Common.{◌≡◌, ℕ, ◌*◌, ◌<◌, ◌/◌, ◌%◌, true, eqb, not, ◌&&◌, leb, List, length, take, replicate, Result, Ok, Err, refl, ◌∙◌, arith, inl, inr}
 use Rattle.std.specs.List.{list_all}
 use Rattle.std.proofs.lemmas.Bool.{and_parts, eqb-false, not-true, or_cases, leb-true, le-leb, lt-leb}
 use Rattle.std.proofs.lemmas.List.{take-append-le}

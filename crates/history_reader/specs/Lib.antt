@@ -7,8 +7,8 @@ pub mod Replies
 pub mod Calls
 pub mod Lines
 pub mod Reading
-pub mod FirstLines
-pub mod FirstVersion
+pub mod EarlyLines
+pub mod EarlyVersions
 pub mod Tellable
 pub mod LineFields
 pub mod Canonical

@@ -18,4 +18,4 @@ mod whole;
 mod words;
 
 pub use fault::{ReadFault, ReadKind};
-pub use whole::{first_version, legal_texts, read};
+pub use whole::{first_version, legal_texts, read, second_version};

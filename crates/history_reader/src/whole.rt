@@ -4,7 +4,7 @@ ghost use Rattle.std.specs.Prelude.{◌≡◌, ◌++◌, codes, IfOk, IfErr, Lis
 ghost use Rattle.tx_history.specs.Bounds.{AreLimited, HistoryFits};
 ghost use Rattle.tx_history.specs.Histories.{history_text};
 ghost use Rattle.tx_history.specs.Legal.{IsLegal};
-ghost use Rattle.history_reader.specs.FirstVersion.{first_of};
+ghost use Rattle.history_reader.specs.EarlyVersions.{first_of, second_of};
 ghost use Rattle.history_reader.specs.LegalTexts.{IsLegalText};
 ghost use Rattle.history_reader.specs.Reading.{whole, end_of, Fails, Gives, RunsOut, IsAnswer, read_of};
 ghost use Rattle.history_reader.specs.Tellable.{IsHistory};
@@ -106,4 +106,9 @@ pub fn legal_texts()
 /// same line. Does nothing.
 pub fn first_version()
     ensures { (rest : List ℕ) → read_of (codes "itm-history 1\n" ++ rest) ≡ first_of (codes "itm-history 1\n" ++ rest) }
+{}
+
+/// And what a text of the second version says is what it said before there was a third. Does nothing.
+pub fn second_version()
+    ensures { (rest : List ℕ) → read_of (codes "itm-history 2\n" ++ rest) ≡ second_of (codes "itm-history 2\n" ++ rest) }
 {}
