@@ -26,6 +26,7 @@ const LIMITS: Limits = Limits {
     retries: 0,
     max_commits: MAX_COMMITS,
     depth: USUAL_DEPTH,
+    restarts: 0,
 };
 
 /// A pass that has come back, and what was done with it.

@@ -35,7 +35,7 @@ impl<'p> Counted<'p> {
 }
 
 impl<'p> Player for Counted<'p> {
-    ghost use Rattle.script_vm.specs.Threads.{next_call, answered, restarted, calls_left, depth_of};
+    ghost use Rattle.script_vm.specs.Threads.{next_call, answered, restarted, at_block, calls_left, depth_of};
     ghost use Rattle.script_vm.specs.ThreadLaws.{thread_laws};
 
     ghost next_call = { next_call };
@@ -43,6 +43,8 @@ impl<'p> Player for Counted<'p> {
     ghost answered = { answered };
 
     ghost restarted = { restarted };
+
+    ghost at_block = { at_block };
 
     ghost calls_left = { calls_left };
 
@@ -59,6 +61,10 @@ impl<'p> Player for Counted<'p> {
 
     fn restart(&mut self) {
         self.script.restart();
+    }
+
+    fn restart_block(&mut self) {
+        self.script.restart_block();
     }
 
     fn copy(&self) -> Result<Self, AllocError> {

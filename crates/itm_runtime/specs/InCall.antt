@@ -4,6 +4,7 @@ use Rattle.itm_types.specs.declared.row.LogRow.{LogRow}
 use Rattle.itm_types.specs.declared.step.Step.{Step}
 use Rattle.itm_types.specs.declared.step.Step.TheVariants.{Store}
 use Rattle.itm_model.specs.Machine.{after, reply}
+use Rattle.nest_frames.specs.Nest.{reads_of}
 use Rattle.norec_core.specs.declared.answer.Next.{Next}
 use Rattle.norec_core.specs.declared.answer.Next.TheVariants.{Step as Asks, Answer as Answers}
 use Rattle.norec_core.specs.Core.{Core, came, in_transaction}
@@ -14,11 +15,9 @@ use Rattle.norec_core.specs.Phases.{Phase}
 use Rattle.norec_core.specs.Phases.{Idle, Begin, Take, RoundStart}
 use Rattle.norec_core.specs.Proceeds.{Got, IsLawful, most}
 use Rattle.norec_core.specs.Stands.{stands_for}
-use Rattle.shared_words.specs.declared.pass.Pass.{Pass}
 use Rattle.shared_words.specs.declared.view.View.{View}
-use Rattle.shared_words.specs.declared.words.Words.{Words}
 use Rattle.shared_words.specs.Commits.{StartsWith}
-use Rattle.shared_words.specs.Passes.{IsOver, Owns, view_of}
+use Rattle.shared_words.specs.Passes.{IsOver}
 use Rattle.shared_words.specs.Steps.{StepTells}
 use Rattle.shared_words.specs.Views.{held}
 use Rattle.itm_runtime.specs.Ties.{IsTied, Stands}
@@ -65,6 +64,7 @@ pub record InCall (s : Start) (v : View) (e : Core) (step : Step) : Type 0 where
   pub mine : v.mine ≡ s.view.mine
   pub looked : (v.clock ≡ s.view.clock) ⊎ (s.view.looks < v.looks)
   pub first : in_transaction s.engine ≡ true → s.view.clock ≡ s.engine.snapshot
+  pub read : s.engine.irrevocable ≡ false → reads_of s.engine.blocks ≤ length s.engine.log
   pub taken : e.holds ≡ true → e.irrevocable ≡ false → s.view.looks < v.looks
   pub shut : in_transaction s.engine ≡ false → IsShut s.engine
   pub begun : stage_at s.engine s.call s.again ≡ Idle → ⊥

@@ -1,18 +1,20 @@
 -- What a call of a thread is answered, and what it leaves.
-use Rattle.std.specs.Prelude.{◌≡◌, ◌≢◌, ◌⊎◌, ℕ, suc, ◌+◌, ◌/◌, ◌%◌, ◌<◌, ◌≤◌, ◌&&◌, not, Bool, true, false, List, [], ◌∷◌, ◌++◌, length, slice_get, Option, None, Some}
+use Rattle.std.specs.Prelude.{◌≡◌, ◌≢◌, ◌⊎◌, ℕ, suc, ◌+◌, ◌/◌, ◌%◌, ◌<◌, ◌≤◌, ◌&&◌, not, Bool, true, false, List, [], ◌∷◌, ◌++◌, length, take, slice_get, Option, None, Some}
 use Rattle.itm_types.specs.declared.call.Call.{Call}
 use Rattle.itm_types.specs.declared.call.Call.TheVariants.{Begin, Commit}
 use Rattle.itm_types.specs.declared.call.Reply.{Reply as Replied}
 use Rattle.itm_types.specs.declared.row.LogRow.{LogRow}
 use Rattle.itm_types.specs.Memory.{bytes_of, IsMemory, Agrees}
 use Rattle.itm_types.specs.Calls.{is_abort}
-use Rattle.itm_model.specs.Machine.{after, reply, undone}
+use Rattle.itm_model.specs.Machine.{after, back, reply, undone}
+use Rattle.nest_frames.specs.Nest.{reads_of, renewed}
 use Rattle.norec_core.specs.declared.answer.Answer.{Answer}
-use Rattle.norec_core.specs.declared.answer.Answer.TheVariants.{Reply, Committed, Conflict, Busy, Full}
-use Rattle.norec_core.specs.Core.{Core, came, in_transaction}
+use Rattle.norec_core.specs.declared.answer.Answer.TheVariants.{Reply, Committed, Conflict, Restarted, Busy, Full}
+use Rattle.norec_core.specs.Core.{Core, came, in_transaction, is_within}
 use Rattle.norec_core.specs.Order.{stage_at}
 use Rattle.norec_core.specs.Phases.{Idle}
 use Rattle.norec_core.specs.Proceeds.{GoesOver, IsBegin, WantsClock, most}
+use Rattle.norec_core.specs.Restarts.{IsRestart, begun_again}
 use Rattle.norec_core.specs.Effects.{recoded, room_left}
 use Rattle.norec_core.specs.Stands.{stands_for}
 use Rattle.shared_words.specs.declared.view.View.{View}
@@ -56,6 +58,7 @@ abbrev pub mine_after : List ℕ → Answer → List ℕ
 mine_after mine (Reply r) = mine
 mine_after mine (Committed at wrote) = mine_if wrote mine at
 mine_after mine (Conflict clock word) = mine
+mine_after mine (Restarted clock word) = mine
 mine_after mine (Busy clock) = mine
 mine_after mine (Full at) = mine
 
@@ -70,6 +73,7 @@ pub record Replies (s : Start) (r : Replied) (v : View) (e : Core) : Type 0 wher
   pub takes : s.engine.irrevocable ≡ false → e.irrevocable ≡ true → s.view.looks < v.looks  -- the clock is taken in this very call
   pub all : s.engine.irrevocable ≡ false → e.irrevocable ≡ false → (m : List ℕ) → IsMemory s.engine.words m → Agrees m e.log → Meets s r e m m
   pub still : is_abort s.call ≡ false → in_transaction s.engine ≡ true → in_transaction e ≡ true  -- an abort alone ends a transaction by its reply
+  pub restarted : e.restarted ≡ (came s.engine s.call s.again).restarted  -- no block goes back, and an outermost begin counts anew
   pub room : e.room ≡ room_left (came s.engine s.call s.again) s.call r  -- for commit actions: what the call asks for where it makes the transaction irrevocable, and one less after each
 
 -- no transaction is open any more, or still none is. The position was seen, and its memory agrees with all that was read
@@ -143,14 +147,35 @@ pub record IsFull (s : Start) (at : ℕ) (v : View) (e : Core) : Type 0 where
   pub full : s.engine.max_commits ≤ at
   pub undone : IsUndone s e
 
+-- the word is one that the innermost block has read
+abbrev pub IsOwn : Start → ℕ → Type 0
+IsOwn s word = (log : List LogRow) × (place : ℕ) × (row : LogRow) × StartsWith log s.engine.log × (reads_of s.engine.blocks ≤ place) × (slice_get log place ≡ Some row) × (row.word ≡ word)
+
+-- the innermost block, which is within another one, has gone back to just after its begin: the position has moved up to the clock that was seen last, in this call. What is left of the log agrees with its memory, and over every memory that agrees with it the engine stands for that block rolled back and begun again
+pub record Restarts (s : Start) (clock word : ℕ) (v : View) (e : Core) : Type 0 where
+  pub still : (in_transaction s.engine ≡ true) × (in_transaction e ≡ true)
+  pub within : is_within s.engine.blocks ≡ true
+  pub left : s.engine.restarted < s.engine.restarts
+  pub counted : e.restarted ≡ s.engine.restarted + 1
+  pub clock_is : (clock ≡ v.clock) × (clock ≡ e.snapshot)
+  pub later : s.engine.snapshot < clock
+  pub looks : s.view.looks < v.looks
+  pub word_is : IsOwn s word
+  pub revocable : (s.engine.irrevocable ≡ false) × (e.irrevocable ≡ false)
+  pub log : e.log ≡ take (reads_of s.engine.blocks) s.engine.log
+  pub agrees : Agrees (memory_of v (clock / 2)) e.log
+  pub blocks : e.blocks ≡ renewed s.engine.blocks
+  pub meets : (m : List ℕ) → IsMemory s.engine.words m → Agrees m e.log → stands_for e m ≡ begun_again s.engine.blocks (back (stands_for s.engine m))
+
 abbrev pub Tells : Start → Answer → View → Core → Type 0
 Tells s (Reply r) v e = Replies s r v e
 Tells s (Committed at wrote) v e = Commits s at wrote v e
 Tells s (Conflict clock word) v e = Conflicts s clock word v e
+Tells s (Restarted clock word) v e = Restarts s clock word v e
 Tells s (Busy clock) v e = IsBusy s clock v e
 Tells s (Full at) v e = IsFull s at v e
 
--- within an attempt the snapshot does not fall, and what was read before agrees with the memory of its position. The log grows, and only at a look at the clock; as the transaction becomes irrevocable it is emptied
+-- within an attempt, unless a block goes back, the snapshot does not fall, and what was read before agrees with the memory of its position. The log grows, and only at a look at the clock; as the transaction becomes irrevocable it is emptied
 pub record Grows (s : Start) (v : View) (e : Core) : Type 0 where
   pub snapshot : s.engine.snapshot ≤ e.snapshot
   pub log : StartsWith e.log s.engine.log ⊎ GoesOver s.engine e
@@ -166,11 +191,11 @@ pub record Served (s : Start) (a : Answer) (v : View) (e : Core) : Type 0 where
   pub tells : Tells s a v e
   pub mine : v.mine ≡ mine_after s.view.mine a
   pub went : Went s.view v
-  pub grows : in_transaction s.engine ≡ true → in_transaction e ≡ true → Grows s v e
+  pub grows : in_transaction s.engine ≡ true → in_transaction e ≡ true → (IsRestart a → ⊥) → Grows s v e
   pub opens : in_transaction s.engine ≡ false → in_transaction e ≡ true → Opens s v e
   pub steps : length v.steps ≡ length s.view.steps + e.spent  -- it took as many steps as it tells
   pub at_once : stage_at s.engine s.call s.again ≡ Idle → (v ≡ s.view) × (e.snapshot ≡ s.engine.snapshot)  -- a call that has no step to ask for looks at nothing
   pub fixed : s.engine.irrevocable ≡ true → e.snapshot ≡ s.engine.snapshot  -- no other commits before one that is irrevocable
   pub within : e.spent ≤ most (came s.engine s.call s.again) (Some s.call)
   pub words : e.words ≡ s.engine.words
-  pub limits : (e.max_commits ≡ s.engine.max_commits) × (e.patience ≡ s.engine.patience) × (e.depth ≡ s.engine.depth)
+  pub limits : (e.max_commits ≡ s.engine.max_commits) × (e.patience ≡ s.engine.patience) × (e.depth ≡ s.engine.depth) × (e.restarts ≡ s.engine.restarts)

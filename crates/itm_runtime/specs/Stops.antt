@@ -6,14 +6,15 @@ use Rattle.itm_types.specs.declared.datum.Datum.{Datum}
 use Rattle.itm_types.specs.declared.call.Reply.TheVariants.{Done, Bytes, Refused as RefusedReply}
 use Rattle.itm_model.specs.Machine.{bytes_reply}
 use Rattle.norec_core.specs.declared.answer.Answer.{Answer}
-use Rattle.norec_core.specs.declared.answer.Answer.TheVariants.{Reply, Conflict as ConflictAnswer, Busy as BusyAnswer, Full as FullAnswer}
+use Rattle.norec_core.specs.declared.answer.Answer.TheVariants.{Reply, Conflict as ConflictAnswer, Restarted as RestartedAnswer, Busy as BusyAnswer, Full as FullAnswer}
 use Rattle.itm_runtime.specs.declared.stop.Stop.{Stop}
-use Rattle.itm_runtime.specs.declared.stop.Stop.TheVariants.{Refused, Conflict, Busy, Full, Memory}
+use Rattle.itm_runtime.specs.declared.stop.Stop.TheVariants.{Refused, Conflict, Restarted, Busy, Full, Memory}
 
 -- the answer that a stop tells of; where memory was refused there is none
 abbrev pub answer_of : Stop → Option Answer
 answer_of (Refused refusal) = Some (Reply (RefusedReply refusal))
 answer_of (Conflict clock word) = Some (ConflictAnswer clock word)
+answer_of (Restarted clock word) = Some (RestartedAnswer clock word)
 answer_of (Busy clock) = Some (BusyAnswer clock)
 answer_of (Full at) = Some (FullAnswer at)
 answer_of Memory = None

@@ -1,5 +1,7 @@
 //! The slow path: calls that are not on the fast path, as functions of their own. They write the answer where the caller
-//! has it: the fast path, which has none of its own to hand over, then moves none about.
+//! has it: the fast path, which has none of its own to hand over, then moves none about. A function fills its locals at its
+//! entry, on whatever path it goes on; so `read_slow` and `call_slow`, which stand where they are called, have the calls and
+//! answers that only the slow path keeps in memory.
 
 ghost use Rattle.std.specs.Prelude.{false};
 ghost use Rattle.shared_words.specs.Passes.{Owns};
@@ -8,7 +10,7 @@ ghost use Rattle.itm_runtime.specs.Standing.{start_of};
 
 use crate::drive::finish;
 use crate::thread::Thread;
-use itm_types::{Call, Props, Reply};
+use itm_types::{Call, Props, ReadHint, Reply, Width};
 use norec_core::Answer;
 use shared_words::Words;
 use std::alloc::AllocError;
@@ -32,8 +34,23 @@ impl Thread {
         Ok(())
     }
 
+    /// A read.
+    #[inline(always)]
+    pub(crate) fn read_slow(
+        &mut self,
+        words: &Words,
+        hint: ReadHint,
+        width: Width,
+        at: u64,
+    ) -> Result<Answer, AllocError>
+        requires own { Owns words.now self.old.pass }
+        ensures { Returns (λ a. a) words.now self.old (Call.Read hint width at) false result self.new }
+    {
+        self.call_slow(words, &Call::Read { hint, width, at })
+    }
+
     /// A call.
-    #[inline(never)]
+    #[inline(always)]
     pub(crate) fn call_slow(&mut self, words: &Words, call: &Call) -> Result<Answer, AllocError>
         requires own { Owns words.now self.old.pass }
         ensures { Returns (λ a. a) words.now self.old call.now false result self.new }
@@ -44,6 +61,7 @@ impl Thread {
     }
 
     /// The same, with the answer where the caller has it.
+    #[inline(never)]
     fn call_told(
         &mut self,
         words: &Words,

@@ -18,6 +18,10 @@ pub enum Stop {
     /// The transaction is rolled back, and may be tried again: the fields are those of `Answer::Conflict`.
     #[error("a conflict")]
     Conflict { clock: u64, word: Option<u32> },
+    /// The innermost block has gone back to just after its begin, and is to be run again from there: the fields are those
+    /// of `Answer::Restarted`.
+    #[error("the innermost block starts again")]
+    Restarted { clock: u64, word: u32 },
     /// The transaction did not begin, and may be tried again.
     #[error("the clock is held")]
     Busy { clock: u64 },
@@ -39,6 +43,7 @@ impl Stop {
         match answer {
             Answer::Reply(Reply::Refused(refusal)) => Err(Stop::Refused(refusal)),
             Answer::Conflict { clock, word } => Err(Stop::Conflict { clock, word }),
+            Answer::Restarted { clock, word } => Err(Stop::Restarted { clock, word }),
             Answer::Busy { clock } => Err(Stop::Busy { clock }),
             Answer::Full { at } => Err(Stop::Full { at }),
             answer => Ok(answer),

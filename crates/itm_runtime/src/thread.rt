@@ -4,6 +4,7 @@ ghost use Rattle.std.specs.Prelude.{◌≡◌, ◌-◌, ◌^◌, ◌<◌, ◌≤
 ghost use Rattle.norec_core.specs.Core.{opening, in_transaction, irrevocable_room};
 ghost use Rattle.user_actions.specs.Actions.{total};
 ghost use Rattle.norec_core.specs.Proceeds.{IsUndone};
+ghost use Rattle.norec_core.specs.Restarts.{IsRestart};
 ghost use Rattle.norec_core.specs.Undoing.{after_undoing, undone_of};
 ghost use Rattle.shared_words.specs.Passes.{Owns, view_of, cells_of};
 ghost use Rattle.itm_runtime.specs.Ties.{Stands};
@@ -12,8 +13,7 @@ ghost use Rattle.itm_runtime.specs.Standing.{start_of};
 
 use crate::drive::{finish, finish_commit, finish_fast, finish_read};
 use itm_types::{
-    Call, Datum, Limits, MAX_COMMITS, MAX_PATIENCE, Props, Ran, ReadHint, Reply, USUAL_DEPTH,
-    Width, WriteHint,
+    Call, Datum, Limits, MAX_COMMITS, MAX_PATIENCE, Props, Ran, ReadHint, Reply, Width, WriteHint,
 };
 use norec_core::{Answer, Undone};
 use norec_engine::{Engine, FastStep};
@@ -46,8 +46,8 @@ impl Model for Thread {
 }
 
 impl Thread {
-    /// A thread outside a transaction, with its arena, over the words that own the pass. Takes no memory where no more blocks
-    /// may be open than usual.
+    /// A thread outside a transaction, with its arena, over the words that own the pass. Takes memory for the begins of open
+    /// blocks.
     pub fn new(
         alloc: Global,
         words: &Words,
@@ -62,9 +62,8 @@ impl Thread {
         requires depth { 0 < limits.depth }
         ensures pass { IfOk result (λ t. t.pass ≡ pass) }
         ensures engine { IfOk result (λ t. t.engine
-            ≡ opening (cells_of words.now - 1) arena limits.patience limits.max_commits limits.depth) }
+            ≡ opening (cells_of words.now - 1) arena limits.patience limits.max_commits limits.depth limits.restarts) }
         ensures stands { IfOk result (λ t. Stands (view_of t.pass) t.engine) }
-        ensures few { limits.depth ≤ USUAL_DEPTH → IsOk result }
     {
         let count = (words.size() / 8) as u32;
         let engine = Engine::new(alloc, count, arena, limits)?;
@@ -129,7 +128,7 @@ impl Thread {
     {
         match self.engine.read_fast(hint, width, at) {
             Some(word) => Ok(finish_read(words, &mut self.pass, &mut self.engine, word)),
-            None => self.call_slow(words, &Call::Read { hint, width, at }),
+            None => self.read_slow(words, hint, width, at),
         }
     }
 
@@ -161,7 +160,10 @@ impl Thread {
     /// The innermost block ends; with the outermost one the transaction commits (section 5.9). Takes no memory.
     pub fn commit(&mut self, words: &Words) -> Answer
         requires own { Owns words.now self.old.pass }
-        ensures { IsAnswered words.now (start_of self.old Call.Commit false) result self.new.pass self.new.engine }
+        ensures answered { IsAnswered words.now (start_of self.old Call.Commit false) result self.new.pass self.new.engine }
+
+        // No block goes back alone.
+        ensures whole { IsRestart result → ⊥ }
     {
         let mut answer = Answer::Reply(Reply::Done);
         match self.engine.commit_fast(&mut answer) {
@@ -179,7 +181,8 @@ impl Thread {
     /// The innermost block is cancelled, or with `outer` all that are open (section 5.8). Takes no memory.
     pub fn cancel(&mut self, words: &Words, outer: bool) -> Answer
         requires own { Owns words.now self.old.pass }
-        ensures { IsAnswered words.now (start_of self.old (Call.Abort outer) false) result self.new.pass self.new.engine }
+        ensures answered { IsAnswered words.now (start_of self.old (Call.Abort outer) false) result self.new.pass self.new.engine }
+        ensures whole { IsRestart result → ⊥ }
     {
         match self.call(words, &Call::Abort { outer }) {
             Ok(answer) => answer,

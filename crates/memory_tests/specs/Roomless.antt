@@ -1,12 +1,13 @@
 -- A thread of a program that asks for no room ahead.
-use Rattle.std.proofs.Common.{◌≡◌, ℕ, ◌<◌, Option, None, Some, refl, if◌then◌else◌}
+use Rattle.std.proofs.Common.{◌≡◌, ℕ, ◌<◌, ◌≤◌, Option, None, Some, nat_lt, refl, if◌then◌else◌}
 use Rattle.std.specs.Option.{option_map}
 use Rattle.itm_types.specs.declared.call.Call.{Call}
 use Rattle.itm_types.specs.declared.call.Call.TheVariants.{Begin, Mode}
 use Rattle.itm_types.specs.declared.call.Reply.{Reply}
+use Rattle.itm_types.specs.declared.call.Reply.TheVariants.{Code}
 use Rattle.tx_player.specs.Depth.{depth_after, opens}
 use Rattle.tx_player.specs.Laws.{Laws}
-use Rattle.script_vm.specs.Threads.{Thread, answered, restarted, calls_left, depth_of}
+use Rattle.script_vm.specs.Threads.{Thread, answered, restarted, at_block, calls_left, depth_of}
 use Rattle.script_vm.specs.Threads as threads
 use Rattle.script_vm.specs.ThreadLaws.{thread_laws}
 
@@ -44,5 +45,9 @@ restarts t c r e =
     let a = asked (threads.next_call t) c e in
     rw (← a.2, same_depth (depth_of t) a.0 r, same_opens (depth_of t) a.0 r) (thread_laws.restarts t a.0 r a.1)
 
-pub roomless_laws : Laws next_call answered restarted calls_left depth_of
-roomless_laws = record { nearer = nearer; nests = nests; restarts = restarts }
+begins : (t : Thread) (c : Call) (r : Reply) → next_call t ≡ Some c → (d : ℕ) → 0 < d → d ≤ depth_after (depth_of t) c r
+    → at_block (answered t r) d ≡ (if nat_lt (depth_of t) d then answered t (Code 5) else at_block t d)
+begins t c r e = let a = asked (threads.next_call t) c e in rw (← a.2, same_depth (depth_of t) a.0 r) (thread_laws.begins t a.0 r a.1)
+
+pub roomless_laws : Laws next_call answered restarted at_block calls_left depth_of
+roomless_laws = record { nearer = nearer; nests = nests; restarts = restarts; begins = begins }

@@ -4,11 +4,12 @@ use Rattle.itm_types.specs.declared.call.Action.{Action}
 use Rattle.itm_types.specs.declared.call.Props.{Props}
 use Rattle.undo_log.specs.Rollback.{Old, put_back}
 use Rattle.write_set.specs.declared.row.Row.{Row}
-use Rattle.write_set.specs.Marks.{Written, start}
+use Rattle.write_set.specs.Marks.{Written, renewed_at, start}
 use Rattle.write_set.specs.Rows.{row}
-use Rattle.user_actions.specs.Actions.{Actions, no_actions, as_commit, as_undo}
+use Rattle.itm_types.specs.declared.call.ActionKind.TheVariants.{Undo}
+use Rattle.user_actions.specs.Actions.{Actions, no_actions, as_commit, as_undo, registered}
 use Rattle.nest_frames.specs.declared.moment.Moment.{Moment}
-use Rattle.nest_frames.specs.Nest.{Frame, begun, log_of, logged, closed, is_kept, arena_back, arena_restored, actions_closed, actions_cancelled, actions_back}
+use Rattle.nest_frames.specs.Nest.{Frame, begun, log_of, reads_of, logged, closed, renewed, is_kept, arena_back, arena_restored, made_irrevocable, actions_closed, actions_cancelled, actions_back}
 use Rattle.nest_frames.specs.Moments.{frames_of}
 
 abbrev old : ℕ → ℕ → Old
@@ -18,7 +19,7 @@ abbrev cancellable : Props
 cancellable = record { no_abort = false; no_irrevocable = false; goes_irrevocable = false }
 
 abbrev block : List Row → List Old → Frame
-block rows log = record { props = cancellable; rows = rows; log = log; commits = 0; undos = 0 }
+block rows log = record { props = cancellable; rows = rows; log = log; commits = 0; undos = 0; reads = 0 }
 
 -- in the outer block byte 0 was logged as 5, in the inner one byte 0 as 6 and byte 1 as 8
 abbrev outer : Frame
@@ -51,10 +52,31 @@ both_go_back = refl
 both_restored : arena_restored (inner ∷ outer ∷ []) (1 ∷ 2 ∷ []) ≡ 5 ∷ 8 ∷ []
 both_restored = refl
 
+-- ## A block that runs again
+
+-- nothing is logged in it, and its rows are those at its begin still; the outer block stays
+inner_runs_again : renewed (inner ∷ outer ∷ []) ≡ block (row 3 255 7 ∷ []) [] ∷ outer ∷ []
+inner_runs_again = refl
+
+-- byte 2 was logged in no block, and stays
+logged_bytes_go_back : put_back (log_of (inner ∷ outer ∷ [])) (1 ∷ 2 ∷ 3 ∷ []) ≡ 6 ∷ 8 ∷ 3 ∷ []
+logged_bytes_go_back = refl
+
+-- with nothing logged since, another time changes nothing, and both blocks go back to what the outer one found
+nothing_goes_back_again : put_back (log_of (renewed (inner ∷ outer ∷ []))) (6 ∷ 8 ∷ 3 ∷ []) ≡ 6 ∷ 8 ∷ 3 ∷ []
+nothing_goes_back_again = refl
+
+both_go_back_from_there : arena_back (renewed (inner ∷ outer ∷ [])) (6 ∷ 8 ∷ 3 ∷ []) ≡ 5 ∷ 8 ∷ 3 ∷ []
+both_go_back_from_there = refl
+
+-- what it logs then is its own once more, and the outer block has it with its own log
+logs_again : closed (logged (renewed (inner ∷ outer ∷ [])) (old 1 8 ∷ [])) ≡ block [] (old 0 5 ∷ old 1 8 ∷ []) ∷ []
+logs_again = refl
+
 -- ## Blocks that are not cancelled
 
 abbrev not_cancelled : Frame
-not_cancelled = begun (record { no_abort = true; no_irrevocable = false; goes_irrevocable = false }) [] no_actions
+not_cancelled = begun (record { no_abort = true; no_irrevocable = false; goes_irrevocable = false }) [] no_actions 0
 
 innermost_is_kept : is_kept (not_cancelled ∷ outer ∷ []) false ≡ true
 innermost_is_kept = refl
@@ -79,11 +101,21 @@ abbrev actions : Actions
 actions = record { commits = action 1 ∷ action 3 ∷ []; undos = action 2 ∷ action 4 ∷ []; ran = as_undo (action 9) ∷ [] }
 
 abbrev with_actions : Frame
-with_actions = record inner { commits = 1; undos = 1 }
+with_actions = record inner { commits = 1; undos = 1; reads = 3 }
 
 -- a block that began between them
-between : begun cancellable [] (record { commits = action 1 ∷ []; undos = action 2 ∷ []; ran = [] }) ≡ record outer { log = []; commits = 1; undos = 1 }
+between : begun cancellable [] (record { commits = action 1 ∷ []; undos = action 2 ∷ []; ran = [] }) 3 ≡ record outer { log = []; commits = 1; undos = 1; reads = 3 }
 between = refl
+
+-- it began with three words read, and an irrevocable one with none
+reads_inner : reads_of (with_actions ∷ outer ∷ []) ≡ 3
+reads_inner = refl
+
+reads_again : reads_of (renewed (with_actions ∷ outer ∷ [])) ≡ 3
+reads_again = refl
+
+nothing_read : made_irrevocable with_actions ≡ block [] []
+nothing_read = refl
 
 -- none runs, and none is forgotten
 actions_inner_closes : actions_closed (with_actions ∷ outer ∷ []) actions ≡ actions
@@ -96,6 +128,12 @@ actions_outermost_closes = refl
 actions_inner_goes_back : actions_cancelled (with_actions ∷ outer ∷ []) actions ≡ record { commits = action 1 ∷ []; undos = action 2 ∷ []; ran = as_undo (action 9) ∷ as_undo (action 4) ∷ [] }
 actions_inner_goes_back = refl
 
+-- it runs again and registers undo action 5: that one runs too where it goes back once more
+actions_go_back_again : actions_cancelled (renewed (with_actions ∷ outer ∷ []))
+    (registered Undo (action 5) (actions_cancelled (with_actions ∷ outer ∷ []) actions))
+    ≡ record { commits = action 1 ∷ []; undos = action 2 ∷ []; ran = as_undo (action 9) ∷ as_undo (action 4) ∷ as_undo (action 5) ∷ [] }
+actions_go_back_again = refl
+
 actions_both_go_back : actions_back (with_actions ∷ outer ∷ []) actions ≡ record { commits = []; undos = []; ran = as_undo (action 9) ∷ as_undo (action 4) ∷ as_undo (action 2) ∷ [] }
 actions_both_go_back = refl
 
@@ -107,13 +145,18 @@ writes = record { rows = row 3 255 9 ∷ []; saves = row 3 255 7 ∷ []; inner =
 
 abbrev moments : List Moment
 moments =
-    record { props = cancellable; rows = record { here = start; outer = start }; log = 0; actions = record { commits = 0; undos = 0 } }
-    ∷ record { props = cancellable; rows = record { here = record { rows = 1; saves = 0 }; outer = start }; log = 1; actions = record { commits = 1; undos = 1 } }
+    record { props = cancellable; rows = record { here = start; outer = start }; log = 0; actions = record { commits = 0; undos = 0 }; reads = 0 }
+    ∷ record { props = cancellable; rows = record { here = record { rows = 1; saves = 0 }; outer = start }; log = 1; actions = record { commits = 1; undos = 1 }; reads = 3 }
     ∷ []
 
 two_blocks : frames_of writes (old 0 5 ∷ old 0 6 ∷ old 1 8 ∷ []) moments ≡ with_actions ∷ outer ∷ []
 two_blocks = refl
 
+-- the inner one goes back to its begin: word 3 is as the outer block wrote it
+inner_begins_again : frames_of (renewed_at writes (record { here = record { rows = 1; saves = 0 }; outer = start })) (old 0 5 ∷ []) moments
+    ≡ renewed (with_actions ∷ outer ∷ [])
+inner_begins_again = refl
+
 -- a block that begins there
-third_block : begun cancellable writes.rows actions ≡ record (block (row 3 255 9 ∷ []) []) { commits = 2; undos = 2 }
+third_block : begun cancellable writes.rows actions 4 ≡ record (block (row 3 255 9 ∷ []) []) { commits = 2; undos = 2; reads = 4 }
 third_block = refl

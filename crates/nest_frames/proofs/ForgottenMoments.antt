@@ -8,7 +8,7 @@ use Rattle.nest_frames.specs.declared.moment.Moment.{Moment}
 use Rattle.nest_frames.specs.Nest.{Frame, Nest, made_irrevocable}
 use Rattle.write_set.specs.Marks.{Written}
 use Rattle.undo_log.specs.Rollback.{Old, Undo}
-use Rattle.nest_frames.specs.Moments.{forgotten, frames_from, frames_of, AreUnder, BeginEmpty, IsSound}
+use Rattle.nest_frames.specs.Moments.{forgotten, frame_at, frames_from, frames_of, AreUnder, BeginEmpty, IsSound}
 
 -- the first ones are forgotten, and now the next one
 pub next_forgotten : {A : Type 0} (f : A → A) (xs : List A) (i : ℕ) (none : A) → i < length xs
@@ -31,7 +31,7 @@ map_reverse f (x ∷ xs) = reverse-append (f x ∷ []) (map f xs) ∙ (ap (λ t.
 
 frames_forgotten : (w : Written) (os : List Old) (ms : List Moment) → frames_from unwritten [] (map forgotten ms) ≡ map made_irrevocable (frames_from w os ms)
 frames_forgotten w os [] = refl
-frames_forgotten w os (m ∷ ms) = ap (λ t. made_irrevocable (record { props = m.props; rows = []; log = []; commits = 0; undos = 0 }) ∷ t) (frames_forgotten w (take m.log os) ms)
+frames_forgotten w os (m ∷ ms) = ap (λ t. made_irrevocable (frame_at m [] []) ∷ t) (frames_forgotten w (take m.log os) ms)
 
 pub frames_of_forgotten : (w : Written) (os : List Old) (ms : List Moment) → frames_of unwritten [] (map forgotten ms) ≡ map made_irrevocable (frames_of w os ms)
 frames_of_forgotten w os ms = ap (frames_from unwritten []) (map_reverse forgotten ms) ∙ frames_forgotten w os (reverse ms)

@@ -3,7 +3,7 @@ use Rattle.std.proofs.Common.{◌≡◌, Bool, ℕ, suc, ◌+◌, ◌-◌, ◌<�
 use Rattle.std.specs.Prelude.{get_or, option_map, slice_get}
 use Rattle.std.specs.List.{list_any}
 use Rattle.std.specs.Option.{option_to_list}
-use Rattle.std.proofs.lemmas.List.{drop-append-le, take-append-le, take-append-drop, take-take, length-take-le, reverse-append, length-reverse, get_or-reverse}
+use Rattle.std.proofs.lemmas.List.{drop_all, drop-append-le, take-append-le, take-append-drop, take-take, length-take, length-take-le, reverse-append, length-reverse, get_or-reverse}
 use Rattle.std.proofs.lemmas.List.Sorted.{list_any-IsPermutation, IsPermutation-reverse}
 use Rattle.std.proofs.lemmas.Option.{slice_get-map, slice_get-get_or}
 use Rattle.itm_types.specs.declared.call.Props.{Props}
@@ -15,8 +15,8 @@ use Rattle.write_set.specs.declared.mark.Mark.{Mark}
 use Rattle.write_set.specs.declared.mark.Place.{Place}
 use Rattle.write_set.specs.Marks.{Written, IsBy, IsMark, KeepsMarks, KeepsOuter, rows_at, unwritten}
 use Rattle.nest_frames.specs.declared.moment.Moment.{Moment}
-use Rattle.nest_frames.specs.Nest.{Frame, Nest, log_of, logged, closed, actions_closed}
-use Rattle.nest_frames.specs.Moments.{frames_from, frames_of, AreUnder, BeginEmpty, IsSound}
+use Rattle.nest_frames.specs.Nest.{Frame, Nest, log_of, logged, closed, renewed, actions_closed}
+use Rattle.nest_frames.specs.Moments.{frame_at, frames_from, frames_of, AreUnder, BeginEmpty, IsSound}
 
 pub length-frames_from : (w : Written) (os : List Old) (ms : List Moment) → length (frames_from w os ms) ≡ length ms
 length-frames_from w os [] = refl
@@ -50,7 +50,7 @@ frames_kept w w' os top n (m ∷ ms) u b f =
     let inner : IsBy m.rows.outer top = IsBy-trans u.1 here in
     let rows = f m.rows is here in
     let rest = frames_kept w w' (take m.log os) m.rows.outer m.log ms u.3 (IsBy-trans inner b) (λ k i h. f k i (IsBy-trans h inner)) in
-    (λ i. record { props = m.props; rows = rows i; log = drop m.log os; commits = m.actions.commits; undos = m.actions.undos } ∷ rest i)
+    (λ i. frame_at m (rows i) (drop m.log os) ∷ rest i)
 
 -- the write set has changed and kept its marks
 pub frames_written : (w w' : Written) (os : List Old) (a : Actions) (ms : List Moment) → IsSound w os a ms → KeepsMarks w w' → frames_of w' os ms ≡ frames_of w os ms
@@ -70,7 +70,7 @@ logged_from w os new top [] u = refl
 logged_from w os new top (m ∷ ms) u =
     let own = drop-append-le m.log os new u.2 in
     let outer = take-append-le m.log os new u.2 in
-    (λ i. record { props = m.props; rows = rows_at w m.rows; log = own i; commits = m.actions.commits; undos = m.actions.undos } ∷ frames_from w (outer i) ms)
+    (λ i. frame_at m (rows_at w m.rows) (own i) ∷ frames_from w (outer i) ms)
 
 pub frames_logged : (w : Written) (os new : List Old) (a : Actions) (ms : List Moment) → IsSound w os a ms → frames_of w (os ++ new) ms ≡ logged (frames_of w os ms) new
 frames_logged w os new a ms s = logged_from w os new w.inner (reverse ms) s.under
@@ -87,22 +87,29 @@ kept_of-logged arena (b ∷ bs) place size h r = kept_of-log arena b.log 0 place
 
 -- the innermost moment is taken off
 pub record HasInnermost (w : Written) (os : List Old) (a : Actions) (all ms : List Moment) (m : Moment) : Type 0 where
+  pub here : m.rows.here ≡ w.inner
   pub is_mark : IsMark w m.rows
   pub log : m.log ≤ length os
   pub rest : AreUnder m.rows.outer m.log (reverse ms)
+  pub whole : all ≡ ms ++ m ∷ []
   pub count : length all ≡ length ms + 1
-  pub frames : frames_of w os all ≡ record { props = m.props; rows = rows_at w m.rows; log = drop m.log os; commits = m.actions.commits; undos = m.actions.undos } ∷ frames_of w (take m.log os) ms
+  pub frames : frames_of w os all ≡ frame_at m (rows_at w m.rows) (drop m.log os) ∷ frames_of w (take m.log os) ms
   pub empty : BeginEmpty w os a (ms ++ m ∷ [])
+
+frames_last : (w : Written) (os : List Old) (ms : List Moment) (m : Moment) → frames_of w os (ms ++ m ∷ []) ≡ frame_at m (rows_at w m.rows) (drop m.log os) ∷ frames_of w (take m.log os) ms
+frames_last w os ms m = ap (frames_from w os) (reverse-append ms (m ∷ []))
 
 has_innermost : (w : Written) (os : List Old) (a : Actions) (ms : List Moment) (m : Moment) → IsSound w os a (ms ++ m ∷ []) → HasInnermost w os a (ms ++ m ∷ []) ms m
 has_innermost w os a ms m s =
     let u : AreUnder w.inner (length os) (m ∷ reverse ms) = subst (AreUnder w.inner (length os)) (reverse-append ms (m ∷ [])) s.under in
     record {
+      here = u.0;
       is_mark = record { here = IsBy-here u.0; outer = u.1 };
       log = u.2;
       rest = u.3;
+      whole = refl;
       count = length-append ms (m ∷ []);
-      frames = ap (frames_from w os) (reverse-append ms (m ∷ []));
+      frames = frames_last w os ms m;
       empty = s.empty;
     }
 
@@ -111,6 +118,28 @@ pub moment_popped : (w : Written) (os : List Old) (a : Actions) (all ms : List M
 moment_popped w os a all ms r m s e f =
     let whole : all ≡ ms ++ m ∷ [] = e ∙ ap (λ t. ms ++ option_to_list t) f in
     subst (λ (t : List Moment). HasInnermost w os a t ms m) (sym whole) (has_innermost w os a ms m (subst (IsSound w os a) whole s))
+
+-- the last of more than one is the last of those after the first one
+last_after : (x y : Moment) (all : List Moment) (m : Moment) → slice_get (x ∷ y ∷ all) (length (x ∷ y ∷ all) - 1) ≡ Some m → slice_get (y ∷ all) (length (y ∷ all) - 1) ≡ Some m
+last_after x y all m h =
+    let place : suc (length (y ∷ all) - 1) ≡ length (x ∷ y ∷ all) - 1 = omega arith in
+    ap (slice_get (x ∷ y ∷ all)) place ∙ h
+
+-- the moments around the innermost one
+around : (all : List Moment) (m : Moment) → slice_get all (length all - 1) ≡ Some m → (ms : List Moment) × (all ≡ ms ++ m ∷ [])
+around [] m h = absurd (cc)
+around (x ∷ []) m h = ([], cc)
+around (x ∷ y ∷ all) m h = within (around (y ∷ all) m (last_after x y all m h))
+  where
+    within : (ms : List Moment) × (y ∷ all ≡ ms ++ m ∷ []) → (ms : List Moment) × (x ∷ y ∷ all ≡ ms ++ m ∷ [])
+    within rest = (x ∷ rest.0, ap (λ (ms : List Moment). x ∷ ms) rest.1)
+
+pub moment_last : (w : Written) (os : List Old) (a : Actions) (all seen : List Moment) (m : Moment) → IsSound w os a all → seen ≡ all → Some m ≡ slice_get seen (length seen - 1)
+    → (ms : List Moment) × HasInnermost w os a all ms m
+moment_last w os a all seen m s e f =
+    let last : slice_get all (length all - 1) ≡ Some m = sym (ap (λ (t : List Moment). slice_get t (length t - 1)) e) ∙ sym f in
+    let front = around all m last in
+    (front.0, subst (λ (t : List Moment). HasInnermost w os a t front.0 m) (sym front.1) (has_innermost w os a front.0 m (subst (IsSound w os a) front.1 s)))
 
 -- the blocks around the innermost one, where the write set has kept the marks around its own
 frames_outer : (w w' : Written) (os us : List Old) (a : Actions) (all ms : List Moment) (m : Moment) → HasInnermost w os a all ms m → KeepsOuter m.rows w w' → frames_of w' us ms ≡ frames_of w us ms
@@ -123,6 +152,32 @@ pub frames_cancelled : (w w' : Written) (os : List Old) (a : Actions) (all ms : 
     → frames_of w' (take m.log os) ms ≡ drop 1 (frames_of w os all)
 frames_cancelled w w' os a all ms m h k = frames_outer w w' os (take m.log os) a all ms m h k ∙ sym (ap (drop 1) h.frames)
 
+-- the innermost block is back at its begin
+module _ (w w' : Written) (os : List Old) (a : Actions) (all ms : List Moment) (m : Moment) (h : HasInnermost w os a all ms m) where
+  pub frames_renewed : KeepsOuter m.rows w w' → rows_at w' m.rows ≡ rows_at w m.rows → frames_of w' (take m.log os) all ≡ renewed (frames_of w os all)
+  frames_renewed k same =
+      let us = take m.log os in
+      let log : drop m.log us ≡ [] = drop_all m.log us (omega (arith, length-take m.log os)) in
+      let rest : frames_of w' (take m.log us) ms ≡ frames_of w us ms =
+      ap (λ t. frames_of w' t ms) (take-take m.log m.log os (omega arith)) ∙ frames_outer w w' os us a all ms m h k in
+      ap (frames_of w' us) h.whole
+      ∙ (frames_last w' us ms m
+      ∙ ((λ i. frame_at m (same i) (log i) ∷ rest i) ∙ sym (ap renewed h.frames)))
+
+  pub IsSound-renewed : (b : Actions) → w'.inner ≡ m.rows.here → IsSound w' (take m.log os) b all
+  IsSound-renewed b e =
+      let len : length (take m.log os) ≡ m.log = length-take-le m.log os h.log in
+      let under : AreUnder w'.inner (length (take m.log os)) (m ∷ reverse ms) = (sym e, h.is_mark.outer, omega (arith, len), h.rest) in
+      record {
+        under = subst (λ (t : List Moment). AreUnder w'.inner (length (take m.log os)) (reverse t)) (sym h.whole)
+            (subst (AreUnder w'.inner (length (take m.log os))) (sym (reverse-append ms (m ∷ []))) under);
+        empty = subst (BeginEmpty w' (take m.log os) b) (sym h.whole) (empty-whole ms h.empty);
+      }
+    where
+      empty-whole : (ns : List Moment) → BeginEmpty w os a (ns ++ m ∷ []) → BeginEmpty w' (take m.log os) b (ns ++ m ∷ [])
+      empty-whole [] t = t
+      empty-whole (n ∷ ns) t = t
+
 closed_from : (w : Written) (os : List Old) (b : Frame) (n : ℕ) (top : Place) (ms : List Moment) → n ≤ length os → AreUnder top n ms → b.log ≡ drop n os
     → frames_from w os ms ≡ closed (b ∷ frames_from w (take n os) ms)
 closed_from w os b n top [] l u e = refl
@@ -131,13 +186,13 @@ closed_from w os b n top (m ∷ ms) l u e =
     ap (drop m.log) (sym (take-append-drop n os)) ∙ drop-append-le m.log (take n os) (drop n os) (omega (arith, u.2, length-take-le n os l)) in
     let log : drop m.log os ≡ drop m.log (take n os) ++ b.log = own ∙ ap (λ t. drop m.log (take n os) ++ t) (sym e) in
     let outer : take m.log os ≡ take m.log (take n os) = sym (take-take m.log n os u.2) in
-    (λ i. record { props = m.props; rows = rows_at w m.rows; log = log i; commits = m.actions.commits; undos = m.actions.undos } ∷ frames_from w (outer i) ms)
+    (λ i. frame_at m (rows_at w m.rows) (log i) ∷ frames_from w (outer i) ms)
 
 -- the innermost block has closed
 pub frames_closed : (w w' : Written) (os : List Old) (a : Actions) (all ms : List Moment) (m : Moment) → HasInnermost w os a all ms m → KeepsOuter m.rows w w'
     → frames_of w' os ms ≡ closed (frames_of w os all)
 frames_closed w w' os a all ms m h k =
-    let b : Frame = record { props = m.props; rows = rows_at w m.rows; log = drop m.log os; commits = m.actions.commits; undos = m.actions.undos } in
+    let b : Frame = frame_at m (rows_at w m.rows) (drop m.log os) in
     frames_outer w w' os os a all ms m h k
     ∙ (closed_from w os b m.log m.rows.outer (reverse ms) h.log h.rest refl ∙ sym (ap closed h.frames))
 

@@ -4,6 +4,7 @@ use Rattle.itm_types.specs.declared.call.Props.{Props}
 use Rattle.undo_log.specs.Rollback.{Old}
 use Rattle.user_actions.specs.Actions.{Actions}
 use Rattle.write_set.specs.declared.mark.Place.{Place}
+use Rattle.write_set.specs.declared.row.Row.{Row}
 use Rattle.write_set.specs.Marks.{Written, IsBy, rows_at, start, unwritten}
 use Rattle.nest_frames.specs.declared.moment.Moment.{Moment}
 use Rattle.nest_frames.specs.Nest.{Frame}
@@ -20,16 +21,20 @@ pub record HasPlaces (moments most places : ℕ) : Type 0 where
 
 -- a moment at which there was nothing
 abbrev pub at_start : Props → Moment
-at_start props = record { props = props; rows = record { here = start; outer = start }; log = 0; actions = record { commits = 0; undos = 0 } }
+at_start props = record { props = props; rows = record { here = start; outer = start }; log = 0; actions = record { commits = 0; undos = 0 }; reads = 0 }
 
 -- a block's begin at which there was nothing
 abbrev pub forgotten : Moment → Moment
 forgotten m = at_start m.props
 
+-- the block that began at this moment, on these rows, and in which these were logged
+abbrev pub frame_at : Moment → List Row → List Old → Frame
+frame_at m rows log = record { props = m.props; rows = rows; log = log; commits = m.actions.commits; undos = m.actions.undos; reads = m.reads }
+
 -- the blocks of these moments, the innermost first
 abbrev pub frames_from : Written → List Old → List Moment → List Frame
 frames_from writes olds [] = []
-frames_from writes olds (m ∷ ms) = record { props = m.props; rows = rows_at writes m.rows; log = drop m.log olds; commits = m.actions.commits; undos = m.actions.undos } ∷ frames_from writes (take m.log olds) ms
+frames_from writes olds (m ∷ ms) = frame_at m (rows_at writes m.rows) (drop m.log olds) ∷ frames_from writes (take m.log olds) ms
 
 -- the blocks of these moments, of which the innermost is the last
 abbrev pub frames_of : Written → List Old → List Moment → List Frame

@@ -15,6 +15,7 @@ pub record Frame : Type 0 where
   pub log : List Old  -- what was logged in it and in the blocks that closed within it, the oldest first
   pub commits : ℕ  -- how many commit actions were registered at its begin
   pub undos : ℕ  -- and how many undo actions
+  pub reads : ℕ  -- and how many words had been read
 
 pub record Nest : Type 0 where
   pub writes : Written
@@ -24,9 +25,9 @@ pub record Nest : Type 0 where
   pub actions : Actions  -- those that are registered, and those that have come to run
   pub room : ℕ  -- how many more commit actions are registered with no memory
 
--- a block that begins on these rows, with these actions registered
-abbrev pub begun : Props → List Row → Actions → Frame
-begun props rows actions = record { props = props; rows = rows; log = []; commits = length actions.commits; undos = length actions.undos }
+-- a block that begins on these rows, with these actions registered and so many words read
+abbrev pub begun : Props → List Row → Actions → ℕ → Frame
+begun props rows actions reads = record { props = props; rows = rows; log = []; commits = length actions.commits; undos = length actions.undos; reads = reads }
 
 -- what was logged in the innermost block
 abbrev pub log_of : List Frame → List Old
@@ -37,6 +38,11 @@ log_of (b ∷ bs) = b.log
 abbrev pub rows_of : List Frame → List Row
 rows_of [] = []
 rows_of (b ∷ bs) = b.rows
+
+-- how many words had been read at the begin of the innermost block
+abbrev pub reads_of : List Frame → ℕ
+reads_of [] = 0
+reads_of (b ∷ bs) = b.reads
 
 -- whether the innermost of these blocks has the property that it is not cancelled
 abbrev pub keeps_innermost : List Frame → Bool
@@ -62,6 +68,11 @@ closed [] = []
 closed (b ∷ []) = []
 closed (b ∷ p ∷ bs) = record p { log = p.log ++ b.log } ∷ bs
 
+-- the blocks once the innermost one is back at its begin and goes on from there: nothing is logged in it
+abbrev pub renewed : List Frame → List Frame
+renewed [] = []
+renewed (b ∷ bs) = record b { log = [] } ∷ bs
+
 -- the arena once every block is rolled back, the innermost first
 abbrev pub arena_back : List Frame → List ℕ → List ℕ
 arena_back [] arena = arena
@@ -74,7 +85,7 @@ arena_restored (b ∷ bs) arena = arena_restored bs (restored (kept_of arena b.l
 
 -- a block of an irrevocable transaction, which goes back to nothing
 abbrev pub made_irrevocable : Frame → Frame
-made_irrevocable b = record { props = b.props; rows = []; log = []; commits = 0; undos = 0 }
+made_irrevocable b = record { props = b.props; rows = []; log = []; commits = 0; undos = 0; reads = 0 }
 
 -- the actions once the innermost block has closed: with the outermost one the commit actions run
 abbrev pub actions_closed : List Frame → Actions → Actions

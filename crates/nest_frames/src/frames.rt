@@ -1,18 +1,18 @@
 //! The open blocks.
 
 ghost use Rattle.std.specs.Prelude.{◌≡◌, ◌+◌, ◌<◌, ◌≤◌, ℕ, List, [], ◌∷◌, IfOk, IsOk, IsSome, OnOk, OnErr, None, Some, length, map, take, drop, option_map, slice_get};
-ghost use Rattle.itm_types.specs.KeptBytes.{also_kept, merged, restored};
+ghost use Rattle.itm_types.specs.KeptBytes.{also_kept, merged};
 ghost use Rattle.itm_types.specs.Memory.{AllFit};
 ghost use Rattle.word_pieces.specs.Masks.{merged_at};
 ghost use Rattle.write_set.specs.Rows.{lookup, laid, put, reserved, overlay, AreEmpty, AreRows};
-ghost use Rattle.write_set.specs.Marks.{unwritten, place_of, reserve, AreMarks, KeepsRoom, MayPut};
-ghost use Rattle.undo_log.specs.Rollback.{found, put_back, kept_of};
+ghost use Rattle.write_set.specs.Marks.{unwritten, place_of, reserve, write, AreMarks, KeepsRoom, MayPut};
+ghost use Rattle.undo_log.specs.Rollback.{found, kept_of};
 ghost use Rattle.user_actions.specs.Actions.{no_actions, registered};
-ghost use Rattle.nest_frames.specs.Nest.{begun, log_of, rows_of, logged, closed, is_kept, arena_back, arena_restored, stays_revocable, actions_closed, actions_cancelled, actions_back, made_irrevocable};
+ghost use Rattle.nest_frames.specs.Nest.{begun, log_of, reads_of, rows_of, logged, closed, is_kept, stays_revocable, actions_closed, made_irrevocable};
 
 use crate::moment::Moment;
 use crate::moments::Moments;
-use itm_types::{Props, USUAL_DEPTH};
+use itm_types::Props;
 use std::alloc::{AllocError, Global};
 use std::marker::Model;
 use undo_log::{Arena, UndoLog};
@@ -22,10 +22,10 @@ use write_set::{Row, WriteSet};
 /// What a transaction has written and logged, the actions that it has registered, and its open blocks.
 #[derive(Debug, Drop)]
 pub struct Frames {
-    writes: WriteSet,
-    undo: UndoLog,
+    pub(crate) writes: WriteSet,
+    pub(crate) undo: UndoLog,
     pub(crate) actions: UserActions,
-    moments: Moments,
+    pub(crate) moments: Moments,
 }
 
 impl Model for Frames {
@@ -48,7 +48,7 @@ impl Model for Frames {
 }
 
 impl Frames {
-    /// No block is open, over an arena of this size, and so many may be. Takes no memory where they are no more than usual.
+    /// No block is open, over an arena of this size, and so many may be. Takes memory for their begins.
     pub fn new(alloc: Global, size: usize, depth: u8) -> Result<Frames, AllocError>
         ensures ok { IfOk result (λ frames. frames ≡ record {
           writes = unwritten;
@@ -58,7 +58,6 @@ impl Frames {
           actions = no_actions;
           room = 0;
         }) }
-        ensures few { depth ≤ USUAL_DEPTH → IsOk result }
     {
         let moments = Moments::new(alloc, depth)?;
         Ok(Frames {
@@ -136,6 +135,16 @@ impl Frames {
         Some(moment.props)
     }
 
+    /// How many words had been read as the innermost block began, or 0 where none is open. Takes no memory.
+    pub fn reads(&self) -> usize
+        ensures { result ≡ reads_of self.now.blocks }
+    {
+        match self.moments.as_slice().last() {
+            Some(begin) => begin.reads as usize,
+            None => 0,
+        }
+    }
+
     /// The properties of an open block, counted outwards: the innermost one is at 0.
     pub fn props(&self, place: usize) -> Props
         requires { place < length self.now.blocks }
@@ -171,10 +180,10 @@ impl Frames {
             .any(|moment| moment.props.no_irrevocable)
     }
 
-    /// A block begins within those that are open. Takes no memory.
-    pub fn enter(&mut self, props: Props)
+    /// A block begins within those that are open, with so many words read. Takes no memory.
+    pub fn enter(&mut self, props: Props, reads: u32)
         requires { length self.old.blocks < self.old.depth }
-        ensures blocks { self.new.blocks ≡ begun props self.old.writes.rows self.old.actions ∷ self.old.blocks }
+        ensures blocks { self.new.blocks ≡ begun props self.old.writes.rows self.old.actions reads ∷ self.old.blocks }
         ensures writes { self.new.writes ≡ record self.old.writes { inner = place_of self.old.writes } }
         ensures size { self.new.size ≡ self.old.size }
         ensures depth { self.new.depth ≡ self.old.depth }
@@ -182,7 +191,10 @@ impl Frames {
         ensures room { self.new.room ≡ self.old.room }
     {
         if self.moments.is_empty() {
-            self.moments.push(Moment::at_start(props));
+            self.moments.push(Moment {
+                reads,
+                ..Moment::at_start(props)
+            });
             return;
         }
         let rows = self.writes.mark();
@@ -193,6 +205,7 @@ impl Frames {
             rows,
             log,
             actions,
+            reads,
         });
     }
 
@@ -227,54 +240,6 @@ impl Frames {
             };
             self.writes.forget_mark(closed.rows);
             self.undo.forget_mark(closed.log);
-        }
-    }
-
-    /// The innermost block is rolled back and gone: its undo actions run, the last one first, and its commit actions
-    /// never do. Takes no memory.
-    pub fn cancel(&mut self, arena: &mut Arena)
-        requires open { 0 < length self.old.blocks }
-        requires arena { length arena.old ≡ self.old.size }
-        ensures blocks { self.new.blocks ≡ drop 1 self.old.blocks }
-        ensures size { self.new.size ≡ self.old.size }
-        ensures depth { self.new.depth ≡ self.old.depth }
-        ensures rows { self.new.writes.rows ≡ rows_of self.old.blocks }
-        ensures saves { self.new.writes.saves ≡ take self.old.writes.inner.saves self.old.writes.saves }
-        ensures actions { self.new.actions ≡ actions_cancelled self.old.blocks self.old.actions }
-        ensures room { self.new.room ≡ self.old.room }
-        ensures arena_size { length arena.new ≡ length arena.old }
-        ensures arena { arena.new ≡ put_back (log_of self.old.blocks) arena.old }
-        ensures restored { arena.new ≡ restored (kept_of arena.old (log_of self.old.blocks)) arena.old }
-    {
-        let Some(cancelled) = self.moments.pop() else {
-            unreachable!()
-        };
-        self.writes.back_to(cancelled.rows);
-        self.undo.back_to(arena, cancelled.log);
-        self.actions.roll_back(cancelled.actions);
-    }
-
-    /// Every open block is rolled back, the innermost first. Takes no memory.
-    pub fn cancel_all(&mut self, arena: &mut Arena)
-        requires { length arena.old ≡ self.old.size }
-        ensures none { self.new ≡ record {
-          writes = unwritten;
-          size = self.old.size;
-          depth = self.old.depth;
-          blocks = [];
-          actions = actions_back self.old.blocks self.old.actions;
-          room = self.old.room;
-        } }
-
-        // No action is registered any more.
-        ensures commits { self.new.actions.commits ≡ [] }
-        ensures undos { self.new.actions.undos ≡ [] }
-        ensures arena_size { length arena.new ≡ length arena.old }
-        ensures arena { arena.new ≡ arena_back self.old.blocks arena.old }
-        ensures restored { arena.new ≡ arena_restored self.old.blocks arena.old }
-    {
-        while self.depth() > 0 {
-            self.cancel(arena);
         }
     }
 
@@ -336,6 +301,29 @@ impl Frames {
             overlay m self.new.writes.rows ≡ merged_at (overlay m self.old.writes.rows) word mask value }
     {
         self.writes.put(word, mask, value);
+    }
+
+    /// Writes the masked bytes of a value to a word: as a reserve and then a put.
+    #[inline(always)]
+    pub fn write(&mut self, word: u32, mask: u64, value: u64) -> Result<(), AllocError>
+        requires { 0 < length self.old.blocks }
+        ensures ok { OnOk result
+            (self.new ≡ record self.old { writes = write self.old.writes word mask value }) }
+        ensures err { OnErr result (self.new ≡ self.old) }
+        ensures rows { OnOk result
+            (self.new.writes.rows ≡ put (reserved self.old.writes.rows word) word mask value) }
+        ensures others { KeepsRoom self.old.writes self.new.writes }
+
+        // A row that was not there as the innermost block began takes no memory.
+        ensures has_row { IsSome (lookup word self.old.writes.rows) → lookup word (rows_of self.old.blocks) ≡ None →
+            IsOk result }
+
+        // The memory gets these bytes, and no other changes.
+        ensures memory { OnOk result ((m : List ℕ) → AllFit m → word < length m →
+            overlay m self.new.writes.rows ≡ merged_at (overlay m self.old.writes.rows) word mask value) }
+    {
+        self.writes.write(word, mask, value)?;
+        Ok(())
     }
 
     /// Takes the rows from a place on, which are of empty mask and newer than the innermost block, off the end. Takes

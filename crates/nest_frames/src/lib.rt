@@ -5,5 +5,6 @@ mod actions;
 mod frames;
 mod moment;
 mod moments;
+mod rollback;
 
 pub use frames::Frames;

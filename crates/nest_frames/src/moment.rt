@@ -9,10 +9,13 @@ use user_actions::ActionMark;
 /// Where an open block began.
 #[derive(Debug, Default, Drop)]
 pub(crate) struct Moment {
-    pub(crate) props: Props,
     pub(crate) rows: write_set::Mark,
     pub(crate) log: undo_log::Mark,
     pub(crate) actions: ActionMark,
+    /// How many words had been read.
+    pub(crate) reads: u32,
+    /// (Last, so that there is no hole between the numbers.)
+    pub(crate) props: Props,
 }
 
 impl Moment {

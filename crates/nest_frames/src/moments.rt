@@ -1,44 +1,38 @@
 //! The begins of all open blocks.
 
-ghost use Rattle.std.specs.Prelude.{◌≡◌, ◌↔◌, ◌<◌, ◌≤◌, ◌==◌, [], ◌∷◌, ◌++◌, IfOk, IsOk, IsSome, length, map};
+ghost use Rattle.std.specs.Prelude.{◌≡◌, ◌↔◌, ◌<◌, ◌≤◌, ◌==◌, [], ◌∷◌, ◌++◌, IfOk, IsSome, length, map};
 ghost use Rattle.std.specs.Option.{option_to_list};
 ghost use Rattle.nest_frames.specs.Moments.{forgotten};
 
 use crate::moment::Moment;
-use itm_types::USUAL_DEPTH;
-use smallvec::SmallVec;
 use std::alloc::{AllocError, Global};
 use std::marker::Model;
-
-/// So many begins stand in the value itself: as many as there usually may be.
-const INLINE_MOMENTS: usize = 16;
 
 /// Where the open blocks began, the innermost last. There is a place for each that may be open.
 #[derive(Debug, Drop)]
 pub(crate) struct Moments {
-    places: SmallVec<Moment, INLINE_MOMENTS>,
+    places: Vec<Moment>,
     /// How many blocks may be open at once.
     most: u8,
 }
 
 impl Model for Moments {
-    ghost use Rattle.std.specs.Prelude.{length};
+    ghost use Rattle.std.specs.Prelude.{length, vec_capacity};
     ghost use Rattle.nest_frames.specs.Moments.{Begins, HasPlaces};
 
     ghost Value = { Begins };
 
     ghost view = { λ m. record { items = m.places.items; most = m.most } };
 
-    ghost invariant = { λ m. HasPlaces (length m.places.items) m.most m.places.capacity };
+    ghost invariant = { λ m. HasPlaces (length m.places.items) m.most (vec_capacity m.places) };
 }
 
 impl Moments {
-    /// No block is open, and so many may be. Takes no memory where they are no more than usual.
+    /// No block is open, and so many may be.
     pub(crate) fn new(alloc: Global, most: u8) -> Result<Moments, AllocError>
         ensures ok { IfOk result (λ m. m ≡ record { items = []; most = most }) }
-        ensures few { most ≤ USUAL_DEPTH → IsOk result }
     {
-        let places = SmallVec::with_capacity(alloc, most as usize)?;
+        let places = Vec::with_capacity(alloc, most as usize)?;
         Ok(Moments { places, most })
     }
 

@@ -2,5 +2,6 @@
 pub mod Blocks
 pub mod Machines
 pub mod KeptFields
+pub mod BlocksAgain
 pub mod HeldStores
 pub mod IrrevocableCalls

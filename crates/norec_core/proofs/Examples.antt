@@ -4,3 +4,4 @@ pub mod StepOrder
 pub mod Blocks
 pub mod Copies
 pub mod IrrevocableTransactions
+pub mod Restarts

@@ -1,12 +1,13 @@
 -- What an engine is to its callers.
-use Rattle.std.specs.Prelude.{ℕ, ◌+◌, ◌==◌, ◌&&◌, ◌||◌, not, nat_lt, if◌then◌else◌, zero, suc, Bool, false, true, List, [], ◌∷◌, ◌++◌, Option, None, Some, unwrap_or, length}
+use Rattle.std.specs.Prelude.{ℕ, ◌+◌, ◌==◌, ◌&&◌, ◌||◌, not, nat_lt, if◌then◌else◌, zero, suc, Bool, false, true, List, [], ◌∷◌, ◌++◌, Option, None, Some, unwrap_or, length, take}
 use Rattle.itm_types.specs.declared.call.Props.{Props}
 use Rattle.itm_types.specs.declared.call.Call.TheVariants as calls
 use Rattle.itm_types.specs.declared.row.LogRow.{LogRow}
 use Rattle.write_set.specs.declared.row.Row.{Row}
 use Rattle.itm_types.specs.declared.call.Call.{Call}
 use Rattle.user_actions.specs.Actions.{Actions, no_actions, committed}
-use Rattle.nest_frames.specs.Nest.{Frame, arena_back, actions_back, stays_revocable}
+use Rattle.nest_frames.specs.Nest.{Frame, arena_back, actions_back, actions_cancelled, log_of, reads_of, renewed as blocks_renewed, rows_of, stays_revocable}
+use Rattle.undo_log.specs.Rollback.{put_back}
 use Rattle.itm_types.specs.declared.step.Step.{Step}
 use Rattle.itm_types.specs.declared.step.Step.TheVariants.{Load, Store, Cas}
 use Rattle.norec_core.specs.Phases.{Phase}
@@ -17,6 +18,7 @@ pub record Core : Type 0 where
   pub words : ℕ  -- of the shared memory
   pub patience : ℕ
   pub max_commits : ℕ
+  pub restarts : ℕ  -- how often inner blocks may go back to their begins, in one transaction
   pub depth : ℕ  -- how many blocks may be open at once
   pub arena : List ℕ
   pub snapshot : ℕ
@@ -34,6 +36,7 @@ pub record Core : Type 0 where
   pub got : Option ℕ  -- what the last step, a load by the holder, found
   pub gathered : List ℕ  -- of an access in an irrevocable transaction: what it has read so far, or what it writes
   pub doing : Option Call  -- the call that has no answer yet
+  pub restarted : ℕ  -- how often inner blocks have, in this transaction
   pub again : Bool  -- that call begins a block that was begun before
   pub waits : Option Step  -- the step that it asked for
   pub spent : ℕ  -- how many steps the present or last call has asked for
@@ -41,11 +44,12 @@ pub record Core : Type 0 where
   pub tries : ℕ  -- validation rounds that the call in progress has started, or clock loads of a begin
   pub entry : ℕ  -- how many rows were logged as the call came
 
-abbrev pub opening : ℕ → List ℕ → ℕ → ℕ → ℕ → Core
-opening words arena patience max_commits depth = record {
+abbrev pub opening : ℕ → List ℕ → ℕ → ℕ → ℕ → ℕ → Core
+opening words arena patience max_commits depth restarts = record {
   words = words;
   patience = patience;
   max_commits = max_commits;
+  restarts = restarts;
   depth = depth;
   arena = arena;
   snapshot = 0;
@@ -63,6 +67,7 @@ opening words arena patience max_commits depth = record {
   got = None;
   gathered = [];
   doing = None;
+  restarted = 0;
   again = false;
   waits = None;
   spent = 0;
@@ -70,6 +75,12 @@ opening words arena patience max_commits depth = record {
   tries = 0;
   entry = 0;
 }
+
+-- more than one block is open
+abbrev pub is_within : List Frame → Bool
+is_within [] = false
+is_within (b ∷ []) = false
+is_within (b ∷ p ∷ bs) = true
 
 -- some block is open
 abbrev pub is_inside : List Frame → Bool
@@ -95,6 +106,11 @@ irrevocable_room c (calls.Begin props room) = if props.goes_irrevocable && may_g
 irrevocable_room c (calls.Mode room) = if in_transaction c && not (stays_revocable c.blocks) && not c.irrevocable then Some room else None
 irrevocable_room c _ = None
 
+-- the call begins an outermost block
+abbrev pub begins_anew : Core → Call → Bool
+begins_anew c (calls.Begin props room) = not (in_transaction c) && may_go c.blocks props
+begins_anew c _ = false
+
 -- the bytes that a call brings
 abbrev pub bytes_to_write : Call → List ℕ
 bytes_to_write (calls.Write hint at value) = value.bytes.items
@@ -113,6 +129,7 @@ came c call again = record c {
   got = None;
   gathered = if c.irrevocable then bytes_to_write call else [];
   room = unwrap_or (irrevocable_room c call) c.room;
+  restarted = if begins_anew c call then 0 else c.restarted;
   spent = 0;
   entry = length c.log;
 }
@@ -157,3 +174,21 @@ finished c = record (ended c) { actions = committed c.actions }
 -- the same, with every open block rolled back: what they logged of the arena stands there again, and their undo actions have come to run
 abbrev pub rolled_back : Core → Core
 rolled_back c = record (ended c) { arena = arena_back c.blocks c.arena; actions = actions_back c.blocks c.actions }
+
+-- the engine with its innermost block gone back to just after its begin, which reads at this clock from then on: the log is cut to what had been read by then, and what the call in progress was to do is dropped
+abbrev pub renewed : Core → ℕ → Core
+renewed c clock = record c {
+  waits = None;
+  doing = None;
+  again = false;
+  fresh = [];
+  done = 0;
+  gathered = [];
+  snapshot = clock;
+  log = take (reads_of c.blocks) c.log;
+  writes = rows_of c.blocks;
+  blocks = blocks_renewed c.blocks;
+  arena = put_back (log_of c.blocks) c.arena;
+  actions = actions_cancelled c.blocks c.actions;
+  restarted = c.restarted + 1;
+}

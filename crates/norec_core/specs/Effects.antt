@@ -1,5 +1,5 @@
 -- What an accepted call leaves of an engine: its write set, arena, blocks, actions and room.
-use Rattle.std.specs.Prelude.{ℕ, ◌-◌, ◌%◌, Bool, true, if◌then◌else◌, List, [], ◌∷◌, drop, replicate}
+use Rattle.std.specs.Prelude.{ℕ, ◌-◌, ◌%◌, Bool, true, if◌then◌else◌, List, [], ◌∷◌, drop, length, replicate}
 use Rattle.write_set.specs.declared.row.Row.{Row}
 use Rattle.itm_types.specs.declared.call.Call.{Call}
 use Rattle.user_actions.specs.Actions.{Actions, registered}
@@ -65,7 +65,7 @@ arena_held c _ r = c.arena
 
 -- an accepted begin opens a block, a commit closes one, a cancel takes one or all away, and a log adds to the innermost one, unless the transaction is irrevocable
 abbrev pub blocks_after : Core → Call → Replied → List Frame
-blocks_after c (Begin props room) (Code n) = begun props c.writes c.actions ∷ c.blocks
+blocks_after c (Begin props room) (Code n) = begun props c.writes c.actions (length c.log) ∷ c.blocks
 blocks_after c Commit Done = closed c.blocks
 blocks_after c (Abort outer) (Code n) = if outer then [] else drop 1 c.blocks
 blocks_after c (Log width at) Done = if c.irrevocable then c.blocks else logged c.blocks (found c.arena at (size_of width))

@@ -1,15 +1,15 @@
--- How a call is over where no step is left: by a reply, which is the plain machine's, or by the end of its transaction or of its try.
+-- How a call is over where no step is left: by a reply, which is the plain machine's, or by the end of its transaction, of its try or of what its block did.
 use Rattle.std.specs.Prelude.{◌≡◌, ℕ, ◌/◌, ◌%◌, ◌==◌, true, false, if◌then◌else◌, length, Option, None, Some}
 use Rattle.itm_types.specs.declared.call.Call.{Call}
 use Rattle.itm_types.specs.declared.call.Call.TheVariants as calls
 use Rattle.norec_core.specs.declared.answer.Answer.{Answer}
-use Rattle.norec_core.specs.declared.answer.Answer.TheVariants.{Reply, Committed, Conflict, Busy, Full}
+use Rattle.norec_core.specs.declared.answer.Answer.TheVariants.{Reply, Committed, Conflict, Restarted, Busy, Full}
 use Rattle.norec_core.specs.declared.answer.Next.{Next}
 use Rattle.norec_core.specs.declared.answer.Next.TheVariants.{Step as Asks, Answer as Answers}
 use Rattle.norec_core.specs.Aims.{Aim}
 use Rattle.norec_core.specs.Aims as aims
 use Rattle.norec_core.specs.Phases.{Phase}
-use Rattle.norec_core.specs.Phases.{Begin, Take, Confirm, RoundStart, RoundRow, RoundEnd, Exchange, Free}
+use Rattle.norec_core.specs.Phases.{Begin, Take, Confirm, RoundStart, RoundRow, RoundEnd, RoundBack, Exchange, Free}
 use Rattle.norec_core.specs.Rows.{row_at}
 use Rattle.norec_core.specs.Core.{Core, irrevocable_room, in_transaction, is_outermost}
 
@@ -26,6 +26,7 @@ ending_from c (Confirm r value) seen = if seen == c.snapshot then None else Some
 ending_from c (RoundStart aim) seen = Some (Conflict seen None)
 ending_from c (RoundRow aim row) seen = Some (Conflict c.clock (Some (row_at c.log row).word))
 ending_from c (RoundEnd aim) seen = if seen == c.clock then aimed_ending aim seen else Some (Conflict seen None)
+ending_from c (RoundBack aim row) seen = if seen == c.clock then Some (Restarted seen (row_at c.log row).word) else Some (Conflict seen None)
 ending_from c (Exchange taking) seen = if seen == c.snapshot then None else Some (Conflict seen None)
 ending_from c Free seen = Some (Committed (c.snapshot / 2) true)
 ending_from c _ seen = None

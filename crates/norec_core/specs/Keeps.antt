@@ -8,6 +8,8 @@ pub record Keeps (old new : Core) : Type 0 where
   pub words : new.words ≡ old.words
   pub patience : new.patience ≡ old.patience
   pub max_commits : new.max_commits ≡ old.max_commits
+  pub restarts : new.restarts ≡ old.restarts
+  pub restarted : new.restarted ≡ old.restarted
   pub depth : new.depth ≡ old.depth
   pub writes : new.writes ≡ old.writes
   pub blocks : new.blocks ≡ old.blocks

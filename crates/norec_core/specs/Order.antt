@@ -1,5 +1,5 @@
 -- The order of the steps: where a call stands once it has come, and after each value that is handed in.
-use Rattle.std.specs.Prelude.{ℕ, suc, ◌+◌, ◌*◌, ◌/◌, ◌%◌, ◌==◌, ◌&&◌, nat_le, nat_lt, Bool, if◌then◌else◌, List, [], ◌∷◌, ◌++◌, drop, length, is_none, Option, None, Some}
+use Rattle.std.specs.Prelude.{ℕ, suc, ◌+◌, ◌*◌, ◌/◌, ◌%◌, ◌==◌, ◌&&◌, nat_le, nat_lt, Bool, if◌then◌else◌, List, [], ◌∷◌, ◌++◌, drop, length, take, is_none, Option, None, Some}
 use Rattle.itm_types.specs.declared.row.LogRow.{LogRow}
 use Rattle.itm_types.specs.declared.call.Call.{Call}
 use Rattle.itm_types.specs.declared.call.Call.TheVariants as calls
@@ -15,7 +15,7 @@ use Rattle.norec_core.specs.declared.call_parts.Reading.{Reading}
 use Rattle.norec_core.specs.declared.call_parts.Purpose.{Purpose}
 use Rattle.norec_core.specs.declared.call_parts.Purpose.TheVariants as for
 use Rattle.norec_core.specs.Phases.{Phase}
-use Rattle.norec_core.specs.Phases.{Idle, Begin, Take, Load, Confirm, RoundStart, RoundRow, RoundEnd, Exchange, BackLoad, Store, Free, Fetch, Place}
+use Rattle.norec_core.specs.Phases.{Idle, Begin, Take, Load, Confirm, RoundStart, RoundRow, RoundEnd, RoundBack, Exchange, BackLoad, Store, Free, Fetch, Place}
 use Rattle.itm_types.specs.Access.{size_of}
 use Rattle.itm_types.specs.declared.access.ReadHint.{ReadHint}
 use Rattle.itm_types.specs.declared.access.WriteHint.{WriteHint}
@@ -34,7 +34,8 @@ use Rattle.word_pieces.specs.Pieces.{count_of, piece_of, pieces_of, scattered}
 use Rattle.norec_core.specs.Rows.{row_at, write_at, value_into, is_had}
 use Rattle.itm_types.specs.declared.step.Step.{Step}
 use Rattle.itm_types.specs.declared.step.Step.TheVariants as steps
-use Rattle.norec_core.specs.Core.{Core, irrevocable_room, in_transaction, is_outermost, may_go}
+use Rattle.nest_frames.specs.Nest.{reads_of}
+use Rattle.norec_core.specs.Core.{Core, irrevocable_room, in_transaction, is_outermost, is_within, may_go}
 use Rattle.norec_core.specs.OwnAccesses.{word_of}
 
 -- one more round, or the end
@@ -170,6 +171,14 @@ begin_stage max_commits b seen = if b.props.goes_irrevocable then (if nat_lt (se
 abbrev pub again_stage : Core → Opening → Phase
 again_stage c b = if nat_lt c.tries c.patience then Begin b else Idle
 
+-- a row that differs is of the part that the innermost block has added, which is not the outermost one, and a block may go back to its begin once more
+abbrev pub may_restart : Core → ℕ → Bool
+may_restart c row = is_within c.blocks && nat_le (reads_of c.blocks) row && nat_lt c.restarted c.restarts
+
+-- then the clock decides; else the transaction ends
+abbrev pub differ_stage : Core → Aim → ℕ → Phase
+differ_stage c aim row = if may_restart c row then RoundBack aim row else Idle
+
 abbrev pub stage_from : Core → Phase → ℕ → Phase
 stage_from c Idle seen = Idle
 stage_from c (Begin b) seen = if seen % 2 == 0 then begin_stage c.max_commits b seen else again_stage c b
@@ -177,8 +186,9 @@ stage_from c (Take b) seen = if seen == c.snapshot then Idle else again_stage c 
 stage_from c (Load r) seen = if c.irrevocable then read_from (read_past r.purpose) (record r { number = suc r.number }) else Confirm r seen
 stage_from c (Confirm r value) seen = if seen == c.snapshot then load_stage c.writes (c.log ++ c.fresh) (record r { number = suc r.number }) else try_stage c.tries c.patience (aims.Read r)
 stage_from c (RoundStart aim) seen = if seen % 2 == 0 then row_stage (length c.log) aim 0 else try_stage c.tries c.patience aim
-stage_from c (RoundRow aim row) seen = if (row_at c.log row).value == seen then row_stage (length c.log) aim (row + 1) else Idle
+stage_from c (RoundRow aim row) seen = if (row_at c.log row).value == seen then row_stage (length c.log) aim (row + 1) else differ_stage c aim row
 stage_from c (RoundEnd aim) seen = if seen == c.clock then aimed_stage c aim seen else try_stage c.tries c.patience aim
+stage_from c (RoundBack aim row) seen = if seen == c.clock then Idle else try_stage c.tries c.patience aim
 stage_from c (Exchange taking) seen = if seen == c.snapshot then store_stage taking c.writes 0 else try_stage c.tries c.patience (aims.Take taking)
 stage_from c (BackLoad taking row) seen = Store taking row (Some seen)
 stage_from c (Store taking row got) seen = store_stage taking c.writes (row + 1)
@@ -250,6 +260,7 @@ tries_at _ = 0
 abbrev pub snapshot_from : Core → Phase → ℕ → ℕ
 snapshot_from c (Begin b) seen = if seen % 2 == 0 then seen else c.snapshot
 snapshot_from c (RoundEnd aim) seen = if seen == c.clock then seen else c.snapshot
+snapshot_from c (RoundBack aim row) seen = if seen == c.clock then seen else c.snapshot
 snapshot_from c _ seen = c.snapshot
 
 abbrev pub snapshot_after : Core → ℕ → ℕ
@@ -262,9 +273,10 @@ abbrev pub kept_log : Phase → List LogRow → List LogRow
 kept_log Idle log = []
 kept_log stage log = log
 
--- a word that was confirmed joins it
+-- a word that was confirmed joins it, and as a block goes back to its begin, what was read since is cut off
 abbrev pub log_from : Core → Phase → ℕ → List LogRow
 log_from c (Confirm r value) seen = if seen == c.snapshot then c.log ++ c.fresh else c.log
+log_from c (RoundBack aim row) seen = if seen == c.clock then take (reads_of c.blocks) c.log else c.log
 log_from c (Exchange taking) seen = if seen == c.snapshot then kept_log (store_stage taking c.writes 0) c.log else c.log
 log_from c (Store taking row got) seen = kept_log (store_stage taking c.writes (row + 1)) c.log
 log_from c _ seen = c.log

@@ -16,6 +16,7 @@ pub data Phase : Type 0 where
   RoundStart : Aim → Phase  -- the clock, at the start of a round
   RoundRow : Aim → ℕ → Phase  -- the word of this row of the value log
   RoundEnd : Aim → Phase  -- the clock, at the end of a round
+  RoundBack : Aim → ℕ → Phase  -- the clock, once this row was found different, which the innermost block has added: does that block go back to its begin
   Exchange : Taking → Phase  -- the exchange that takes the clock
   BackLoad : Taking → ℕ → Phase  -- the word of this row of the write set, which has a part of it
   Store : Taking → ℕ → Option ℕ → Phase  -- the store of this row of the write set, into this word where the row has a part of it

@@ -3,7 +3,7 @@ use Rattle.std.specs.Prelude.{◌≡◌, ◌≢◌, ◌⊎◌, ℕ, zero, suc, �
 use Rattle.itm_types.specs.declared.limits.TheConstants.{MAX_COMMITS}
 use Rattle.itm_types.specs.declared.row.LogRow.{LogRow}
 use Rattle.itm_types.specs.declared.call.Call.{Call}
-use Rattle.nest_frames.specs.Nest.{closed, logged, rows_of, made_irrevocable}
+use Rattle.nest_frames.specs.Nest.{Frame, closed, logged, reads_of, rows_of, made_irrevocable}
 use Rattle.undo_log.specs.Rollback.{found}
 use Rattle.itm_types.specs.Calls.{is_abort}
 use Rattle.itm_types.specs.declared.call.Call.TheVariants.{Begin, Commit, Mode, Read, Write, Log, LogBytes, Copy, Fill, CommitAction, UndoAction}
@@ -17,7 +17,7 @@ use Rattle.word_pieces.specs.Pieces.{pieces_of, count_of}
 use Rattle.itm_types.specs.Memory.{bytes_of, IsMemory, Agrees}
 use Rattle.itm_model.specs.Machine.{after, bytes_reply, refusal, reply, reply_unless, undone}
 use Rattle.norec_core.specs.declared.answer.Answer.{Answer as Answered}
-use Rattle.norec_core.specs.declared.answer.Answer.TheVariants.{Reply, Committed, Conflict, Busy, Full}
+use Rattle.norec_core.specs.declared.answer.Answer.TheVariants.{Reply, Committed, Conflict, Restarted, Busy, Full}
 use Rattle.norec_core.specs.declared.answer.Next.{Next}
 use Rattle.norec_core.specs.declared.answer.Next.TheVariants.{Step as Asks, Answer as Answers}
 use Rattle.write_set.specs.Rows.{overlay}
@@ -27,7 +27,8 @@ use Rattle.norec_core.specs.OwnAccesses.{gathered_at}
 use Rattle.norec_core.specs.Core.{Core, irrevocable_room, in_transaction, ended, finished, rolled_back}
 use Rattle.norec_core.specs.Stands.{stands_for}
 use Rattle.norec_core.specs.Phases.{Idle}
-use Rattle.norec_core.specs.Order.{load_stage, value_reading}
+use Rattle.norec_core.specs.Order.{load_stage, may_restart, value_reading}
+use Rattle.norec_core.specs.Restarts.{Restarts}
 use Rattle.norec_core.specs.Effects.{actions_after, arena_after, arena_held, blocks_after, recoded, room_left, writes_after}
 
 -- ## Lawful steps
@@ -185,12 +186,13 @@ abbrev pub IsBegin : Option Call → Type 0
 IsBegin (Some (Begin props room)) = Unit {0}
 IsBegin _ = ⊥
 
--- the word that differs was the last one loaded
-abbrev pub Differs : List LogRow → List LogRow → Option ℕ → Type 0
-Differs fresh log None = fresh ≡ []
-Differs fresh log (Some word) =
+-- the word that differs was the last one loaded, and the block that read it does not go back to its begin alone
+abbrev pub Differs : Core → Option ℕ → Type 0
+Differs c None = c.fresh ≡ []
+Differs c (Some word) =
     (before : List LogRow) × (found : ℕ) × (logged : LogRow) × (place : ℕ)
-    × (fresh ≡ before ++ record { word = word; value = found } ∷ []) × (slice_get log place ≡ Some logged) × (logged.word ≡ word) × (logged.value ≢ found)
+    × (c.fresh ≡ before ++ record { word = word; value = found } ∷ []) × (slice_get c.log place ≡ Some logged) × (logged.word ≡ word) × (logged.value ≢ found)
+    × (may_restart c place ≡ false)
 
 -- a begin that goes irrevocable found another clock as it took it, as often as it may
 pub record IsLost (mid : Core) (clock : ℕ) (word : Option ℕ) (new : Core) : Type 0 where
@@ -207,7 +209,7 @@ pub record Conflicts (mid : Core) (clock : ℕ) (word : Option ℕ) (new : Core)
   pub is_open : in_transaction mid ≡ true
   pub clock_is : clock ≡ mid.clock
   pub later : mid.snapshot < clock
-  pub word_is : Differs mid.fresh mid.log word
+  pub word_is : Differs mid word
   pub free : mid.holds ≡ false
   pub unfreed : mid.freed ≡ false
   pub stays : new ≡ record (rolled_back mid) { stage = new.stage; tries = new.tries }
@@ -257,6 +259,7 @@ abbrev pub Ends : Core → Answered → Core → Type 0
 Ends mid (Reply r) new = RepliesTo mid mid.doing r new
 Ends mid (Committed at wrote) new = Commits mid at wrote new
 Ends mid (Conflict clock word) new = ConflictsIn (in_transaction mid) mid clock word new
+Ends mid (Restarted clock word) new = Restarts mid clock word new
 Ends mid (Busy clock) new = IsBusy mid clock new
 Ends mid (Full at) new = IsFull mid at new
 
@@ -283,11 +286,26 @@ pub record Takes (old : Core) (seen : ℕ) : Type 0 where
   pub cas : old.waits ≡ Some (Cas 0 old.snapshot (old.snapshot + 1))
   pub same : seen ≡ old.snapshot
 
--- rows join the log, and the snapshot moves, only there, and never both: the rows that join, or at a move all rows, were loaded between the two loads
+-- A block goes back to its begin where a row of its own part was found different between two loads of the clock that gave the same value. The rows before that one were as logged, and so are all that the log keeps: they were loaded between the two.
+pub record GoesBack (old : Core) (seen : ℕ) (new : Core) : Type 0 where
+  pub settles : Settles old seen
+  pub log : new.log ≡ take (reads_of old.blocks) old.log
+  pub moved : new.snapshot ≡ seen
+  pub counted : new.restarted ≡ old.restarted + 1
+  pub same : ℕ  -- so many rows were as logged
+  pub may : may_restart old same ≡ true
+  pub far : reads_of old.blocks ≤ same
+  pub logged : LogRow
+  pub there : slice_get old.log same ≡ Some logged
+  pub found : ℕ
+  pub loaded : old.fresh ≡ take same old.log ++ record { word = logged.word; value = found } ∷ []
+  pub differs : logged.value ≢ found
+
+-- rows join the log, and the snapshot moves, only there, and never both: the rows that join, or at a move all rows that the log then has, were loaded between the two loads
 pub record Joins (old : Core) (seen : ℕ) (new : Core) : Type 0 where
-  pub log : in_transaction new ≡ true → (new.log ≡ old.log) ⊎ (Settles old seen × (new.log ≡ old.log ++ old.fresh) × (new.snapshot ≡ seen) × (old.snapshot ≡ seen)) ⊎ GoesOver old new
+  pub log : in_transaction new ≡ true → (new.log ≡ old.log) ⊎ (Settles old seen × (new.log ≡ old.log ++ old.fresh) × (new.snapshot ≡ seen) × (old.snapshot ≡ seen)) ⊎ GoesOver old new ⊎ GoesBack old seen new
   pub begins : in_transaction old ≡ false → in_transaction new ≡ true → ((old.waits ≡ Some (Load 0)) × (new.snapshot ≡ seen) × (seen % 2 ≡ 0)) ⊎ (Takes old seen × (new.snapshot ≡ seen) × (new.irrevocable ≡ true))
-  pub snapshot : in_transaction old ≡ true → (new.snapshot ≡ old.snapshot) ⊎ (Settles old seen × (old.fresh ≡ old.log) × (new.snapshot ≡ seen))
+  pub snapshot : in_transaction old ≡ true → (new.snapshot ≡ old.snapshot) ⊎ (Settles old seen × (old.fresh ≡ old.log) × (new.snapshot ≡ seen)) ⊎ GoesBack old seen new
 
 -- a transaction opens at a load of the clock or as it is taken, so not as a call comes; no row joins the log then, and the snapshot stays
 pub record StaysOn (old new : Core) : Type 0 where
@@ -298,6 +316,7 @@ pub record StaysOn (old new : Core) : Type 0 where
 -- what a call may be answered before its first step
 abbrev pub IsAtOnce : Next → Type 0
 IsAtOnce (Answers (Conflict clock word)) = ⊥
+IsAtOnce (Answers (Restarted clock word)) = ⊥
 IsAtOnce (Answers (Busy clock)) = ⊥
 IsAtOnce _ = Unit {0}
 
@@ -353,6 +372,12 @@ most c _ = 0
 abbrev pub IsWithin : Core → Type 0
 IsWithin c = c.waits ≢ None → c.spent ≤ most c c.doing
 
+-- of each open block but the outermost, which began with nothing read, no more had been read at its begin than as the one within it began, or than is
+abbrev pub AreRead : ℕ → List Frame → Type 0
+AreRead top [] = Unit {0}
+AreRead top (b ∷ []) = b.reads ≡ 0
+AreRead top (b ∷ p ∷ bs) = (b.reads ≤ top) × AreRead b.reads (p ∷ bs)
+
 -- between calls: outside, nothing is kept; inside, the clock that was handed in last is the snapshot
 pub record IsSettled (c : Core) : Type 0 where
   pub closed : in_transaction c ≡ false → (c.log ≡ []) × (c.writes ≡ []) × (c.actions.commits ≡ []) × (c.actions.undos ≡ [])
@@ -364,5 +389,7 @@ pub record IsSettled (c : Core) : Type 0 where
   pub even : c.snapshot % 2 ≡ 0
   pub holder : c.holds ≡ true → (in_transaction c ≡ true) × (c.clock ≡ c.snapshot) × (c.snapshot / 2 < c.max_commits)
   pub limit : c.max_commits ≤ MAX_COMMITS
+  pub reads : c.irrevocable ≡ false → AreRead (length c.log) c.blocks
+  pub few : c.restarted ≤ c.restarts
   pub deep : 0 < c.depth
   pub irrevocable : c.irrevocable ≡ true → (c.holds ≡ true) × (c.writes ≡ []) × (c.log ≡ [])

@@ -4,11 +4,12 @@ use Rattle.nest_frames.specs.Nest.{Nest}
 use Rattle.norec_data.specs.declared.data.Data.{Data}
 use Rattle.norec_data.specs.Bounds.{IsBounded}
 
-pub bounds_kept : (d : Data) (frames : Nest) → frames.size ≡ d.frames.size → frames.depth ≡ d.frames.depth → IsBounded d.words d.limits d.snapshot d.frames.size d.frames.depth d.arena
-    → IsBounded d.words d.limits d.snapshot frames.size frames.depth d.arena
+pub bounds_kept : (d : Data) (frames : Nest) → frames.size ≡ d.frames.size → frames.depth ≡ d.frames.depth → IsBounded d.words d.limits d.restarted d.snapshot d.frames.size d.frames.depth d.arena
+    → IsBounded d.words d.limits d.restarted d.snapshot frames.size frames.depth d.arena
 bounds_kept d frames size depth b = record {
   patient = b.patient;
   commits = b.commits;
+  few = b.few;
   small = b.small;
   sized = size ∙ b.sized;
   deep = subst (λ (n : ℕ). 0 < n) (sym depth) b.deep;

@@ -7,9 +7,10 @@ use Rattle.norec_data.specs.declared.data.Data.{Data}
 use Rattle.norec_data.specs.View.{in_block}
 
 -- in every phase
-pub record IsBounded (words : ℕ) (limits : Limits) (snapshot size depth : ℕ) (arena : List ℕ) : Type 0 where
+pub record IsBounded (words : ℕ) (limits : Limits) (restarted snapshot size depth : ℕ) (arena : List ℕ) : Type 0 where
   pub patient : (0 < limits.patience) × (limits.patience ≤ MAX_PATIENCE)
   pub commits : limits.max_commits ≤ MAX_COMMITS
+  pub few : restarted ≤ limits.restarts
   pub small : words ≤ MAX_WORDS
   pub sized : size ≡ length arena
   pub deep : 0 < depth
@@ -26,13 +27,13 @@ pub record IsOutside (d : Data) : Type 0 where
 
 -- and the last one is over
 pub record IsOver (d : Data) : Type 0 where
-  pub bounds : IsBounded d.words d.limits d.snapshot d.frames.size d.frames.depth d.arena
+  pub bounds : IsBounded d.words d.limits d.restarted d.snapshot d.frames.size d.frames.depth d.arena
   pub reached : d.snapshot ≤ d.clock
   pub outside : IsOutside d
 
 -- between two calls of an irrevocable transaction: nothing is left to write or to validate
 pub record IsHeld (d : Data) : Type 0 where
-  pub bounds : IsBounded d.words d.limits d.snapshot d.frames.size d.frames.depth d.arena
+  pub bounds : IsBounded d.words d.limits d.restarted d.snapshot d.frames.size d.frames.depth d.arena
   pub is_open : in_block d ≡ true
   pub log : d.log.rows ≡ []
   pub writes : d.frames.writes.rows ≡ []

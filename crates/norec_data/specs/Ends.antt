@@ -24,6 +24,7 @@ answer_of d ends.Refused = answers.Reply (replies.Refused d.why)
 answer_of d ends.Committed = answers.Committed (d.snapshot / 2) true
 answer_of d ends.ReadOnly = answers.Committed (d.snapshot / 2) false
 answer_of d ends.Conflict = answers.Conflict d.clock d.changed
+answer_of d (ends.Restarted word) = answers.Restarted d.clock word
 answer_of d ends.Busy = answers.Busy d.clock
 answer_of d ends.Full = answers.Full (d.snapshot / 2)
 

@@ -84,6 +84,7 @@ pub record IsEnded (old : Data) (left : List ℕ) (actions : Actions) (new : Dat
   pub arena : new.arena ≡ left
   pub snapshot : new.snapshot ≡ old.snapshot
   pub clock : new.clock ≡ old.clock
+  pub restarted : new.restarted ≡ old.restarted
   pub tries : new.tries ≡ old.tries
   pub spent : new.spent ≡ old.spent
   pub entry : new.entry ≡ old.entry

@@ -1,5 +1,5 @@
 -- The engine's fields as what its callers see.
-use Rattle.std.specs.Prelude.{ℕ, Bool, true, false, List, [], ◌∷◌, length, take, Option, None, Some}
+use Rattle.std.specs.Prelude.{ℕ, Bool, true, false, List, [], ◌∷◌, ◌++◌, length, take, Option, None, Some}
 use Rattle.itm_types.specs.declared.row.LogRow.{LogRow}
 use Rattle.write_set.specs.declared.row.Row.{Row}
 use Rattle.itm_types.specs.declared.call.Call.{Call}
@@ -23,6 +23,7 @@ use Rattle.norec_data.specs.declared.pending.Pending.TheVariants as waits
 use Rattle.norec_data.specs.declared.data.Data.{Data}
 use Rattle.norec_core.specs.Core.{Core, is_inside}
 use Rattle.norec_core.specs.OwnAccesses.{word_of}
+use Rattle.norec_core.specs.Rows.{row_at}
 use Rattle.norec_core.specs.Order.{step_in, asked_in}
 
 -- what a round is made for
@@ -43,6 +44,7 @@ phase_of d (waits.Confirm value) = at.Confirm d.reading value
 phase_of d waits.RoundStart = at.RoundStart (aim_of d)
 phase_of d (waits.RoundRow row) = at.RoundRow (aim_of d) row
 phase_of d waits.RoundEnd = at.RoundEnd (aim_of d)
+phase_of d (waits.RoundBack row) = at.RoundBack (aim_of d) row
 phase_of d waits.Exchange = at.Exchange d.taking
 phase_of d (waits.BackLoad row) = at.BackLoad d.taking row
 phase_of d (waits.Store row) = at.Store d.taking row d.got
@@ -69,6 +71,7 @@ doing_of (at.Confirm r value) = Some (call_of (aims.Read r))
 doing_of (at.RoundStart aim) = Some (call_of aim)
 doing_of (at.RoundRow aim row) = Some (call_of aim)
 doing_of (at.RoundEnd aim) = Some (call_of aim)
+doing_of (at.RoundBack aim row) = Some (call_of aim)
 doing_of (at.Take b) = Some (Begin b.props b.room)
 doing_of (at.Exchange taking) = Some (call_of (aims.Take taking))
 doing_of (at.BackLoad taking row) = Some (call_of (aims.Take taking))
@@ -95,6 +98,7 @@ writes_of d (at.Confirm r value) = rows_before d
 writes_of d (at.RoundStart aim) = writes_for d aim
 writes_of d (at.RoundRow aim row) = writes_for d aim
 writes_of d (at.RoundEnd aim) = writes_for d aim
+writes_of d (at.RoundBack aim row) = writes_for d aim
 writes_of d _ = d.frames.writes.rows
 
 -- the step that the phase waits for
@@ -104,11 +108,17 @@ step_of d phase = step_in d.log.rows d.snapshot (writes_of d phase) d.gathered.i
 abbrev pub waits_of : Data → Phase → Option Step
 waits_of d phase = asked_in d.log.rows d.snapshot (writes_of d phase) [] phase
 
-abbrev pub fresh_of : List LogRow → Phase → List LogRow
-fresh_of log (at.Confirm r value) = record { word = word_of r; value = value } ∷ []
-fresh_of log (at.RoundRow aim row) = take row log
-fresh_of log (at.RoundEnd aim) = log
-fresh_of log _ = []
+-- what was found of a row that differs
+abbrev pub found_at : List LogRow → Option ℕ → ℕ → List LogRow
+found_at log None row = []
+found_at log (Some found) row = record { word = (row_at log row).word; value = found } ∷ []
+
+abbrev pub fresh_of : List LogRow → Option ℕ → Phase → List LogRow
+fresh_of log got (at.Confirm r value) = record { word = word_of r; value = value } ∷ []
+fresh_of log got (at.RoundRow aim row) = take row log
+fresh_of log got (at.RoundEnd aim) = log
+fresh_of log got (at.RoundBack aim row) = take row log ++ found_at log got row
+fresh_of log got _ = []
 
 abbrev pub holds_of : Phase → Bool
 holds_of (at.BackLoad taking row) = true
@@ -140,11 +150,13 @@ core d phase = record {
   words = d.words;
   patience = d.limits.patience;
   max_commits = d.limits.max_commits;
+  restarts = d.limits.restarts;
+  restarted = d.restarted;
   depth = d.frames.depth;
   arena = d.arena;
   snapshot = d.snapshot;
   clock = d.clock;
-  fresh = fresh_of d.log.rows phase;
+  fresh = fresh_of d.log.rows d.got phase;
   log = d.log.rows;
   writes = writes_of d phase;
   blocks = d.frames.blocks;
@@ -196,6 +208,8 @@ held d phase = record {
   words = d.words;
   patience = d.limits.patience;
   max_commits = d.limits.max_commits;
+  restarts = d.limits.restarts;
+  restarted = d.restarted;
   depth = d.frames.depth;
   arena = d.arena;
   snapshot = d.snapshot;

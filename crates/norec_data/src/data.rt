@@ -35,7 +35,7 @@ pub struct Data {
     pub taking: Taking,
     /// What the round in progress is made for.
     pub cause: Cause,
-    /// The word that was loaded, into which the store in progress puts a part.
+    /// The word that was loaded, into which the store in progress puts a part, or which a round found different.
     pub got: Option<u64>,
     /// The write in progress, in an irrevocable transaction.
     pub writing: Writing,
@@ -55,6 +55,8 @@ pub struct Data {
     pub entry: usize,
     /// Validation rounds that the call started, or clock loads of a begin.
     pub tries: u32,
+    /// How often inner blocks have gone back to their begins, in this transaction.
+    pub restarted: u32,
     /// Steps that the call has asked for.
     pub spent: u128,
 }

@@ -39,6 +39,8 @@ pub enum CallEnd {
     ReadOnly,
     /// The transaction saw what is no longer so.
     Conflict,
+    /// The innermost block saw that this word had changed, and has gone back to its begin.
+    Restarted(u32),
     /// The clock was odd as often as it may.
     Busy,
     /// As many writers have committed as may.
@@ -72,6 +74,12 @@ impl CallEnd {
                 *answer = Answer::Conflict {
                     clock: state.clock,
                     word: state.changed,
+                }
+            }
+            CallEnd::Restarted(word) => {
+                *answer = Answer::Restarted {
+                    clock: state.clock,
+                    word,
                 }
             }
             CallEnd::Busy => *answer = Answer::Busy { clock: state.clock },

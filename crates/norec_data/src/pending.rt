@@ -28,6 +28,8 @@ pub enum Pending {
     RoundRow(usize),
     /// The clock, at the end of a round.
     RoundEnd,
+    /// The clock, once this row was found different, which the innermost block has added.
+    RoundBack(usize),
     /// The exchange that takes the clock.
     Exchange,
     /// The word of this row of the write set, which has a part of it.

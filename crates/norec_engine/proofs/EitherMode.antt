@@ -34,7 +34,7 @@ told_sound end d s = record {
   bounds = s.bounds;
   reached = s.reached;
   in_phase = (
-    λ o. (let idle = s.in_phase.0 o in (record { is_open = o; log = idle.0.log; writes = idle.0.writes; rows = idle.0.rows; frames = idle.0.frames; tries = idle.0.tries }, idle.1)),
+    λ o. (let idle = s.in_phase.0 o in (record { is_open = o; log = idle.0.log; writes = idle.0.writes; rows = idle.0.rows; frames = idle.0.frames; begun = idle.0.begun; tries = idle.0.tries }, idle.1)),
     λ o. (let outside = s.in_phase.1 o in record { is_open = o; log = outside.log; writes = outside.writes; commits = outside.commits; undos = outside.undos; tries = outside.tries }),
   );
 }

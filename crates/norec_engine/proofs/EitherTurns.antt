@@ -30,6 +30,7 @@ phase_counted d (waits.Confirm value) = refl
 phase_counted d waits.RoundStart = refl
 phase_counted d (waits.RoundRow row) = refl
 phase_counted d waits.RoundEnd = refl
+phase_counted d (waits.RoundBack row) = refl
 phase_counted d waits.Exchange = refl
 phase_counted d (waits.BackLoad row) = refl
 phase_counted d (waits.Store row) = refl

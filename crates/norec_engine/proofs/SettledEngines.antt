@@ -1,19 +1,21 @@
 -- What is true of an engine between two steps, in a transaction of either kind.
-use Rattle.std.proofs.Common.{◌≡◌, ℕ, ◌/◌, ◌<◌, Bool, true, false, List, [], None, Some, refl, sym, subst, arith}
+use Rattle.std.proofs.Common.{◌≡◌, ℕ, ◌/◌, ◌<◌, Bool, true, false, List, [], length, None, Some, refl, sym, subst, arith}
 use Rattle.norec_core.specs.Phases.{Phase}
 use Rattle.norec_core.specs.Phases as at
 use Rattle.norec_core.specs.Order.{snapshot_after}
 use Rattle.norec_core.specs.Rows.{IsLog}
 use Rattle.norec_core.proofs.Accesses.Overlays.{agreed}
 use Rattle.itm_types.specs.declared.row.LogRow.{LogRow}
-use Rattle.norec_core.specs.Proceeds.{IsSettled, IsWithin}
+use Rattle.norec_core.specs.Proceeds.{AreRead, IsSettled, IsWithin}
 use Rattle.norec_data.specs.declared.data.Data.{Data}
 use Rattle.norec_data.specs.Bounds.{IsOutside}
 use Rattle.norec_data.specs.View.{core, held, holds_of, in_block, waits_of}
 use Rattle.norec_revocable.specs.InPhases.{InPhase, IsSound}
 use Rattle.norec_engine.specs.Modes.{engine_in, IsSoundIn}
 use Rattle.norec_revocable.proofs.Counts.{counts}
-use Rattle.norec_revocable.proofs.Blocks.EndedTransactions.{none_written}
+use Rattle.norec_revocable.proofs.Blocks.EndedTransactions.{none_written, open_in}
+use Rattle.norec_revocable.proofs.Blocks.OpenBegins.{are_read}
+use Rattle.norec_core.proofs.Engines.Blocks.{none_inside}
 use Rattle.norec_engine.proofs.HeldCounts.{held_counts}
 use Rattle.norec_irrevocable.specs.Phases.{IsSoundHeld}
 
@@ -26,6 +28,7 @@ outside d (at.Confirm r value) p o = (let inside = p.0.is_open in absurd (cc))
 outside d (at.RoundStart aim) p o = (let inside = p.is_open.is_open in absurd (cc))
 outside d (at.RoundRow aim row) p o = (let inside = p.0.is_open.is_open in absurd (cc))
 outside d (at.RoundEnd aim) p o = (let inside = p.0.is_open.is_open in absurd (cc))
+outside d (at.RoundBack aim row) p o = (let inside = p.0.is_open.is_open in absurd (cc))
 outside d (at.Exchange taking) p o = (let inside = p.0.is_open in absurd (cc))
 outside d (at.BackLoad taking row) p o = (let inside = p.0.is_open.is_open in absurd (cc))
 outside d (at.Store taking row None) p o = (let inside = p.0.is_open.is_open in absurd (cc))
@@ -45,30 +48,17 @@ holding d (at.Store taking row (Some word)) p h = (p.0.is_open.is_open, p.0.sett
 holding d at.Free p h = (p.is_open.is_open, p.settled, p.free)
 holding d phase p h = absurd (cc)
 
--- the log of every phase
-open_log : (d : Data) (phase : Phase) → InPhase d phase → in_block d ≡ true → IsLog d.words d.log.rows
-open_log d at.Idle p o = (p.0 o).0.log
-open_log d (at.Begin b) p o = (let shut = p.0.is_open in absurd (cc))
-open_log d (at.Take b) p o = (let shut = p.0.is_open in absurd (cc))
-open_log d (at.Load r) p o = p.0.log
-open_log d (at.Confirm r value) p o = p.0.log
-open_log d (at.RoundStart aim) p o = p.is_open.log
-open_log d (at.RoundRow aim row) p o = p.0.is_open.log
-open_log d (at.RoundEnd aim) p o = p.0.is_open.log
-open_log d (at.Exchange taking) p o = p.0.log
-open_log d (at.BackLoad taking row) p o = p.0.is_open.log
-open_log d (at.Store taking row None) p o = p.0.is_open.log
-open_log d (at.Store taking row (Some word)) p o = p.0.is_open.log
-open_log d at.Free p o = p.is_open.log
-open_log d (at.Fetch w) p o = absurd p
-open_log d (at.Place w got) p o = absurd p
-
 empty_log : (words : ℕ) (log : List LogRow) → log ≡ [] → IsLog words log
 empty_log words log e = subst (IsLog words) (sym e) (record { within = tt; single = tt; fit = tt })
 
 log_in : (d : Data) (phase : Phase) → InPhase d phase → (b : Bool) → in_block d ≡ b → IsLog d.words d.log.rows
-log_in d phase p true o = open_log d phase p o
+log_in d phase p true o = (open_in d phase p o).log
 log_in d phase p false o = empty_log d.words d.log.rows (outside d phase p o).log
+
+-- where the open blocks began
+reads_in : (d : Data) (phase : Phase) → InPhase d phase → (b : Bool) → in_block d ≡ b → AreRead (length d.log.rows) d.frames.blocks
+reads_in d phase p true o = are_read (length d.log.rows) (length d.frames.actions.commits) (length d.frames.actions.undos) d.frames.blocks (open_in d phase p o).begun
+reads_in d phase p false o = subst (AreRead (length d.log.rows)) (sym (none_inside d.frames.blocks o)) tt
 
 settled : (d : Data) (phase : Phase) → IsSound d phase → IsSettled (core d phase)
 settled d phase s = (let log = log_in d phase s.in_phase (in_block d) refl in record {
@@ -81,6 +71,8 @@ settled d phase s = (let log = log_in d phase s.in_phase (in_block d) refl in re
   even = s.bounds.even;
   holder = λ h. holding d phase s.in_phase h;
   limit = s.bounds.commits;
+  reads = λ r. reads_in d phase s.in_phase (in_block d) refl;
+  few = s.bounds.few;
   deep = s.bounds.deep;
   irrevocable = λ i. absurd (cc);
 })
@@ -96,6 +88,8 @@ held_settled d phase s = (let h = s.held in let log = empty_log d.words d.log.ro
   even = h.bounds.even;
   holder = λ y. (h.is_open, h.settled, h.free);
   limit = h.bounds.commits;
+  reads = λ r. absurd (cc);
+  few = h.bounds.few;
   deep = h.bounds.deep;
   irrevocable = λ i. (refl, h.writes, h.log);
 })
@@ -112,4 +106,5 @@ counts_in true d phase s = held_counts d phase s
 pub held_snapshot : (d : Data) (phase : Phase) (seen : ℕ) → IsSoundHeld d phase → snapshot_after (held d phase) seen ≡ d.snapshot
 held_snapshot d (at.Begin b) seen s = absurd s.in_phase
 held_snapshot d (at.RoundEnd aim) seen s = absurd s.in_phase
+held_snapshot d (at.RoundBack aim row) seen s = absurd s.in_phase
 held_snapshot d phase seen s = refl

@@ -1,13 +1,15 @@
 -- The steps of a read of one whole word, for the engine as its callers see it.
-use Rattle.std.proofs.Common.{◌≡◌, ℕ, Bool, true, false, refl, sym, subst}
+use Rattle.std.proofs.Common.{◌≡◌, inl, ℕ, Bool, true, false, refl, sym, subst}
 use Rattle.norec_core.specs.Phases.{Phase}
 use Rattle.norec_core.specs.Phases.{Load}
+use Rattle.norec_core.specs.Proceeds.{Joins}
 use Rattle.norec_core.specs.declared.call_parts.Reading.{Reading}
 use Rattle.norec_data.specs.declared.data.Data.{Data}
 use Rattle.norec_data.specs.declared.pending.Pending.{Pending}
 use Rattle.norec_data.specs.declared.pending.Pending.TheVariants as waits
 use Rattle.norec_data.specs.declared.turn.Turn.TheVariants.{Wait}
 use Rattle.norec_revocable.specs.Between.{IsWord}
+use Rattle.norec_data.specs.Turns.{counted}
 use Rattle.norec_data.specs.View.{core, phase_of}
 use Rattle.norec_engine.specs.Modes.{engine_in}
 use Rattle.norec_engine.specs.WholeReads.{ConfirmsWord}
@@ -31,3 +33,8 @@ pub confirms : (d : Data) (word value : ℕ) (b : Bool) (p : Pending) → b ≡ 
 confirms d word value b p mode is here =
     subst (λ (m : Bool). ConfirmsWord (engine_in m d (phase_of d p)) word) (sym mode)
     (subst (λ (q : Pending). ConfirmsWord (core d (phase_of d q)) word) (sym is) (record { revocable = refl; reading = d.reading; value = value; stage = refl; is_word = here }))
+
+-- a step that is counted, and leaves the fields as they are otherwise, moves neither the log nor the snapshot
+pub joins_none : (b : Bool) (d : Data) (p q : Phase) (seen : ℕ) → Joins (engine_in b d p) seen (engine_in b (counted d) q)
+joins_none true d p q seen = record { log = λ o. inl refl; begins = λ shut o. absurd (cc); snapshot = λ o. inl refl }
+joins_none false d p q seen = record { log = λ o. inl refl; begins = λ shut o. absurd (cc); snapshot = λ o. inl refl }

@@ -1,6 +1,6 @@
 //! One thread's transactions over shared cells that someone else steps on.
 
-ghost use Rattle.std.specs.Prelude.{◌≡◌, ◌^◌, ◌<◌, ◌≤◌, IsOk, IfOk, IsSome, true, IsTrue, ◌↔◌, is_some, false, []};
+ghost use Rattle.std.specs.Prelude.{◌≡◌, ◌^◌, ◌<◌, ◌≤◌, IfOk, IsSome, true, IsTrue, ◌↔◌, is_some, false, []};
 ghost use Rattle.user_actions.specs.Actions.{total};
 ghost use Rattle.norec_core.specs.Core.{in_transaction, opening, irrevocable_room};
 ghost use Rattle.norec_core.specs.Proceeds.{IsUndone, Fits};
@@ -14,7 +14,7 @@ use crate::turns;
 use crate::turns::take;
 use itm_types::{
     Call, Datum, Limits, MAX_COMMITS, MAX_PATIENCE, MAX_WORDS, Props, Ran, ReadHint, Refusal, Step,
-    USUAL_DEPTH, Value, Width, WriteHint,
+    Value, Width, WriteHint,
 };
 use nest_frames::Frames;
 use norec_core::{Answer, Opening, Purpose, Reading, Taking, Target, Undone, Writing};
@@ -50,15 +50,14 @@ impl Model for Engine {
 }
 
 impl Engine {
-    /// An engine outside a transaction, over a memory of 1 to 131,072 words, with its thread's arena. Takes no memory where
-    /// no more blocks may be open than usual.
+    /// An engine outside a transaction, over a memory of 1 to 131,072 words, with its thread's arena. Takes memory for
+    /// the begins of open blocks.
     pub fn new(alloc: Global, words: u32, arena: Arena, limits: Limits) -> Result<Self, AllocError>
         requires words { (0 < words) × (words ≤ MAX_WORDS) }
         requires patience { (0 < limits.patience) × (limits.patience ≤ MAX_PATIENCE) }
         requires commits { (0 < limits.max_commits) × (limits.max_commits ≤ MAX_COMMITS) }
         requires depth { 0 < limits.depth }
-        ensures ok { IfOk result (λ e. e ≡ opening words arena limits.patience limits.max_commits limits.depth) }
-        ensures few { limits.depth ≤ USUAL_DEPTH → IsOk result }
+        ensures ok { IfOk result (λ e. e ≡ opening words arena limits.patience limits.max_commits limits.depth limits.restarts) }
     {
         let frames = Frames::new(alloc, arena.size(), limits.depth)?;
         Ok(Engine {
@@ -104,6 +103,7 @@ impl Engine {
                 written: 0,
                 entry: 0,
                 tries: 0,
+                restarted: 0,
                 spent: 0,
             },
             pending: Pending::Idle,

@@ -25,7 +25,7 @@ pub(crate) fn begin(state: &mut Data, props: Props, room: u32) -> Turn
             Turn::EndIrrevocable(CallEnd::Refused)
         }
         None => {
-            state.frames.enter(props);
+            state.frames.enter(props, state.log.len() as u32);
             Turn::EndIrrevocable(CallEnd::Entered)
         }
     }

@@ -100,6 +100,7 @@ within d (at.RoundStart aim) s w = rounds d aim 1 s.in_phase (omega arith)
 within d (at.RoundRow (aims.Read r) row) s w = rounds d (aims.Read r) (row + 2) s.in_phase.0 (omega (arith, s.in_phase.2))
 within d (at.RoundRow (aims.Take taking) row) s w = rounds d (aims.Take taking) (row + 2) s.in_phase.0 (omega (arith, s.in_phase.2))
 within d (at.RoundEnd aim) s w = rounds d aim (length d.log.rows + 2) s.in_phase.0 (omega arith)
+within d (at.RoundBack aim row) s w = rounds d aim (row + 3) s.in_phase.0 (omega (arith, s.in_phase.2))
 within d (at.Exchange taking) s w =
     omega (arith, most_take (core d (at.Exchange taking)) taking s.in_phase.0.is_open, s.in_phase.4, mul-le-mul_right {m = d.tries} {n = d.limits.patience} (d.entry + 3) s.in_phase.0.tries)
 within d (at.BackLoad taking row) s w = holds_within d (at.BackLoad taking row) taking (2 * row + 1) s.in_phase.0 (omega (arith, s.in_phase.1)) (most_take (core d (at.BackLoad taking row)) taking s.in_phase.0.is_open.is_open)
@@ -140,6 +141,8 @@ fits_most d (at.RoundEnd (aims.Read r)) s w m e h = read_few d r (core d (at.Rou
 fits_most d (at.RoundStart (aims.Take t)) s w m e h = take_few d (at.RoundStart (aims.Take t)) t s.in_phase.is_open.is_open e s.bounds.patient.1 m (most_take (core d (at.RoundStart (aims.Take t))) t s.in_phase.is_open.is_open) h
 fits_most d (at.RoundRow (aims.Take t) row) s w m e h = take_few d (at.RoundRow (aims.Take t) row) t s.in_phase.0.is_open.is_open e s.bounds.patient.1 m (most_take (core d (at.RoundRow (aims.Take t) row)) t s.in_phase.0.is_open.is_open) h
 fits_most d (at.RoundEnd (aims.Take t)) s w m e h = take_few d (at.RoundEnd (aims.Take t)) t s.in_phase.0.is_open.is_open e s.bounds.patient.1 m (most_take (core d (at.RoundEnd (aims.Take t))) t s.in_phase.0.is_open.is_open) h
+fits_most d (at.RoundBack (aims.Read r) row) s w m e h = read_few d r (core d (at.RoundBack (aims.Read r) row)) refl s.in_phase.0.may s.bounds.small s.bounds.patient.1 e h
+fits_most d (at.RoundBack (aims.Take t) row) s w m e h = take_few d (at.RoundBack (aims.Take t) row) t s.in_phase.0.is_open.is_open e s.bounds.patient.1 m (most_take (core d (at.RoundBack (aims.Take t) row)) t s.in_phase.0.is_open.is_open) h
 fits_most d (at.Exchange t) s w m e h = take_few d (at.Exchange t) t s.in_phase.0.is_open e s.bounds.patient.1 m (most_take (core d (at.Exchange t)) t s.in_phase.0.is_open) h
 fits_most d (at.BackLoad t row) s w m e h = take_few d (at.BackLoad t row) t s.in_phase.0.is_open.is_open e s.bounds.patient.1 m (most_take (core d (at.BackLoad t row)) t s.in_phase.0.is_open.is_open) h
 fits_most d (at.Store t row None) s w m e h = take_few d (at.Store t row None) t s.in_phase.0.is_open.is_open e s.bounds.patient.1 m (most_take (core d (at.Store t row None)) t s.in_phase.0.is_open.is_open) h

@@ -38,7 +38,7 @@ pub record IsSoundTurn (turn : Turn) (d : Data) : Type 0 where
 -- the open blocks, with the one that begins
 abbrev pub blocks_with : Option Props → Nest → List Frame
 blocks_with None n = n.blocks
-blocks_with (Some props) n = begun props n.writes.rows n.actions ∷ n.blocks
+blocks_with (Some props) n = begun props n.writes.rows n.actions 0 ∷ n.blocks
 
 abbrev pub entry_end : Option Props → CallEnd
 entry_end None = ends.Done
@@ -86,7 +86,7 @@ left_by turn d = record d { log = record d.log { rows = log_left turn d.log.rows
 
 -- a round may be tried
 pub record MayTry (d : Data) (aim : Aim) : Type 0 where
-  pub bounds : IsBounded d.words d.limits d.snapshot d.frames.size d.frames.depth d.arena
+  pub bounds : IsBounded d.words d.limits d.restarted d.snapshot d.frames.size d.frames.depth d.arena
   pub is_open : IsOpen d
   pub may : Aims d aim
   pub later : d.snapshot < d.clock
@@ -94,7 +94,7 @@ pub record MayTry (d : Data) (aim : Aim) : Type 0 where
 
 -- the next piece of a read may be taken
 pub record MayGather (d : Data) (r : Reading) : Type 0 where
-  pub bounds : IsBounded d.words d.limits d.snapshot d.frames.size d.frames.depth d.arena
+  pub bounds : IsBounded d.words d.limits d.restarted d.snapshot d.frames.size d.frames.depth d.arena
   pub is_open : IsOpen d
   pub reading : IsReading d r
   pub logging : MayLog d r
@@ -114,7 +114,7 @@ pub record IsWord (r : Reading) (word : ℕ) : Type 0 where
 
 -- a read may be answered: its pieces are gathered
 pub record MayAnswerRead (d : Data) (r : Reading) : Type 0 where
-  pub bounds : IsBounded d.words d.limits d.snapshot d.frames.size d.frames.depth d.arena
+  pub bounds : IsBounded d.words d.limits d.restarted d.snapshot d.frames.size d.frames.depth d.arena
   pub is_open : IsOpen d
   pub value : IsValue r.purpose
   pub whole : IsReading d (record r { number = count r })
@@ -122,7 +122,7 @@ pub record MayAnswerRead (d : Data) (r : Reading) : Type 0 where
 
 -- the next chunk of a copy's source may be taken
 pub record MayCopy (d : Data) (k : Copying) (chunks : ℕ) : Type 0 where
-  pub bounds : IsBounded d.words d.limits d.snapshot d.frames.size d.frames.depth d.arena
+  pub bounds : IsBounded d.words d.limits d.restarted d.snapshot d.frames.size d.frames.depth d.arena
   pub is_open : IsOpen d
   pub copied : Copied d k chunks
   pub settled : d.clock ≡ d.snapshot
@@ -133,21 +133,21 @@ pub record MayCopy (d : Data) (k : Copying) (chunks : ℕ) : Type 0 where
 
 -- a copy's destination may be written
 pub record MayFinish (d : Data) (k : Copying) : Type 0 where
-  pub bounds : IsBounded d.words d.limits d.snapshot d.frames.size d.frames.depth d.arena
+  pub bounds : IsBounded d.words d.limits d.restarted d.snapshot d.frames.size d.frames.depth d.arena
   pub is_open : IsOpen d
   pub source : HasSource d k
   pub settled : d.clock ≡ d.snapshot
 
 -- a round goes on: its rows before this one are as logged
 pub record InRows (d : Data) (aim : Aim) (row : ℕ) : Type 0 where
-  pub bounds : IsBounded d.words d.limits d.snapshot d.frames.size d.frames.depth d.arena
+  pub bounds : IsBounded d.words d.limits d.restarted d.snapshot d.frames.size d.frames.depth d.arena
   pub round : InRound d aim (row + 1)
   pub steady : d.clock % 2 ≡ 0
   pub far : row ≤ length d.log.rows
 
 -- the clock may be taken
 pub record MayExchange (d : Data) (taking : Taking) : Type 0 where
-  pub bounds : IsBounded d.words d.limits d.snapshot d.frames.size d.frames.depth d.arena
+  pub bounds : IsBounded d.words d.limits d.restarted d.snapshot d.frames.size d.frames.depth d.arena
   pub is_open : IsOpen d
   pub may : MayTake d taking
   pub settled : d.clock ≡ d.snapshot
@@ -155,6 +155,6 @@ pub record MayExchange (d : Data) (taking : Taking) : Type 0 where
 
 -- the clock is held, and this many rows are stored
 pub record InStores (d : Data) (taking : Taking) (row : ℕ) : Type 0 where
-  pub bounds : IsBounded d.words d.limits d.snapshot d.frames.size d.frames.depth d.arena
+  pub bounds : IsBounded d.words d.limits d.restarted d.snapshot d.frames.size d.frames.depth d.arena
   pub holding : IsHolding d taking (2 * row)
   pub far : row ≤ length d.frames.writes.rows

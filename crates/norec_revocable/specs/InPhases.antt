@@ -25,12 +25,14 @@ use Rattle.word_pieces.specs.declared.chunk.Chunk.{Chunk}
 use Rattle.word_pieces.specs.Chunks.{chunks_written}
 use Rattle.norec_core.specs.Copies.{copy_refusal, chunks_in, source_in, is_out}
 use Rattle.norec_data.specs.declared.data.Data.{Data}
-use Rattle.norec_core.specs.Rows.{write_at, is_had, reserved_all, range_pieces, AllWritesWithin, IsLog}
+use Rattle.norec_core.specs.Rows.{row_at, write_at, is_had, reserved_all, range_pieces, AllWritesWithin, IsLog}
 use Rattle.write_set.specs.Marks.{Written, MayPut}
 use Rattle.write_set.specs.Rows.{overlay, AreRows}
 use Rattle.norec_core.specs.Core.{is_outermost, may_go}
 use Rattle.norec_core.specs.Accesses.{part, parts, count, total, passed}
-use Rattle.norec_data.specs.View.{rows_before, in_block}
+use Rattle.norec_core.specs.Order.{may_restart}
+use Rattle.norec_data.specs.View.{core, rows_before, in_block}
+use Rattle.norec_revocable.specs.OpenBegins.{AreBegun}
 use Rattle.norec_data.specs.Bounds.{IsBounded, IsOutside}
 
 -- the steps of one round for this aim, and those before the first round
@@ -55,6 +57,7 @@ pub record IsOpen (d : Data) : Type 0 where
   pub writes : AllWritesWithin d.words d.frames.writes.rows
   pub rows : AreRows d.frames.writes.rows
   pub frames : AreFrames d.words d.frames.blocks
+  pub begun : AreBegun (length d.log.rows) (length d.frames.actions.commits) (length d.frames.actions.undos) d.frames.blocks
   pub tries : d.tries ≤ d.limits.patience
 
 -- the rows that a copy's destination was given
@@ -165,6 +168,13 @@ pub record IsHolding (d : Data) (taking : Taking) (steps : ℕ) : Type 0 where
 abbrev pub MayBegin : Data → Opening → Type 0
 MayBegin d b = (may_go [] b.props ≡ true) × (b.props.goes_irrevocable ≡ true → d.frames.room ≡ b.room)
 
+-- a row was found different, of the part that the innermost block has added, and that block may go back to its begin
+pub record MayGoBack (d : Data) (row : ℕ) : Type 0 where
+  pub may : may_restart (core d at.Idle) row ≡ true
+  pub found : ℕ
+  pub got : d.got ≡ Some found
+  pub differs : (row_at d.log.rows row).value ≢ found
+
 abbrev pub InPhase : Data → Phase → Type 0
 InPhase d at.Idle = (in_block d ≡ true → IsOpen d × (d.clock ≡ d.snapshot)) × (in_block d ≡ false → IsOutside d)
 InPhase d (at.Begin b) = IsOutside d × MayBegin d b × (d.spent ≤ 2 * (d.tries - 1) + 1) × (0 < d.tries)
@@ -174,6 +184,7 @@ InPhase d (at.Confirm r value) = IsOpen d × MayRead d r × (d.clock ≡ d.snaps
 InPhase d (at.RoundStart aim) = InRound d aim 1
 InPhase d (at.RoundRow aim row) = InRound d aim (row + 2) × (d.clock % 2 ≡ 0) × (row < length d.log.rows)
 InPhase d (at.RoundEnd aim) = InRound d aim (length d.log.rows + 2) × (d.clock % 2 ≡ 0)
+InPhase d (at.RoundBack aim row) = InRound d aim (row + 3) × (d.clock % 2 ≡ 0) × (row < length d.log.rows) × MayGoBack d row
 InPhase d (at.Exchange taking) = IsOpen d × MayTake d taking × (d.clock ≡ d.snapshot) × (d.snapshot / 2 < d.limits.max_commits) × (d.spent ≤ 1 + d.tries * (d.entry + 3))
 InPhase d (at.BackLoad taking row) = IsHolding d taking (2 * row + 1) × (row < length d.frames.writes.rows) × ((write_at d.frames.writes.rows row).mask ≢ whole)
 InPhase d (at.Store taking row None) = IsHolding d taking (2 * row + 1) × (row < length d.frames.writes.rows) × ((write_at d.frames.writes.rows row).mask ≡ whole)
@@ -184,7 +195,7 @@ InPhase d (at.Fetch w) = ⊥
 InPhase d (at.Place w got) = ⊥
 
 pub record IsSound (d : Data) (phase : Phase) : Type 0 where
-  pub bounds : IsBounded d.words d.limits d.snapshot d.frames.size d.frames.depth d.arena
+  pub bounds : IsBounded d.words d.limits d.restarted d.snapshot d.frames.size d.frames.depth d.arena
   pub reached : d.snapshot ≤ d.clock
   pub in_phase : InPhase d phase
 

@@ -1,4 +1,6 @@
 pub mod InPhases
+pub mod OpenBegins
+pub mod Restarts
 pub mod Between
 pub mod WholeReads
 pub mod Moves

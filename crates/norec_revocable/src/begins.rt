@@ -32,13 +32,14 @@ pub fn begin(state: &mut Data, props: Props, room: u32, again: bool) -> Result<T
     state.start_call();
     if !state.is_open() {
         state.tries = 1;
+        state.restarted = 0;
         state.opening = Opening { props, room, again };
         Ok(Turn::Wait(Pending::Begin))
     } else if props.goes_irrevocable {
         state.tries = 0;
         Ok(exchange(state, Taking::Begin { props, room }))
     } else {
-        state.frames.enter(props);
+        state.frames.enter(props, state.log.len() as u32);
         Ok(Turn::End(CallEnd::Entered))
     }
 }
@@ -109,7 +110,7 @@ fn open(state: &mut Data, opening: Opening) -> CallEnd
     requires outside { IsOutside state.old }
     requires deep { 0 < state.old.frames.depth }
     ensures reply { (d : Data) → answer_of d result ≡ Answer.Reply (Reply.Code (if opening.again then 9 else 5)) }
-    ensures blocks { state.new.frames.blocks ≡ begun opening.props [] no_actions ∷ [] }
+    ensures blocks { state.new.frames.blocks ≡ begun opening.props [] no_actions 0 ∷ [] }
     ensures actions { state.new.frames.actions ≡ no_actions }
     ensures rows { state.new.frames.writes.rows ≡ [] }
     ensures frames { (state.new.frames.size ≡ state.old.frames.size) × (state.new.frames.room ≡ state.old.frames.room) }
@@ -117,7 +118,7 @@ fn open(state: &mut Data, opening: Opening) -> CallEnd
     ensures others { state.new ≡ record state.old { frames = state.new.frames } }
 {
     state.frames.clear_due();
-    state.frames.enter(opening.props);
+    state.frames.enter(opening.props, 0);
     if opening.again {
         CallEnd::EnteredAgain
     } else {

@@ -15,6 +15,7 @@ use crate::fill::fill;
 use crate::local::{in_transaction, load, log, register, save};
 use crate::mode::mode;
 use crate::read::{confirmed, loaded, read};
+use crate::restarts::round_decided;
 use crate::rounds::{round_ended, round_started, row_seen};
 use crate::writes::write;
 use itm_types::{ActionKind, Call};
@@ -37,6 +38,7 @@ pub fn resumed(state: &mut Data, pending: Pending, seen: u64) -> Turn
         Pending::RoundStart => round_started(state, seen),
         Pending::RoundRow(row) => row_seen(state, row, seen),
         Pending::RoundEnd => round_ended(state, seen),
+        Pending::RoundBack(row) => round_decided(state, row, seen),
         Pending::Take => begin_taken(state, seen),
         Pending::Exchange => exchanged(state, seen),
         Pending::BackLoad(row) => back_loaded(state, row, seen),

@@ -14,6 +14,7 @@ mod local;
 mod mode;
 mod range;
 mod read;
+mod restarts;
 mod rounds;
 mod steps;
 mod words;

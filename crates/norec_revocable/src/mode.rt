@@ -75,7 +75,7 @@ pub(crate) fn go_irrevocable(state: &mut Data, props: Option<Props>) -> CallEnd
 {
     let end = match props {
         Some(props) => {
-            state.frames.enter(props);
+            state.frames.enter(props, 0);
             CallEnd::Entered
         }
         None => CallEnd::Done,

@@ -10,6 +10,7 @@ ghost use Rattle.norec_core.specs.Order.{row_stage, try_stage};
 ghost use Rattle.norec_revocable.specs.Moves.{GoesTo, StepGoesTo, StepTurns};
 
 use crate::commits::exchange;
+use crate::restarts::may_restart;
 use norec_core::Answer;
 use norec_data::{CallEnd, Cause, Data, Pending, Turn, roll_back};
 
@@ -66,6 +67,9 @@ pub(crate) fn row_seen(state: &mut Data, row: usize, seen: u64) -> Turn
     let logged = state.log.row(row);
     if logged.value == seen {
         next_row(state, row + 1)
+    } else if may_restart(state, row) {
+        state.got = Some(seen);
+        Turn::Wait(Pending::RoundBack(row))
     } else {
         roll_back(state);
         state.changed = Some(logged.word);

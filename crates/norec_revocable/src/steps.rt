@@ -21,7 +21,8 @@ pub fn step_of(state: &Data, pending: Pending) -> Step
         | Pending::Begin
         | Pending::Confirm(_)
         | Pending::RoundStart
-        | Pending::RoundEnd => Step::Load(0),
+        | Pending::RoundEnd
+        | Pending::RoundBack(_) => Step::Load(0),
         Pending::Load => Step::Load(state.reading.word() + 1),
         Pending::RoundRow(row) => {
             let logged = state.log.row(row);

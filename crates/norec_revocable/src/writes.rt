@@ -72,8 +72,7 @@ fn put_piece(frames: &mut Frames, piece: Piece, bytes: &[u8]) -> Result<(), Allo
     ensures grows { OnErr result (AreRoomy frames.old.writes.rows (rows_of frames.old.blocks) (piece ∷ []) → ⊥) }
     ensures bytes { AreBytes bytes.now }
 {
-    frames.reserve(piece.word)?;
-    frames.put(piece.word, piece.mask(), piece.scatter(bytes));
+    frames.write(piece.word, piece.mask(), piece.scatter(bytes))?;
     Ok(())
 }
 

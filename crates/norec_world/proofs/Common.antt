@@ -26,7 +26,7 @@ pub use Rattle.norec_core.specs.Effects.{recoded}
 pub use Rattle.norec_core.specs.Rows.{write_at}
 pub use Rattle.norec_core.specs.Stands.{stands_for, state_over}
 pub use Rattle.norec_core.specs.Undoing.{after_undoing}
-pub use Rattle.norec_core.specs.declared.answer.Answer.TheVariants.{Busy, Committed, Conflict, Full, Reply}
+pub use Rattle.norec_core.specs.declared.answer.Answer.TheVariants.{Busy, Committed, Conflict, Full, Reply, Restarted}
 pub use Rattle.norec_core.specs.declared.answer.Answer.{Answer}
 pub use Rattle.norec_core.specs.declared.answer.Next.TheVariants.{Answer as Answers, Step as Asks}
 pub use Rattle.norec_core.specs.declared.answer.Next.{Next}

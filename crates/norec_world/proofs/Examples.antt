@@ -18,7 +18,7 @@ use Rattle.itm_types.specs.declared.call.Refusal.TheVariants.{Outside}
 use Rattle.norec_world.specs.ActionRoom.{counted, is_held, promised, wanted}
 use Rattle.norec_world.specs.PlayerRooms.{EndsWithin}
 use Rattle.tx_player.specs.Replies.{MayReply}
-use Rattle.norec_world.proofs.Plan.{Plan, next_call, restarted, calls_left, depth}
+use Rattle.norec_world.proofs.Plan.{Plan, next_call, restarted, at_block, calls_left, depth}
 use Rattle.norec_world.proofs.Plan as plans
 
 -- ## A player that adds one to the counter at place 0
@@ -73,6 +73,7 @@ counter_rules = record {
   next_call = λ p. call_at p.step p.got;
   answered = answered;
   restarted = λ p. record { step = 0; got = 0 };
+  at_block = λ p d. record { step = 1; got = 0 };
   calls_left = λ p. left_at p.step;
   depth = λ p. 0;
 }
@@ -181,7 +182,7 @@ too_early o =
 -- ## A block that logs a byte of its arena, saves that byte and the next one, writes, and is cancelled with the block in it. The next block begins with the logged byte as it was, and the other one as it was saved.
 
 abbrev pub plan_rules : Rules Plan
-plan_rules = record { next_call = next_call; answered = plans.answered; restarted = restarted; calls_left = calls_left; depth = depth }
+plan_rules = record { next_call = next_call; answered = plans.answered; restarted = restarted; at_block = at_block; calls_left = calls_left; depth = depth }
 
 abbrev pub begin : Call
 begin = Begin plain 3
@@ -193,11 +194,11 @@ abbrev pub save : Call
 save = Save 0 (record { width = U2; bytes = record { items = two 1 2 }; sized = refl })
 
 abbrev pub planned : Plan
-planned = record { calls = begin ∷ Log U1 0 ∷ begin ∷ save ∷ Write W 0 (word 7) ∷ Abort true ∷ begin ∷ Load U2 0 ∷ Commit ∷ []; at = 0; blocks = None }
+planned = record { calls = begin ∷ Log U1 0 ∷ begin ∷ save ∷ Write W 0 (word 7) ∷ Abort true ∷ begin ∷ Load U2 0 ∷ Commit ∷ []; at = 0; blocks = [] }
 
 -- once the begin before this place is accepted
 abbrev pub planned_to : ℕ → Plan
-planned_to at = record { calls = planned.calls; at = at; blocks = Some (record { begun = at - 1; within = 0 }) }
+planned_to at = record { calls = planned.calls; at = at; blocks = (at - 1) ∷ [] }
 
 abbrev pub in_block : List CallRecord
 in_block = record { call = Log U1 0; reply = Done } ∷ record { call = begin; reply = Code 5 } ∷ record { call = save; reply = Done } ∷ write 7 ∷ []
@@ -237,18 +238,18 @@ schedule_counts = refl
 -- ## Which transactions have a room that is kept: one whose `Mode` or begin is in progress, and one that is irrevocable
 
 abbrev pub block : Props → Frame
-block props = record { props = props; rows = []; log = []; commits = 0; undos = 0 }
+block props = record { props = props; rows = []; log = []; commits = 0; undos = 0; reads = 0 }
 
 abbrev pub inside : Props → Core
-inside props = record (opening 1 [] 1 1 16) { blocks = block props ∷ []; actions = record { commits = record { fun = 1; arg = 2 } ∷ []; undos = []; ran = [] } }
+inside props = record (opening 1 [] 1 1 16 0) { blocks = block props ∷ []; actions = record { commits = record { fun = 1; arg = 2 } ∷ []; undos = []; ran = [] } }
 
 abbrev pub going : Props
 going = record plain { goes_irrevocable = true }
 
-outside_none : is_held (opening 1 [] 1 1 16) ≡ false
+outside_none : is_held (opening 1 [] 1 1 16 0) ≡ false
 outside_none = refl
 
-begin_goes : is_held (record (opening 1 [] 1 1 16) { doing = Some (Begin going 3) }) ≡ true
+begin_goes : is_held (record (opening 1 [] 1 1 16 0) { doing = Some (Begin going 3) }) ≡ true
 begin_goes = refl
 
 mode_goes : is_held (record (inside plain) { doing = Some (Mode 3) }) ≡ true
@@ -271,7 +272,7 @@ counts_none : counted (record (inside plain) { blocks = [] }) ≡ 0
 counts_none = refl
 
 -- the room that such a call wants, and what the list may promise: nothing before the transaction is irrevocable
-begin_wants : wanted (record (opening 1 [] 1 1 16) { doing = Some (Begin going 3) }) ≡ 3
+begin_wants : wanted (record (opening 1 [] 1 1 16 0) { doing = Some (Begin going 3) }) ≡ 3
 begin_wants = refl
 
 mode_wants : wanted (record (inside plain) { doing = Some (Mode 3) }) ≡ 3
@@ -289,7 +290,7 @@ promises_room = refl
 -- ## Players that tell their room: one that has a commit to make, within its block, ends within one call and within no fewer
 
 abbrev ending : Plan
-ending = record { calls = Commit ∷ []; at = 0; blocks = Some (record { begun = 0; within = 0 }) }
+ending = record { calls = Commit ∷ []; at = 0; blocks = 0 ∷ [] }
 
 ends_in_one : EndsWithin plan_rules 1 ending
 ends_in_one some call reply next may call' next' = absurd (let both : None ≡ Some call' = next' in cc)

@@ -1,5 +1,6 @@
 pub mod Common
 pub mod Plan
+mod PlanLaws
 pub mod Examples
 pub mod Attempts
 pub mod Rooms

@@ -11,7 +11,7 @@ pub record HoldsOn (cells : Cells) (e : Core) (cells' : Cells) (e' : Core) : Typ
   pub leaves : e.holds ≡ false → e'.holds ≡ false → cells' ≡ cells  -- one that neither holds nor takes it changes no cell
   pub late : cells.clock ≤ cells'.clock
   pub long : length cells'.words ≡ length cells.words
-  pub limit : (e'.max_commits ≡ e.max_commits) × (e'.patience ≡ e.patience) × (e'.depth ≡ e.depth)
+  pub limit : (e'.max_commits ≡ e.max_commits) × (e'.patience ≡ e.patience) × (e'.depth ≡ e.depth) × (e'.restarts ≡ e.restarts)
   pub capped : cells.clock ≤ 2 * e.max_commits → cells'.clock ≤ 2 * e.max_commits  -- no more writers commit than may
   pub seen : (e.holds ≡ false → e.clock ≡ cells.clock) → e'.holds ≡ false → e'.clock ≡ cells'.clock  -- who has seen the clock as it is still has
 
@@ -22,6 +22,6 @@ pub record ClocksOn (cells : Cells) (e : Core) (cells' : Cells) (e' : Core) : Ty
   pub odd : (e.holds ≡ true → cells.clock % 2 ≡ 1) → e'.holds ≡ true → cells'.clock % 2 ≡ 1  -- it is odd where this one holds it
   pub late : cells.clock ≤ cells'.clock
   pub long : length cells'.words ≡ length cells.words
-  pub limit : (e'.max_commits ≡ e.max_commits) × (e'.patience ≡ e.patience) × (e'.depth ≡ e.depth)
+  pub limit : (e'.max_commits ≡ e.max_commits) × (e'.patience ≡ e.patience) × (e'.depth ≡ e.depth) × (e'.restarts ≡ e.restarts)
   pub capped : cells.clock ≤ 2 * e.max_commits → cells'.clock ≤ 2 * e.max_commits
   pub seen : (e.holds ≡ false → e.clock ≡ cells.clock) → e'.holds ≡ false → e'.clock ≡ cells'.clock

@@ -38,7 +38,7 @@ module _ {P : Type 0} (rules : Rules P) where
     pub others : KeepsOthers a r a' r'
     pub holds : a'.engine.holds ≡ a.engine.holds
     pub clock : a'.engine.clock ≡ a.engine.clock
-    pub limit : (a'.engine.max_commits ≡ a.engine.max_commits) × (a'.engine.patience ≡ a.engine.patience) × (a'.engine.depth ≡ a.engine.depth)
+    pub limit : (a'.engine.max_commits ≡ a.engine.max_commits) × (a'.engine.patience ≡ a.engine.patience) × (a'.engine.depth ≡ a.engine.depth) × (a'.engine.restarts ≡ a.engine.restarts)
     pub snapshot : a'.engine.snapshot ≡ a.engine.snapshot
     pub retries : a'.retries ≡ a.retries
     pub finishes : is_ready a.status ≡ true → ending_of a'.status ≡ Some Finished → rules.next_call a'.player ≡ None

@@ -10,7 +10,7 @@ use Rattle.itm_types.specs.declared.call.Ran.{Ran}
 use Rattle.itm_types.specs.declared.call.Reply.{Reply as Replied}
 use Rattle.itm_types.specs.declared.call.Reply.TheVariants.{Done}
 use Rattle.norec_core.specs.declared.answer.Answer.{Answer}
-use Rattle.norec_core.specs.declared.answer.Answer.TheVariants.{Reply, Committed, Conflict, Busy, Full}
+use Rattle.norec_core.specs.declared.answer.Answer.TheVariants.{Reply, Committed, Conflict, Restarted, Busy, Full}
 use Rattle.norec_core.specs.Core.{irrevocable_room, in_transaction}
 use Rattle.tx_attempts.specs.declared.attempt.Attempt.{Attempt}
 use Rattle.norec_world.specs.Rows.{Rows, active_of, with_changed, with_opened, with_ended}
@@ -76,13 +76,14 @@ module _ {P : Type 0} (rules : Rules P) where
   RecordsReply false now r r' old new call reply =
       Opens now r old.pending (new.engine.snapshot / 2) r' × (new.player ≡ rules.answered old.player reply) × (new.again ≡ again_after now old.pending old.again) × (new.nth ≡ old.nth) × (new.status ≡ old.status)
 
-  -- of an answer: a begin may end its try too
+  -- of an answer: a begin may end its try too, and no block goes back to its begin alone
   abbrev pub Records : Bool → Rows → Rows → Actor P → Actor P → Call → Answer → Type 0
   Records was r r' old new call (Reply reply) = RecordsReply was (in_transaction new.engine) r r' old new call reply
   Records was r r' old new call (Committed at wrote) =
       EndsBy old.thread r at (if wrote then outcomes.Committed else outcomes.ReadOnly) call Done new.engine.actions.ran r' × (new.player ≡ rules.answered old.player Done) × (new.again ≡ false) × (new.nth ≡ 1) × (new.status ≡ old.status)
   Records was r r' old new call (Conflict clock word) =
       StopsIf was old.thread r (new.engine.snapshot / 2) outcomes.Conflict new.engine.actions.ran r' × (new.player ≡ (if was then rules.restarted old.player else old.player)) × CountsTry old new × (new.pending ≡ None)
+  Records was r r' old new call (Restarted clock word) = ⊥
   Records was r r' old new call (Busy clock) = (r' ≡ r) × (new.player ≡ old.player) × CountsTry old new × (new.pending ≡ None)
   Records was r r' old new call (Full at) =
       StopsIf was old.thread r at outcomes.Full new.engine.actions.ran r' × (new.status ≡ Ended GaveUp) × (new.player ≡ old.player) × (new.again ≡ old.again) × (new.nth ≡ old.nth) × (new.pending ≡ None)

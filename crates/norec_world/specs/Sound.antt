@@ -17,7 +17,7 @@ use Rattle.norec_core.specs.Phases as at
 use Rattle.norec_core.specs.declared.answer.Next.{Next}
 use Rattle.norec_core.specs.declared.answer.Next.TheVariants.{Step as Asks, Answer as Answers}
 use Rattle.norec_core.specs.declared.answer.Answer.{Answer}
-use Rattle.norec_core.specs.declared.answer.Answer.TheVariants.{Reply, Committed, Conflict, Busy, Full}
+use Rattle.norec_core.specs.declared.answer.Answer.TheVariants.{Reply, Committed, Conflict, Restarted, Busy, Full}
 use Rattle.tx_attempts.specs.declared.attempt.Attempt.{Attempt}
 use Rattle.tx_attempts.specs.declared.attempt.Outcome.TheVariants.{Unfinished}
 use Rattle.tx_runs.specs.Nesting.{IsNested, whole}
@@ -42,6 +42,7 @@ pub record IsTied (cells : Cells) (e : Core) : Type 0 where
   pub late : e.clock ≤ cells.clock
   pub holder : e.holds ≡ true → cells.clock ≡ e.clock + 1
   pub settled : IsSettled e
+  pub restarts : e.restarts ≡ 0  -- no block goes back to its begin alone
 
 -- an outermost begin that is not refused loads the clock, and one that goes irrevocable takes it as it was just loaded
 abbrev pub BeginsAt : Core → Phase → Type 0
@@ -85,11 +86,12 @@ module _ {P : Type 0} where
 
 -- ## Answers
 
--- what an answer leaves: the engine was open or not as the call came, with so many blocks, and now is as this says
+-- what an answer leaves: the engine was open or not as the call came, with so many blocks, and now is as this says; no block goes back to its begin alone
 abbrev pub AnswerFits : Bool → ℕ → Bool → ℕ → Call → Answer → Type 0
 AnswerFits was before now deep call (Reply r) = (depth_after before call r ≡ deep) × (is_abort call ≡ false → was ≡ true → now ≡ true)
 AnswerFits was before now deep call (Committed at wrote) = (was ≡ true) × (now ≡ false) × (call ≡ Commit) × (before ≡ 1)
 AnswerFits was before now deep call (Conflict clock word) = (was ≡ false → is_begin call ≡ true) × (now ≡ false)
+AnswerFits was before now deep call (Restarted clock word) = ⊥
 AnswerFits was before now deep call (Busy clock) = (was ≡ false) × (now ≡ false)
 AnswerFits was before now deep call (Full at) = (was ≡ false → is_begin call ≡ true) × (now ≡ false)
 

@@ -37,6 +37,7 @@ pub(crate) struct Terms {
     ghost commits: { limits.max_commits ≤ MAX_COMMITS },
     ghost few: { limits.retries ≤ MAX_RETRIES },
     ghost deep: { 0 < limits.depth },
+    ghost alone: { limits.restarts ≡ 0 },
 }
 
 /// An actor for each player, which has done its local work up to its first operation.
@@ -61,7 +62,7 @@ pub(crate) fn start_all<P: Player>(
     ensures starts { IfOk result (λ actors. (place : ℕ) (p : P) (a : Actor P) → slice_get players.items place ≡ Some p
         → slice_get actors.items place ≡ Some a
         → HasStarted P.Player memory.now.clock (opening (length memory.now.words) (replicate terms.arena 0)
-        terms.limits.patience terms.limits.max_commits terms.limits.depth) terms.limits.retries place p a) }
+        terms.limits.patience terms.limits.max_commits terms.limits.depth 0) terms.limits.retries place p a) }
     ensures runs { IfOk result (λ actors. (place : ℕ) (p : P) (a : Actor P) → slice_get players.items place ≡ Some p
         → slice_get actors.items place ≡ Some a
         → RunsFrom P.Player (first_of p terms.arena) terms.limits.depth (bytes_of memory.now.words) memory.now recorded.new a) }
@@ -101,7 +102,7 @@ fn start<P: Player>(
     ensures starts { IfOk result
         (HasStarted P.Player memory.now.clock
         (opening (length memory.now.words) (replicate terms.arena 0) terms.limits.patience
-        terms.limits.max_commits terms.limits.depth) terms.limits.retries thread player) }
+        terms.limits.max_commits terms.limits.depth 0) terms.limits.retries thread player) }
     ensures ended { IfOk result (λ a. recorded.new.ended ≡ recorded.old.ended) }
     ensures runs { IfOk result (λ a. recorded.old.ended ≡ []
         → RunsFrom P.Player (first_of player terms.arena) terms.limits.depth (bytes_of memory.now.words) memory.now recorded.new a) }

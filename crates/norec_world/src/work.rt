@@ -192,6 +192,7 @@ impl<P: Player> Actor<P> {
                 }
                 self.status = Status::Ended(End::GaveUp);
             }
+            Answer::Restarted { .. } => unreachable!(),
         }
     }
 
@@ -310,7 +311,8 @@ impl<P: Player> Actor<P> {
         ensures same { (self.new.nth ≡ self.old.nth) × (self.new.retries ≡ self.old.retries) }
         ensures limit { (self.new.engine.max_commits ≡ self.old.engine.max_commits)
             × (self.new.engine.patience ≡ self.old.engine.patience)
-            × (self.new.engine.depth ≡ self.old.engine.depth) }
+            × (self.new.engine.depth ≡ self.old.engine.depth)
+            × (self.new.engine.restarts ≡ self.old.engine.restarts) }
         ensures pending { self.new.pending ≡ self.old.pending }
         ensures again { self.new.again ≡ self.old.again }
         ensures row { in_transaction self.old.engine ≡ true → self.old.engine.irrevocable ≡ false

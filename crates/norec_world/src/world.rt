@@ -9,7 +9,9 @@ use crate::memory::Memory;
 use crate::recorded::Recorded;
 use crate::setup::Setup;
 use crate::start::{Terms, start_all};
-use itm_types::{MAX_ACTORS, MAX_ARENA, MAX_COMMITS, MAX_MEMORY, MAX_PATIENCE, MAX_RETRIES, Step};
+use itm_types::{
+    Limits, MAX_ACTORS, MAX_ARENA, MAX_COMMITS, MAX_MEMORY, MAX_PATIENCE, MAX_RETRIES, Step,
+};
 use std::alloc::{AllocError, Global};
 use std::marker::Model;
 use tx_attempts::{Attempt, Bytes};
@@ -58,7 +60,8 @@ impl<P: Player> World<P> {
     ghost use Rattle.norec_world.specs.WorldEvents.{Goes, Takes};
     ghost use Rattle.norec_world.specs.Progress.{LeavesLess};
 
-    /// A world over this memory, with the clock at 0. Each actor's local work up to its first operation is done.
+    /// A world over this memory, with the clock at 0. Each actor's local work up to its first operation is done. No block
+    /// of it goes back to its begin alone, however often the limits let one.
     pub fn new(alloc: Global, setup: Setup, players: Vec<P>) -> Result<Self, AllocError>
         requires size { (8 ≤ length setup.bytes) × (length setup.bytes ≤ MAX_MEMORY) × (length setup.bytes % 8 ≡ 0) }
         requires arena { setup.arena ≤ MAX_ARENA }
@@ -88,7 +91,10 @@ impl<P: Player> World<P> {
         let base = Bytes::new(setup.bytes.as_slice().to_vec(alloc)?);
         let terms = Terms {
             arena: setup.arena,
-            limits: setup.limits,
+            limits: Limits {
+                restarts: 0,
+                ..setup.limits
+            },
         };
         let memory = Memory::new(setup.bytes.into_vec());
         let mut recorded = Recorded::new(alloc);

@@ -19,6 +19,7 @@ const LIMITS: Limits = Limits {
     retries: 0,
     max_commits: MAX_COMMITS,
     depth: USUAL_DEPTH,
+    restarts: 0,
 };
 
 /// What all threads do.

@@ -25,7 +25,7 @@ abbrev listing : ℕ → List Part → Listing
 listing memory parts = record {
   memory = record { size = memory; inits = [] };
   arena = 0;
-  limits = record { patience = 8; retries = 100; max_commits = MAX_COMMITS; depth = 16 };
+  limits = record { patience = 8; retries = 100; max_commits = MAX_COMMITS; depth = 16; restarts = 0 };
   schedule = [];
   parts = parts;
 }
@@ -91,7 +91,7 @@ unfolding on_literals
 laid_bytes = refl
 
 limits : program_of (line (codes ".patience 1000") ++ line (codes ".arena 4096") ++ line (codes ".retries 0") ++ line (codes ".commits 1") ++ line (codes ".depth 64") ++ line (codes ".memory 8") ++ codes ".thread")
-    ≡ Ok (record (listing 8 (part 1 [] ∷ [])) { arena = 4096; limits = record { patience = 1000; retries = 0; max_commits = 1; depth = 64 } })
+    ≡ Ok (record (listing 8 (part 1 [] ∷ [])) { arena = 4096; limits = record { patience = 1000; retries = 0; max_commits = 1; depth = 64; restarts = 0 } })
 unfolding on_literals
 limits = refl
 

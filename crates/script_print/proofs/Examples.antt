@@ -32,7 +32,7 @@ abbrev small : Listing
 small = record {
   memory = record { size = 8; inits = [] };
   arena = 0;
-  limits = record { patience = 8; retries = 100; max_commits = MAX_COMMITS; depth = 16 };
+  limits = record { patience = 8; retries = 100; max_commits = MAX_COMMITS; depth = 16; restarts = 0 };
   schedule = [];
   parts = record { count = 1; code = code.Set R1 7 ∷ code.Move R0 R1 ∷ [] } ∷ [];
 }
@@ -62,7 +62,8 @@ small_printable = record {
   size = (lit< tt, lit< tt, refl);
   inits = tt;
   arena = omega arith;
-  limits = record { patience = (omega arith, omega arith); retries = omega arith; commits = (omega arith, omega arith); depth = (omega arith, omega arith) };
+  limits = record { patience = (omega arith, omega arith); retries = omega arith; commits = (omega arith, omega arith); depth = (omega arith, omega arith); restarts = omega arith };
+  restarts = refl;
   items = omega arith;
   schedule = tt;
   some = omega arith;
@@ -106,7 +107,7 @@ abbrev several : Listing
 several = record {
   memory = record { size = 16; inits = record { at = 0; bytes = 171 ∷ [] } ∷ record { at = 14; bytes = 0 ∷ 15 ∷ [] } ∷ [] };
   arena = 4096;
-  limits = record { patience = 1; retries = 0; max_commits = 2; depth = 64 };
+  limits = record { patience = 1; retries = 0; max_commits = 2; depth = 64; restarts = 0 };
   schedule = Take 0 3 ∷ Out 2 ∷ Take 1 1000000 ∷ [];
   parts = record { count = 2; code = pair_code } ∷ record { count = 1; code = other_code } ∷ record { count = 3; code = [] } ∷ [];
 }
@@ -183,7 +184,8 @@ several_printable = record {
   size = (omega arith, omega arith, refl);
   inits = ((one_byte, omega arith, omega arith, omega arith), ((two_bytes, omega arith, omega arith, omega arith), tt));
   arena = omega arith;
-  limits = record { patience = (omega arith, omega arith); retries = omega arith; commits = (omega arith, omega arith); depth = (omega arith, omega arith) };
+  limits = record { patience = (omega arith, omega arith); retries = omega arith; commits = (omega arith, omega arith); depth = (omega arith, omega arith); restarts = omega arith };
+  restarts = refl;
   items = omega arith;
   schedule = ((omega arith, (omega arith, omega arith)), (omega arith, ((omega arith, (omega arith, omega arith)), tt)));
   some = omega arith;

@@ -171,6 +171,7 @@ impl SaidLimits {
             retries: self.retries.unwrap_or(100),
             max_commits: self.commits.unwrap_or(MAX_COMMITS),
             depth: self.depth.unwrap_or(USUAL_DEPTH),
+            restarts: 0,
         }
     }
 }

@@ -1,5 +1,5 @@
 -- Threads that were worked by hand: blocks within blocks.
-use Rattle.std.specs.Prelude.{◌≡◌, ℕ, false, true, List, [], ◌∷◌, ◌++◌, replicate, Some, refl}
+use Rattle.std.specs.Prelude.{◌≡◌, ℕ, false, true, List, [], ◌∷◌, ◌++◌, replicate, None, Some, refl}
 use Rattle.std.specs.List.{flat_map}
 use Rattle.itm_types.specs.declared.access.Width.TheVariants as width
 use Rattle.itm_types.specs.declared.call.Refusal.TheVariants.{TooDeep, NoAbort}
@@ -11,10 +11,10 @@ use Rattle.script_fields.specs.declared.place.Place.TheVariants as place
 use Rattle.script_program.specs.declared.instruction.Instruction.{Instruction}
 use Rattle.script_program.specs.declared.instruction.Instruction.TheVariants as code
 use Rattle.script_vm.specs.Registers.{datum}
-use Rattle.script_vm.specs.Threads.{Thread, opening, next_call, depth_of}
+use Rattle.script_vm.specs.Threads.{Thread, opening, next_call, depth_of, restarted}
 use Rattle.script_vm.proofs.Examples.{plain, played, played_within, value_of}
 
-abbrev log : Instruction
+abbrev pub log : Instruction
 log = code.Log width.U1 (place.Number 0)
 
 -- a block with one within it, which is cancelled, or both are
@@ -39,7 +39,7 @@ last_of call =
     ∷ code.InTransaction R4
     ∷ []
 
-abbrev entered : Instruction → List Reply → Thread
+abbrev pub entered : Instruction → List Reply → Thread
 entered call replies = played (cancels (last_of call)) (Code 5 ∷ Code 5 ∷ replies)
 
 abbrev shown : Thread → List ℕ
@@ -97,23 +97,32 @@ writes_low_bytes : (datum (opening 16 (code.Set R1 258 ∷ [])).registers width.
 unfolding datum
 writes_low_bytes = refl
 
--- a block beyond those that a runtime of 16 opens shares what the sixteenth keeps; where 17 may be open, it has its own
+-- where sixteen blocks may be open, a thread that is told of a seventeenth has no more calls; where 17 may be open, it has a begin of its own
 abbrev deep : List Instruction
-deep = flat_map (λ n. code.Set R1 n ∷ code.Begin plain R0 ∷ []) (1 ∷ 2 ∷ 3 ∷ 4 ∷ 5 ∷ 6 ∷ 7 ∷ 8 ∷ 9 ∷ 10 ∷ 11 ∷ 12 ∷ 13 ∷ 14 ∷ 15 ∷ 16 ∷ 17 ∷ [])
+deep = flat_map (λ n. code.Set R1 n ∷ code.Begin plain R0 ∷ []) (1 ∷ 2 ∷ 3 ∷ 4 ∷ 5 ∷ 6 ∷ 7 ∷ 8 ∷ 9 ∷ 10 ∷ 11 ∷ 12 ∷ 13 ∷ 14 ∷ 15 ∷ 16 ∷ 17 ∷ []) ++ code.Abort false ∷ []
 
--- what the begin of the seventeenth block found, once that one is cancelled
-abbrev before_seventeenth : ℕ → ℕ
-before_seventeenth deepest = value_of (played_within deepest (deep ++ code.Abort false ∷ []) (replicate 17 (Code 5) ++ Code 24 ∷ [])) R1
+abbrev sixteen : List Reply
+sixteen = replicate 16 (Code 5)
 
-seventeen_deep : depth_of (played deep (replicate 17 (Code 5))) ≡ 17
+sixteen_deep : next_call (played deep sixteen) ≡ Some (calls.Begin plain 1)
+sixteen_deep = refl
+
+seventeen_deep : depth_of (played deep (sixteen ++ Code 5 ∷ [])) ≡ 17
 seventeen_deep = refl
 
-shares_the_sixteenth : before_seventeenth 16 ≡ 16
-shares_the_sixteenth = refl
+no_more_calls : next_call (played deep (sixteen ++ Code 5 ∷ [])) ≡ None
+no_more_calls = refl
 
-has_its_own : before_seventeenth 17 ≡ 17
+-- it goes back to where the outermost began
+goes_back : restarted (played deep (sixteen ++ Code 5 ∷ [])) ≡ opening 16 deep
+goes_back = refl
+
+abbrev cancelled_at : ℕ → Thread
+cancelled_at deepest = played_within deepest deep (sixteen ++ Code 5 ∷ Code 24 ∷ [])
+
+has_its_own : value_of (cancelled_at 17) R1 ≡ 17
 has_its_own = refl
 
--- where one may be open, each within it shares what the outermost keeps
-shares_the_outermost : before_seventeenth 1 ≡ 1
-shares_the_outermost = refl
+-- where one may be open, the second ends it
+one_alone : next_call (played_within 1 deep (Code 5 ∷ Code 5 ∷ [])) ≡ None
+one_alone = refl

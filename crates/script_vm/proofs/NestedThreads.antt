@@ -1,5 +1,5 @@
 -- A thread whose code is nested makes no more calls up to its outermost commit than it tells.
-use Rattle.std.proofs.Common.{◌≡◌, ℕ, zero, suc, ◌+◌, ◌-◌, ◌<◌, ◌≤◌, Bool, true, false, List, [], ◌∷◌, length, None, Some, refl, sym, ap, subst, ◌∙◌, arith}
+use Rattle.std.proofs.Common.{◌≡◌, ℕ, zero, suc, ◌+◌, ◌<◌, ◌≤◌, Bool, true, false, List, [], ◌∷◌, ◌++◌, length, None, Some, ◌⊎◌, inl, inr, if◌then◌else◌, refl, sym, ap, subst, ◌∙◌, arith}
 use Rattle.itm_types.specs.declared.call.Call.{Call}
 use Rattle.itm_types.specs.declared.call.Call.TheVariants as calls
 use Rattle.itm_types.specs.declared.call.Reply.{Reply}
@@ -8,190 +8,14 @@ use Rattle.tx_player.specs.Replies.{MayReply}
 use Rattle.script_fields.specs.declared.register.Register.{Register}
 use Rattle.script_program.specs.declared.instruction.Instruction.{Instruction}
 use Rattle.script_program.specs.declared.instruction.Instruction.TheVariants as code
-use Rattle.script_vm.specs.declared.stage.Stage.{Stage}
-use Rattle.script_vm.specs.declared.stage.Stage.TheVariants.{Runs, ToElse, ToEnd}
-use Rattle.script_vm.specs.Nesting.{Level, block, group, blocks_in, Nests}
+use Rattle.script_vm.specs.declared.stage.Stage.TheVariants.{Runs}
+use Rattle.script_vm.specs.BlockLaws.{length-closed, none_is_no_call, one_longer, same_call}
+use Rattle.script_vm.specs.Nesting.{Level, block, blocks_in, Nests}
 use Rattle.script_vm.specs.Rooms.{carried_room}
-use Rattle.script_vm.specs.Registers.{bytes_at, number_at, with_bytes, with_number, zeros}
-use Rattle.script_vm.specs.ThreadLaws.{length-closed, length-deeper}
-use Rattle.script_vm.specs.Threads.{Block, Thread, answered, answered_at, back_to, begun, call_at, cancelled, cancelled_in, closed, deeper, depth_of, ended, goes_on, innermost, next_call, open_past, opening, past_block, restarted, room, told, took}
-use Rattle.script_vm.specs.Work.{chosen_by, computed, settled, stage_past, worked}
-
--- ## What is told as room
-
-room_nil : (n : ℕ) → room n [] ≡ 0
-room_nil zero = refl
-room_nil (suc n) = refl
-
-room_step : (n : ℕ) (i : Instruction) (more : List Instruction) → 0 < n → room n (i ∷ more) ≡ suc (room (open_past i n) more)
-room_step zero i more some = absurd (omega arith)
-room_step (suc n) i more some = refl
-
-past_more : (i : Instruction) (n k : ℕ) → 0 < n → open_past i (n + k) ≡ open_past i n + k
-past_more (code.Begin props r) n k some = omega arith
-past_more code.Commit n k some = omega arith
-past_more i n k some = refl
-
--- up to the end of more blocks: up to that of the first ones, and on
-room_more : (n k : ℕ) (rest : List Instruction) → room (n + k) rest ≡ room n rest + room k (past_block n rest)
-room_more zero k rest = (let none : 0 + k ≡ k = omega arith in ap (λ (m : ℕ). room m rest) none ∙ (let same : room k rest ≡ 0 + room k rest = omega arith in same))
-room_more (suc n) k [] = (let both = room_nil (suc n + k) in let none = room_nil k in omega arith)
-room_more (suc n) k (i ∷ more) =
-    (let step = room_step (suc n + k) i more (omega arith) in
-    let past = ap (λ (m : ℕ). room m more) (past_more i (suc n) k (omega arith)) in
-    let rest = room_more (open_past i (suc n)) k more in
-    omega arith)
-
--- ## Local work
-
--- what is around the group that is passed over, in which so many groups have begun
-abbrev Around : List Level → ℕ → List Level → Type 0
-Around [] n outer = ⊥
-Around (block ∷ levels) n outer = Around levels n outer
-Around (group ∷ levels) zero outer = levels ≡ outer
-Around (group ∷ levels) (suc n) outer = Around levels n outer
-
--- what is open for the thread itself
-abbrev Stands : Stage → List Level → List Level → Type 0
-Stands Runs levels outer = levels ≡ outer
-Stands (ToElse n) levels outer = Around levels n outer
-Stands (ToEnd n) levels outer = Around levels n outer
-
-around_fewer : (levels : List Level) (n : ℕ) (outer : List Level) → Around levels n outer → blocks_in outer ≤ blocks_in levels
-around_fewer [] n outer a = absurd a
-around_fewer (block ∷ levels) n outer a = (let few = around_fewer levels n outer a in omega arith)
-around_fewer (group ∷ levels) zero outer a = (let same = ap blocks_in a in omega arith)
-around_fewer (group ∷ levels) (suc n) outer a = around_fewer levels n outer a
-
-stands_fewer : (stage : Stage) (levels outer : List Level) → Stands stage levels outer → blocks_in outer ≤ blocks_in levels
-stands_fewer Runs levels outer s = (let same = ap blocks_in s in omega arith)
-stands_fewer (ToElse n) levels outer s = around_fewer levels n outer s
-stands_fewer (ToEnd n) levels outer s = around_fewer levels n outer s
-
--- an instruction was passed over
-record Passed (next : Stage) (i : Instruction) (more : List Instruction) (levels outer : List Level) : Type 0 where
-  now : List Level
-  around : List Level
-  nests : Nests more now
-  stands : Stands next now around
-  same : blocks_in around ≡ blocks_in outer
-  past : blocks_in now ≡ open_past i (blocks_in levels)
-
-in_block : (stage : Stage) (more : List Instruction) (levels outer inner : List Level) → levels ≡ block ∷ inner → Nests more inner → Stands stage inner outer → Passed stage code.Commit more levels outer
-in_block stage more levels outer inner e n s = record { now = inner; around = outer; nests = n; stands = s; same = refl; past = (let same = ap blocks_in e in omega arith) }
-
-pass_else : (n : ℕ) (i : Instruction) (more : List Instruction) (levels outer : List Level) → Nests (i ∷ more) levels → Around levels n outer → Passed (stage_past (ToElse n) i) i more levels outer
-pass_else n (code.Begin props r) more levels outer x a = record { now = block ∷ levels; around = outer; nests = x; stands = by_groups n a; same = refl; past = refl }
-  where
-    by_groups : (n : ℕ) → Around levels n outer → Stands (stage_past (ToElse n) (code.Begin props r)) (block ∷ levels) outer
-    by_groups zero a = a
-    by_groups (suc n) a = a
-pass_else n code.Commit more levels outer x a = by_groups n (subst (λ (l : List Level). Around l n outer) x.1 a)
-  where
-    by_groups : (n : ℕ) → Around (block ∷ x.0) n outer → Passed (stage_past (ToElse n) code.Commit) code.Commit more levels outer
-    by_groups zero a = in_block (ToElse zero) more levels outer x.0 x.1 x.2 a
-    by_groups (suc n) a = in_block (ToElse (suc n)) more levels outer x.0 x.1 x.2 a
-pass_else n (code.IfNotZero r) more levels outer x a = record { now = group ∷ levels; around = outer; nests = x; stands = a; same = refl; past = refl }
-pass_else zero code.Else more levels outer x a = record { now = levels; around = levels; nests = x.2; stands = refl; same = ap blocks_in x.1 ∙ ap blocks_in (subst (λ (l : List Level). Around l zero outer) x.1 a); past = refl }
-pass_else (suc n) code.Else more levels outer x a = record { now = levels; around = outer; nests = x.2; stands = a; same = refl; past = refl }
-pass_else zero code.EndIf more levels outer x a = record { now = x.0; around = x.0; nests = x.2; stands = refl; same = ap blocks_in (subst (λ (l : List Level). Around l zero outer) x.1 a); past = sym (ap blocks_in x.1) }
-pass_else (suc n) code.EndIf more levels outer x a = record { now = x.0; around = outer; nests = x.2; stands = subst (λ (l : List Level). Around l (suc n) outer) x.1 a; same = refl; past = sym (ap blocks_in x.1) }
-pass_else zero i more levels outer x a = record { now = levels; around = outer; nests = x; stands = a; same = refl; past = refl }
-pass_else (suc n) i more levels outer x a = record { now = levels; around = outer; nests = x; stands = a; same = refl; past = refl }
-
-pass_end : (n : ℕ) (i : Instruction) (more : List Instruction) (levels outer : List Level) → Nests (i ∷ more) levels → Around levels n outer → Passed (stage_past (ToEnd n) i) i more levels outer
-pass_end n (code.Begin props r) more levels outer x a = record { now = block ∷ levels; around = outer; nests = x; stands = by_groups n a; same = refl; past = refl }
-  where
-    by_groups : (n : ℕ) → Around levels n outer → Stands (stage_past (ToEnd n) (code.Begin props r)) (block ∷ levels) outer
-    by_groups zero a = a
-    by_groups (suc n) a = a
-pass_end n code.Commit more levels outer x a = by_groups n (subst (λ (l : List Level). Around l n outer) x.1 a)
-  where
-    by_groups : (n : ℕ) → Around (block ∷ x.0) n outer → Passed (stage_past (ToEnd n) code.Commit) code.Commit more levels outer
-    by_groups zero a = in_block (ToEnd zero) more levels outer x.0 x.1 x.2 a
-    by_groups (suc n) a = in_block (ToEnd (suc n)) more levels outer x.0 x.1 x.2 a
-pass_end n (code.IfNotZero r) more levels outer x a = record { now = group ∷ levels; around = outer; nests = x; stands = a; same = refl; past = refl }
-pass_end zero code.Else more levels outer x a = record { now = levels; around = outer; nests = x.2; stands = a; same = refl; past = refl }
-pass_end (suc n) code.Else more levels outer x a = record { now = levels; around = outer; nests = x.2; stands = a; same = refl; past = refl }
-pass_end zero code.EndIf more levels outer x a = record { now = x.0; around = x.0; nests = x.2; stands = refl; same = ap blocks_in (subst (λ (l : List Level). Around l zero outer) x.1 a); past = sym (ap blocks_in x.1) }
-pass_end (suc n) code.EndIf more levels outer x a = record { now = x.0; around = outer; nests = x.2; stands = subst (λ (l : List Level). Around l (suc n) outer) x.1 a; same = refl; past = sym (ap blocks_in x.1) }
-pass_end zero i more levels outer x a = record { now = levels; around = outer; nests = x; stands = a; same = refl; past = refl }
-pass_end (suc n) i more levels outer x a = record { now = levels; around = outer; nests = x; stands = a; same = refl; past = refl }
-
--- the code from the next call on, with so many blocks open
-record Settles (blocks most : ℕ) (rest : List Instruction) : Type 0 where
-  levels : List Level
-  nests : Nests rest levels
-  blocks_are : blocks_in levels ≡ blocks
-  fewer : 0 < blocks → room blocks rest ≤ most
-
--- one instruction more before it
-settles_on : (i : Instruction) (more rest : List Instruction) (before now outer around : List Level) → blocks_in around ≡ blocks_in outer → blocks_in now ≡ open_past i (blocks_in before) → blocks_in outer ≤ blocks_in before
-    → Settles (blocks_in around) (room (blocks_in now) more) rest → Settles (blocks_in outer) (room (blocks_in before) (i ∷ more)) rest
-settles_on i more rest before now outer around same past few s = record {
-  levels = s.levels;
-  nests = s.nests;
-  blocks_are = s.blocks_are ∙ same;
-  fewer = λ some.
-      (let step = room_step (blocks_in before) i more (omega arith) in
-      let less = s.fewer (omega arith) in
-      let left = ap (λ (n : ℕ). room n rest) same in
-      let gone = ap (λ (n : ℕ). room n more) past in
-      omega arith);
-}
-
--- a group's beginning
-chosen_stands : (n : ℕ) (levels : List Level) → (around : List Level) × (blocks_in around ≡ blocks_in levels) × Stands (chosen_by n) (group ∷ levels) around
-chosen_stands zero levels = (levels, refl, refl)
-chosen_stands (suc n) levels = (group ∷ levels, refl, refl)
-
-worked_settles : (stage : Stage) (registers : List (List ℕ)) (rest : List Instruction) (levels outer : List Level) → Nests rest levels → Stands stage levels outer → Settles (blocks_in outer) (room (blocks_in levels) rest) (worked stage registers rest).1
-worked_settles Runs registers [] levels outer x s = record { levels = []; nests = refl; blocks_are = ap blocks_in (sym x ∙ s); fewer = λ some. (let none = room_nil (blocks_in outer) in omega arith) }
-worked_settles (ToElse n) registers [] levels outer x s = absurd (subst (λ (l : List Level). Around l n outer) x s)
-worked_settles (ToEnd n) registers [] levels outer x s = absurd (subst (λ (l : List Level). Around l n outer) x s)
-worked_settles Runs registers (code.Set to n ∷ more) levels outer x s =
-    settles_on (code.Set to n) more _ levels levels outer outer refl refl (stands_fewer Runs levels outer s) (worked_settles Runs (with_number registers to n) more levels outer x s)
-worked_settles Runs registers (code.Bytes to literal ∷ more) levels outer x s =
-    settles_on (code.Bytes to literal) more _ levels levels outer outer refl refl (stands_fewer Runs levels outer s) (worked_settles Runs (with_bytes registers to literal.bytes) more levels outer x s)
-worked_settles Runs registers (code.Move to from ∷ more) levels outer x s =
-    settles_on (code.Move to from) more _ levels levels outer outer refl refl (stands_fewer Runs levels outer s) (worked_settles Runs (with_bytes registers to (bytes_at registers from)) more levels outer x s)
-worked_settles Runs registers (code.Compute operation to a b ∷ more) levels outer x s =
-    settles_on (code.Compute operation to a b) more _ levels levels outer outer refl refl (stands_fewer Runs levels outer s)
-    (worked_settles Runs (with_number registers to (computed operation (number_at registers a) (number_at registers b))) more levels outer x s)
-worked_settles Runs registers (code.IfNotZero r ∷ more) levels outer x s =
-    let c = chosen_stands (number_at registers r) levels in
-    settles_on (code.IfNotZero r) more _ levels (group ∷ levels) outer c.0 (c.1 ∙ ap blocks_in s) refl (stands_fewer Runs levels outer s) (worked_settles (chosen_by (number_at registers r)) registers more (group ∷ levels) c.0 x c.2)
-worked_settles Runs registers (code.Else ∷ more) levels outer x s =
-    settles_on code.Else more _ levels levels outer x.0 (ap blocks_in (sym x.1 ∙ s)) refl (stands_fewer Runs levels outer s)
-    (worked_settles (ToEnd 0) registers more levels x.0 x.2 (subst (λ (l : List Level). Around l 0 x.0) (sym x.1) refl))
-worked_settles Runs registers (code.EndIf ∷ more) levels outer x s =
-    settles_on code.EndIf more _ levels x.0 outer x.0 (ap blocks_in (sym x.1 ∙ s)) (sym (ap blocks_in x.1)) (stands_fewer Runs levels outer s) (worked_settles Runs registers more x.0 x.0 x.2 refl)
-worked_settles Runs registers (call ∷ more) levels outer x s = record { levels = levels; nests = x; blocks_are = ap blocks_in s; fewer = λ some. (let same = ap (λ (l : List Level). room (blocks_in l) (call ∷ more)) s in omega arith) }
-worked_settles (ToElse n) registers (i ∷ more) levels outer x s =
-    let p = pass_else n i more levels outer x s in
-    settles_on i more _ levels p.now outer p.around p.same p.past (around_fewer levels n outer s) (worked_settles (stage_past (ToElse n) i) registers more p.now p.around p.nests p.stands)
-worked_settles (ToEnd n) registers (i ∷ more) levels outer x s =
-    let p = pass_end n i more levels outer x s in
-    settles_on i more _ levels p.now outer p.around p.same p.past (around_fewer levels n outer s) (worked_settles (stage_past (ToEnd n) i) registers more p.now p.around p.nests p.stands)
-
--- ## The ends of blocks
-
--- what stands after the end of so many of the blocks is nested too
-past_nests : (n : ℕ) (rest : List Instruction) (levels : List Level) → n ≤ blocks_in levels → Nests rest levels → (outer : List Level) × Nests (past_block n rest) outer × (blocks_in outer + n ≡ blocks_in levels)
-past_nests zero rest levels few x = (levels, x, omega arith)
-past_nests (suc n) [] levels few x = absurd (let none = ap blocks_in x in omega arith)
-past_nests (suc n) (code.Begin props r ∷ more) levels few x = (let p = past_nests (suc (suc n)) more (block ∷ levels) (omega arith) x in (p.0, p.1, (let k = p.2 in omega arith)))
-past_nests (suc n) (code.Commit ∷ more) levels few x =
-    (let one = ap blocks_in x.1 in
-    let p = past_nests n more x.0 (omega arith) x.2 in
-    (p.0, subst (λ (m : ℕ). Nests (past_block m more) p.0) (let one_less : n ≡ suc n - 1 = omega arith in one_less) p.1, (let k = p.2 in omega arith)))
-past_nests (suc n) (code.IfNotZero r ∷ more) levels few x = past_nests (suc n) more (group ∷ levels) few x
-past_nests (suc n) (code.Else ∷ more) levels few x = past_nests (suc n) more levels few x.2
-past_nests (suc n) (code.EndIf ∷ more) levels few x =
-    (let one = ap blocks_in x.1 in
-    let p = past_nests (suc n) more x.0 (omega arith) x.2 in
-    (p.0, p.1, (let k = p.2 in omega arith)))
-past_nests (suc n) (i ∷ more) levels few x = past_nests (suc n) more levels few x
+use Rattle.script_vm.specs.Registers.{with_number, zeros}
+use Rattle.script_vm.specs.Threads.{Block, Thread, answered, answered_at, back_to, begun, call_at, cancelled, cancelled_in, closed, depth_of, ended, entered, goes_on, innermost, may_open, next_call, no_block, open_past, opening, past_block, restarted, room, stopped, told, took}
+use Rattle.script_vm.specs.Work.{settled}
+use Rattle.script_vm.proofs.NestedCode.{past_nests, room_more, room_nil, room_step, worked_settles}
 
 -- ## A thread
 
@@ -201,10 +25,14 @@ HasNestedStart [] = Unit {0}
 HasNestedStart (b ∷ inner) = (levels : List Level) × Nests b.rest levels × (blocks_in levels ≡ 0)
 
 -- its code is nested, with as many blocks around it as it has open
-pub record IsNested (t : Thread) : Type 0 where
+pub record IsWithin (t : Thread) : Type 0 where
   pub levels : List Level
   pub nests : Nests t.rest levels
   pub blocks : blocks_in levels ≡ depth_of t
+
+-- or more are open than may be, and it has no more calls
+pub record IsNested (t : Thread) : Type 0 where
+  pub code : IsWithin t ⊎ (t.rest ≡ [])
   pub start : HasNestedStart t.blocks
 
 -- how many instructions stand up to the end of its outermost block
@@ -220,7 +48,7 @@ goes_nested : (t : Thread) (registers : List (List ℕ)) (more : List Instructio
 goes_nested t registers more levels x same start =
     let s = worked_settles Runs registers more levels levels x refl in
     record {
-      nested = record { levels = s.levels; nests = s.nests; blocks = s.blocks_are ∙ same; start = start };
+      nested = record { code = inl (record { levels = s.levels; nests = s.nests; blocks = s.blocks_are ∙ same }); start = start };
       fewer = by_depth (depth_of t) same s.fewer;
     }
   where
@@ -248,12 +76,6 @@ closed_start [] s = tt
 closed_start (b ∷ []) s = tt
 closed_start (b ∷ inner ∷ more) s = s
 
-same_call : (c d : Call) → Some c ≡ Some d → c ≡ d
-same_call c d e = cc
-
-none_is_no_call : (c : Call) → None ≡ Some c → ⊥
-none_is_no_call c e = cc
-
 module _ (deepest : ℕ) (registers : List (List ℕ)) (rest : List Instruction) (blocks : List Block) (start : HasNestedStart blocks) where
   abbrev at_blocks : Thread
   at_blocks = record { rest = rest; registers = registers; blocks = blocks; deepest = deepest }
@@ -274,9 +96,13 @@ module _ (deepest : ℕ) (registers : List (List ℕ)) (rest : List Instruction)
     told_goes i x (Bytes v) n e = plain i _ n e
     told_goes i x (Refused f) n e = plain i _ n e
 
-    deeper_start : (b : Block) → Nests b.rest levels → (all : List Block) → all ≡ blocks → HasNestedStart (deeper deepest all b)
-    deeper_start b n [] e = (levels, n, same ∙ ap length (sym e))
-    deeper_start b n (outer ∷ inner) e = subst HasNestedStart (sym e) start
+    entered_start : (b : Block) → Nests b.rest levels → (all : List Block) → all ≡ blocks → HasNestedStart (all ++ b ∷ [])
+    entered_start b n [] e = (levels, n, same ∙ ap length (sym e))
+    entered_start b n (outer ∷ inner) e = subst HasNestedStart (sym e) start
+
+    stopped_start : (all : List Block) → all ≡ blocks → may_open deepest all ≡ false → HasNestedStart (all ++ no_block ∷ [])
+    stopped_start [] e full = absurd (cc)
+    stopped_start (outer ∷ inner) e full = subst HasNestedStart (sym e) start
 
     past_one : (regs : List (List ℕ)) → (t : Thread) → (k : ℕ) → Nests more levels → k + depth_of t ≡ length blocks → HasNestedStart t.blocks → GoesOn (goes_on t regs (past_block k more)) (past_block k more)
     past_one regs t k x depth from =
@@ -320,11 +146,21 @@ answered_goes deepest registers (code.Begin props to) more blocks start levels x
     t = record { rest = code.Begin props to ∷ more; registers = registers; blocks = blocks; deepest = deepest }
 
     by_reply : (r : Reply) → MayReply (length blocks) (calls.Begin props (room (suc (length blocks)) more)) r → StaysNested (code.Begin props to) (length blocks) more (begun t to more r)
-    by_reply (Code n) may =
-        let b : Block = record { rest = code.Begin props to ∷ more; registers = registers; code = to } in
-        let deep = length-deeper deepest blocks b in
-        goes_as (code.Begin props to) (length blocks) more _
-        (goes_nested (record t { blocks = deeper deepest blocks b }) (with_number registers to n) more (block ∷ levels) x (ap suc same ∙ sym deep) (deeper_start deepest registers (code.Begin props to ∷ more) blocks start more levels same b x blocks refl)) deep
+    by_reply (Code n) may = by_room (may_open deepest blocks) refl
+      where
+        b : Block
+        b = record { rest = code.Begin props to ∷ more; registers = registers; code = to }
+
+        by_room : (room : Bool) → may_open deepest blocks ≡ room → StaysNested (code.Begin props to) (length blocks) more (if room then entered t to more n else stopped t)
+        by_room true e =
+            let deep = one_longer blocks b in
+            goes_as (code.Begin props to) (length blocks) more _
+            (goes_nested (record t { blocks = blocks ++ b ∷ [] }) (with_number registers to n) more (block ∷ levels) x (ap suc same ∙ sym deep)
+            (entered_start deepest registers (code.Begin props to ∷ more) blocks start more levels same b x blocks refl)) deep
+        by_room false e = record {
+          nested = record { code = inr refl; start = stopped_start deepest registers (code.Begin props to ∷ more) blocks start more levels same blocks refl e };
+          fewer = (let none = room_nil (length (blocks ++ no_block ∷ [])) in omega arith);
+        }
     by_reply (Refused why) may =
         let p = past_nests 1 more (block ∷ levels) (omega arith) x in
         goes_past (code.Begin props to) (length blocks) 1 more _ (goes_nested t registers (past_block 1 more) p.0 p.1 (let all = p.2 in omega arith) start) (omega arith)
@@ -359,12 +195,13 @@ pub record Plays (t new : Thread) (c : Call) : Type 0 where
   pub told : (n : ℕ) → carried_room c ≡ Some n → left new ≤ n
 
 pub plays : (t : Thread) (c : Call) (r : Reply) → IsNested t → next_call t ≡ Some c → MayReply (depth_of t) c r → Plays t (answered t r) c
-plays t c r nested e may = by_code t.rest nested.nests e
+plays t c r nested e may = by_code t.rest nested.code e
   where
-    by_code : (rest : List Instruction) → Nests rest nested.levels → call_at t.registers (depth_of t) rest ≡ Some c → Plays (record t { rest = rest }) (answered_at (record t { rest = rest }) rest r) c
-    by_code [] x e = absurd (none_is_no_call c e)
-    by_code (i ∷ more) x e =
-        let g = answered_goes t.deepest t.registers i more t.blocks nested.start nested.levels x nested.blocks c r e may in
+    by_code : (rest : List Instruction) → IsWithin (record t { rest = rest }) ⊎ (rest ≡ []) → call_at t.registers (depth_of t) rest ≡ Some c → Plays (record t { rest = rest }) (answered_at (record t { rest = rest }) rest r) c
+    by_code [] within e = absurd (none_is_no_call c e)
+    by_code (i ∷ more) (inr none) e = absurd (cc)
+    by_code (i ∷ more) (inl x) e =
+        let g = answered_goes t.deepest t.registers i more t.blocks nested.start x.levels x.nests x.blocks c r e may in
         record {
           nested = g.nested;
           falls = λ some. (let less = g.fewer in let step = room_step (depth_of t) i more some in omega arith);
@@ -385,7 +222,7 @@ back_nested t nested = by_blocks t.blocks refl nested.start
   where
     by_blocks : (blocks : List Block) → blocks ≡ t.blocks → HasNestedStart blocks → IsNested (back_to t blocks)
     by_blocks [] e start = nested
-    by_blocks (b ∷ inner) e start = record { levels = start.0; nests = start.1; blocks = start.2; start = tt }
+    by_blocks (b ∷ inner) e start = record { code = inl (record { levels = start.0; nests = start.1; blocks = start.2 }); start = tt }
 
 -- before its first call
 pub opening_nested : (deepest : ℕ) (rest : List Instruction) → Nests rest [] → IsNested (opening deepest rest)

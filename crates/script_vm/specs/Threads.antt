@@ -1,5 +1,5 @@
 -- A thread of a program as one who makes calls: what it calls next, and what a reply leaves.
-use Rattle.std.specs.Prelude.{ℕ, zero, suc, ◌-◌, nat_lt, if◌then◌else◌, Bool, true, false, List, [], ◌∷◌, ◌++◌, length, drop, replicate, slice_index_or, Option, None, Some}
+use Rattle.std.specs.Prelude.{ℕ, zero, suc, ◌-◌, nat_lt, if◌then◌else◌, Bool, true, false, List, [], ◌∷◌, ◌++◌, length, drop, replicate, slice_index_or, take, Option, None, Some}
 use Rattle.itm_types.specs.declared.call.Call.{Call}
 use Rattle.itm_types.specs.declared.call.Call.TheVariants as calls
 use Rattle.itm_types.specs.declared.call.Reply.{Reply}
@@ -19,7 +19,7 @@ pub record Block : Type 0 where
   pub registers : List (List ℕ)
   pub code : Register
 
--- open blocks, the outermost first, and of how many of them a start is kept
+-- open blocks, the outermost first, and how many may be open
 pub record Opened : Type 0 where
   pub deepest : ℕ
   pub blocks : List Block
@@ -109,15 +109,14 @@ next_call t = call_at t.registers (depth_of t) t.rest
 
 -- ## Open blocks
 
--- where a list is too short for it
+-- what stands for a block beyond those that may be open: a begin with no code behind it
 abbrev pub no_block : Block
-no_block = record { rest = []; registers = zeros; code = R0 }
+no_block = record { rest = code.Begin (record { no_abort = false; no_irrevocable = false; goes_irrevocable = false }) R0 ∷ []; registers = zeros; code = R0 }
 
--- one more block is open. A thread keeps as many blocks as its runtime opens, the outermost always: each beyond them would
--- share what the last of these keeps
-abbrev pub deeper : ℕ → List Block → Block → List Block
-deeper deepest [] new = new ∷ []
-deeper deepest (outer ∷ inner) new = outer ∷ inner ++ (if nat_lt (length (outer ∷ inner)) deepest then new else slice_index_or (outer ∷ inner) (deepest - 1) no_block) ∷ []
+-- may one more be open: the outermost may, whatever is said
+abbrev pub may_open : ℕ → List Block → Bool
+may_open deepest [] = true
+may_open deepest (outer ∷ inner) = nat_lt (length (outer ∷ inner)) deepest
 
 -- the innermost is closed
 abbrev pub closed : List Block → List Block
@@ -138,15 +137,23 @@ abbrev pub outermost_of : List Block → Option Block
 outermost_of [] = None
 outermost_of (outer ∷ inner) = Some outer
 
--- those of which something is kept of their own, at most so many, and so many beyond them
-abbrev pub all_blocks : ℕ → List Block → ℕ → List Block
-all_blocks deepest kept beyond = kept ++ replicate beyond (slice_index_or kept (deepest - 1) no_block)
+-- those of which is kept where they began, and so many beyond them
+abbrev pub all_blocks : List Block → ℕ → List Block
+all_blocks kept beyond = kept ++ replicate beyond no_block
 
 -- ## Replies
 
--- a begin's reply: its code in the register, or, where it is refused, the block is passed over
+-- a block is entered: what its begin found is kept, and its code is in its register
+abbrev pub entered : Thread → Register → List Instruction → ℕ → Thread
+entered t r more n = goes_on (record t { blocks = t.blocks ++ record { rest = t.rest; registers = t.registers; code = r } ∷ [] }) (with_number t.registers r n) more
+
+-- one more block is open than may be, of which nothing is kept: the thread has no more calls
+abbrev pub stopped : Thread → Thread
+stopped t = record t { rest = []; registers = zeros; blocks = t.blocks ++ no_block ∷ [] }
+
+-- a begin's reply; where it is refused, the block is passed over
 abbrev pub begun : Thread → Register → List Instruction → Reply → Thread
-begun t r more (Code n) = goes_on (record t { blocks = deeper t.deepest t.blocks (record { rest = t.rest; registers = t.registers; code = r }) }) (with_number t.registers r n) more
+begun t r more (Code n) = if may_open t.deepest t.blocks then entered t r more n else stopped t
 begun t r more (Refused refusal) = goes_on t t.registers (past_block 1 more)
 begun t r more reply = goes_on t t.registers more
 
@@ -205,6 +212,14 @@ back_to t (b ∷ inner) = record t { rest = b.rest; registers = b.registers; blo
 abbrev pub restarted : Thread → Thread
 restarted t = back_to t t.blocks
 
+-- back to just after the begin of the block within so many of these was answered: it is entered
+abbrev pub back_in : ℕ → List Block → ℕ → Thread
+back_in deepest blocks n = let b = slice_index_or blocks n no_block in answered (record { rest = b.rest; registers = b.registers; blocks = take n blocks; deepest = deepest }) (Code 5)
+
+-- the outermost block is that at depth 1
+abbrev pub at_block : Thread → ℕ → Thread
+at_block t d = back_in t.deepest t.blocks (d - 1)
+
 -- a bound on the calls to come
 abbrev pub calls_left : Thread → ℕ
 calls_left t = length t.rest
@@ -216,4 +231,4 @@ abbrev pub opening : ℕ → List Instruction → Thread
 opening deepest rest = goes_on (record { rest = rest; registers = zeros; blocks = []; deepest = deepest }) zeros rest
 
 abbrev pub thread_rules : Rules Thread
-thread_rules = record { next_call = next_call; answered = answered; restarted = restarted; calls_left = calls_left; depth = depth_of }
+thread_rules = record { next_call = next_call; answered = answered; restarted = restarted; at_block = at_block; calls_left = calls_left; depth = depth_of }

@@ -1,12 +1,12 @@
 //! The call that a thread makes next.
 
-ghost use Rattle.std.specs.Prelude.{◌≡◌, ◌+◌, ◌≤◌, length};
+ghost use Rattle.std.specs.Prelude.{◌≡◌, ◌+◌, ◌<◌, ◌^◌, length};
 ghost use Rattle.script_vm.specs.Threads.{control_call, arena_call, value_call, range_call, memory_call, call_at};
 
 use crate::ends::room;
 use crate::registers::Registers;
 use itm_types::{Action, Call, Copying};
-use script_program::{Instruction, MAX_INSTRUCTIONS};
+use script_program::Instruction;
 
 /// A call about blocks, transactions and actions, with so many blocks open and this code after it.
 fn control_call(
@@ -15,7 +15,7 @@ fn control_call(
     more: &[Instruction],
     registers: &Registers,
 ) -> Option<Call>
-    requires { depth + length more.now + 1 ≤ MAX_INSTRUCTIONS }
+    requires { depth + length more.now + 1 < 2 ^ 32 }
     ensures { result ≡ control_call registers.now depth instruction.now more.now }
 {
     match *instruction {
@@ -146,7 +146,7 @@ fn memory_call(instruction: &Instruction, registers: &Registers) -> Option<Call>
 
 /// The call that the code begins with, with so many blocks open.
 pub fn call_at(code: &[Instruction], depth: usize, registers: &Registers) -> Option<Call>
-    requires { depth + length code.now ≤ MAX_INSTRUCTIONS }
+    requires { depth + length code.now < 2 ^ 32 }
     ensures { result ≡ call_at registers.now depth code.now }
 {
     let (first, more) = code.split_first()?;

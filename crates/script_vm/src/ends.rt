@@ -3,7 +3,7 @@
 ghost use Rattle.std.specs.Prelude.{◌≡◌, ◌+◌, ◌^◌, ◌<◌, ◌≤◌, length};
 ghost use Rattle.script_vm.specs.Threads.{open_past, room, past_block};
 
-use script_program::{Instruction, MAX_INSTRUCTIONS};
+use script_program::Instruction;
 
 /// How many of so many blocks are still to be closed once an instruction is passed over.
 fn open_past(instruction: &Instruction, left: usize) -> usize
@@ -19,7 +19,7 @@ fn open_past(instruction: &Instruction, left: usize) -> usize
 
 /// What stands after the commit that closes the enclosing block of this number, the innermost one being the first.
 pub fn past_block(number: usize, code: &[Instruction]) -> &[Instruction]
-    requires { number + length code.now ≤ MAX_INSTRUCTIONS }
+    requires { number + length code.now < 2 ^ 32 }
     ensures value { result.now ≡ past_block number code.now }
     ensures shorter { length result.now ≤ length code.now }
 {
@@ -29,7 +29,7 @@ pub fn past_block(number: usize, code: &[Instruction]) -> &[Instruction]
 
 /// How many instructions stand up to that commit, the commit too.
 pub fn room(number: usize, code: &[Instruction]) -> usize
-    requires { number + length code.now ≤ MAX_INSTRUCTIONS }
+    requires { number + length code.now < 2 ^ 32 }
     ensures value { result ≡ room number code.now }
     ensures within { result ≤ length code.now }
 {

@@ -8,7 +8,7 @@ use crate::ends::past_block;
 use crate::registers::Registers;
 use crate::start::Start;
 use crate::work::settle;
-use itm_types::{Call, Reply};
+use itm_types::{Call, ENTERED, Reply};
 use script_fields::Register;
 use script_program::{Instruction, MAX_INSTRUCTIONS, Program};
 use std::alloc::{AllocError, Global};
@@ -24,21 +24,23 @@ pub struct Script<'p> {
 }
 
 impl<'p> Model for Script<'p> {
-    ghost use Rattle.std.specs.Prelude.{◌+◌, ◌≤◌, length};
+    ghost use Rattle.std.specs.Prelude.{◌≡◌, ◌+◌, ◌<◌, ◌≤◌, [], length};
     ghost use Rattle.script_program.specs.declared.limits.TheConstants.{MAX_INSTRUCTIONS};
+    ghost use Rattle.script_vm.specs.Registers.{zeros};
     ghost use Rattle.script_vm.specs.Threads.{Thread};
 
     ghost Value = { Thread };
 
     ghost view = { λ s. record { rest = s.rest.now; registers = s.registers; blocks = s.blocks.blocks; deepest = s.blocks.deepest } };
 
-    ghost invariant = { λ s. length s.blocks.blocks + length s.rest.now ≤ MAX_INSTRUCTIONS };
+    ghost invariant = { λ s. (0 < s.blocks.deepest) × (s.blocks.deepest ≤ MAX_INSTRUCTIONS) × (length s.rest.now ≤ MAX_INSTRUCTIONS) × (length s.blocks.blocks ≤ s.blocks.deepest + 1)
+        × (s.blocks.deepest < length s.blocks.blocks → (s.rest.now ≡ []) × (s.registers ≡ zeros)) };
 }
 
 impl<'p> Script<'p> {
     ghost use Rattle.std.specs.Prelude.{◌≡◌, ◌+◌, ◌<◌, ◌≤◌, [], false, true, length, slice_index_or, IfOk};
     ghost use Rattle.script_program.specs.Listing.{threads_of};
-    ghost use Rattle.script_vm.specs.Threads.{opening, goes_on, begun, ended, cancelled, took, told};
+    ghost use Rattle.script_vm.specs.Threads.{opening, goes_on, stopped, begun, ended, cancelled, took, told};
 
     /// A thread of the program before its first call, with room for what it keeps of as many open blocks as the program's
     /// limits allow. No method takes memory after this.
@@ -57,7 +59,8 @@ impl<'p> Script<'p> {
         code: &'p [Instruction],
     ) -> Result<Self, AllocError>
         requires some { 0 < deepest }
-        requires few { length code.now ≤ MAX_INSTRUCTIONS }
+        requires few { deepest ≤ MAX_INSTRUCTIONS }
+        requires short { length code.now ≤ MAX_INSTRUCTIONS }
         ensures { IfOk result (λ s. s ≡ opening deepest code.now) }
     {
         let blocks = OpenBlocks::new(alloc, deepest)?;
@@ -72,25 +75,38 @@ impl<'p> Script<'p> {
 
     /// Goes on at this code.
     fn go_on(&mut self, more: &'p [Instruction])
-        requires { length self.old.blocks + length more.now ≤ MAX_INSTRUCTIONS }
+        requires within { length self.old.blocks ≤ self.old.deepest }
+        requires short { length more.now ≤ MAX_INSTRUCTIONS }
         ensures { self.new ≡ goes_on self.old self.old.registers more.now }
     {
         self.rest = settle(more, &mut self.registers);
     }
 
+    /// One more block is open than may be: it has no more calls.
+    fn stop(&mut self)
+        requires { length self.old.blocks ≡ self.old.deepest }
+        ensures { self.new ≡ stopped self.old }
+    {
+        let (_, none) = self.rest.split_at(self.rest.len());
+        self.rest = none;
+        self.registers = Registers::new();
+        self.blocks.open_beyond();
+    }
+
     /// Takes the reply to a begin.
     fn take_begun(&mut self, code: Register, more: &'p [Instruction], reply: &Reply)
-        requires { length self.old.blocks + length more.now < MAX_INSTRUCTIONS }
+        requires within { length self.old.blocks ≤ self.old.deepest }
+        requires short { length more.now < MAX_INSTRUCTIONS }
         ensures { self.new ≡ begun self.old code more.now reply.now }
     {
         match reply {
-            Reply::Code(n) => {
+            Reply::Code(n) if self.blocks.has_room() => {
                 let start = Start::new(self.rest, &self.registers, code);
                 self.blocks.open(start);
-                self.rest = more;
                 self.registers.put_number(code, u64::from(*n));
                 self.go_on(more);
             }
+            Reply::Code(_) => self.stop(),
             Reply::Refused(_) => self.go_on(past_block(1, more)),
             Reply::Done | Reply::Bytes(_) => self.go_on(more),
         }
@@ -98,7 +114,8 @@ impl<'p> Script<'p> {
 
     /// Takes the reply to a commit.
     fn take_ended(&mut self, more: &'p [Instruction], reply: &Reply)
-        requires { length self.old.blocks + length more.now < MAX_INSTRUCTIONS }
+        requires within { length self.old.blocks ≤ self.old.deepest }
+        requires short { length more.now < MAX_INSTRUCTIONS }
         ensures { self.new ≡ ended self.old more.now reply.now }
     {
         if let Reply::Done = reply {
@@ -111,7 +128,8 @@ impl<'p> Script<'p> {
 
     /// Takes the reply to an abort of the innermost block.
     fn take_inner(&mut self, more: &'p [Instruction], reply: &Reply)
-        requires { length self.old.blocks + length more.now < MAX_INSTRUCTIONS }
+        requires within { length self.old.blocks ≤ self.old.deepest }
+        requires short { length more.now < MAX_INSTRUCTIONS }
         ensures { self.new ≡ cancelled self.old false more.now reply.now }
     {
         if let Reply::Code(n) = reply {
@@ -127,7 +145,8 @@ impl<'p> Script<'p> {
 
     /// Takes the reply to an abort of all blocks.
     fn take_outer(&mut self, more: &'p [Instruction], reply: &Reply)
-        requires { length self.old.blocks + length more.now < MAX_INSTRUCTIONS }
+        requires within { length self.old.blocks ≤ self.old.deepest }
+        requires short { length more.now < MAX_INSTRUCTIONS }
         ensures { self.new ≡ cancelled self.old true more.now reply.now }
     {
         if let Reply::Code(n) = reply {
@@ -144,7 +163,8 @@ impl<'p> Script<'p> {
 
     /// Takes the reply to a read or a load.
     fn take_read(&mut self, to: Register, more: &'p [Instruction], reply: &Reply)
-        requires { length self.old.blocks + length more.now < MAX_INSTRUCTIONS }
+        requires within { length self.old.blocks ≤ self.old.deepest }
+        requires short { length more.now < MAX_INSTRUCTIONS }
         ensures { self.new ≡ took self.old to more.now reply.now }
     {
         if let Reply::Bytes(value) = reply {
@@ -155,7 +175,8 @@ impl<'p> Script<'p> {
 
     /// Takes the reply to the question whether a transaction is open.
     fn take_told(&mut self, to: Register, more: &'p [Instruction], reply: &Reply)
-        requires { length self.old.blocks + length more.now < MAX_INSTRUCTIONS }
+        requires within { length self.old.blocks ≤ self.old.deepest }
+        requires short { length more.now < MAX_INSTRUCTIONS }
         ensures { self.new ≡ told self.old to more.now reply.now }
     {
         if let Reply::Code(n) = reply {
@@ -166,7 +187,7 @@ impl<'p> Script<'p> {
 }
 
 impl<'p> Player for Script<'p> {
-    ghost use Rattle.script_vm.specs.Threads.{next_call, answered, restarted, calls_left, depth_of};
+    ghost use Rattle.script_vm.specs.Threads.{next_call, answered, restarted, at_block, calls_left, depth_of};
     ghost use Rattle.script_vm.specs.ThreadLaws.{thread_laws};
 
     ghost next_call = { next_call };
@@ -174,6 +195,8 @@ impl<'p> Player for Script<'p> {
     ghost answered = { answered };
 
     ghost restarted = { restarted };
+
+    ghost at_block = { at_block };
 
     ghost calls_left = { calls_left };
 
@@ -220,6 +243,16 @@ impl<'p> Player for Script<'p> {
             start.take_back(&mut self.registers);
             self.rest = start.rest();
             self.blocks.close_all();
+        }
+    }
+
+    #[tactic(auto, using(crate::proofs::InnerRestarts::stays_stopped))]
+    fn restart_block(&mut self) {
+        if let Some(begin) = self.blocks.innermost() {
+            begin.take_back(&mut self.registers);
+            self.rest = begin.rest();
+            self.blocks.close();
+            self.answer(&Reply::Code(ENTERED));
         }
     }
 

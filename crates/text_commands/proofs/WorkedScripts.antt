@@ -21,7 +21,7 @@ abbrev pub listing : ℕ → ℕ → List Instruction → Listing
 listing memory threads instructions = record {
   memory = record { size = memory; inits = [] };
   arena = 0;
-  limits = record { patience = 8; retries = 100; max_commits = MAX_COMMITS; depth = 16 };
+  limits = record { patience = 8; retries = 100; max_commits = MAX_COMMITS; depth = 16; restarts = 0 };
   schedule = [];
   parts = record { count = threads; code = instructions } ∷ [];
 }
@@ -74,7 +74,7 @@ one_commit = record (one_thread 8 (
     code.Set R1 1 ∷ code.Begin (record { no_abort = false; no_irrevocable = false; goes_irrevocable = false }) R0 ∷ code.Write W U8 (Number 0) R1 ∷ code.Commit
     ∷ code.Begin (record { no_abort = false; no_irrevocable = false; goes_irrevocable = false }) R0 ∷ code.Read R U8 R2 (Number 0) ∷ code.Commit
     ∷ code.Begin (record { no_abort = false; no_irrevocable = false; goes_irrevocable = false }) R0 ∷ code.Write W U8 (Number 0) R2 ∷ code.Commit
-    ∷ code.Begin (record { no_abort = false; no_irrevocable = false; goes_irrevocable = false }) R0 ∷ code.Commit ∷ [])) { limits = record { patience = 8; retries = 100; max_commits = 1; depth = 16 } }
+    ∷ code.Begin (record { no_abort = false; no_irrevocable = false; goes_irrevocable = false }) R0 ∷ code.Commit ∷ [])) { limits = record { patience = 8; retries = 100; max_commits = 1; depth = 16; restarts = 0 } }
 
 one_commit_script : program_of (line (codes ".memory 8") ++ line (codes ".commits 1") ++ line (codes ".thread")
     ++ line (codes "set r1 1") ++ line (codes "_ITM_beginTransaction r0 -") ++ line (codes "_ITM_WU8 0 r1") ++ line (codes "_ITM_commitTransaction")

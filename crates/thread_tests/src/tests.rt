@@ -4,6 +4,8 @@ mod by_hand;
 mod gates;
 mod helpers;
 mod interleavings;
+mod lines;
+mod restarts;
 mod runs;
 mod sinks;
 mod stopped_holder;

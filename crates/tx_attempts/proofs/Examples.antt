@@ -147,7 +147,7 @@ again_in_the_outer = refl
 
 -- a player that makes these calls, whatever it is replied
 abbrev maker : Rules ℕ
-maker = record { next_call = λ p. slice_get (calls_of again) p; answered = λ p r. suc p; restarted = λ p. p; calls_left = λ p. 9 - p; depth = λ p. 0 }
+maker = record { next_call = λ p. slice_get (calls_of again) p; answered = λ p r. suc p; restarted = λ p. p; at_block = λ p d. p; calls_left = λ p. 9 - p; depth = λ p. 0 }
 
 opaque : IsOpaque maker 16 0 again 1 memory
 opaque = record {

@@ -55,7 +55,7 @@ abbrev pub program : ℕ → ℕ → ℕ → Listing
 program memory threads depth = record {
   memory = record { size = memory; inits = [] };
   arena = 4;
-  limits = record { patience = 8; retries = 100; max_commits = 1; depth = depth };
+  limits = record { patience = 8; retries = 100; max_commits = 1; depth = depth; restarts = 0 };
   schedule = [];
   parts = record { count = threads; code = [] } ∷ [];
 }

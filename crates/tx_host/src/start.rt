@@ -10,7 +10,7 @@ ghost use Rattle.itm_runtime.specs.Ties.{Stands};
 ghost use Rattle.tx_host.specs.Starts.{AllReady, Prepares, Starts};
 
 use itm_runtime::Thread;
-use itm_types::MAX_RETRIES;
+use itm_types::{Limits, MAX_RETRIES};
 use script_program::Program;
 use script_vm::Script;
 use shared_words::{Pass, Words};
@@ -61,6 +61,7 @@ pub(crate) fn start_one<'s, 'e: 's, G: Gate + Sync, A: ActionSink + Sync>(
     requires stands { Stands (view_of ready.thread.pass) ready.thread.engine }
     requires outside { in_transaction ready.thread.engine ≡ false }
     requires depth { depth_of ready.player ≡ 0 }
+    requires whole { ready.thread.engine.restarts ≡ 0 }
     requires few { retries ≤ MAX_RETRIES }
     ensures { IfSome result (λ h. (h.promise.words.now ≡ words.now) × (h.promise.start.value ≡ ready.entry.thread)
         × (h.promise.player.value ≡ ready.entry.player) × (h.promise.number ≡ ready.entry.number) × (h.promise.retries ≡ retries)) }
@@ -87,7 +88,7 @@ pub(crate) fn start_one<'s, 'e: 's, G: Gate + Sync, A: ActionSink + Sync>(
 }
 
 /// What each thread of the program is given, before any of them starts: a pass of its own, split from this one, an arena,
-/// and its code.
+/// and its code. Inner blocks do not go back to their begins alone, whatever the program's limit says.
 pub(crate) fn prepare<'p>(
     alloc: Global,
     words: &Words,
@@ -106,7 +107,11 @@ pub(crate) fn prepare<'p>(
         let arena = Arena::new(alloc, program.arena())?;
         let player = Script::new(alloc, program, number)?;
         let theirs = words.split(pass);
-        let thread = Thread::new(alloc, words, theirs, arena, program.limits())?;
+        let limits = Limits {
+            restarts: 0,
+            ..program.limits()
+        };
+        let thread = Thread::new(alloc, words, theirs, arena, limits)?;
         all.push_reserved(Ready {
             number: number as u8,
             thread,

@@ -4,3 +4,5 @@ pub mod Begins
 pub mod PlainCalls
 pub mod Players
 pub mod Unbroken
+pub mod OpenBegins
+pub mod OpenCalls

@@ -1,15 +1,15 @@
 -- What a player is after a reply.
-use Rattle.std.proofs.Common.{◌&&◌, ◌≡◌, ℕ, ◌+◌, ◌*◌, ◌<◌, ◌≤◌, Bool, true, false, Some, refl, ap, subst, ◌∙◌, sym, arith, if◌then◌else◌}
+use Rattle.std.proofs.Common.{◌&&◌, ◌≡◌, ◌==◌, ℕ, suc, ◌+◌, ◌*◌, ◌<◌, ◌≤◌, Bool, true, false, Option, None, Some, refl, ap, subst, ◌∙◌, sym, arith, if◌then◌else◌, nat_lt}
 use Rattle.std.proofs.Math.Nat.{mul-le-mul_right}
-use Rattle.std.proofs.lemmas.Bool.{ne_eqb}
+use Rattle.std.proofs.lemmas.Bool.{le-ltb, ltb-false, ltb-true, ne_eqb}
 use Rattle.itm_types.specs.declared.call.Call.{Call}
 use Rattle.itm_types.specs.declared.call.Call.TheVariants.{Begin, Commit, Abort}
 use Rattle.itm_types.specs.declared.call.Reply.{Reply as Replied}
-use Rattle.itm_types.specs.declared.call.Reply.TheVariants.{Code}
-use Rattle.itm_types.specs.Calls.{is_begin}
-use Rattle.tx_player.specs.Depth.{depth_after, is_code, opens}
+use Rattle.itm_types.specs.declared.call.Reply.TheVariants.{Done, Bytes, Code, Refused}
+use Rattle.itm_types.specs.Calls.{abort_of, is_begin, is_commit}
+use Rattle.tx_player.specs.Depth.{depth_after, depth_by, is_code, opens}
 use Rattle.tx_player.specs.Rules.{Obeys, Rules}
-use Rattle.tx_runs.specs.Nesting.{IsDeep, IsNested, whole}
+use Rattle.tx_runs.specs.Nesting.{HasBlocks, IsBlock, IsDeep, IsNested, whole}
 
 -- ## Numbers
 
@@ -33,7 +33,7 @@ opens_at_begin (Abort false) (Code n) l = absurd (omega arith)
 opens_at_begin c r l = absurd (omega arith)
 
 -- within a block there is none
-within_block : (d : ℕ) (c : Call) (r : Replied) → 0 < d → opens d c r ≡ false
+pub within_block : (d : ℕ) (c : Call) (r : Replied) → 0 < d → opens d c r ≡ false
 within_block d c r l = ap (λ (b : Bool). b && (is_begin c && is_code r)) (ne_eqb d 0 (λ e. absurd (omega arith)))
 
 -- blocks are open or not, by how many are
@@ -42,6 +42,59 @@ same_deep true true d x y = refl
 same_deep true false d x y = absurd (omega (arith, x, y))
 same_deep false true d x y = absurd (omega (arith, x, y))
 same_deep false false d x y = refl
+
+-- a reply after which more blocks are open is that to a begin, which was accepted
+pub record IsOpened (depth : ℕ) (c : Call) (r : Replied) : Type 0 where
+  pub now : depth_after depth c r ≡ suc depth
+  pub entered : depth_after depth c (Code 5) ≡ suc depth
+  pub code : is_code r ≡ true
+
+opened_by : (begins commits : Bool) (abort : Option Bool) (depth : ℕ) (r : Replied) → depth < depth_by begins commits abort depth r → (depth_by begins commits abort depth r ≡ suc depth) × (depth_by begins commits abort depth (Code 5) ≡ suc depth) × (is_code r ≡ true)
+opened_by true commits abort depth (Code n) l = (refl, refl, refl)
+opened_by true commits abort depth Done l = absurd (omega arith)
+opened_by true commits abort depth (Bytes v) l = absurd (omega arith)
+opened_by true commits abort depth (Refused f) l = absurd (omega arith)
+opened_by false true abort depth Done l = absurd (omega arith)
+opened_by false true abort depth r l = absurd (omega arith)
+opened_by false false (Some true) depth (Code n) l = absurd (omega arith)
+opened_by false false (Some false) depth (Code n) l = absurd (omega arith)
+opened_by false false (Some outer) depth r l = absurd (omega arith)
+opened_by false false None depth r l = absurd (omega arith)
+
+pub is_opened : (depth : ℕ) (c : Call) (r : Replied) → depth < depth_after depth c r → IsOpened depth c r
+is_opened depth c r l = (let f = opened_by (is_begin c) (is_commit c) (abort_of c) depth r l in record { now = f.0; entered = f.1; code = f.2 })
+
+module _ {P : Type 0} (rules : Rules P) where
+  -- with no block open it can go back to none
+  pub no_blocks : (p : P) → rules.depth p ≡ 0 → HasBlocks rules p
+  no_blocks p none d some within = absurd (omega arith)
+
+  pub nested_outside : (p : P) → rules.depth p ≡ 0 → IsNested rules false p
+  nested_outside p none = record { deep = none; begun = λ o. absurd (cc); less = λ o. absurd (cc); blocks = no_blocks p none }
+
+  -- back in its innermost block it is nested as it was
+  pub nested_again : (p : P) → IsNested rules true p → IsNested rules true (rules.at_block p (rules.depth p))
+  nested_again p n =
+      let b = n.blocks (rules.depth p) n.deep (omega arith) in
+      let q : P = rules.at_block p (rules.depth p) in
+      let there = b.depth in
+      let same : rules.calls_left (rules.restarted q) ≡ rules.calls_left (rules.restarted p) = ap rules.calls_left b.same in
+      let less = b.less in
+      record {
+        deep = (let d = n.deep in omega arith);
+        begun = λ o. ap rules.depth b.same ∙ n.begun o;
+        less = λ o. omega arith;
+        blocks = λ d some within. (let few : d ≤ rules.depth p = omega arith in
+            let k = n.blocks d some few in
+            let less = k.less in
+            subst (IsBlock rules d q) (sym (b.around d some few))
+            (record {
+              depth = k.depth;
+              same = k.same ∙ sym b.same;
+              less = omega arith;
+              around = λ e u v. k.around e u v ∙ sym (b.around e u (omega arith));
+            }));
+      }
 
 module _ {P : Type 0} (rules : Rules P) (laws : Obeys rules) where
   -- what a player is after a reply, by whether blocks were open and whether some are now
@@ -61,6 +114,50 @@ module _ {P : Type 0} (rules : Rules P) (laws : Obeys rules) where
         laws.restarts p c r asks l
         ∙ ap (λ (b : Bool). if b then p else rules.restarted p) (ap (λ (n : ℕ). opens n c r) d ∙ opens_at_begin c r (subst (λ (n : ℕ). 0 < depth_after n c r) d l))
 
+    -- it knows where each open block had just begun
+    blocks_kept : HasBlocks rules p → rules.calls_left p ≤ rules.calls_left (rules.restarted (rules.answered p r)) → HasBlocks rules (rules.answered p r)
+    blocks_kept has near d some within = by_depth (nat_lt (rules.depth p) d) refl
+      where
+        q : P
+        q = rules.answered p r
+
+        few : d ≤ depth_after (rules.depth p) c r
+        few = subst (λ (n : ℕ). d ≤ n) (laws.nests p c r asks) within
+
+        open_now : 0 < depth_after (rules.depth p) c r
+        open_now = omega (arith, some, few)
+
+        by_depth : (b : Bool) → nat_lt (rules.depth p) d ≡ b → IsBlock rules d q (rules.at_block q d)
+        by_depth false e =
+            let far = ltb-false (rules.depth p) d e in
+            let there = has d some far in
+            let back : rules.restarted q ≡ rules.restarted p = goes_back (omega (arith, some, far)) open_now in
+            let same = ap rules.calls_left back in
+            let less = there.less in
+            subst (IsBlock rules d q) (sym (laws.begins p c r asks d some few ∙ ap (λ (b : Bool). if b then rules.answered p (Code 5) else rules.at_block p d) e))
+            (record {
+              depth = there.depth;
+              same = there.same ∙ sym back;
+              less = omega (arith, less, same);
+              around = λ k v w. there.around k v w ∙ sym (laws.begins p c r asks k v (omega (arith, w, few)) ∙ ap (λ (b : Bool). if b then rules.answered p (Code 5) else rules.at_block p k) (le-ltb (rules.depth p) k (omega (arith, w, far))));
+            })
+        by_depth true e =
+            let far = ltb-true (rules.depth p) d e in
+            let f = is_opened (rules.depth p) c r (omega (arith, far, few)) in
+            let o : P = rules.answered p (Code 5) in
+            let now = f.now in
+            let entered = f.entered in
+            let fewer = laws.nearer p c (Code 5) asks in
+            let back : rules.restarted o ≡ rules.restarted q = laws.restarts p c (Code 5) asks (omega (arith, entered))
+            ∙ (ap (λ (b : Bool). if (rules.depth p == 0) && (is_begin c && b) then p else rules.restarted p) (sym f.code) ∙ sym (laws.restarts p c r asks open_now)) in
+            subst (IsBlock rules d q) (sym (laws.begins p c r asks d some few ∙ ap (λ (b : Bool). if b then o else rules.at_block p d) e))
+            (record {
+              depth = laws.nests p c (Code 5) asks ∙ (entered ∙ (let n : suc (rules.depth p) ≡ d = omega (arith, far, few, now) in n));
+              same = back;
+              less = omega (arith, fewer, near);
+              around = λ k v w. laws.begins p c (Code 5) asks k v (omega (arith, w, few, now, entered)) ∙ sym (laws.begins p c r asks k v (omega (arith, w, few)));
+            })
+
     pub plays : (was now : Bool) → IsNested rules was p → IsDeep now (depth_after (rules.depth p) c r) → Played was now p (rules.answered p r)
     -- it stays open
     plays true true n deep =
@@ -69,7 +166,7 @@ module _ {P : Type 0} (rules : Rules P) (laws : Obeys rules) where
         let room = n.less refl in
         let same : rules.calls_left (rules.restarted (rules.answered p r)) ≡ rules.calls_left (rules.restarted p) = ap rules.calls_left back in
         record {
-          nested = record { deep = subst (IsDeep true) (sym (laws.nests p c r asks)) deep; begun = λ o. ap rules.depth back ∙ n.begun refl; less = λ o. omega arith };
+          nested = record { deep = subst (IsDeep true) (sym (laws.nests p c r asks)) deep; begun = λ o. ap rules.depth back ∙ n.begun refl; less = λ o. omega arith; blocks = blocks_kept n.blocks (omega arith) };
           whole_falls = omega arith;
           less = fewer;
         }
@@ -78,7 +175,7 @@ module _ {P : Type 0} (rules : Rules P) (laws : Obeys rules) where
         let fewer = laws.nearer p c r asks in
         let room = n.less refl in
         record {
-          nested = record { deep = laws.nests p c r asks ∙ deep; begun = λ o. absurd (cc); less = λ o. absurd (cc) };
+          nested = nested_outside rules (rules.answered p r) (laws.nests p c r asks ∙ deep);
           whole_falls = omega arith;
           less = fewer;
         }
@@ -88,13 +185,13 @@ module _ {P : Type 0} (rules : Rules P) (laws : Obeys rules) where
         let fewer = laws.nearer p c r asks in
         let same : rules.calls_left (rules.restarted (rules.answered p r)) ≡ rules.calls_left p = ap rules.calls_left back in
         record {
-          nested = record { deep = subst (IsDeep true) (sym (laws.nests p c r asks)) deep; begun = λ o. ap rules.depth back ∙ n.deep; less = λ o. omega arith };
+          nested = record { deep = subst (IsDeep true) (sym (laws.nests p c r asks)) deep; begun = λ o. ap rules.depth back ∙ n.deep; less = λ o. omega arith; blocks = blocks_kept n.blocks (omega arith) };
           whole_falls = omega arith;
           less = fewer;
         }
     -- none is open
     plays false false n deep = record {
-      nested = record { deep = laws.nests p c r asks ∙ deep; begun = λ o. absurd (cc); less = λ o. absurd (cc) };
+      nested = nested_outside rules (rules.answered p r) (laws.nests p c r asks ∙ deep);
       whole_falls = omega (arith, laws.nearer p c r asks);
       less = laws.nearer p c r asks;
     }

@@ -49,6 +49,7 @@ module _ {P : Type 0} where
     pub known : w.known ≡ known_after c.known w.ended.items
     pub over : AreOver w.ended.items
     pub bounds : bounds_of w.thread.engine ≡ b
+    pub whole : w.thread.engine.restarts ≡ 0  -- no inner block goes back to its begin alone
 
 module _ {P : Type 0} (rules : Rules P) where
   pub record IsWorking (words : Words) (c : Course P) (b : Bounds) (w : Worker P) : Type 0 where

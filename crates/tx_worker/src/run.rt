@@ -22,6 +22,8 @@ use tx_player::Player;
 /// The gate is asked before each call, and told after it, but for those that come in an irrevocable transaction; where it
 /// shuts, the thread gives up as it stands, and no action runs. The sink is handed each action once its call is answered.
 /// `NoMemory` where memory was refused: the open transaction is rolled back then, but for an irrevocable one.
+///
+/// Inner blocks of the thread do not go back to their begins alone: its limit of restarts is 0.
 pub fn work<P: Player, G: Gate, A: ActionSink>(
     alloc: Global,
     words: &Words,
@@ -36,6 +38,7 @@ pub fn work<P: Player, G: Gate, A: ActionSink>(
     requires stands { Stands (view_of thread.pass) thread.engine }
     requires outside { in_transaction thread.engine ≡ false }
     requires depth { P.depth player ≡ 0 }
+    requires whole { thread.engine.restarts ≡ 0 }
     requires few { retries ≤ MAX_RETRIES }
     ensures { Works P.Player words.now thread player number retries G.shuts result }
 {

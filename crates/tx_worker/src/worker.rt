@@ -140,7 +140,7 @@ impl<P: Player> Worker<P> {
             Answer::Conflict { .. } => self.retry(),
             Answer::Busy { .. } => self.retry(),
             Answer::Full { .. } => Some(End::GaveUp),
-            Answer::Committed { .. } => unreachable!(),
+            Answer::Committed { .. } | Answer::Restarted { .. } => unreachable!(),
         }
     }
 
@@ -240,7 +240,7 @@ impl<P: Player> Worker<P> {
                 self.stop(attempt, Outcome::Full);
                 Some(End::GaveUp)
             }
-            Answer::Busy { .. } => unreachable!(),
+            Answer::Busy { .. } | Answer::Restarted { .. } => unreachable!(),
         }
     }
 

@@ -1,5 +1,5 @@
 -- Worked cases of value logs, computed.
-use Rattle.std.proofs.Common.{◌≡◌, List, [], ◌∷◌, Some, None, refl}
+use Rattle.std.proofs.Common.{◌≡◌, List, [], ◌∷◌, Some, None, take, refl}
 use Rattle.itm_types.specs.declared.row.LogRow.{LogRow}
 use Rattle.itm_types.specs.LogRows.{value_of}
 
@@ -24,3 +24,10 @@ not_read = refl
 
 nothing_read : value_of 0 [] ≡ None
 nothing_read = refl
+
+-- the log is cut to its first three rows: the oldest one of word 4 counts still, and word 0 was not read
+read_before_the_cut : value_of 4 (take 3 rows) ≡ Some 7
+read_before_the_cut = refl
+
+read_after_the_cut : value_of 0 (take 3 rows) ≡ None
+read_after_the_cut = refl

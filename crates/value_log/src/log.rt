@@ -1,6 +1,6 @@
 //! The value log.
 
-ghost use Rattle.std.specs.Prelude.{◌≡◌, ◌+◌, ◌<◌, ◌≤◌, ℕ, List, [], ◌∷◌, ◌++◌, IfSome, IsOk, None, OnOk, OnErr, Some, length, slice_get, take};
+ghost use Rattle.std.specs.Prelude.{◌≡◌, ◌+◌, ◌^◌, ◌<◌, ◌≤◌, ℕ, List, [], ◌∷◌, ◌++◌, IfSome, IsOk, None, OnOk, OnErr, Some, length, slice_get, take};
 ghost use Rattle.itm_types.specs.LogRows.{value_of, AreSingle};
 ghost use Rattle.itm_types.specs.Memory.{Agrees};
 
@@ -50,6 +50,7 @@ impl ValueLog {
 
         // Of every log: no two rows have one word.
         ensures single { AreSingle self.now.rows }
+        ensures few { length self.now.rows < 2 ^ 32 }
     {
         self.rows.len()
     }

@@ -1,5 +1,5 @@
 -- Worked cases, computed: all that a player does alone.
-use Rattle.std.proofs.Common.{◌≡◌, [], ◌∷◌, replicate, refl, true, false, None}
+use Rattle.std.proofs.Common.{◌≡◌, [], ◌∷◌, replicate, refl, true, false}
 use Rattle.itm_types.specs.declared.access.WriteHint.TheVariants.{W}
 use Rattle.itm_types.specs.declared.call.Call.TheVariants.{Commit, Mode}
 use Rattle.tx_attempts.specs.declared.attempt.Outcome.TheVariants.{Committed, Full}
@@ -24,7 +24,7 @@ cancelled_alone = refl
 
 -- a block that writes, goes irrevocable and commits: where no writer may commit it ends before it goes
 abbrev turning : Plan
-turning = record { calls = begin ∷ Write W 0 (word 7) ∷ Mode 0 ∷ Commit ∷ []; at = 0; blocks = None }
+turning = record { calls = begin ∷ Write W 0 (word 7) ∷ Mode 0 ∷ Commit ∷ []; at = 0; blocks = [] }
 
 abbrev turned : Attempt
 turned = record { thread = 0; nth = 1; began = 0; at = 0; props = plain; arena = []; calls = record { list = write 7 ∷ record { call = Mode 0; reply = Done } ∷ commit ∷ []; room = 0 }; restarts = []; ran = []; outcome = Committed }
@@ -40,7 +40,7 @@ abbrev going : Props
 going = record { no_abort = false; no_irrevocable = false; goes_irrevocable = true }
 
 abbrev leaving : Plan
-leaving = record { calls = Begin going 0 ∷ Write W 0 (word 7) ∷ []; at = 0; blocks = None }
+leaving = record { calls = Begin going 0 ∷ Write W 0 (word 7) ∷ []; at = 0; blocks = [] }
 
 abbrev left : Attempt
 left = record { thread = 0; nth = 1; began = 0; at = 0; props = going; arena = []; calls = record { list = write 7 ∷ []; room = 0 }; restarts = []; ran = []; outcome = Unfinished }

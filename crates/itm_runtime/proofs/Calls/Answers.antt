@@ -9,7 +9,7 @@ use Rattle.itm_types.specs.Memory.{Agrees, IsMemory, bytes_of}
 use Rattle.itm_model.specs.State.{State}
 use Rattle.itm_model.specs.Machine.{after, reply, undone}
 use Rattle.norec_core.specs.declared.answer.Answer.{Answer}
-use Rattle.norec_core.specs.declared.answer.Answer.TheVariants.{Reply, Committed, Conflict, Busy, Full}
+use Rattle.norec_core.specs.declared.answer.Answer.TheVariants.{Reply, Committed, Conflict, Restarted, Busy, Full}
 use Rattle.norec_core.specs.declared.answer.Next.{Next}
 use Rattle.norec_core.specs.declared.answer.Next.TheVariants.{Step as Asks, Answer as Answers}
 use Rattle.norec_core.specs.Core.{Core, came, in_transaction, is_inside}
@@ -32,6 +32,7 @@ use Rattle.itm_runtime.proofs.Steps.CallsInHand.{both, Freed, IsMid, IsHeldMid, 
 use Rattle.itm_runtime.specs.InCall.{IsDue, Loads}
 use Rattle.itm_runtime.proofs.Steps.NewCalls.{asked_on}
 use Rattle.itm_runtime.proofs.Calls.ActionRoom.{room_entered, room_same}
+use Rattle.itm_runtime.proofs.Calls.BlocksBack.{went_back}
 use Rattle.itm_runtime.proofs.Calls.Closes.{closes, mode_then, open_then, read_so_far, same, served, stands, to_mid, undone_shut, wants_same, whole}
 
 -- over the memories that the mode chooses
@@ -75,6 +76,7 @@ module _ (s : Start) (w : View) (mid new : Core) (m : IsMid s w mid new) where
         takes = λ x y. absurd (both new.irrevocable y is);
         all = λ x y z f a. meets z (to_mid s w mid new m z f) a;
         still = λ a x. g.still a (open_then s w mid new m x);
+        restarted = rest.restarted (λ r. r) ∙ m.kept.restarted;
         room = ap (λ (c : Core). c.room) stays ∙ room_now r;
       } in
       (served s w mid new m rest tells (m.mine g.unfreed), stands s w mid new m rest)
@@ -91,7 +93,7 @@ module _ (s : Start) (w : View) (mid new : Core) (m : IsMid s w mid new) where
       let taken = g.taken.0 in
       let long : length w.seen ≡ k = omega arith in
       let fits : IsMemory mid.words (memory_of w k) = is_memory mid.words w m.over k in
-      let agrees : Agrees (memory_of w k) mid.log = read_so_far s w mid new m (in_transaction mid) refl in
+      let agrees : Agrees (memory_of w k) mid.log = read_so_far s w mid new m (rest.restarted (λ r. r)) (in_transaction mid) refl in
       let laid : backed mid (memory_of w k) ≡ held w = ap (backed mid) (whole s w mid new m k long) ∙ sym (m.holding g.held g.revocable).laid in
       let meets : Meets s r new (memory_of w k) (held w) = record {
         state = ap (stands_for new) (sym laid) ∙ (g.meets (memory_of w k) fits agrees ∙ (λ i. after (m.kept.depth i) (same s w mid new m was (memory_of w k) i) s.call));
@@ -102,6 +104,7 @@ module _ (s : Start) (w : View) (mid new : Core) (m : IsMid s w mid new) where
         takes = λ x y. m.taken g.held g.revocable;
         all = λ x y. absurd (both new.irrevocable is y);
         still = λ a x. o;
+        restarted = rest.restarted (λ r. r) ∙ m.kept.restarted;
         room = ap (λ (c : Core). c.room) stays ∙ (room_entered mid s.call r g.goes ∙ room_now r);
       } in
       (served s w mid new m rest tells (m.mine g.unfreed), stands s w mid new m rest)
@@ -122,6 +125,7 @@ module _ (s : Start) (w : View) (mid new : Core) (m : IsMid s w mid new) where
         takes = λ x y. absurd (both s.engine.irrevocable was x);
         all = λ x y. absurd (both s.engine.irrevocable was x);
         still = λ a x. g.still (open_then s w mid new m x);
+        restarted = rest.restarted (λ r. r) ∙ m.kept.restarted;
         room = ap (λ (c : Core). c.room) g.stays ∙ room_now r;
       } in
       (served s w mid new m rest tells (m.mine g.unfreed), stands s w mid new m rest)
@@ -181,7 +185,7 @@ module _ (s : Start) (w : View) (mid new : Core) (m : IsMid s w mid new) where
     over_position : s.engine.irrevocable ≡ false → CommitsOver at wrote (memory_of w k)
     over_position was =
         let fits : IsMemory mid.words (memory_of w k) = is_memory mid.words w m.over k in
-        let agrees : Agrees (memory_of w k) mid.log = (m.before g.is_open).agrees in
+        let agrees : Agrees (memory_of w k) mid.log = (m.before g.is_open).agrees ((rests mid new (Committed at wrote) g).restarted (λ r. r)) in
         let state = same s w mid new m was (memory_of w k) in
         let position : memory_of w at ≡ memory_of w k = ap (memory_of w) at_is in
         record {
@@ -218,7 +222,7 @@ module _ (s : Start) (w : View) (mid new : Core) (m : IsMid s w mid new) where
       let call : s.call ≡ Commit = cc in
       let does = over at wrote g at_is s.engine.irrevocable refl call on in
       let tells : Commits s at wrote w new = record {
-        closes = closes s w mid new m rest at closed at_is;
+        closes = closes s w mid new m rest (λ r. r) at closed at_is;
         was_open = sym (ap is_inside m.kept.blocks) ∙ g.is_open;
         outermost = ap length (sym m.kept.blocks) ∙ g.outermost;
         call = call;
@@ -257,7 +261,7 @@ module _ (s : Start) (w : View) (mid new : Core) (m : IsMid s w mid new) where
       let late = (m.before g.is_open).late in
       let first = m.first is_open in
       let tells : Conflicts s clock word w new = record {
-        closes = closes s w mid new m rest k closed refl;
+        closes = closes s w mid new m rest (λ r. r) k closed refl;
         later = omega arith;
         clock_is = clock_is ∙ sym now;
         looks = elim (m.looked g.unfreed) [
@@ -272,9 +276,9 @@ module _ (s : Start) (w : View) (mid new : Core) (m : IsMid s w mid new) where
       } in
       (served s w mid new m rest tells (m.mine g.unfreed), stands s w mid new m rest)
     where
-      read_row : (o : Option ℕ) → Differs mid.fresh mid.log o → IsRead s k w o
+      read_row : (o : Option ℕ) → Differs mid o → IsRead s k w o
       read_row None d = tt
-      read_row (Some told) d = (mid.log, d.3, d.2, d.1, (m.before g.is_open).log, (m.before g.is_open).agrees, d.5, d.6, up.2 d.0 (record { word = told; value = d.1 }) d.4, d.7)
+      read_row (Some told) d = (mid.log, d.3, d.2, d.1, (m.before g.is_open).log, (m.before g.is_open).agrees (rest.restarted (λ r. r)), d.5, d.6, up.2 d.0 (record { word = told; value = d.1 }) d.4, d.7)
 
   -- an engine that is closed has looked at the clock in this call
   abbrev pub HasLooked : Type 0
@@ -294,7 +298,7 @@ module _ (s : Start) (w : View) (mid new : Core) (m : IsMid s w mid new) where
       let later = g.later in
       let now = looked shut in
       let tells : Conflicts s clock word w new = record {
-        closes = closes s w mid new m rest k closed refl;
+        closes = closes s w mid new m rest (λ r. r) k closed refl;
         later = omega arith;
         clock_is = g.clock_is ∙ sym now.0;
         looks = now.1;
@@ -317,7 +321,7 @@ module _ (s : Start) (w : View) (mid new : Core) (m : IsMid s w mid new) where
       let closed : in_transaction new ≡ false = ap in_transaction stays in
       let now = looked g.closed in
       let tells : IsBusy s clock w new = record {
-        closes = closes s w mid new m rest k closed refl;
+        closes = closes s w mid new m rest (λ r. r) k closed refl;
         was_closed = shut_before g.closed;
         begins = begins_with g.begins;
         odd = g.odd;
@@ -336,7 +340,7 @@ module _ (s : Start) (w : View) (mid new : Core) (m : IsMid s w mid new) where
       let limit : mid.max_commits ≡ s.engine.max_commits = m.kept.max_commits in
       let many = g.full in
       let tells : IsFull s at w new = record {
-        closes = closes s w mid new m rest at closed g.at_is;
+        closes = closes s w mid new m rest (λ r. r) at closed g.at_is;
         wants = wants_same s w mid new m s.call (subst (WantsClock mid) m.kept.doing g.wants);
         full = omega arith;
         undone = undone_is was g.undone;
@@ -348,6 +352,7 @@ module _ (s : Start) (w : View) (mid new : Core) (m : IsMid s w mid new) where
   MayAnswer (Reply r) = Unit {0}
   MayAnswer (Committed at wrote) = Unit {0}
   MayAnswer (Conflict clock word) = HasLooked × GaveUp word
+  MayAnswer (Restarted clock word) = Unit {0}
   MayAnswer (Busy clock) = HasLooked × IsPatient s w
   MayAnswer (Full at) = Unit {0}
 
@@ -355,6 +360,7 @@ module _ (s : Start) (w : View) (mid new : Core) (m : IsMid s w mid new) where
   answered (Reply r) looked on g = replied_to r on g
   answered (Committed at wrote) looked on g = committed at wrote on g
   answered (Conflict clock word) looked on g = by_open clock word looked.1 (revocable_by (Conflict clock word) (λ x r c. c) on) looked.0 (rests mid new (Conflict clock word) g) (in_transaction mid) refl g
+  answered (Restarted clock word) looked on g = went_back s w mid new m clock word g
   answered (Busy clock) looked on g = busy clock looked.1 (revocable_by (Busy clock) (λ x r c. c) on) looked.0 g
   answered (Full at) looked on g = full at (revocable_by (Full at) (λ x r c. c) on) g
 
@@ -377,5 +383,6 @@ module _ (s : Start) (w : View) (mid new : Core) (m : IsMid s w mid new) where
   at_once (Answers (Reply r)) a = tt
   at_once (Answers (Committed at wrote)) a = tt
   at_once (Answers (Conflict clock word)) a = absurd a
+  at_once (Answers (Restarted clock word)) a = absurd a
   at_once (Answers (Busy clock)) a = absurd a
   at_once (Answers (Full at)) a = tt

@@ -9,6 +9,7 @@ use Rattle.nest_frames.specs.Nest.{stays_revocable}
 use Rattle.norec_core.specs.declared.answer.Answer.{Answer}
 use Rattle.norec_core.specs.Core.{Core, irrevocable_room, in_transaction, is_inside, may_go}
 use Rattle.norec_core.specs.Proceeds.{WantsClock}
+use Rattle.norec_core.specs.Restarts.{IsRestart}
 use Rattle.norec_core.specs.Stands.{stands_for, state_in, state_over}
 use Rattle.norec_core.proofs.Replies.AnsweredEngines.{IsRest}
 use Rattle.norec_core.proofs.Engines.Blocks.{none_inside}
@@ -52,19 +53,19 @@ module _ (s : Start) (w : View) (mid new : Core) (m : IsMid s w mid new) where
       tells = tells;
       mine = mine;
       went = m.went;
-      grows = m.grows;
+      grows = λ o o' stays. m.grows o o' (r.restarted stays);
       opens = λ o o'. (let count = (reads o').count in let longer = starts_le w.seen s.view.seen m.went.grows in record { looks = m.opens o o'; seen = omega arith });
       steps = (let a = m.steps in omega arith);
       at_once = λ z. ((m.idle z).1, (m.idle z).2);
       fixed = m.fixed;
       within = omega arith;
       words = r.words ∙ m.kept.words;
-      limits = (r.max_commits ∙ m.kept.max_commits, r.patience ∙ m.kept.patience, r.depth ∙ m.kept.depth);
+      limits = (r.max_commits ∙ m.kept.max_commits, r.patience ∙ m.kept.patience, r.depth ∙ m.kept.depth, r.restarts ∙ m.kept.restarts);
     }
 
     -- no transaction is open
-    pub closes : (at : ℕ) → in_transaction new ≡ false → at ≡ new.snapshot / 2 → Closes s at w new
-    closes at closed is =
+    pub closes : (IsRestart a → ⊥) → (at : ℕ) → in_transaction new ≡ false → at ≡ new.snapshot / 2 → Closes s at w new
+    closes stays at closed is =
         let reached = m.settled.reached in
         let clock = r.clock in
         let known = m.known in
@@ -75,7 +76,7 @@ module _ (s : Start) (w : View) (mid new : Core) (m : IsMid s w mid new) where
           late = λ o. (m.before (open_then o)).late;
           agrees = λ o. (let b = m.before (open_then o) in
               agrees_less (memory_of w at) s.engine.log b.log.0
-              (subst (Agrees (memory_of w at)) b.log.1 (subst (λ (n : ℕ). Agrees (memory_of w n) mid.log) (sym is) b.agrees)));
+              (subst (Agrees (memory_of w at)) b.log.1 (subst (λ (n : ℕ). Agrees (memory_of w n) mid.log) (sym is) (b.agrees (r.restarted stays)))));
         }
 
   -- what the engine stood for as the call came
@@ -90,9 +91,9 @@ module _ (s : Start) (w : View) (mid new : Core) (m : IsMid s w mid new) where
   whole k long = ap (after w.base) (take_all k w.seen (omega arith))
 
   -- the log that an open transaction has, or none
-  pub read_so_far : (b : Bool) → in_transaction mid ≡ b → Agrees (memory_of w (new.snapshot / 2)) mid.log
-  read_so_far true o = (m.before o).agrees
-  read_so_far false c = subst (Agrees (memory_of w (new.snapshot / 2))) (sym (m.empty c)) tt
+  pub read_so_far : new.restarted ≡ mid.restarted → (b : Bool) → in_transaction mid ≡ b → Agrees (memory_of w (new.snapshot / 2)) mid.log
+  read_so_far same true o = (m.before o).agrees same
+  read_so_far same false c = subst (Agrees (memory_of w (new.snapshot / 2))) (sym (m.empty c)) tt
 
   -- a block was opened by nobody, so nothing is rolled back
   pub undone_shut : in_transaction s.engine ≡ false → s.engine.irrevocable ≡ false → new.irrevocable ≡ false → new.writes ≡ [] → new.blocks ≡ [] → new.arena ≡ mid.arena → new.actions ≡ mid.actions → IsUndone s new

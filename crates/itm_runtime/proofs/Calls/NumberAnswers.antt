@@ -20,7 +20,7 @@ use Rattle.itm_model.specs.Machine.{bytes_reply, or_else, ranges, refusal, reply
 use Rattle.itm_model.specs.Places.{in_range}
 use Rattle.itm_model.specs.State.{State}
 use Rattle.norec_core.specs.declared.answer.Answer.{Answer}
-use Rattle.norec_core.specs.declared.answer.Answer.TheVariants.{Reply, Committed, Conflict, Busy, Full}
+use Rattle.norec_core.specs.declared.answer.Answer.TheVariants.{Reply, Committed, Conflict, Restarted, Busy, Full}
 use Rattle.norec_core.specs.Core.{Core}
 use Rattle.norec_core.specs.Stands.{stands_for}
 use Rattle.shared_words.specs.declared.view.View.{View}
@@ -70,6 +70,7 @@ read_number t hint at (Reply r) v e served on =
     read_reply t.engine.depth s hint at r (refusal t.engine.depth s (Read hint U8 at)) refl served.tells.here.reply_is on
 read_number t hint at (Committed position wrote) v e served on = absurd (subst commits_not served.tells.call tt)
 read_number t hint at (Conflict clock word) v e served on = absurd (on (stops.Conflict clock word) refl)
+read_number t hint at (Restarted clock word) v e served on = absurd (on (stops.Restarted clock word) refl)
 read_number t hint at (Busy clock) v e served on = absurd (on (stops.Busy clock) refl)
 read_number t hint at (Full position) v e served on = absurd (on (stops.Full position) refl)
 
@@ -83,6 +84,7 @@ write_done t hint at value (Reply r) v e served on =
     write_reply r (refusal t.engine.depth (stands_for t.engine (came_over (start_of t (Write hint at value) false) v e)) (Write hint at value)) served.tells.here.reply_is on
 write_done t hint at value (Committed position wrote) v e served on = absurd (subst commits_not served.tells.call tt)
 write_done t hint at value (Conflict clock word) v e served on = absurd (on (stops.Conflict clock word) refl)
+write_done t hint at value (Restarted clock word) v e served on = absurd (on (stops.Restarted clock word) refl)
 write_done t hint at value (Busy clock) v e served on = absurd (on (stops.Busy clock) refl)
 write_done t hint at value (Full position) v e served on = absurd (on (stops.Full position) refl)
 

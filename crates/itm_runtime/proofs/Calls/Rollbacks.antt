@@ -28,6 +28,8 @@ rolled v e t free none = record {
     even = t.settled.even;
     holder = λ h. absurd (cc);
     limit = t.settled.limit;
+    reads = λ r. tt;
+    few = t.settled.few;
     deep = t.settled.deep;
     irrevocable = λ i. absurd (cc);
   };

@@ -4,6 +4,7 @@ use Rattle.std.proofs.lemmas.Option.{slice_get-get_or}
 use Rattle.itm_types.specs.declared.step.Step.TheVariants.{Store}
 use Rattle.itm_types.specs.Memory.{Agrees, IsMemory}
 use Rattle.itm_model.specs.Machine.{after as after_call, reply}
+use Rattle.nest_frames.specs.Nest.{reads_of}
 use Rattle.norec_core.specs.declared.answer.Next.{Next}
 use Rattle.norec_core.specs.Core.{Core, came, in_transaction}
 use Rattle.norec_core.specs.Held.{ComesTo}
@@ -24,11 +25,12 @@ use Rattle.itm_runtime.specs.InCall.{IsOpening, IsShut, Loads, pending}
 pub both : (n : Bool) → n ≡ true → n ≡ false → ⊥
 both n t f = absurd (cc)
 
--- what an open transaction has read so far agrees with the memory of the position that it goes on to
+-- what an open transaction has read so far agrees with the memory of the position that it goes on to, unless a block goes back
 pub record Before (s : Start) (w : View) (mid new : Core) : Type 0 where
   pub seen : new.snapshot / 2 ≤ length w.seen
-  pub agrees : Agrees (memory_of w (new.snapshot / 2)) mid.log
+  pub agrees : new.restarted ≡ mid.restarted → Agrees (memory_of w (new.snapshot / 2)) mid.log
   pub late : s.engine.snapshot ≤ new.snapshot
+  pub from : s.engine.snapshot ≤ mid.snapshot
   pub log : StartsWith mid.log s.engine.log
 
 -- the clock was freed by the last step: the stores since are the last commit that was seen
@@ -61,12 +63,13 @@ pub record IsMid (s : Start) (w : View) (mid new : Core) : Type 0 where
   pub looked : mid.freed ≡ false → (w.clock ≡ s.view.clock) ⊎ (s.view.looks < w.looks)
   pub taken : mid.holds ≡ true → mid.irrevocable ≡ false → s.view.looks < w.looks
   pub first : in_transaction s.engine ≡ true → s.view.clock ≡ s.engine.snapshot
+  pub read : s.engine.irrevocable ≡ false → reads_of s.engine.blocks ≤ length s.engine.log
   pub shut : in_transaction s.engine ≡ false → IsShut s.engine
   pub settled : IsSettled new
   pub asks : new.waits ≡ asked new
   pub idle : stage_at s.engine s.call s.again ≡ Idle → (new.waits ≡ None) × (w ≡ s.view) × (new.snapshot ≡ s.engine.snapshot)
   pub fixed : s.engine.irrevocable ≡ true → new.snapshot ≡ s.engine.snapshot
-  pub grows : in_transaction s.engine ≡ true → in_transaction new ≡ true → Grows s w new
+  pub grows : in_transaction s.engine ≡ true → in_transaction new ≡ true → new.restarted ≡ mid.restarted → Grows s w new
   pub opens : in_transaction s.engine ≡ false → in_transaction new ≡ true → s.view.looks < w.looks
   pub steps : length w.steps ≡ length s.view.steps + mid.spent
   pub spent : mid.spent ≤ most (came s.engine s.call s.again) (Some s.call)

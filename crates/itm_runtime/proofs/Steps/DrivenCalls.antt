@@ -8,13 +8,12 @@ use Rattle.norec_core.specs.declared.answer.Answer.{Answer}
 use Rattle.norec_core.specs.declared.answer.Next.{Next}
 use Rattle.norec_core.specs.declared.answer.Next.TheVariants.{Step as Asks, Answer as Answers}
 use Rattle.norec_core.specs.Core.{Core}
-use Rattle.norec_core.specs.Moves.{IsResumed}
 use Rattle.norec_engine.specs.NextSteps.{next_in}
 use Rattle.shared_words.specs.declared.view.View.{View}
 use Rattle.shared_words.specs.Passes.{IsOver}
 use Rattle.shared_words.specs.Steps.{Loaded, StepTells}
 use Rattle.itm_runtime.specs.Drives.{Drives, HasStepped, IsDriven, LeadsOn}
-use Rattle.itm_runtime.specs.InCall.{InCall, IsDue}
+use Rattle.itm_runtime.specs.InCall.{IsDue}
 use Rattle.itm_runtime.specs.Served.{Served, Start}
 use Rattle.itm_runtime.specs.Ties.{Stands}
 use Rattle.itm_runtime.proofs.Steps.StepChains.{goes, starts}

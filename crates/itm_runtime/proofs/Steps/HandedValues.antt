@@ -57,7 +57,7 @@ module _ (s : Start) (v : View) (e : Core) (step : Step) (i : InCall s v e step)
     known = d.known;
     holds = d.holds;
     fresh = d.fresh;
-    before = λ x. before_on s v e step i n new joins settled w base_is share_is k mid h.log (sym (ap is_inside h.keeps.blocks) ∙ x);
+    before = λ x. before_on s v e step i n new joins settled w base_is share_is k mid h.log h.snapshot h.keeps.restarted (sym (ap is_inside h.keeps.blocks) ∙ x);
     empty = λ c. h.log ∙ (t.settled.closed (sym (ap is_inside h.keeps.blocks) ∙ c)).0;
     clocks = by_open (in_transaction e) refl;
     clock = λ x. (d.clocks x).clock;
@@ -68,12 +68,13 @@ module _ (s : Start) (v : View) (e : Core) (step : Step) (i : InCall s v e step)
     looked = d.looked;
     taken = d.taken;
     first = i.first;
+    read = i.read;
     shut = i.shut;
     settled = settled;
     asks = asks;
     idle = λ z. absurd (i.begun z);
     fixed = fixed_on s v e step i n new joins settled;
-    grows = grows_on s v e step i n new joins settled w base_is share_is k;
+    grows = λ o o' same. grows_on s v e step i n new joins settled w base_is share_is k o o' (same ∙ h.keeps.restarted);
     opens = opens_on s v e step i n new joins settled w base_is share_is k;
     steps = (let a = h.spent in let b = i.steps in let c = d.stepped in omega arith);
     spent = (let a = h.spent in let b = i.within in omega arith);

@@ -1,14 +1,15 @@
 -- A call comes, and the engine asks for a step.
-use Rattle.std.proofs.Common.{◌≡◌, ◌≢◌, inl, inr, ℕ, suc, ◌+◌, ◌/◌, ◌≤◌, Bool, true, List, ◌++◌, None, Some, refl, sym, ap, subst, ◌∙◌, arith}
+use Rattle.std.proofs.Common.{◌≡◌, ◌≢◌, inl, inr, ℕ, suc, ◌+◌, ◌/◌, ◌≤◌, Bool, true, List, [], ◌∷◌, length, ◌++◌, None, Some, refl, sym, ap, subst, ◌∙◌, arith}
 use Rattle.itm_types.specs.declared.call.Call.{Call}
 use Rattle.itm_types.specs.declared.step.Step.{Step}
 use Rattle.itm_types.specs.declared.row.LogRow.{LogRow}
 use Rattle.itm_types.specs.Memory.{Agrees, IsMemory}
+use Rattle.nest_frames.specs.Nest.{Frame, reads_of}
 use Rattle.norec_core.specs.Core.{Core, came, in_transaction, is_inside}
 use Rattle.norec_core.specs.Held.{ComesHeld}
 use Rattle.norec_core.specs.Keeps.{Keeps}
 use Rattle.norec_core.specs.Order.{asked, asked_from, stage_at, tries_at}
-use Rattle.norec_core.specs.Proceeds.{AsksFor, IsSettled, IsWithin, Proceeds, StaysOn, most}
+use Rattle.norec_core.specs.Proceeds.{AreRead, AsksFor, IsSettled, IsWithin, Proceeds, StaysOn, most}
 use Rattle.norec_core.specs.declared.answer.Next.{Next}
 use Rattle.norec_core.specs.declared.answer.Next.TheVariants.{Step as Asks}
 use Rattle.norec_core.proofs.Engines.KeptFields.{keeps_self, keeps_twice, keeps_asked, most_same}
@@ -68,6 +69,7 @@ module _ (s : Start) (w : View) (mid new : Core) (m : IsMid s w mid new) where
         looked = m.looked g.unfreed;
         taken = λ h i. m.taken (sym holds ∙ h) (sym mode ∙ i);
         first = m.first;
+        read = m.read;
         shut = m.shut;
         begun = λ z. is_some (m.idle z).0;
         tried = q.tried;
@@ -79,9 +81,15 @@ module _ (s : Start) (w : View) (mid new : Core) (m : IsMid s w mid new) where
         lawful = g.lawful;
         steps = (let a = m.steps in let b : new.spent ≡ mid.spent + 1 = ap (λ (c : Core). c.spent) same in omega arith);
         within = omega arith;
-        grew = λ o. not_over mode (m.grows (sym (ap is_inside kept.blocks) ∙ o) o);
+        grew = λ o. not_over mode (m.grows (sym (ap is_inside kept.blocks) ∙ o) o (ap (λ (c : Core). c.restarted) same));
         held_on = λ i. (let h = on i in record { leaves_it = h.comes.0; answers_it = h.comes.1; got = h.got });
       }
+
+-- what had been read at the innermost begin was read since
+reads_within : (n : ℕ) (bs : List Frame) → AreRead n bs → reads_of bs ≤ n
+reads_within n [] r = omega arith
+reads_within n (b ∷ []) r = omega (arith, r)
+reads_within n (b ∷ p ∷ bs) r = r.0
 
 -- a call comes
 module _ (v : View) (e new : Core) (call : Call) (again : Bool) (t : Stands v e) (stays : StaysOn e new) (settled : IsSettled new) (asks : new.waits ≡ asked new) (order : new.stage ≡ stage_at e call again) where
@@ -105,8 +113,9 @@ module _ (v : View) (e new : Core) (call : Call) (again : Bool) (t : Stands v e)
         fresh = λ m l st. tt;
         before = λ o. (let r = t.reads o in let count = r.count in record {
           seen = omega arith;
-          agrees = old o;
+          agrees = λ same. old o;
           late = omega arith;
+          from = omega arith;
           log = starts_self e.log;
         });
         empty = λ c. (t.settled.closed c).0;
@@ -119,12 +128,13 @@ module _ (v : View) (e new : Core) (call : Call) (again : Bool) (t : Stands v e)
         looked = λ f. inl refl;
         taken = λ h i. absurd (both e.holds h (t.mode ∙ i));
         first = λ o. (t.reads o).clock;
+        read = λ r. reads_within (length e.log) e.blocks (t.settled.reads r);
         shut = λ c. record { revocable = shut_revocable e t.settled c; writes = (t.settled.closed c).1 };
         settled = settled;
         asks = asks;
         idle = λ z. (asks ∙ ap (asked_from new) (order ∙ z), refl, stays.snapshot);
         fixed = λ x. stays.snapshot;
-        grows = λ o o'. record { snapshot = omega arith; log = inl (subst (λ (l : List LogRow). (rest : List LogRow) × (l ≡ e.log ++ rest)) (sym (stays.log o')) (starts_self e.log)); looks = inl (stays.log o'); agrees = old o };
+        grows = λ o o' same. record { snapshot = omega arith; log = inl (subst (λ (l : List LogRow). (rest : List LogRow) × (l ≡ e.log ++ rest)) (sym (stays.log o')) (starts_self e.log)); looks = inl (stays.log o'); agrees = old o };
         opens = λ o o'. absurd (both (in_transaction e) (stays.opens o') o);
         steps = omega arith;
         spent = omega arith;

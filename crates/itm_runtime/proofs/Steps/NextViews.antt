@@ -6,7 +6,7 @@ use Rattle.itm_types.specs.declared.step.Step.{Step}
 use Rattle.itm_types.specs.declared.step.Step.TheVariants.{Load, Cas}
 use Rattle.itm_types.specs.Memory.{Agrees}
 use Rattle.norec_core.specs.Core.{Core, in_transaction, is_inside}
-use Rattle.norec_core.specs.Proceeds.{GoesOver, IsLawful, Joins, Settles, IsSettled}
+use Rattle.norec_core.specs.Proceeds.{GoesBack, GoesOver, IsLawful, Joins, Settles, IsSettled}
 use Rattle.norec_core.proofs.Accesses.Logs.{agrees_less, snapshot_late, log_longer, still_logged}
 use Rattle.norec_core.proofs.Accesses.Logs as logs
 use Rattle.shared_words.specs.declared.view.View.{View}
@@ -35,7 +35,8 @@ module _ (s : Start) (v : View) (e : Core) (step : Step) (i : InCall s v e step)
       let holds : e.holds ≡ true = (t.settled.irrevocable mode).0 in
       elim (joins.snapshot (t.settled.holder holds).0) [
         | inl same ↦ same ∙ i.fixed x
-        | inr moved ↦ (let lawful : IsLawful e (Load 0) = subst (IsLawful e) (waits_same (Load 0) moved.0.load) i.lawful in absurd (both e.holds holds lawful.1))
+        | inr (inl moved) ↦ (let lawful : IsLawful e (Load 0) = subst (IsLawful e) (waits_same (Load 0) moved.0.load) i.lawful in absurd (both e.holds holds lawful.1))
+        | inr (inr back) ↦ (let lawful : IsLawful e (Load 0) = subst (IsLawful e) (waits_same (Load 0) back.settles.load) i.lawful in absurd (both e.holds holds lawful.1))
       ]
 
   -- what a clock load tells
@@ -82,14 +83,22 @@ module _ (s : Start) (v : View) (e : Core) (step : Step) (i : InCall s v e step)
     was_seen : in_transaction e ≡ true → new.snapshot / 2 ≤ length h
     was_seen o = elim (joins.snapshot o) [
       | inl same ↦ (let a = reach o in let b = longer in omega arith)
-      | inr moved ↦ (let a = k.at_load (waits_same (Load 0) moved.0.load) in let c = a.count in let m = moved.2 in omega arith)
+      | inr (inl moved) ↦ (let a = k.at_load (waits_same (Load 0) moved.0.load) in let c = a.count in let m = moved.2 in omega arith)
+      | inr (inr back) ↦ (let a = k.at_load (waits_same (Load 0) back.settles.load) in let c = a.count in let m = back.moved in omega arith)
     ]
 
     old : in_transaction e ≡ true → Agrees (memory (e.snapshot / 2)) e.log
     old o = subst (λ (m : List ℕ). Agrees m e.log) (sym (memory_stays v.base v.seen h (e.snapshot / 2) k.grows (reach o))) (t.logged o)
 
-    was_logged : in_transaction e ≡ true → Agrees (memory (new.snapshot / 2)) e.log
-    was_logged o = still_logged e new n joins t.settled memory old settled_fresh o
+    -- no block goes back where none is counted
+    none_back : {A : Type 0} → new.restarted ≡ e.restarted → GoesBack e n new → A
+    none_back same back = absurd (let more = back.counted in omega arith)
+
+    was_logged : in_transaction e ≡ true → new.restarted ≡ e.restarted → Agrees (memory (new.snapshot / 2)) e.log
+    was_logged o same = elim (still_logged e new n joins t.settled memory old settled_fresh o) [
+      | inl all ↦ all
+      | inr back ↦ none_back same back
+    ]
 
     log_now : in_transaction new ≡ true → Agrees (memory (new.snapshot / 2)) new.log
     log_now o = logs.log_now e new n joins t.settled memory old settled_fresh o
@@ -100,14 +109,15 @@ module _ (s : Start) (v : View) (e : Core) (step : Step) (i : InCall s v e step)
     over_then : GoesOver e new → GoesOver s.engine new
     over_then g = record { was = sym i.kept.irrevocable ∙ g.was; is = g.is; log = g.log }
 
-    log_grows : in_transaction e ≡ true → in_transaction new ≡ true → StartsWith new.log s.engine.log ⊎ GoesOver s.engine new
-    log_grows o o' = elim (log_longer e new n joins t.settled o') [
+    log_grows : in_transaction e ≡ true → in_transaction new ≡ true → new.restarted ≡ e.restarted → StartsWith new.log s.engine.log ⊎ GoesOver s.engine new
+    log_grows o o' same = elim (log_longer e new n joins t.settled o') [
       | inl more ↦ inl (starts_trans new.log e.log s.engine.log more (i.grew o).log)
-      | inr over ↦ inr (over_then over)
+      | inr (inl over) ↦ inr (over_then over)
+      | inr (inr back) ↦ none_back same back
     ]
 
-    log_looks : in_transaction e ≡ true → in_transaction new ≡ true → (new.log ≡ s.engine.log) ⊎ (s.view.looks < looks) ⊎ GoesOver s.engine new
-    log_looks o o' =
+    log_looks : in_transaction e ≡ true → in_transaction new ≡ true → new.restarted ≡ e.restarted → (new.log ≡ s.engine.log) ⊎ (s.view.looks < looks) ⊎ GoesOver s.engine new
+    log_looks o o' unmoved =
         let g = i.grew o in
         let on = k.on in
         let went = i.went.looks in
@@ -117,7 +127,8 @@ module _ (s : Start) (v : View) (e : Core) (step : Step) (i : InCall s v e step)
             | inr up ↦ inr (inl (let r : s.view.looks < looks = omega arith in r))
           ]
           | inr (inl more) ↦ inr (inl (let a = k.up_load (waits_same (Load 0) more.0.load) in let r : s.view.looks < looks = omega arith in r))
-          | inr (inr over) ↦ inr (inr (over_then over))
+          | inr (inr (inl over)) ↦ inr (inr (over_then over))
+          | inr (inr (inr back)) ↦ none_back unmoved back
         ]
 
     up_now : in_transaction e ≡ false → in_transaction new ≡ true → s.view.looks < looks
@@ -139,32 +150,33 @@ module _ (s : Start) (v : View) (e : Core) (step : Step) (i : InCall s v e step)
     pub logged_on : in_transaction new ≡ true → Agrees (memory_of w (new.snapshot / 2)) new.log
     logged_on o = subst (λ (b : List ℕ). Agrees (memory_at b w.seen (new.snapshot / 2)) new.log) (sym base_is) (log_now w.seen w.looks k o)
 
-    agrees_on : in_transaction e ≡ true → Agrees (memory_of w (new.snapshot / 2)) e.log
-    agrees_on o = subst (λ (b : List ℕ). Agrees (memory_at b w.seen (new.snapshot / 2)) e.log) (sym base_is) (was_logged w.seen w.looks k o)
+    agrees_on : in_transaction e ≡ true → new.restarted ≡ e.restarted → Agrees (memory_of w (new.snapshot / 2)) e.log
+    agrees_on o same = subst (λ (b : List ℕ). Agrees (memory_at b w.seen (new.snapshot / 2)) e.log) (sym base_is) (was_logged w.seen w.looks k o same)
 
-    pub grows_on : in_transaction s.engine ≡ true → in_transaction new ≡ true → Grows s w new
-    grows_on o o' =
+    pub grows_on : in_transaction s.engine ≡ true → in_transaction new ≡ true → new.restarted ≡ e.restarted → Grows s w new
+    grows_on o o' same =
         let eo = open_then w.seen w.looks k o in
         let grew = i.grew eo in
         let a = grew.snapshot in
         let b = snapshot_late e new n joins t.settled eo in
         record {
           snapshot = omega arith;
-          log = log_grows w.seen w.looks k eo o';
-          looks = log_looks w.seen w.looks k eo o';
-          agrees = agrees_less (memory_of w (new.snapshot / 2)) s.engine.log grew.log.0 (subst (Agrees (memory_of w (new.snapshot / 2))) grew.log.1 (agrees_on eo));
+          log = log_grows w.seen w.looks k eo o' same;
+          looks = log_looks w.seen w.looks k eo o' same;
+          agrees = agrees_less (memory_of w (new.snapshot / 2)) s.engine.log grew.log.0 (subst (Agrees (memory_of w (new.snapshot / 2))) grew.log.1 (agrees_on eo same));
         }
 
     pub opens_on : in_transaction s.engine ≡ false → in_transaction new ≡ true → s.view.looks < w.looks
     opens_on o o' = up_now w.seen w.looks k (ap is_inside i.kept.blocks ∙ o) o'
 
-    pub before_on : (mid : Core) → mid.log ≡ e.log → in_transaction e ≡ true → Before s w mid new
-    before_on mid log_is o =
+    pub before_on : (mid : Core) → mid.log ≡ e.log → mid.snapshot ≡ e.snapshot → mid.restarted ≡ e.restarted → in_transaction e ≡ true → Before s w mid new
+    before_on mid log_is snap_is count_is o =
         let a = (i.grew o).snapshot in
         let b = snapshot_late e new n joins t.settled o in
         record {
           seen = was_seen w.seen w.looks k o;
-          agrees = subst (Agrees (memory_of w (new.snapshot / 2))) (sym log_is) (agrees_on o);
+          agrees = λ same. subst (Agrees (memory_of w (new.snapshot / 2))) (sym log_is) (agrees_on o (same ∙ count_is));
           late = omega arith;
+          from = omega arith;
           log = subst (λ (l : List LogRow). StartsWith l s.engine.log) (sym log_is) (i.grew o).log;
         }

@@ -9,7 +9,7 @@ use Rattle.itm_types.specs.declared.step.Step.TheVariants.{Load, Store, Cas}
 use Rattle.norec_core.specs.declared.answer.Next.{Next}
 use Rattle.norec_core.specs.declared.answer.Next.TheVariants.{Step as Asks, Answer as Answers}
 use Rattle.norec_core.specs.declared.answer.Answer.{Answer}
-use Rattle.norec_core.specs.declared.answer.Answer.TheVariants.{Reply, Committed, Conflict, Busy, Full}
+use Rattle.norec_core.specs.declared.answer.Answer.TheVariants.{Reply, Committed, Conflict, Restarted, Busy, Full}
 use Rattle.norec_core.specs.Phases.{Phase}
 use Rattle.norec_core.specs.Phases.{Idle}
 use Rattle.norec_core.specs.Endings.{EndsSo, IsEnding, ending_after, ending_from}
@@ -129,6 +129,7 @@ module _ (cells : ℕ) (v w : View) (ov : IsOver cells v) (ow : IsOver cells w) 
           (tried_on s i).loads,
         ),
       )
+      by_answer s i m looked (Restarted clock word) is = tt
       by_answer s i m looked (Busy clock) is = (looked, patient s i (busy_last e n clock e.stage (ended_so (Busy clock) is) (rested s i (Busy clock) is)))
       by_answer s i m looked (Full at) is = tt
 

@@ -11,18 +11,19 @@ use Rattle.itm_types.specs.declared.step.Step.TheVariants.{Cas, Store}
 use Rattle.itm_types.specs.declared.step.Step.TheVariants as steps
 use Rattle.nest_frames.specs.Nest.{Frame, stays_revocable}
 use Rattle.norec_core.specs.declared.answer.Answer.{Answer}
-use Rattle.norec_core.specs.declared.answer.Answer.TheVariants.{Conflict, Busy, Full}
+use Rattle.norec_core.specs.declared.answer.Answer.TheVariants.{Conflict, Restarted, Busy, Full}
 use Rattle.norec_core.specs.Aims.{Aim}
 use Rattle.norec_core.specs.Aims as aims
 use Rattle.norec_core.specs.declared.call_parts.Opening.{Opening}
 use Rattle.norec_core.specs.Phases.{Phase}
-use Rattle.norec_core.specs.Phases.{Idle, Begin, Take, Confirm, RoundStart, RoundRow, RoundEnd, Exchange, Free}
+use Rattle.norec_core.specs.Phases.{Idle, Begin, Take, Confirm, RoundStart, RoundRow, RoundEnd, RoundBack, Exchange, Free}
 use Rattle.norec_core.specs.declared.call_parts.Taking.TheVariants as takings
 use Rattle.norec_core.specs.Copies.{copy_refusal}
 use Rattle.norec_core.specs.Core.{Core, in_transaction, is_inside, is_outermost, may_go}
 use Rattle.norec_core.specs.Endings.{IsEnding, aimed_ending, ending_from}
 use Rattle.norec_core.specs.Order.{asked, asked_from, again_stage, begin_stage, commit_stage, copying_stage, fill_from, going_stage, place_from, placed_in, read_stage, row_stage, stage_at, stage_from, tries_after, tries_at, try_stage, value_writing}
 use Rattle.norec_core.specs.Order.{value_reading}
+use Rattle.norec_core.specs.Rows.{row_at}
 use Rattle.norec_core.specs.Proceeds.{IsLawful, TakesFor}
 use Rattle.shared_words.specs.declared.view.View.{View}
 use Rattle.shared_words.specs.Steps.{StepTells}
@@ -152,6 +153,10 @@ module _ (c : Core) (seen clock : ℕ) where
   by_end true (aims.Take taking) x g is = absurd (cc)
   by_end false aim x g is = none_left c.tries c.patience (RoundStart aim) (not_round aim) is
 
+  by_back : (b : Bool) (aim : Aim) (word : ℕ) → IsEnding (if b then Some (Restarted seen word) else Some (Conflict seen None)) Lost → (if b then Idle else try_stage c.tries c.patience aim) ≡ Idle → c.patience ≤ c.tries
+  by_back true aim word g is = absurd (cc)
+  by_back false aim word g is = none_left c.tries c.patience (RoundStart aim) (not_round aim) is
+
   pub lost_last : (p : Phase) → IsEnding (ending_from c p seen) Lost → stage_from c p seen ≡ Idle → c.patience ≤ c.tries
   lost_last (Begin b) g is = absurd (not_at_begin (seen % 2 == 0) b.props.goes_irrevocable g)
   lost_last (Take b) g is = by_same (seen == c.snapshot) _ (Begin b) (not_begin b) g is
@@ -159,6 +164,7 @@ module _ (c : Core) (seen clock : ℕ) where
   lost_last (RoundStart aim) g is = by_even (seen % 2 == 0) aim is
   lost_last (RoundRow aim row) g is = absurd (cc)
   lost_last (RoundEnd aim) g is = by_end (seen == c.clock) aim _ g is
+  lost_last (RoundBack aim row) g is = by_back (seen == c.clock) aim (row_at c.log row).word g is
   lost_last (Exchange taking) g is = by_same (seen == c.snapshot) _ (RoundStart (aims.Take taking)) (not_round (aims.Take taking)) g is
   lost_last Free g is = absurd (cc)
   lost_last p g is = absurd g
@@ -178,6 +184,10 @@ module _ (c : Core) (seen clock : ℕ) where
   not_busy_end true (aims.Take taking) g = absurd (cc)
   not_busy_end false aim g = absurd (cc)
 
+  not_busy_back : (b : Bool) (word : ℕ) → IsEnding (if b then Some (Restarted seen word) else Some (Conflict seen None)) (Busy clock) → ⊥
+  not_busy_back true word g = absurd (cc)
+  not_busy_back false word g = absurd (cc)
+
   pub busy_last : (p : Phase) → IsEnding (ending_from c p seen) (Busy clock) → stage_from c p seen ≡ Idle → c.patience ≤ c.tries
   busy_last (Begin b) g is = busy_begin (seen % 2 == 0) b.props.goes_irrevocable b _ g is
   busy_last (Take b) g is = absurd (not_busy (seen == c.snapshot) g)
@@ -185,6 +195,7 @@ module _ (c : Core) (seen clock : ℕ) where
   busy_last (RoundStart aim) g is = absurd (cc)
   busy_last (RoundRow aim row) g is = absurd (cc)
   busy_last (RoundEnd aim) g is = absurd (not_busy_end (seen == c.clock) aim g)
+  busy_last (RoundBack aim row) g is = absurd (not_busy_back (seen == c.clock) (row_at c.log row).word g)
   busy_last (Exchange taking) g is = absurd (not_busy (seen == c.snapshot) g)
   busy_last Free g is = absurd (cc)
   busy_last p g is = absurd g

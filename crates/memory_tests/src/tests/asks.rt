@@ -39,16 +39,8 @@ pub(super) fn bytes(bytes: &[u8]) -> Next {
     Next::Answer(Answer::Reply(Reply::Bytes(value)))
 }
 
-/// An arena of 4 bytes, for which memory is found at the second time at the latest.
-fn arena(alloc: Global) -> Result<Arena, AllocError> {
-    match Arena::new(alloc, 4) {
-        Ok(arena) => Ok(arena),
-        Err(_) => Arena::new(alloc, 4),
-    }
-}
-
-/// An engine over so many words with this arena.
-fn over(alloc: Global, words: u32, arena: Arena) -> Result<Engine, AllocError>
+/// An engine over so many words, with an arena of 4 bytes.
+fn over(alloc: Global, words: u32) -> Result<Engine, AllocError>
     requires { (0 < words) × (words ≤ 8) }
     ensures { IfOk result (λ engine. engine.waits ≡ None) }
 {
@@ -57,17 +49,20 @@ fn over(alloc: Global, words: u32, arena: Arena) -> Result<Engine, AllocError>
         retries: 0,
         max_commits: 4,
         depth: USUAL_DEPTH,
+        restarts: 0,
     };
-    Engine::new(alloc, words, arena, limits)
+    Engine::new(alloc, words, Arena::new(alloc, 4)?, limits)
 }
 
-/// An engine over so many words, with an arena of 4 bytes.
+/// The same, for which memory is found at the second time at the latest.
 pub(super) fn engine(alloc: Global, words: u32) -> Result<Engine, AllocError>
     requires { (0 < words) × (words ≤ 8) }
     ensures { IfOk result (λ engine. engine.waits ≡ None) }
 {
-    let arena = arena(alloc)?;
-    over(alloc, words, arena)
+    match over(alloc, words) {
+        Ok(engine) => Ok(engine),
+        Err(_) => over(alloc, words),
+    }
 }
 
 /// What an engine shows of what it did.

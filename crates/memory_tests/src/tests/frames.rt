@@ -9,7 +9,7 @@ use undo_log::Arena;
 
 fn enter(rt: &impl Abort, frames: &mut Frames) {
     assert!(rt; frames.depth() < frames.deepest());
-    frames.enter(Props::default());
+    frames.enter(Props::default(), 0);
 }
 
 /// Writes the first byte of word 1.
@@ -114,6 +114,14 @@ fn arena(alloc: Global) -> Result<Arena, AllocError> {
     }
 }
 
+/// No open blocks over such an arena, likewise.
+fn frames(alloc: Global) -> Result<Frames, AllocError> {
+    match Frames::new(alloc, 2, USUAL_DEPTH) {
+        Ok(frames) => Ok(frames),
+        Err(_) => Frames::new(alloc, 2, USUAL_DEPTH),
+    }
+}
+
 /// Three blocks are filled, each within the one before; whether memory was found for all.
 fn nest(rt: &impl Abort, frames: &mut Frames, arena: &mut Arena) -> Result<bool, AllocError> {
     let mut found = true;
@@ -167,7 +175,7 @@ fn fill_and_cancel(
 
 pub(super) fn expect_blocks(rt: &impl Abort, alloc: Global) -> Result<bool, AllocError> {
     let mut arena = arena(alloc)?;
-    let mut frames = Frames::new(alloc, 2, USUAL_DEPTH)?;
+    let mut frames = frames(alloc)?;
     fill_and_cancel(rt, &mut frames, &mut arena)
 }
 

@@ -30,7 +30,7 @@ impl<'p> Roomless<'p> {
 }
 
 impl<'p> Player for Roomless<'p> {
-    ghost use Rattle.script_vm.specs.Threads.{answered, restarted, calls_left, depth_of};
+    ghost use Rattle.script_vm.specs.Threads.{answered, restarted, at_block, calls_left, depth_of};
     ghost use Rattle.memory_tests.specs.Roomless.{next_call, roomless_laws};
 
     ghost next_call = { next_call };
@@ -38,6 +38,8 @@ impl<'p> Player for Roomless<'p> {
     ghost answered = { answered };
 
     ghost restarted = { restarted };
+
+    ghost at_block = { at_block };
 
     ghost calls_left = { calls_left };
 
@@ -57,6 +59,10 @@ impl<'p> Player for Roomless<'p> {
 
     fn restart(&mut self) {
         self.script.restart();
+    }
+
+    fn restart_block(&mut self) {
+        self.script.restart_block();
     }
 
     fn copy(&self) -> Result<Self, AllocError> {

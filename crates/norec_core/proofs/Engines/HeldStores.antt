@@ -51,9 +51,15 @@ module _ (e new : Core) (word value seen : ℕ) (writes : new.writes ≡ e.write
   no_store true false aim row q = cc
   no_store false c aim row q = cc
 
+  no_round : (b c d : Bool) (aim : Aim) (row next : ℕ) → asked_from new (if b then (if c then at.RoundRow aim next else at.RoundEnd aim) else (if d then at.RoundBack aim row else at.Idle)) ≡ Some (Store (suc word) value) → ⊥
+  no_round true true d aim row next q = cc
+  no_round true false d aim row next q = cc
+  no_round false c true aim row next q = cc
+  no_round false c false aim row next q = cc
+
   got_same : (stage : Phase) (loaded : ℕ) → asked_from e stage ≡ Some (Load (suc loaded)) → asked_from new (stage_from e stage seen) ≡ Some (Store (suc word) value) → (got_in stage seen ≡ None) ⊎ (loaded ≡ word)
   got_same (at.Load r) loaded q w = inl refl
-  got_same (at.RoundRow aim row) loaded q w = absurd (no_store _ _ aim (row + 1) w)
+  got_same (at.RoundRow aim row) loaded q w = absurd (no_round _ _ _ aim row (row + 1) w)
   got_same (at.BackLoad taking row) loaded q w = inr (let x : (write_at new.writes row).word ≡ word = cc in let y : (write_at e.writes row).word ≡ loaded = cc in sym y ∙ (ap (λ rows. (write_at rows row).word) (sym writes) ∙ x))
   got_same (at.Fetch p) loaded q w = inr (cc)
   got_same stage loaded q w = absurd (cc)

@@ -60,7 +60,7 @@ module _ (depth : ℕ) (rows : List Row) (blocks : List Frame) (arena : List ℕ
       (λ i. or_else (or_else (unless (may i) NoIrrevocable) (unless (deep i) TooDeep)) None)
 
   pub begin_enters : (props : Props) (room : ℕ) → is_inside blocks ≡ true → props.goes_irrevocable ≡ true → may_go blocks props ≡ true → length blocks < depth
-      → (state_kept (map made_irrevocable (begun props rows actions ∷ blocks)) arena (record actions { undos = [] }) (overlay m rows) ≡ after depth (state_over rows blocks arena actions m) (Begin props room))
+      → (state_kept (map made_irrevocable (begun props rows actions 0 ∷ blocks)) arena (record actions { undos = [] }) (overlay m rows) ≡ after depth (state_over rows blocks arena actions m) (Begin props room))
       × (Code 5 ≡ reply depth (state_over rows blocks arena actions m) (Begin props room))
   begin_enters props room o goes g few =
       let s : State = state_over rows blocks arena actions m in

@@ -1,5 +1,5 @@
 -- What no step changes in an engine, and what follows from that.
-use Rattle.std.proofs.Common.{◌≡◌, ℕ, zero, suc, ◌+◌, ◌*◌, ◌==◌, Bool, true, false, List, [], ◌∷◌, ◌++◌, length, if◌then◌else◌, Option, None, Some, refl, ap, ◌∙◌}
+use Rattle.std.proofs.Common.{◌≡◌, ℕ, zero, suc, ◌+◌, ◌*◌, ◌==◌, ◌&&◌, not, Bool, true, false, List, [], ◌∷◌, ◌++◌, length, if◌then◌else◌, Option, None, Some, refl, ap, ◌∙◌}
 use Rattle.itm_types.specs.declared.call.Call.{Call}
 use Rattle.itm_types.specs.declared.call.Call.TheVariants as calls
 use Rattle.itm_types.specs.declared.row.LogRow.{LogRow}
@@ -9,20 +9,31 @@ use Rattle.itm_types.specs.Access.{size_of}
 use Rattle.word_pieces.specs.Pieces.{count_of}
 use Rattle.norec_core.specs.Phases.{Phase}
 use Rattle.norec_core.specs.Phases as at
-use Rattle.norec_core.specs.Core.{Core, handed_to, is_inside, word_loaded}
+use Rattle.norec_core.specs.Core.{Core, begins_anew, came, handed_to, in_transaction, is_inside, may_go, word_loaded}
 use Rattle.norec_core.specs.OwnAccesses.{gathered_in, got_in, saved_in}
 use Rattle.norec_core.specs.Proceeds.{AsksFor, most}
 use Rattle.norec_core.specs.Copies.{source_words, words_read, words_written}
 use Rattle.norec_core.specs.Keeps.{Keeps}
 
+-- within a transaction no outermost block begins
+pub anew_within : (c : Core) (call : Call) → in_transaction c ≡ true → begins_anew c call ≡ false
+anew_within c (calls.Begin props room) o = ap (λ (b : Bool). not b && may_go c.blocks props) o
+anew_within c call o = refl
+
+-- so the count of restarts stays as a call comes
+pub came_restarted : (c : Core) (call : Call) (again : Bool) → in_transaction c ≡ true → (came c call again).restarted ≡ c.restarted
+came_restarted c call again o = ap (λ (b : Bool). if b then 0 else c.restarted) (anew_within c call o)
+
 pub keeps_self : (e : Core) → Keeps e e
-keeps_self e = record { words = refl; patience = refl; max_commits = refl; depth = refl; arena = λ r. refl; irrevocable = refl; room = refl; writes = refl; blocks = refl; actions = refl; doing = refl; again = refl; entry = refl }
+keeps_self e = record { words = refl; patience = refl; max_commits = refl; restarts = refl; restarted = refl; depth = refl; arena = λ r. refl; irrevocable = refl; room = refl; writes = refl; blocks = refl; actions = refl; doing = refl; again = refl; entry = refl }
 
 pub keeps_twice : (a b c : Core) → Keeps a b → Keeps b c → Keeps a c
 keeps_twice a b c k l = record {
   words = l.words ∙ k.words;
   patience = l.patience ∙ k.patience;
   max_commits = l.max_commits ∙ k.max_commits;
+  restarts = l.restarts ∙ k.restarts;
+  restarted = l.restarted ∙ k.restarted;
   depth = l.depth ∙ k.depth;
   arena = λ r. l.arena (k.irrevocable ∙ r) ∙ k.arena r;
   irrevocable = l.irrevocable ∙ k.irrevocable;
@@ -46,7 +57,7 @@ pub record IsHanded (e mid : Core) : Type 0 where
 handed_with : (e : Core) (waits : Option Step) (stage : Phase) (tries clock done : ℕ) (fresh : List LogRow) (holds freed : Bool) (got : Option ℕ) (gathered arena : List ℕ) → (e.irrevocable ≡ false → arena ≡ e.arena)
     → IsHanded e (record e { waits = waits; stage = stage; tries = tries; clock = clock; done = done; fresh = fresh; holds = holds; freed = freed; got = got; gathered = gathered; arena = arena })
 handed_with e waits stage tries clock done fresh holds freed got gathered arena same = record {
-  keeps = record { words = refl; patience = refl; max_commits = refl; depth = refl; arena = same; irrevocable = refl; room = refl; writes = refl; blocks = refl; actions = refl; doing = refl; again = refl; entry = refl };
+  keeps = record { words = refl; patience = refl; max_commits = refl; restarts = refl; restarted = refl; depth = refl; arena = same; irrevocable = refl; room = refl; writes = refl; blocks = refl; actions = refl; doing = refl; again = refl; entry = refl };
   log = refl;
   snapshot = refl;
   spent = refl;
@@ -72,6 +83,8 @@ pub keeps_asked : (mid new : Core) (step : Step) → AsksFor mid step new → Ke
 keeps_asked mid new step g = let same = g.stays in record {
   words = ap (λ (c : Core). c.words) same;
   patience = ap (λ (c : Core). c.patience) same;
+  restarts = ap (λ (c : Core). c.restarts) same;
+  restarted = ap (λ (c : Core). c.restarted) same;
   max_commits = ap (λ (c : Core). c.max_commits) same;
   depth = ap (λ (c : Core). c.depth) same;
   arena = λ r. ap (λ (c : Core). c.arena) same;

@@ -21,7 +21,7 @@ old place byte = record { place = place; bytes = byte ∷ [] }
 
 -- a block that began on these rows, and in which these bytes were logged
 abbrev block : List Row → List Old → Frame
-block rows olds = record { props = no_props; rows = rows; log = olds; commits = 0; undos = 0 }
+block rows olds = record { props = no_props; rows = rows; log = olds; commits = 0; undos = 0; reads = 0 }
 
 -- in the outer block a byte of word 1 was written and byte 0 of the arena logged; in the inner one word 1 and word 2 were written, and the bytes 0 and 1 logged
 abbrev pub outer : Frame
@@ -48,7 +48,7 @@ log_inside = refl
 -- ## What is left
 
 -- the new block goes back to the rows of this moment
-begin_opens : blocks_after nested begin (Code 5) ≡ block (all_of 1 9 ∷ byte_of 2 0xcd ∷ []) [] ∷ inner ∷ outer ∷ []
+begin_opens : blocks_after nested begin (Code 5) ≡ record (block (all_of 1 9 ∷ byte_of 2 0xcd ∷ []) []) { reads = 1 } ∷ inner ∷ outer ∷ []
 begin_opens = refl
 
 -- the outer block has the inner one's logs, and goes back to the rows at its own begin

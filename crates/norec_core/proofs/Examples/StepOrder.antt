@@ -71,10 +71,10 @@ no_props = record { no_abort = false; no_irrevocable = false; goes_irrevocable =
 
 -- over four words, with room for four commits: a transaction is open at this snapshot, with these rows logged and these written
 abbrev pub inside : ℕ → ℕ → List LogRow → List Row → Core
-inside patience snapshot log writes = record (opening 4 [] patience 4 16) { blocks = begun no_props [] no_actions ∷ []; snapshot = snapshot; clock = snapshot; log = log; writes = writes }
+inside patience snapshot log writes = record (opening 4 [] patience 4 16 0) { blocks = begun no_props [] no_actions 0 ∷ []; snapshot = snapshot; clock = snapshot; log = log; writes = writes }
 
 abbrev pub outside : ℕ → Core
-outside patience = opening 4 [] patience 4 16
+outside patience = opening 4 [] patience 4 16 0
 
 abbrev pub logged : ℕ → ℕ → LogRow
 logged word value = record { word = word; value = value }

@@ -60,7 +60,7 @@ pub all_run : (blocks : List Frame) (a : Actions) → RunsOn 0 a (actions_back b
 all_run [] a = still 0 a
 all_run (b ∷ bs) a = both 0 a (cut_back b.commits b.undos a) (actions_back bs (cut_back b.commits b.undos a)) (cut_runs b.commits b.undos a) (all_run bs (cut_back b.commits b.undos a))
 
-cancel_runs : (blocks : List Frame) (a : Actions) → RunsOn 0 a (actions_cancelled blocks a)
+pub cancel_runs : (blocks : List Frame) (a : Actions) → RunsOn 0 a (actions_cancelled blocks a)
 cancel_runs [] a = still 0 a
 cancel_runs (b ∷ bs) a = cut_runs b.commits b.undos a
 

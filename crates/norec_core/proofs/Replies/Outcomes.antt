@@ -5,12 +5,12 @@ use Rattle.itm_types.specs.declared.call.Reply.{Reply as Replied}
 use Rattle.itm_types.specs.declared.step.Step.{Step}
 use Rattle.itm_types.specs.Memory.{IsMemory, Agrees}
 use Rattle.norec_core.specs.declared.answer.Answer.{Answer}
-use Rattle.norec_core.specs.declared.answer.Answer.TheVariants.{Reply, Committed, Conflict, Busy, Full}
+use Rattle.norec_core.specs.declared.answer.Answer.TheVariants.{Reply, Committed, Conflict, Restarted, Busy, Full}
 use Rattle.norec_core.specs.declared.answer.Next.{Next}
 use Rattle.norec_core.specs.declared.answer.Next.TheVariants.{Step as Asks, Answer as Answers}
 use Rattle.norec_core.specs.Phases.{Phase}
 use Rattle.norec_core.specs.Phases as at
-use Rattle.norec_core.specs.Core.{Core, came, handed, ended, finished, rolled_back, is_inside, in_transaction}
+use Rattle.norec_core.specs.Core.{Core, came, handed, ended, finished, renewed, rolled_back, is_inside, in_transaction}
 use Rattle.norec_core.specs.Order.{asked, asked_in, asked_from, tries_at, tries_after}
 use Rattle.norec_core.specs.Endings.{EndsSo, IsEnding, ending_at, ending_after}
 use Rattle.norec_core.specs.Proceeds.{Proceeds, AsksFor, ConflictsIn, Ends, RepliesBy, RepliesTo, IsSettled}
@@ -146,6 +146,7 @@ module _ (mid new new' : Core) (end : Option Answer)
   ends_both (Reply r) g g' = (replies_both mid.doing r r g g').1
   ends_both (Committed at wrote) g g' = g.stays ∙ ((λ i. record (finished mid) { stage = stage i; tries = tries i }) ∙ sym g'.stays)
   ends_both (Conflict clock word) g g' = conflicts_both clock word (in_transaction mid) g g'
+  ends_both (Restarted clock word) g g' = g.stays ∙ ((λ i. record (renewed mid clock) { stage = stage i; tries = tries i }) ∙ sym g'.stays)
   ends_both (Busy clock) g g' = g.stays ∙ ((λ i. record (ended mid) { stage = stage i; tries = tries i }) ∙ sym g'.stays)
   ends_both (Full at) g g' = g.stays ∙ ((λ i. record (rolled_back mid) { stage = stage i; tries = tries i; snapshot = snapshot i }) ∙ sym g'.stays)
 

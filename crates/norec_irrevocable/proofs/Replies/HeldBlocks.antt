@@ -15,6 +15,7 @@ use Rattle.norec_core.specs.Proceeds.{RepliesHeld}
 use Rattle.norec_data.specs.declared.data.Data.{Data}
 use Rattle.norec_data.specs.declared.end.CallEnd.TheVariants as ends
 use Rattle.norec_data.specs.declared.turn.Turn.TheVariants.{EndIrrevocable}
+use Rattle.norec_core.proofs.Engines.KeptFields.{came_restarted}
 use Rattle.norec_data.specs.View.{core_held, in_block}
 use Rattle.norec_irrevocable.specs.Outcomes.{kept, ComesBy, HeldTurns}
 use Rattle.norec_irrevocable.proofs.Replies.KeptStates.{begin_kept, mode_kept, open_kept}
@@ -26,7 +27,7 @@ both_same false x = refl
 
 -- what a block that begins leaves of the fields
 pub record HasEntered (d : Data) (props : Props) (new : Data) : Type 0 where
-  pub blocks : new.frames.blocks ≡ begun props d.frames.writes.rows d.frames.actions ∷ d.frames.blocks
+  pub blocks : new.frames.blocks ≡ begun props d.frames.writes.rows d.frames.actions (length d.log.rows) ∷ d.frames.blocks
   pub rows : new.frames.writes.rows ≡ d.frames.writes.rows
   pub actions : new.frames.actions ≡ d.frames.actions
   pub room : new.frames.room ≡ d.frames.room
@@ -56,6 +57,7 @@ module _ (d new : Data) (props : Props) (room : ℕ) (o : in_block d ≡ true) (
           depth = has.depth i;
           actions = (has.actions ∙ ap (λ (b : Bool). if b then d.frames.actions else record d.frames.actions { ran = [] }) (sym o)) i;
           room = (has.room ∙ sym (room_kept d (Begin props room))) i;
+          restarted = sym (came_restarted (core_held d) (Begin props room) false o) i;
         });
     still = λ is. ap is_inside has.blocks;
   }

@@ -13,6 +13,7 @@ use Rattle.norec_core.specs.Core.{Core, came, irrevocable_room, may_go}
 use Rattle.nest_frames.specs.Nest.{stays_revocable}
 use Rattle.norec_core.specs.Proceeds.{RepliesHeld, reply_held}
 use Rattle.norec_core.specs.Effects.{arena_held, room_left}
+use Rattle.norec_core.proofs.Engines.KeptFields.{anew_within}
 use Rattle.norec_core.proofs.Replies.RefusedCalls.{actions_kept, blocks_kept}
 use Rattle.norec_data.specs.declared.data.Data.{Data}
 use Rattle.norec_data.specs.View.{core_held, in_block}
@@ -66,8 +67,8 @@ module _ (d : Data) (call : Call) (why : Refusal) (refused : (m : List ℕ) → 
   abbrev come : Data
   come = record d { spent = 0; entry = length d.log.rows }
 
-  pub denied : RepliesHeld (came (core_held d) call false) call (Refused why) (core_held come)
-  denied =
+  pub denied : in_block d ≡ true → RepliesHeld (came (core_held d) call false) call (Refused why) (core_held come)
+  denied o =
       let mid : Core = came (core_held d) call false in
       let room : d.frames.room ≡ room_left mid call (Refused why) = sym (room_kept d call) ∙ sym (room_unspent mid call why) in
       record {
@@ -80,8 +81,9 @@ module _ (d : Data) (call : Call) (why : Refusal) (refused : (m : List ℕ) → 
           actions = sym (actions_kept mid call why) i;
           arena = sym (arena_left mid call why) i;
           room = room i;
+          restarted = if (sym (anew_within (core_held d) call o) i) then 0 else d.restarted;
         });
-        still = λ o. o;
+        still = λ is. is;
       }
 
   pub denied_comes : (m : List ℕ) → IsMemory d.words m → (kept d m ≡ after d.frames.depth (kept d m) call) × (Refused why ≡ reply d.frames.depth (kept d m) call)

@@ -57,7 +57,7 @@ module _ (d : Data) (call : Call) (why : Refusal) (h : IsHeld d) (refused : (m :
   denied_turn : HeldCallTurns d call (EndIrrevocable ends.Refused) (record come { why = why })
   denied_turn = record {
     sound = record { bounds = h.bounds; is_open = h.is_open; log = h.log; writes = h.writes; settled = h.settled; free = h.free; tries = h.tries };
-    proceeds = denied d call why refused;
+    proceeds = denied d call why refused h.is_open;
     comes = denied_comes d call why refused;
     stays = record { opens = λ o. o; log = λ o. refl; snapshot = refl };
     order = sym at;

@@ -1,6 +1,7 @@
 -- Begins of blocks: refused ones, and those within a transaction.
-use Rattle.std.proofs.Common.{◌≡◌, ℕ, ◌<◌, ◌&&◌, ◌||◌, not, nat_lt, Bool, true, false, List, ◌∷◌, length, Option, None, Some, unwrap_or, if◌then◌else◌, refl, sym, ap, subst, ◌∙◌}
-use Rattle.std.proofs.lemmas.Bool.{cond-true, cond-false, lt-ltb}
+use Rattle.std.proofs.Common.{◌≡◌, ℕ, ◌<◌, ◌&&◌, ◌||◌, not, nat_lt, Bool, true, false, List, [], ◌∷◌, length, Option, None, Some, unwrap_or, if◌then◌else◌, arith, inl, inr, refl, sym, ap, subst, ◌∙◌}
+use Rattle.std.proofs.lemmas.Bool.{cases_Bool, cond-true, cond-false, lt-ltb}
+use Rattle.std.proofs.Math.Bool.{and-false, and-true}
 use Rattle.itm_types.specs.declared.call.Call.TheVariants.{Begin}
 use Rattle.itm_types.specs.declared.call.Props.{Props}
 use Rattle.itm_types.specs.declared.call.Refusal.{Refusal}
@@ -16,7 +17,7 @@ use Rattle.norec_core.specs.Aims as aims
 use Rattle.norec_core.specs.Phases as at
 use Rattle.norec_core.specs.declared.call_parts.Taking.TheVariants as takings
 use Rattle.norec_core.specs.Accesses.{begin_refusal}
-use Rattle.norec_core.specs.Core.{came, may_go}
+use Rattle.norec_core.specs.Core.{begins_anew, came, is_inside, may_go}
 use Rattle.norec_core.specs.Endings.{IsEnding, going_ending, ending_at}
 use Rattle.norec_core.specs.Order.{going_stage, stage_at}
 use Rattle.norec_core.specs.Proceeds.{Replies}
@@ -25,8 +26,15 @@ use Rattle.norec_core.specs.Stands.{state_over}
 use Rattle.norec_core.proofs.Engines.Blocks.{none_inside}
 use Rattle.norec_core.proofs.Engines.Machines.{open_is, refuses}
 use Rattle.norec_data.specs.declared.data.Data.{Data}
+use Rattle.norec_core.specs.declared.call_parts.Opening.{Opening}
+use Rattle.norec_data.specs.declared.pending.Pending.TheVariants as waits
+use Rattle.norec_data.specs.declared.turn.Turn.TheVariants.{Wait}
+use Rattle.norec_data.specs.Turns.{Turns}
 use Rattle.norec_data.specs.View.{core, in_block}
-use Rattle.norec_revocable.specs.InPhases.{IsSound}
+use Rattle.norec_core.specs.Rows.{AllWritesWithin}
+use Rattle.write_set.specs.Rows.{AreRows}
+use Rattle.norec_revocable.specs.InPhases.{AreFrames, IsSound}
+use Rattle.norec_revocable.proofs.Blocks.OpenBegins.{begun_within}
 use Rattle.norec_revocable.specs.Between.{between, moved}
 use Rattle.norec_core.proofs.Engines.IrrevocableCalls.{begin_served, length-over, or_none, revocable_over}
 use Rattle.norec_revocable.proofs.Replies.Refusals.{denied, stands}
@@ -51,11 +59,27 @@ told_again : (props : Props) (room : ℕ) (again : Bool) (why : Refusal) → Ref
 told_again props room true why = refl
 told_again props room false why = refl
 
+-- with no block open it is so for its properties
+none_for_depth : (may few : Bool) (why : Refusal) → few ≡ true → begin_refusal may few ≡ Some why → may ≡ false
+none_for_depth false few why f e = refl
+none_for_depth true true why f e = absurd (cc)
+none_for_depth true false why f e = absurd (cc)
+
+-- no outermost block begins
+begun_nowhere : (d : Data) (props : Props) (room : ℕ) (why : Refusal) → IsSound d at.Idle → begin_refusal (may_go d.frames.blocks props) (nat_lt (length d.frames.blocks) d.frames.depth) ≡ Some why
+    → begins_anew (core d at.Idle) (Begin props room) ≡ false
+begun_nowhere d props room why s e = elim (cases_Bool (in_block d)) [
+  | inl o ↦ (λ i. not (o i) && may_go d.frames.blocks props)
+  | inr o ↦
+      (let may = none_for_depth (may_go d.frames.blocks props) (nat_lt (length d.frames.blocks) d.frames.depth) why (ap (λ (blocks : List Frame). nat_lt (length blocks) d.frames.depth) (none_inside d.frames.blocks o) ∙ lt-ltb 0 d.frames.depth s.bounds.deep) e in
+      ap (λ (b : Bool). not (in_block d) && b) may ∙ and-false (not (in_block d)))
+]
+
 pub begin_denied : (d : Data) (props : Props) (room : ℕ) (again : Bool) (why : Refusal) → IsSound d at.Idle → begin_refusal (may_go d.frames.blocks props) (nat_lt (length d.frames.blocks) d.frames.depth) ≡ Some why
     → Replies (came (core d at.Idle) (Begin props room) again) (Begin props room) (Refused why) (core (record d { spent = 0; entry = length d.log.rows }) at.Idle)
 begin_denied d props room again why s e =
     let refused = λ (m : List ℕ). refuses d.frames.depth (stands d m) (Begin props room) why (begin_refused d.frames.depth d.frames.writes.rows d.frames.blocks d.arena d.frames.actions m props room ∙ e) in
-    let plain = denied d (Begin props room) why s (ap (λ (o : Option ℕ). unwrap_or o d.frames.room) (no_room_for props.goes_irrevocable (may_go d.frames.blocks props) (nat_lt (length d.frames.blocks) d.frames.depth) why room e)) (λ m mem. refused m) in
+    let plain = denied d (Begin props room) why s (ap (λ (o : Option ℕ). unwrap_or o d.frames.room) (no_room_for props.goes_irrevocable (may_go d.frames.blocks props) (nat_lt (length d.frames.blocks) d.frames.depth) why room e), begun_nowhere d props room why s e) (λ m mem. refused m) in
     record {
       meets = plain.meets;
       reply_is = λ m mem agrees. told_again props room (again && not (in_block d)) why ∙ ap (recoded (Begin props room) (again && not (in_block d))) (refused m).1;
@@ -70,12 +94,6 @@ begin_denied d props room again why s e =
       still = plain.still;
       settled = plain.settled;
     }
-
--- with no block open it is so for its properties
-none_for_depth : (may few : Bool) (why : Refusal) → few ≡ true → begin_refusal may few ≡ Some why → may ≡ false
-none_for_depth false few why f e = refl
-none_for_depth true true why f e = absurd (cc)
-none_for_depth true false why f e = absurd (cc)
 
 module _ (d : Data) (props : Props) (room : ℕ) (again : Bool) (why : Refusal) (deep : 0 < d.frames.depth) (e : begin_refusal (may_go d.frames.blocks props) (nat_lt (length d.frames.blocks) d.frames.depth) ≡ Some why) where
   goes_nowhere : ◌≡◌ {A = Option ℕ} None (if props.goes_irrevocable && may_go d.frames.blocks props && nat_lt (length d.frames.blocks) d.frames.depth && not false then Some room else None)
@@ -112,6 +130,11 @@ has_room_for : (goes may few : Bool) (room left : ℕ) → may ≡ true → few 
 has_room_for false may few room left m f = refl
 has_room_for true may few room left m f = (λ i. unwrap_or (if (sym m i) && (sym f i) && not false then Some room else None) left)
 
+-- a block begins within others
+one_more : (words : ℕ) (b : Frame) (bs : List Frame) → is_inside bs ≡ true → AllWritesWithin words b.rows → AreRows b.rows → AreFrames words bs → AreFrames words (b ∷ bs)
+one_more words b [] o w r f = absurd (cc)
+one_more words b (p ∷ bs) o w r f = (w, r, f)
+
 -- a block within a transaction was not begun before
 again_inside : (again inside : Bool) → inside ≡ true → false ≡ (again && not inside)
 again_inside false inside o = refl
@@ -121,10 +144,29 @@ module _ (d : Data) (props : Props) (room : ℕ) (again : Bool) (may : may_go d.
   room_is : (if props.goes_irrevocable then room else d.frames.room) ≡ (came (core d at.Idle) (Begin props room) again).room
   room_is = has_room_for props.goes_irrevocable (may_go d.frames.blocks props) (nat_lt (length d.frames.blocks) d.frames.depth) room d.frames.room may (lt-ltb (length d.frames.blocks) d.frames.depth few)
 
+  -- no restart is forgotten within a transaction
+  stays_inside : in_block d ≡ true → d.restarted ≡ (came (core d at.Idle) (Begin props room) again).restarted
+  stays_inside o = (λ i. if not (sym o i) && may_go d.frames.blocks props then 0 else d.restarted)
+
+  -- outside the clock is loaded, and the count of restarts begins anew
+  abbrev pub opening : Opening
+  opening = record { props = props; room = room; again = again }
+
+  pub begin_asks : in_block d ≡ false → Turns (came (core d at.Idle) (Begin props room) again) (Wait waits.Begin) (record (begun_with d props room) { tries = 1; restarted = 0; opening = opening })
+  begin_asks o = record {
+    lawful = (omega arith, refl);
+    unfreed = refl;
+    stays = (λ i. record (core (record (begun_with d props room) { tries = 1; restarted = 0; opening = opening; spent = 1 }) (at.Begin opening)) {
+      again = (sym (and-true again) ∙ ap (λ (b : Bool). again && not b) (sym o)) i;
+      room = room_is i;
+      restarted = if not (sym o i) && (sym may i) then 0 else d.restarted;
+    });
+  }
+
   -- where it goes irrevocable within a transaction, the clock is to be taken
   pub begin_came : in_block d ≡ true
       → moved (between (record (begun_with d props room) { tries = 0 }) (aims.Take (takings.Begin props room))) d.snapshot ≡ came (core d at.Idle) (Begin props room) again
-  begin_came o = (λ i. record (came (core d at.Idle) (Begin props room) again) { again = again_inside again (in_block d) o i; room = room_is i })
+  begin_came o = (λ i. record (came (core d at.Idle) (Begin props room) again) { again = again_inside again (in_block d) o i; room = room_is i; restarted = stays_inside o i })
 
   -- and any other one begins at once
   abbrev pub nested : Data
@@ -133,11 +175,34 @@ module _ (d : Data) (props : Props) (room : ℕ) (again : Bool) (may : may_go d.
       writes = record d.frames.writes { inner = place_of d.frames.writes };
       size = d.frames.size;
       depth = d.frames.depth;
-      blocks = begun props d.frames.writes.rows d.frames.actions ∷ d.frames.blocks;
+      blocks = begun props d.frames.writes.rows d.frames.actions (length d.log.rows) ∷ d.frames.blocks;
       actions = d.frames.actions;
       room = if props.goes_irrevocable then room else d.frames.room;
     };
   }
+
+  pub nested_sound : in_block d ≡ true → props.goes_irrevocable ≡ false → IsSound d at.Idle → IsSound nested at.Idle
+  nested_sound o goes s =
+      let idle = s.in_phase.0 o in
+      record {
+        bounds = s.bounds;
+        reached = s.reached;
+        in_phase = (
+          λ yes. (
+            record {
+              is_open = refl;
+              log = idle.0.log;
+              writes = idle.0.writes;
+              rows = idle.0.rows;
+              frames = one_more d.words (begun props d.frames.writes.rows d.frames.actions (length d.log.rows)) d.frames.blocks o idle.0.writes idle.0.rows idle.0.frames;
+              begun = begun_within (length d.log.rows) props d.frames.writes.rows d.frames.actions d.frames.blocks goes o idle.0.begun;
+              tries = idle.0.tries;
+            },
+            idle.1,
+          ),
+          λ shut. absurd (cc),
+        );
+      }
 
   pub nested_replies : in_block d ≡ true → props.goes_irrevocable ≡ false → IsSound d at.Idle
       → Replies (came (core d at.Idle) (Begin props room) again) (Begin props room) (Code 5) (core nested at.Idle)
@@ -151,7 +216,7 @@ module _ (d : Data) (props : Props) (room : ℕ) (again : Bool) (may : may_go d.
         reply_is = λ m mem agrees.
             sym (ap (λ (why : Option Refusal). reply_unless why (Code 5)) (none m))
             ∙ ap (λ (was : Bool). recoded (Begin props room) was (reply d.frames.depth (stands d m) (Begin props room))) (again_inside again (in_block d) o);
-        stays = (λ i. record (core nested at.Idle) { room = room_is i });
+        stays = (λ i. record (core nested at.Idle) { room = room_is i; restarted = stays_inside o i });
         writes = λ m mem agrees. refl;
         arena = λ m mem agrees. refl;
         free = refl;

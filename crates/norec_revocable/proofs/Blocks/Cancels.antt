@@ -17,12 +17,14 @@ use Rattle.norec_core.specs.Phases.{Idle}
 use Rattle.norec_core.specs.Core.{Core, came, ended, is_inside, is_outermost}
 use Rattle.norec_data.specs.View.{core, in_block}
 use Rattle.norec_revocable.specs.InPhases.{AreFrames, IsSound}
+use Rattle.norec_revocable.specs.OpenBegins.{AreBegun}
 use Rattle.norec_data.specs.Turns.{IsEnded}
 use Rattle.norec_core.specs.Proceeds.{Replies}
 use Rattle.norec_core.specs.Rows.{AllWritesWithin}
 use Rattle.norec_core.specs.Stands.{is_some_row, blocks_over, state_over}
 use Rattle.norec_core.proofs.Engines.Blocks.{blocks_over-same, kept_over}
 use Rattle.norec_revocable.proofs.Blocks.EndedTransactions.{undone_over}
+use Rattle.norec_revocable.proofs.Blocks.OpenBegins.{begun_cancelled}
 use Rattle.norec_data.proofs.EndedTransactions.{core_ended}
 use Rattle.norec_core.proofs.Engines.Machines.{open_is, refuses}
 use Rattle.norec_revocable.proofs.Replies.Refusals.{stands, denied}
@@ -41,7 +43,7 @@ refusal_is d outer keeps m o k =
 
 refused_as_kept : (d : Data) (outer : Bool) → IsSound d Idle → in_block d ≡ true → is_kept d.frames.blocks outer ≡ true
     → Replies (came (core d Idle) (Abort outer) false) (Abort outer) (Refused NoAbort) (core (come d) Idle)
-refused_as_kept d outer s o k = denied d (Abort outer) NoAbort s refl (λ m mem. refuses d.frames.depth (stands d m) (Abort outer) NoAbort (refusal_is d outer true m o k))
+refused_as_kept d outer s o k = denied d (Abort outer) NoAbort s (refl, refl) (λ m mem. refuses d.frames.depth (stands d m) (Abort outer) NoAbort (refusal_is d outer true m o k))
 
 pub kept_replies : (d new : Data) (outer : Bool) → new ≡ come d → IsSound d Idle → in_block new ≡ true → is_kept new.frames.blocks outer ≡ true
     → Replies (came (core d Idle) (Abort outer) false) (Abort outer) (Refused NoAbort) (core new Idle)
@@ -84,13 +86,13 @@ cancelled_frames words (b ∷ []) o inner f = absurd (cc)
 cancelled_frames words (b ∷ p ∷ bs) o inner f = (f.0, f.1, f.2, refl)
 
 cancel_sound : (d : Data) (frames : Nest) (arena : List ℕ) → IsSound d Idle → in_block d ≡ true → is_outermost d.frames.blocks ≡ false
-    → frames.blocks ≡ drop 1 d.frames.blocks → frames.writes.rows ≡ rows_of d.frames.blocks → frames.size ≡ d.frames.size → frames.depth ≡ d.frames.depth → length arena ≡ length d.arena
+    → frames.blocks ≡ drop 1 d.frames.blocks → frames.writes.rows ≡ rows_of d.frames.blocks → frames.actions ≡ actions_cancelled d.frames.blocks d.frames.actions → frames.size ≡ d.frames.size → frames.depth ≡ d.frames.depth → length arena ≡ length d.arena
     → IsSound (record (come d) { frames = frames; arena = arena }) Idle
-cancel_sound d frames arena s is_open inner blocks rows sized depth size =
+cancel_sound d frames arena s is_open inner blocks rows actions sized depth size =
     let idle = s.in_phase.0 is_open in
     let left = cancelled_frames d.words d.frames.blocks is_open inner idle.0.frames in
     record {
-      bounds = record { patient = s.bounds.patient; commits = s.bounds.commits; small = s.bounds.small; sized = sized ∙ (s.bounds.sized ∙ sym size); deep = subst (λ (n : ℕ). 0 < n) (sym depth) s.bounds.deep; even = s.bounds.even };
+      bounds = record { patient = s.bounds.patient; commits = s.bounds.commits; few = s.bounds.few; small = s.bounds.small; sized = sized ∙ (s.bounds.sized ∙ sym size); deep = subst (λ (n : ℕ). 0 < n) (sym depth) s.bounds.deep; even = s.bounds.even };
       reached = s.reached;
       in_phase = (
         λ o. (
@@ -100,6 +102,10 @@ cancel_sound d frames arena s is_open inner blocks rows sized depth size =
             writes = subst (AllWritesWithin d.words) (sym rows) left.0;
             rows = subst AreRows (sym rows) left.1;
             frames = subst (AreFrames d.words) (sym blocks) left.2;
+            begun =
+                subst (λ (a : Actions). AreBegun (length d.log.rows) (length a.commits) (length a.undos) frames.blocks) (sym actions)
+                (subst (AreBegun (length d.log.rows) (length (actions_cancelled d.frames.blocks d.frames.actions).commits) (length (actions_cancelled d.frames.blocks d.frames.actions).undos)) (sym blocks)
+                (begun_cancelled (length d.log.rows) d.frames.actions d.frames.blocks idle.0.begun));
             tries = idle.0.tries;
           },
           idle.1,
@@ -109,10 +115,10 @@ cancel_sound d frames arena s is_open inner blocks rows sized depth size =
     }
 
 pub cancelled_sound : (d new : Data) (frames : Nest) (arena : List ℕ) → new ≡ come d → IsSound d Idle → in_block new ≡ true → is_outermost new.frames.blocks ≡ false
-    → frames.blocks ≡ drop 1 new.frames.blocks → frames.writes.rows ≡ rows_of new.frames.blocks → frames.size ≡ new.frames.size → frames.depth ≡ new.frames.depth → length arena ≡ length new.arena
+    → frames.blocks ≡ drop 1 new.frames.blocks → frames.writes.rows ≡ rows_of new.frames.blocks → frames.actions ≡ actions_cancelled new.frames.blocks new.frames.actions → frames.size ≡ new.frames.size → frames.depth ≡ new.frames.depth → length arena ≡ length new.arena
     → IsSound (record new { frames = frames; arena = arena }) Idle
 cancelled_sound d new frames arena is s =
-    subst (λ (x : Data). in_block x ≡ true → is_outermost x.frames.blocks ≡ false → frames.blocks ≡ drop 1 x.frames.blocks → frames.writes.rows ≡ rows_of x.frames.blocks → frames.size ≡ x.frames.size → frames.depth ≡ x.frames.depth → length arena ≡ length x.arena
+    subst (λ (x : Data). in_block x ≡ true → is_outermost x.frames.blocks ≡ false → frames.blocks ≡ drop 1 x.frames.blocks → frames.writes.rows ≡ rows_of x.frames.blocks → frames.actions ≡ actions_cancelled x.frames.blocks x.frames.actions → frames.size ≡ x.frames.size → frames.depth ≡ x.frames.depth → length arena ≡ length x.arena
     → IsSound (record x { frames = frames; arena = arena }) Idle) (sym is) (cancel_sound d frames arena s)
 
 back_is : (rows : List Row) (blocks : List Frame) (arena : List ℕ) (actions : Actions) (m : List ℕ) (rows' : List Row) (blocks' : List Frame) (arena' : List ℕ) (actions' : Actions) → is_inside blocks ≡ true

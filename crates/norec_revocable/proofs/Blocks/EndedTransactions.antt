@@ -18,7 +18,7 @@ use Rattle.norec_data.specs.declared.pending.Pending.{Pending}
 use Rattle.norec_data.specs.declared.pending.Pending.TheVariants as waits
 use Rattle.norec_data.specs.View.{core, in_block, holds_of, phase_of, writes_of}
 use Rattle.norec_data.proofs.EndedTransactions.{core_ended}
-use Rattle.norec_revocable.specs.InPhases.{AreFrames, InPhase}
+use Rattle.norec_revocable.specs.InPhases.{AreFrames, InPhase, IsOpen}
 use Rattle.norec_data.specs.Turns.{IsEnded}
 use Rattle.norec_core.specs.Proceeds.{IsUndone}
 use Rattle.norec_core.specs.declared.answer.Undone.TheVariants.{Nothing, Done, Held}
@@ -66,24 +66,26 @@ is_free d (waits.Store row) f g h = g row refl
 is_free d waits.Free f g h = h refl
 is_free d p f g h = tt
 
--- the outermost block and those in it, of a transaction that is open; or there is none, and nothing is written
-open_frames : (d : Data) (phase : Phase) → InPhase d phase → in_block d ≡ true → AreFrames d.words d.frames.blocks
-open_frames d at.Idle p o = (p.0 o).0.frames
-open_frames d (at.Begin b) p o = (let outside = p.0.is_open in absurd (cc))
-open_frames d (at.Load r) p o = p.0.frames
-open_frames d (at.Confirm r value) p o = p.0.frames
-open_frames d (at.RoundStart aim) p o = p.is_open.frames
-open_frames d (at.RoundRow aim row) p o = p.0.is_open.frames
-open_frames d (at.RoundEnd aim) p o = p.0.is_open.frames
-open_frames d (at.Take b) p o = (let outside = p.0.is_open in absurd (cc))
-open_frames d (at.Exchange taking) p o = p.0.frames
-open_frames d (at.BackLoad taking row) p o = p.0.is_open.frames
-open_frames d (at.Store taking row None) p o = p.0.is_open.frames
-open_frames d (at.Store taking row (Some word)) p o = p.0.is_open.frames
-open_frames d at.Free p o = p.is_open.frames
-open_frames d (at.Fetch w) p o = absurd p
-open_frames d (at.Place w got) p o = absurd p
+-- what is true of every phase of an open transaction
+pub open_in : (d : Data) (phase : Phase) → InPhase d phase → in_block d ≡ true → IsOpen d
+open_in d at.Idle p o = (p.0 o).0
+open_in d (at.Begin b) p o = (let outside = p.0.is_open in absurd (cc))
+open_in d (at.Load r) p o = p.0
+open_in d (at.Confirm r value) p o = p.0
+open_in d (at.RoundStart aim) p o = p.is_open
+open_in d (at.RoundRow aim row) p o = p.0.is_open
+open_in d (at.RoundEnd aim) p o = p.0.is_open
+open_in d (at.RoundBack aim row) p o = p.0.is_open
+open_in d (at.Take b) p o = (let outside = p.0.is_open in absurd (cc))
+open_in d (at.Exchange taking) p o = p.0
+open_in d (at.BackLoad taking row) p o = p.0.is_open
+open_in d (at.Store taking row None) p o = p.0.is_open
+open_in d (at.Store taking row (Some word)) p o = p.0.is_open
+open_in d at.Free p o = p.is_open
+open_in d (at.Fetch w) p o = absurd p
+open_in d (at.Place w got) p o = absurd p
 
+-- where none is open, nothing is written
 pub none_written : (d : Data) (phase : Phase) → InPhase d phase → in_block d ≡ false → writes_of d phase ≡ []
 none_written d at.Idle p o = ap (λ (w : Written). w.rows) (p.1 o).writes
 none_written d (at.Begin b) p o = ap (λ (w : Written). w.rows) p.0.writes
@@ -92,6 +94,7 @@ none_written d (at.Confirm r value) p o = (let inside = p.0.is_open in absurd (c
 none_written d (at.RoundStart aim) p o = (let inside = p.is_open.is_open in absurd (cc))
 none_written d (at.RoundRow aim row) p o = (let inside = p.0.is_open.is_open in absurd (cc))
 none_written d (at.RoundEnd aim) p o = (let inside = p.0.is_open.is_open in absurd (cc))
+none_written d (at.RoundBack aim row) p o = (let inside = p.0.is_open.is_open in absurd (cc))
 none_written d (at.Take b) p o = ap (λ (w : Written). w.rows) p.0.writes
 none_written d (at.Exchange taking) p o = (let inside = p.0.is_open in absurd (cc))
 none_written d (at.BackLoad taking row) p o = (let inside = p.0.is_open.is_open in absurd (cc))
@@ -120,7 +123,7 @@ after_left d new phase f e =
 
 undone_left : (d new : Data) (phase : Phase) (inside : Bool) → in_block d ≡ inside → InPhase d phase → IsFree phase → IsEnded d (arena_back d.frames.blocks d.arena) (actions_back d.frames.blocks d.frames.actions) new
     → arena_back d.frames.blocks d.arena ≡ arena_restored d.frames.blocks d.arena → IsUndone (core d phase) (core new at.Idle)
-undone_left d new phase true o p f e same = ended_undone (core d phase) (core new at.Idle) at.Idle 0 d.snapshot (open_frames d phase p o) same refl o (core_left d new phase f e)
+undone_left d new phase true o p f e same = ended_undone (core d phase) (core new at.Idle) at.Idle 0 d.snapshot (open_in d phase p o).frames same refl o (core_left d new phase f e)
 undone_left d new phase false o p f e same = λ m mem.
     (let none = none_inside d.frames.blocks o in
     let nothing = none_written d phase p o in

@@ -130,7 +130,7 @@ no_room true false why room e = absurd (cc)
 pub mode_denied : (d : Data) (room : ℕ) (why : Refusal) → IsSound d Idle → mode_refusal (in_block d) (stays_revocable d.frames.blocks) ≡ Some why
     → Replies (came (core d Idle) (Mode room) false) (Mode room) (Refused why) (core (record d { spent = 0; entry = length d.log.rows }) Idle)
 mode_denied d room why s e =
-    denied d (Mode room) why s (ap (λ (o : Option ℕ). unwrap_or o d.frames.room) (no_room (in_block d) (stays_revocable d.frames.blocks) why room e))
+    denied d (Mode room) why s (ap (λ (o : Option ℕ). unwrap_or o d.frames.room) (no_room (in_block d) (stays_revocable d.frames.blocks) why room e), refl)
     (λ m mem. refuses d.frames.depth (stands d m) (Mode room) why (mode_refused d.frames.depth d.frames.writes.rows d.frames.blocks d.arena d.frames.actions m room ∙ e))
 
 -- one that is served

@@ -50,7 +50,7 @@ copy_refused depth rows blocks arena actions m words k mem =
 pub refused_copy : (d : Data) (k : Copying) (why : Refusal) → IsSound d Idle → copy_refusal (in_block d) d.words (length d.arena) k ≡ Some why
     → Replies (came (core d Idle) (Copy k) false) (Copy k) (Refused why) (core (record d { spent = 0; entry = length d.log.rows }) Idle)
 refused_copy d k why s e =
-    denied d (Copy k) why s refl (λ m mem. refuses d.frames.depth (stands d m) (Copy k) why (copy_refused d.frames.depth d.frames.writes.rows d.frames.blocks d.arena d.frames.actions m d.words k mem ∙ e))
+    denied d (Copy k) why s (refl, refl) (λ m mem. refuses d.frames.depth (stands d m) (Copy k) why (copy_refused d.frames.depth d.frames.writes.rows d.frames.blocks d.arena d.frames.actions m d.words k mem ∙ e))
 
 -- ## What is copied
 

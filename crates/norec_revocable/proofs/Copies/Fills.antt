@@ -25,6 +25,7 @@ use Rattle.norec_data.specs.declared.turn.Turn.TheVariants.{End}
 use Rattle.norec_core.specs.Core.{came, is_inside}
 use Rattle.norec_core.specs.Accesses.{access_refusal}
 use Rattle.norec_data.specs.View.{core, in_block}
+use Rattle.norec_revocable.proofs.Blocks.OpenBegins.{begun_same}
 use Rattle.norec_revocable.specs.InPhases.{AreFrames, IsSound}
 use Rattle.norec_revocable.specs.Between.{IsSoundTurn}
 use Rattle.norec_core.specs.Proceeds.{Replies}
@@ -128,6 +129,7 @@ module _ (d : Data) (to byte size : ℕ) (frames : Nest) (buffer : Vec ℕ) (s :
                 writes = subst (AllWritesWithin d.words) (sym is.rows) (AllWritesWithin-put_range d.words d.frames.writes.rows to Up bytes idle.0.writes (AreBytes-set size byte) range);
                 rows = subst AreRows (sym is.rows) (AreRows-put_range d.words d.frames.writes.rows to Up bytes idle.0.rows (AreBytes-set size byte) range);
                 frames = subst (AreFrames d.words) (sym is.blocks) idle.0.frames;
+                begun = begun_same d.log.rows d.log.rows d.frames.actions frames.actions d.frames.blocks frames.blocks refl is.actions is.blocks idle.0.begun;
                 tries = idle.0.tries;
               },
               idle.1,

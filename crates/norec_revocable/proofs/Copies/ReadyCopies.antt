@@ -17,6 +17,7 @@ use Rattle.norec_core.specs.Core.{came, is_inside}
 use Rattle.norec_core.specs.Order.{copy_stage, load_chunks}
 use Rattle.norec_core.specs.Rows.{range_pieces, AllWritesWithin, IsLog}
 use Rattle.norec_data.specs.View.{in_block, core, rows_before}
+use Rattle.norec_revocable.proofs.Blocks.OpenBegins.{begun_same}
 use Rattle.norec_revocable.specs.InPhases.{reserved_for, AreFrames, IsOpen, IsServed, IsSound, MayPutFor}
 use Rattle.norec_data.specs.Bounds.{IsBounded}
 use Rattle.norec_revocable.specs.Between.{in_copy, logged, MayCopy}
@@ -60,7 +61,7 @@ module _ (s e : Data) (k : Copying) (sound : IsSound s Idle) (accepted : copy_re
   pub before : rows_before (ready s e) ≡ s.frames.writes.rows
   before = ap (take (length s.frames.writes.rows)) rows ∙ first_rows k k.pair s.frames.writes.rows
 
-  pub ready_bounds : IsBounded s.words s.limits s.snapshot e.frames.size e.frames.depth s.arena
+  pub ready_bounds : IsBounded s.words s.limits s.restarted s.snapshot e.frames.size e.frames.depth s.arena
   ready_bounds = bounds_kept s e.frames size depth sound.bounds
 
   pub ready_open : IsOpen (ready s e)
@@ -72,6 +73,7 @@ module _ (s e : Data) (k : Copying) (sound : IsSound s Idle) (accepted : copy_re
         writes = subst (AllWritesWithin s.words) (sym rows) (within_for s.words (length s.arena) k k.pair s.frames.writes.rows (accepted_sides s.words (length s.arena) k taken).0 idle.0.writes);
         rows = subst AreRows (sym rows) (rows_for k k.pair s.frames.writes.rows idle.0.rows);
         frames = subst (AreFrames s.words) (sym blocks) idle.0.frames;
+        begun = begun_same s.log.rows e.log.rows s.frames.actions e.frames.actions s.frames.blocks e.frames.blocks log actions blocks idle.0.begun;
         tries = omega arith;
       }
 

@@ -1,5 +1,5 @@
 -- The row of a word that was loaded, and confirmed, joins the log.
-use Rattle.std.proofs.Common.{◌≡◌, ℕ, ◌+◌, ◌^◌, ◌<◌, ◌==◌, true, List, [], ◌∷◌, ◌++◌, length, Some, slice_get, refl, sym, ap, subst, ◌∙◌, add-one, arith, eq-eqb, inl, inr}
+use Rattle.std.proofs.Common.{◌≡◌, ℕ, ◌+◌, ◌^◌, ◌<◌, ◌==◌, true, List, [], ◌∷◌, ◌++◌, length, length-append, Some, slice_get, refl, sym, ap, subst, ◌∙◌, add-one, arith, eq-eqb, inl, inr}
 use Rattle.std.proofs.lemmas.Bool.{cond-true}
 use Rattle.arrayvec.specs.ArrayVec.{ArrayVec}
 use Rattle.itm_types.specs.LogRows.{AreSingle}
@@ -16,6 +16,7 @@ use Rattle.norec_data.specs.declared.data.Data.{Data}
 use Rattle.norec_data.specs.declared.turn.Turn.{Turn}
 use Rattle.norec_data.specs.Turns.{core_after}
 use Rattle.norec_data.specs.View.{core, in_block, rows_before}
+use Rattle.norec_revocable.proofs.Blocks.OpenBegins.{begun_read}
 use Rattle.norec_revocable.specs.InPhases.{IsFor, IsOpen, IsSound}
 use Rattle.norec_revocable.proofs.ReadCalls.ReadingFields.{after_log, after_open, after_snapshot}
 use Rattle.norec_revocable.proofs.Copies.Sources.{purpose_more}
@@ -45,6 +46,7 @@ module _ (s : Data) (value seen : ℕ) (log : Log) (sound : IsSound s (Confirm s
           writes = was.writes;
           rows = was.rows;
           frames = was.frames;
+          begun = begun_read (length s.log.rows) (length log.rows) (length s.frames.actions.commits) (length s.frames.actions.undos) s.frames.blocks (omega (arith, ap (length {A = LogRow}) added, length-append s.log.rows (row ∷ []))) was.begun;
           tries = was.tries;
         }
 

@@ -35,7 +35,7 @@ use Rattle.norec_core.proofs.Accesses.Readings.{passed_on}
 
 -- an engine with other bytes gathered is as open
 pub open_gathering : (d : Data) (g : ArrayVec ℕ) → IsOpen d → IsOpen (record d { gathered = g })
-open_gathering d g o = record { is_open = o.is_open; log = o.log; writes = o.writes; rows = o.rows; frames = o.frames; tries = o.tries }
+open_gathering d g o = record { is_open = o.is_open; log = o.log; writes = o.writes; rows = o.rows; frames = o.frames; begun = o.begun; tries = o.tries }
 
 -- a piece further on that is not to be had may be loaded
 pub may_read : (d : Data) (r next : Reading) (g : ArrayVec ℕ) → next ≡ record r { number = next.number } → r.number ≤ next.number → MayLog d r
@@ -58,7 +58,7 @@ none_gathered false = refl
 -- ## The piece that is loaded next
 
 module _ (d : Data) (r next : Reading) (is : next ≡ record r { number = next.number }) (on : r.number ≤ next.number)
-    (bounds : IsBounded d.words d.limits d.snapshot d.frames.size d.frames.depth d.arena) (o : IsOpen d) (may : MayRead d next) (settled : d.clock ≡ d.snapshot)
+    (bounds : IsBounded d.words d.limits d.restarted d.snapshot d.frames.size d.frames.depth d.arena) (o : IsOpen d) (may : MayRead d next) (settled : d.clock ≡ d.snapshot)
     (spent : d.spent ≤ 2 * passed r + d.tries * round_of (aims.Read r) d) where
   spent_so_far : d.spent ≤ 2 * passed next + d.tries * round_of (aims.Read next) d
   spent_so_far =
@@ -74,7 +74,7 @@ module _ (d : Data) (r next : Reading) (is : next ≡ record r { number = next.n
       bounds = bounds;
       reached = omega (arith, settled);
       in_phase = (
-        record { is_open = o.is_open; log = o.log; writes = o.writes; rows = o.rows; frames = o.frames; tries = o.tries },
+        record { is_open = o.is_open; log = o.log; writes = o.writes; rows = o.rows; frames = o.frames; begun = o.begun; tries = o.tries },
         record {
           reading = record {
             within = may.reading.within;

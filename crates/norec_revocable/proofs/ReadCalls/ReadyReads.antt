@@ -18,6 +18,7 @@ use Rattle.norec_core.specs.Order.{value_reading}
 use Rattle.norec_core.specs.Rows.{IsLog, is_had}
 use Rattle.norec_data.specs.declared.data.Data.{Data}
 use Rattle.norec_data.specs.View.{in_block, core}
+use Rattle.norec_revocable.proofs.Blocks.OpenBegins.{begun_same}
 use Rattle.norec_revocable.specs.InPhases.{IsOpen, IsReading, IsMissing, IsSound}
 use Rattle.norec_revocable.specs.Between.{between, logged}
 use Rattle.norec_revocable.proofs.Copies.Sources.{purpose_more}
@@ -35,7 +36,7 @@ module _ (s : Data) (hint : ReadHint) (width : Width) (place : ℕ) (sound : IsS
   settled = (sound.in_phase.0 is_open).1
 
   pub gathering_open : (g : ArrayVec ℕ) → IsOpen (gathering s g)
-  gathering_open g = (let o = (sound.in_phase.0 is_open).0 in record { is_open = o.is_open; log = o.log; writes = o.writes; rows = o.rows; frames = o.frames; tries = o.tries })
+  gathering_open g = (let o = (sound.in_phase.0 is_open).0 in record { is_open = o.is_open; log = o.log; writes = o.writes; rows = o.rows; frames = o.frames; begun = o.begun; tries = o.tries })
 
   -- nothing is read yet
   pub first_reading : (g : ArrayVec ℕ) → g.items ≡ [] → IsReading (gathering s g) (value_reading hint width place)
@@ -56,6 +57,7 @@ module _ (s : Data) (hint : ReadHint) (width : Width) (place : ℕ) (sound : IsS
       writes = o.writes;
       rows = o.rows;
       frames = o.frames;
+      begun = begun_same s.log.rows log.rows s.frames.actions s.frames.actions s.frames.blocks s.frames.blocks rows refl refl o.begun;
       tries = omega arith;
     })
 

@@ -30,7 +30,7 @@ use Rattle.norec_revocable.specs.Between.{between, logged, IsValue}
 
 -- the read finds these bytes in whatever memory agrees with the log
 pub record Finds (s : Data) (r : Reading) (bytes : List ℕ) : Type 0 where
-  pub bounds : IsBounded s.words s.limits s.snapshot s.frames.size s.frames.depth s.arena
+  pub bounds : IsBounded s.words s.limits s.restarted s.snapshot s.frames.size s.frames.depth s.arena
   pub is_open : IsOpen s
   pub within : r.at + r.size ≤ 8 * s.words
   pub purpose : IsFor s r.purpose r.at r.size

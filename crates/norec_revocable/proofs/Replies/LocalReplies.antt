@@ -20,7 +20,7 @@ use Rattle.nest_frames.specs.Nest.{Frame, log_of, logged}
 use Rattle.itm_model.specs.State.{Block}
 use Rattle.itm_model.specs.Machine.{after_unless, effect, logged as logs, logged_in, needs_open, or_else, refusal, reply_unless, unless}
 use Rattle.norec_core.specs.Phases.{Idle}
-use Rattle.norec_core.specs.Core.{came, is_inside}
+use Rattle.norec_core.specs.Core.{begins_anew, came, is_inside}
 use Rattle.norec_core.specs.Proceeds.{Replies}
 use Rattle.norec_core.specs.Effects.{room_left}
 use Rattle.norec_core.specs.Stands.{block_over, blocks_over, is_some_row, state_over}
@@ -29,6 +29,7 @@ use Rattle.norec_data.specs.declared.data.Data.{Data}
 use Rattle.norec_data.specs.View.{core, in_block}
 use Rattle.norec_revocable.specs.InPhases.{AreFrames, IsSound}
 use Rattle.norec_revocable.proofs.Blocks.Cancels.{come}
+use Rattle.norec_revocable.proofs.Blocks.OpenBegins.{begun_logged, begun_registered}
 use Rattle.norec_revocable.proofs.Replies.Refusals.{denied, stands}
 
 -- between two calls, as one comes and is refused
@@ -38,7 +39,7 @@ come_sound d why s =
       bounds = s.bounds;
       reached = s.reached;
       in_phase = (
-        λ o. (let idle = s.in_phase.0 o in (record { is_open = o; log = idle.0.log; writes = idle.0.writes; rows = idle.0.rows; frames = idle.0.frames; tries = idle.0.tries }, idle.1)),
+        λ o. (let idle = s.in_phase.0 o in (record { is_open = o; log = idle.0.log; writes = idle.0.writes; rows = idle.0.rows; frames = idle.0.frames; begun = idle.0.begun; tries = idle.0.tries }, idle.1)),
         λ o. (let outside = s.in_phase.1 o in record { is_open = o; log = outside.log; writes = outside.writes; commits = outside.commits; undos = outside.undos; tries = outside.tries }),
       );
     }
@@ -55,7 +56,7 @@ registered_sound d kind action o s =
     record {
       bounds = s.bounds;
       reached = s.reached;
-      in_phase = (λ inside. (record { is_open = o; log = idle.0.log; writes = idle.0.writes; rows = idle.0.rows; frames = idle.0.frames; tries = idle.0.tries }, idle.1), λ shut. absurd (cc));
+      in_phase = (λ inside. (record { is_open = o; log = idle.0.log; writes = idle.0.writes; rows = idle.0.rows; frames = idle.0.frames; begun = begun_registered (length d.log.rows) kind action d.frames.actions d.frames.blocks idle.0.begun; tries = idle.0.tries }, idle.1), λ shut. absurd (cc));
     }
 
 commit_registered : (d : Data) (action : Action) → in_block d ≡ true → IsSound d Idle
@@ -112,8 +113,8 @@ closed_refusal d m rest o = ap (λ (b : Bool). or_else (unless b Outside) rest) 
 
 pub unregistered_replies : (d : Data) (call : Call) (kind : ActionKind) (action : Action) → registered_by call ≡ Some (kind, action) → in_block d ≡ false → IsSound d Idle
     → Replies (came (core d Idle) call false) call (Refused Outside) (core (come d) Idle)
-unregistered_replies d (CommitAction a) kind action is o s = denied d (CommitAction a) Outside s refl (λ m mem. refuses d.frames.depth (stands d m) (CommitAction a) Outside (closed_refusal d m None o))
-unregistered_replies d (UndoAction a) kind action is o s = denied d (UndoAction a) Outside s refl (λ m mem. refuses d.frames.depth (stands d m) (UndoAction a) Outside (closed_refusal d m None o))
+unregistered_replies d (CommitAction a) kind action is o s = denied d (CommitAction a) Outside s (refl, refl) (λ m mem. refuses d.frames.depth (stands d m) (CommitAction a) Outside (closed_refusal d m None o))
+unregistered_replies d (UndoAction a) kind action is o s = denied d (UndoAction a) Outside s (refl, refl) (λ m mem. refuses d.frames.depth (stands d m) (UndoAction a) Outside (closed_refusal d m None o))
 unregistered_replies d call kind action is o s = absurd (cc)
 
 -- ## Logs of the arena
@@ -135,9 +136,9 @@ log_refusal d m (LogBytes at size') place size is =
     (λ i. or_else (unless (open_is d.frames.writes.rows d.frames.blocks d.arena d.frames.actions m i) Outside) (unless (nat_le ((same i).0 + (same i).1) (length d.arena)) OutOfArena))
 log_refusal d m call place size is = absurd (cc)
 
-log_room : (d : Data) (call : Call) (place size : ℕ) (why : Refusal) → logged_of call ≡ Some (place, size) → d.frames.room ≡ room_left (came (core d Idle) call false) call (Refused why)
-log_room d (Log width at) place size why is = refl
-log_room d (LogBytes at size') place size why is = refl
+log_room : (d : Data) (call : Call) (place size : ℕ) (why : Refusal) → logged_of call ≡ Some (place, size) → (d.frames.room ≡ room_left (came (core d Idle) call false) call (Refused why)) × (begins_anew (core d Idle) call ≡ false)
+log_room d (Log width at) place size why is = (refl, refl)
+log_room d (LogBytes at size') place size why is = (refl, refl)
 log_room d call place size why is = absurd (cc)
 
 pub unlogged_replies : (d : Data) (call : Call) (place size : ℕ) (why : Refusal) → logged_of call ≡ Some (place, size) → IsSound d Idle
@@ -167,7 +168,7 @@ logged_sound d olds o s =
       bounds = s.bounds;
       reached = s.reached;
       in_phase = (
-        λ yes. (record { is_open = inside; log = idle.0.log; writes = idle.0.writes; rows = idle.0.rows; frames = logged_frames d.words d.frames.blocks olds idle.0.frames; tries = idle.0.tries }, idle.1),
+        λ yes. (record { is_open = inside; log = idle.0.log; writes = idle.0.writes; rows = idle.0.rows; frames = logged_frames d.words d.frames.blocks olds idle.0.frames; begun = begun_logged (length d.log.rows) (length d.frames.actions.commits) (length d.frames.actions.undos) d.frames.blocks olds idle.0.begun; tries = idle.0.tries }, idle.1),
         λ shut. absurd (cc),
       );
     }

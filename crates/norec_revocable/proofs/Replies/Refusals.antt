@@ -17,7 +17,7 @@ use Rattle.itm_model.specs.Machine.{unless, effect, after, after_unless, reply, 
 use Rattle.norec_core.specs.Stands.{state_over}
 use Rattle.norec_data.specs.declared.data.Data.{Data}
 use Rattle.norec_core.specs.Phases.{Idle}
-use Rattle.norec_core.specs.Core.{Core, came}
+use Rattle.norec_core.specs.Core.{Core, begins_anew, came}
 use Rattle.norec_core.specs.Accesses.{access_refusal}
 use Rattle.norec_data.specs.View.{core, in_block}
 use Rattle.norec_revocable.specs.InPhases.{IsSound}
@@ -44,12 +44,12 @@ local_replies : (d : Data) (call : Call) (r : Replied) (arena : List ℕ) → Is
     → ((m : List ℕ) → IsMemory d.words m → (state_over d.frames.writes.rows d.frames.blocks arena d.frames.actions m ≡ after d.frames.depth (stands d m) call) × (r ≡ reply d.frames.depth (stands d m) call))
     → ((m : List ℕ) → d.frames.writes.rows ≡ writes_after (came (core d Idle) call false) m call r) → ((m : List ℕ) → arena ≡ arena_after (came (core d Idle) call false) m call r)
     → d.frames.blocks ≡ blocks_after (came (core d Idle) call false) call r → d.frames.actions ≡ actions_after (came (core d Idle) call false) call r
-    → d.frames.room ≡ room_left (came (core d Idle) call false) call r
+    → (d.frames.room ≡ room_left (came (core d Idle) call false) call r) × (begins_anew (core d Idle) call ≡ false)
     → Replies (came (core d Idle) call false) call r (core (record d { arena = arena; spent = 0; entry = length d.log.rows }) Idle)
 local_replies d call r arena s all writes left blocks actions room = record {
   meets = λ m mem agrees. (all m mem).0;
   reply_is = λ m mem agrees. (all m mem).1 ∙ sym (told_plainly call (reply d.frames.depth (stands d m) call));
-  stays = ap (λ (n : ℕ). record (core (record d { arena = arena; spent = 0; entry = length d.log.rows }) Idle) { room = n }) room;
+  stays = (λ i. record (core (record d { arena = arena; spent = 0; entry = length d.log.rows }) Idle) { room = room.0 i; restarted = if (sym room.1 i) then 0 else d.restarted });
   writes = λ m mem agrees. writes m;
   arena = λ m mem agrees. left m;
   free = refl;
@@ -62,7 +62,7 @@ local_replies d call r arena s all writes left blocks actions room = record {
 }
 
 -- of a refused call
-pub denied : (d : Data) (call : Call) (why : Refusal) → IsSound d Idle → d.frames.room ≡ room_left (came (core d Idle) call false) call (Refused why)
+pub denied : (d : Data) (call : Call) (why : Refusal) → IsSound d Idle → (d.frames.room ≡ room_left (came (core d Idle) call false) call (Refused why)) × (begins_anew (core d Idle) call ≡ false)
     → ((m : List ℕ) → IsMemory d.words m → (stands d m ≡ after d.frames.depth (stands d m) call) × (Refused why ≡ reply d.frames.depth (stands d m) call))
     → Replies (came (core d Idle) call false) call (Refused why) (core (record d { spent = 0; entry = length d.log.rows }) Idle)
 denied d call why s room all =
@@ -70,10 +70,10 @@ denied d call why s room all =
     local_replies d call (Refused why) d.arena s all (λ m. sym (writes_kept c m call why)) (λ m. sym (arena_kept c m call why)) (sym (blocks_kept c call why)) (sym (actions_kept c call why)) room
 
 -- an access takes no room
-access_room : (c : Core) (call : Call) (at size : ℕ) (why : Refusal) → access_of call ≡ Some (at, size) → c.room ≡ room_left (came c call false) call (Refused why)
-access_room c (Read hint width at') at size why is = refl
-access_room c (Write hint at' value) at size why is = refl
-access_room c (Fill hint to byte size') at size why is = refl
+access_room : (c : Core) (call : Call) (at size : ℕ) (why : Refusal) → access_of call ≡ Some (at, size) → (c.room ≡ room_left (came c call false) call (Refused why)) × (begins_anew c call ≡ false)
+access_room c (Read hint width at') at size why is = (refl, refl)
+access_room c (Write hint at' value) at size why is = (refl, refl)
+access_room c (Fill hint to byte size') at size why is = (refl, refl)
 access_room c call at size why is = absurd (cc)
 
 pub refused_replies : (d : Data) (call : Call) (at size : ℕ) (why : Refusal) → IsSound d Idle → access_of call ≡ Some (at, size)
@@ -87,7 +87,7 @@ pub asked_replies : (d : Data) → IsSound d Idle
     → Replies (came (core d Idle) InTransaction false) InTransaction (Code (if in_block d then 1 else 0)) (core (record d { spent = 0; entry = length d.log.rows }) Idle)
 asked_replies d s =
     local_replies d InTransaction (Code (if in_block d then 1 else 0)) d.arena s
-    (λ m mem. (refl, ap (λ (o : Bool). Code (if o then 1 else 0)) (sym (open_is d.frames.writes.rows d.frames.blocks d.arena d.frames.actions m)))) (λ m. refl) (λ m. refl) refl refl refl
+    (λ m mem. (refl, ap (λ (o : Bool). Code (if o then 1 else 0)) (sym (open_is d.frames.writes.rows d.frames.blocks d.arena d.frames.actions m)))) (λ m. refl) (λ m. refl) refl refl (refl, refl)
 
 -- a save that is accepted
 saved_replies : (d : Data) (value : Datum) (place : ℕ) (arena : List ℕ) → IsSound d Idle → place + size_of value.width ≤ length d.arena
@@ -101,7 +101,7 @@ saved_replies d value place arena s within left size =
       (λ i. record { memory = now.memory; arena = left i; blocks = same i; actions = now.actions; wrote = now.wrote; irrevocable = false })
           ∙ sym (ap (λ (r : Option Refusal). after_unless r now (effect now (Save place value))) none),
       sym (ap (λ (r : Option Refusal). reply_unless r Done) none),
-    ))) (λ m. refl) (λ m. left) refl refl refl
+    ))) (λ m. refl) (λ m. left) refl refl (refl, refl)
 
 pub save_replies : (d new : Data) (value : Datum) (place : ℕ) (arena : List ℕ) → new ≡ record d { spent = 0; entry = length d.log.rows } → IsSound d Idle
     → place + size_of value.width ≤ length new.arena → arena ≡ with_slice new.arena place value.bytes.items → length arena ≡ length new.arena

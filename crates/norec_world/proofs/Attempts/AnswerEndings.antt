@@ -1,6 +1,7 @@
 -- An answer ends no actor but one that gives up.
 use Rattle.std.proofs.Common.{inl, inr, ◌≡◌, Bool, true, false, nat_lt, Some, sym, ap, ◌∙◌, ◌⊎◌}
-use Rattle.norec_world.proofs.Common.{Actor, Answer, Call, Committed, CountsTry, End, Ended, Full, Ready, Records, RecordsReply, Replied, Reply, Rows, Rules, cases_Bool, cond-false, cond-true, ending_of, in_transaction}
+use Rattle.norec_world.proofs.Common.{Actor, Answer, Call, Committed, CountsTry, End, Ended, Full, Ready, Records, RecordsReply, Replied, Reply, Restarted, Rows, Rules, cases_Bool, cond-false, cond-true, ending_of, in_transaction}
+use Rattle.norec_core.specs.Restarts.{IsRestart}
 use Rattle.tx_runs.specs.declared.ending.End.TheVariants as ends
 use Rattle.norec_world.proofs.Engines.Intakes.{still_going}
 
@@ -16,8 +17,14 @@ module _ {P : Type 0} (rules : Rules P) (r r1 : Rows) (a last : Actor P) (call :
   pub told_status : (was : Bool) (ans : Answer) → Records rules was r r1 a last call ans → (last.status ≡ a.status) ⊎ (last.status ≡ Ended ends.GaveUp)
   told_status was (Reply reply) told = inl (replied_status was (in_transaction last.engine) reply told)
   told_status was (Committed at wrote) told = inl told.4
+  told_status was (Restarted clock word) told = absurd told
   told_status was (Full at) told = inr told.1
   told_status was ans told = counted_status told.2
+
+  -- nothing is recorded of a block that went back to its begin alone
+  pub not_told : (was : Bool) (ans : Answer) → Records rules was r r1 a last call ans → IsRestart ans → ⊥
+  not_told was (Restarted clock word) told is = told
+  not_told was ans told is = absurd is
 
 module _ {P : Type 0} (rules : Rules P) (r r1 : Rows) (a last : Actor P) (call : Call) (was : Bool) (ready : a.status ≡ Ready) where
   module _ (end : End) (other : end ≡ ends.GaveUp → ⊥) where

@@ -2,7 +2,7 @@
 use Rattle.tx_attempts.specs.Kept.{grown}
 use Rattle.std.proofs.Common.{◌≡◌, ℕ, ◌/◌, Bool, true, false, None, Some, inl, inr, refl, sym, true≢false, ap, subst, ◌∙◌}
 use Rattle.norec_world.proofs.Attempts.ActiveRows.{opened_here, row_from, unchanged}
-use Rattle.norec_world.proofs.Common.{Actor, Answer, Attempt, Call, Cells, Core, IsDone, IsTold, Next, RecordsReply, Reply, Rows, Rules, Tells, active_of, in_transaction, same_Some}
+use Rattle.norec_world.proofs.Common.{Actor, Answer, Attempt, Call, Cells, Core, IsDone, IsTold, Next, RecordsReply, Reply, Restarted, Rows, Rules, Tells, active_of, in_transaction, same_Some}
 use Rattle.norec_world.proofs.Engines.Intakes.{HasAnswered, HasTaken, recorded}
 use Rattle.norec_world.proofs.Attempts.TryEnds.{begun_or_not}
 use Rattle.norec_world.specs.Records.{ReadsAt}
@@ -32,6 +32,7 @@ module _ {P : Type 0} {rules : Rules P} {was : Bool} {cells cells' : Cells} {r :
         ap (λ (x : Attempt). x.at) (sym is))
     | inr x ↦ absurd (true≢false (sym now ∙ x.0))
   ]
+  answer_reads b (Restarted clock word) same t now row e = absurd t.told
   answer_reads b answer same t now row e = absurd (true≢false (sym (ap in_transaction (sym t.settled.engine) ∙ now) ∙ t.answered.fits.1))
 
   -- its engine has not moved where it reads

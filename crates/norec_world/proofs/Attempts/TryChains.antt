@@ -36,7 +36,7 @@ starts_between {P} clock nth p r a t none nothing first = by_try t
 pub first_still : {P : Type 0} (clock patience max_commits retries depth : ℕ) (r r' : Rows) (a : Actor P) → active_of a.thread r'.active ≡ active_of a.thread r.active → IsFirst clock patience max_commits retries depth r a → IsFirst clock patience max_commits retries depth r' a
 first_still clock patience max_commits retries depth r r' a same f =
     let b = f.between in
-    record { between = record { none = same ∙ b.none; tries = b.tries; opens = b.opens; goes_on = b.goes_on }; patience_is = f.patience_is; limit = f.limit; depth_is = f.depth_is; retries_are = f.retries_are; seen = f.seen }
+    record { between = record { none = same ∙ b.none; tries = b.tries; opens = b.opens; goes_on = b.goes_on }; patience_is = f.patience_is; limit = f.limit; depth_is = f.depth_is; restarts_none = f.restarts_none; retries_are = f.retries_are; seen = f.seen }
 
 continues_twice : (a b c : Attempt) → Continues a b → Continues b c → Continues a c
 continues_twice a b c x y = record {

@@ -6,7 +6,7 @@ use Rattle.nest_frames.specs.Nest.{Frame}
 use Rattle.norec_world.proofs.Engines.PlayerLaws.{deep_of}
 use Rattle.norec_world.proofs.Attempts.Cancels.{cancels}
 use Rattle.norec_world.proofs.Attempts.OpenTries.{outermost_refusal}
-use Rattle.norec_world.proofs.Common.{Actor, Agrees, Answer, Attempt, Begin, Busy, Call, Cells, ClosedBy, Code, Committed, Conflict, ConflictsIn, Core, CountsTry, Ended, Ends, EndsAt, Full, GoesOnAfter, HasRow, IsBetween, IsMemory, IsReady, IsSettledBy, IsTied, Opens, Outcome, Props, Ready, RecordsReply, Replied, Replies, Reply, RestsAs, Rows, Rules, Status, Tries, TriesAgain, active_of, between, cases_Bool, cond-false, cond-true, current_of, ending_of, in_transaction, is_begin, is_done, is_inside, none_inside, outrun, over, prior_of, recoded, reply as replied, reply_cases, runs, shut_out, stands_for, turned_away, with_opened}
+use Rattle.norec_world.proofs.Common.{Actor, Agrees, Answer, Attempt, Begin, Busy, Call, Cells, ClosedBy, Code, Committed, Conflict, ConflictsIn, Core, CountsTry, Ended, Ends, EndsAt, Full, GoesOnAfter, HasRow, IsBetween, IsMemory, IsReady, IsSettledBy, IsTied, Opens, Outcome, Props, Ready, RecordsReply, Replied, Replies, Reply, Restarted, RestsAs, Rows, Rules, Status, Tries, TriesAgain, active_of, between, cases_Bool, cond-false, cond-true, current_of, ending_of, in_transaction, is_begin, is_done, is_inside, none_inside, outrun, over, prior_of, recoded, reply as replied, reply_cases, runs, shut_out, stands_for, turned_away, with_opened}
 use Rattle.itm_types.specs.declared.call.Reply.TheVariants as replies
 use Rattle.itm_model.specs.Machine.{or_else, reply_unless, unless}
 use Rattle.itm_types.specs.declared.call.Refusal.{Refusal}
@@ -218,6 +218,7 @@ module _ {P : Type 0} {rules : Rules P} {cells cells' : Cells} {r r1 : Rows} {mi
         omega (arith, ap (λ (c : Core). c.snapshot) (m.settled.engine ∙ g.stays), ap (λ (c : Core). c.clock) g.stays, g.later, g.clock_is, m.taken.tied.late),
       ) refl
       (tries_again rules r r1 a last true m.settled cells'.clock m.answered.fits.1 m.answered.status m.told.2)
+  open_tries (Restarted clock word) m = absurd m.told
   open_tries (Busy clock) m = absurd (let f : true ≡ false = m.answered.fits.0 in cc)
   open_tries (Full at) m =
       let row = m.answered.kept.row in
@@ -376,4 +377,5 @@ module _ {P : Type 0} {rules : Rules P} {cells cells' : Cells} {r r1 : Rows} {mi
         same = out.0;
         after = record { none = none_active rules r r1 a last false m.settled m.answered.fits.1; status = m.told.1 };
       })
+  begin_tries seen may (Restarted clock word) early m = absurd m.told
   begin_tries seen may (Committed at wrote) early m = absurd (let f : false ≡ true = m.answered.fits.0 in cc)

@@ -135,8 +135,8 @@ module _ {P : Type 0} (rules : Rules P) (w : World P) (c : CommitsInOrder w) (i 
 
       each_limits : (place : ℕ) (a : Actor P) → slice_get (slice_set w.actors i new) place ≡ Some a → HasLimits after a
       each_limits j b e = elim (set_place w.actors i got new here j b e) [
-        | inl h ↦ (let l = c.limits i got here in subst (HasLimits after) (sym h.1) (record { retries = event.retries ∙ l.retries; patience = event.clocks.limit.1 ∙ l.patience; depth = event.clocks.limit.2 ∙ l.depth; max_commits = event.clocks.limit.0 ∙ l.max_commits }))
-        | inr h ↦ (let l = c.limits j b h.1 in record { retries = l.retries; patience = l.patience; max_commits = l.max_commits; depth = l.depth })
+        | inl h ↦ (let l = c.limits i got here in subst (HasLimits after) (sym h.1) (record { retries = event.retries ∙ l.retries; patience = event.clocks.limit.1 ∙ l.patience; depth = event.clocks.limit.2 ∙ l.depth; max_commits = event.clocks.limit.0 ∙ l.max_commits; restarts = event.clocks.limit.3 ∙ l.restarts }))
+        | inr h ↦ (let l = c.limits j b h.1 in record { retries = l.retries; patience = l.patience; max_commits = l.max_commits; depth = l.depth; restarts = l.restarts })
       ]
 
 -- a world that has just begun
@@ -154,7 +154,7 @@ module _ {P : Type 0} (rules : Rules P) (w : World P)
     held = λ odd. absurd (omega (arith, zero_clock));
     free = λ even place a e. free_one place a e;
     one = λ i j a b ea eb ha hb. absurd (both_ways a.engine.holds (free_one i a ea) ha);
-    limits = λ place a e. (let f = first place a e in record { retries = f.retries_are; patience = f.patience_is; max_commits = f.limit; depth = f.depth_is });
+    limits = λ place a e. (let f = first place a e in record { retries = f.retries_are; patience = f.patience_is; max_commits = f.limit; depth = f.depth_is; restarts = f.restarts_none });
   }
     where
       free_one : (place : ℕ) (a : Actor P) → slice_get w.actors place ≡ Some a → a.engine.holds ≡ false

@@ -6,6 +6,7 @@ use Rattle.norec_world.proofs.Engines.ClockHolders.{freed_by, is_free}
 use Rattle.norec_world.proofs.Engines.TiedEngines.{held_even}
 use Rattle.norec_core.proofs.Accesses.Logs.{agrees_more}
 use Rattle.norec_core.proofs.Accesses.Logs as logs
+use Rattle.norec_core.proofs.Replies.NoRestarts.{none_goes_back}
 use Rattle.norec_core.proofs.Engines.HeldStores.{got_now, got_or}
 use Rattle.norec_core.specs.OwnAccesses.{got_in}
 use Rattle.write_set.specs.Rows.{overlay}
@@ -67,7 +68,7 @@ module _ (memory : ℕ → List ℕ) (cells : Cells) (e : Core) (t : IsTied cell
 
     -- the log of before is of the new snapshot's memory too
     pub still_logged : in_transaction e ≡ true → Agrees (memory (new.snapshot / 2)) e.log
-    still_logged o = logs.still_logged e new (found cells step) joins t.settled memory s.logged settled_fresh o
+    still_logged o = elim (logs.still_logged e new (found cells step) joins t.settled memory s.logged settled_fresh o) [ inl all ↦ all | inr back ↦ absurd (none_goes_back e new (found cells step) t.restarts back) ]
 
     pub log_now : in_transaction new ≡ true → Agrees (memory (new.snapshot / 2)) new.log
     log_now o = logs.log_now e new (found cells step) joins t.settled memory s.logged settled_fresh o
@@ -76,7 +77,8 @@ module _ (memory : ℕ → List ℕ) (cells : Cells) (e : Core) (t : IsTied cell
     pub less_logged : in_transaction new ≡ true → new.irrevocable ≡ false → (m : List ℕ) → Agrees m new.log → Agrees m e.log
     less_logged o r m a = elim (logs.log_longer e new (found cells step) joins t.settled o) [
       | inl more ↦ logs.agrees_less m e.log more.0 (subst (Agrees m) more.1 a)
-      | inr over ↦ absurd (both_ways new.irrevocable r over.is)
+      | inr (inl over) ↦ absurd (both_ways new.irrevocable r over.is)
+      | inr (inr back) ↦ absurd (none_goes_back e new (found cells step) t.restarts back)
     ]
 
 -- ## Over cells and then others
@@ -165,7 +167,8 @@ step_seen deepest base cells r e new step laid tied sees waits lawful joins =
       late = (let same = k.snapshot in let reached = tied.settled.reached in let late = tied.late in omega arith);
       up = λ o. elim (joins.snapshot (sym (ap is_inside k.keeps.blocks) ∙ o)) [
         | inl is ↦ (let same = k.snapshot in omega arith)
-        | inr moved ↦ (let same = k.snapshot in let reached = tied.settled.reached in let clock = moved.0.same in let to = moved.2 in omega arith)
+        | inr (inr back) ↦ absurd (none_goes_back e new (found cells step) tied.restarts back)
+        | inr (inl moved) ↦ (let same = k.snapshot in let reached = tied.settled.reached in let clock = moved.0.same in let to = moved.2 in omega arith)
       ];
       opens = λ shut o.
           elim (joins.begins (sym (ap is_inside k.keeps.blocks) ∙ shut) o) [

@@ -25,7 +25,7 @@ clocks_of cells cells' e e' h odd = record {
 }
 
 -- no step
-pub clocks_still : (cells : Cells) (e e' : Core) → e'.holds ≡ e.holds → e'.clock ≡ e.clock → (e'.max_commits ≡ e.max_commits) × (e'.patience ≡ e.patience) × (e'.depth ≡ e.depth) → ClocksOn cells e cells e'
+pub clocks_still : (cells : Cells) (e e' : Core) → e'.holds ≡ e.holds → e'.clock ≡ e.clock → (e'.max_commits ≡ e.max_commits) × (e'.patience ≡ e.patience) × (e'.depth ≡ e.depth) × (e'.restarts ≡ e.restarts) → ClocksOn cells e cells e'
 clocks_still cells e e' same clock limit = record {
   apart = λ odd free. (refl, same ∙ free);
   alone = λ mine odd. same ∙ mine odd;
@@ -47,7 +47,7 @@ clocks_twice c0 c1 c2 e0 e1 e2 x y = record {
   odd = λ before. y.odd (x.odd before);
   late = (let a = x.late in let b = y.late in omega arith);
   long = y.long ∙ x.long;
-  limit = (y.limit.0 ∙ x.limit.0, y.limit.1 ∙ x.limit.1, y.limit.2 ∙ x.limit.2);
+  limit = (y.limit.0 ∙ x.limit.0, y.limit.1 ∙ x.limit.1, y.limit.2 ∙ x.limit.2, y.limit.3 ∙ x.limit.3);
   capped = λ l. subst (λ (n : ℕ). c2.clock ≤ 2 * n) x.limit.0 (y.capped (subst (λ (n : ℕ). c1.clock ≤ 2 * n) (sym x.limit.0) (x.capped l)));
   seen = λ s. y.seen (x.seen s);
 }

@@ -84,7 +84,7 @@ module _ {P : Type 0} {rules : Rules P} {was : Bool} {cells cells' : Cells} {r :
         in_call = m.in_call;
         fits =
             subst (λ (n : ℕ). AnswerFits was n (in_transaction a.engine) (length a.engine.blocks) call answer) (sym m.depth)
-            (subst (λ (b : Bool). AnswerFits b (length mid.blocks) (in_transaction a.engine) (length a.engine.blocks) call answer) m.was_is (answer_fits mid a.engine call answer m.doing m.proceeds));
+            (subst (λ (b : Bool). AnswerFits b (length mid.blocks) (in_transaction a.engine) (length a.engine.blocks) call answer) m.was_is (answer_fits mid a.engine m.tied.restarts call answer m.doing m.proceeds));
         idle = rest.idle;
         free = rest.holds;
         status = m.ready;

@@ -4,7 +4,7 @@ use Rattle.std.proofs.Common.{◌≡◌, ℕ, ◌+◌, ◌*◌, ◌<◌, ◌≤�
 use Rattle.norec_world.proofs.Common.{Actor, Attempt, Begin, Call, Code, Commit, Done, End, Ended, CallRecord, Falls, GaveUp, HasRow, IsAnswered, IsKept, IsNested, IsSettledBy, Obeys, Replied, Reply, RestsAs, Rows, Rules, Status, active_of, depth_after, in_transaction, is_begin, is_inside, cond_both, Core, retried, whole, Answer}
 use Rattle.norec_world.specs.Sound.{tries_left}
 use Rattle.tx_runs.specs.Nesting.{IsDeep}
-use Rattle.tx_runs.proofs.Players.{Played, block_same, plays, rank_less, rank_same}
+use Rattle.tx_runs.proofs.Players.{Played, block_same, nested_outside, plays, rank_less, rank_same}
 use Rattle.nest_frames.specs.Nest.{Frame, closed, logged}
 use Rattle.itm_types.specs.declared.call.Call.TheVariants.{Abort, Log, LogBytes}
 use Rattle.undo_log.specs.Rollback.{Old}
@@ -140,7 +140,7 @@ module _ {P : Type 0} (rules : Rules P) (laws : Obeys rules)
       tries true e = after_end was GaveUp player end_room pending d.kept d.idle closed row
       tries false e =
           let low : a.nth ≤ a.retries = ltb-false a.retries a.nth e in
-          let nested : IsNested rules false player = record { deep = outside; begun = λ o. absurd (cc); less = λ o. absurd (cc) } in
+          let nested = nested_outside rules player outside in
           let none : length a.engine.blocks ≡ 0 = subst (λ (b : Bool). IsDeep b (length a.engine.blocks)) closed (deep_of a.engine.blocks) in
           ready_again was false closed d player a.spare end_room a.cancel_room pending (a.nth + 1) a.again row d.kept.empty (omega arith, omega arith) nested (outside ∙ sym none) nothing (record {
             whole_falls = (let x = same in omega arith);

@@ -18,6 +18,7 @@ use Rattle.norec_core.proofs.Engines.KeptFields.{most_same}
 use Rattle.norec_world.specs.Sound.{IsWaiting, IsAsked}
 use Rattle.norec_world.proofs.Engines.ClockHolders.{clocks_of, clocks_still, clocks_twice, word_freed}
 use Rattle.norec_world.proofs.Engines.Intakes.{ClockMoves, HasTaken, in_call_of, ready_of}
+use Rattle.norec_world.proofs.Engines.NoRestarts.{not_restarted}
 use Rattle.norec_world.proofs.Engines.TiedEngines.{IsMid, hands, held_even, holds_handed, clock_same, limit_same, tied, comes}
 use Rattle.norec_world.specs.Records.{Asks as AsksOf}
 use Rattle.norec_world.specs.LocalWork.{SameActor, TakesIn}
@@ -196,7 +197,7 @@ module _ {P : Type 0} {rules : Rules P} {cells : Cells} {r : Rows} {old : Actor 
       (λ row e. (let p = acts.places row e in let n = registers_none call plain.1 in let t = ap total same_actions in omega arith)) (λ row e abort. absurd (let both : false ≡ true = sym plain.0 ∙ abort in cc)) acts.pending
       (same_room old.engine (handed_to old.engine (Some m.step) (found cells m.step)) old (sym same.depth) (sym same.blocks) (sym same.irrevocable) (sym same.doing) (sym same.room) (sym same.actions) acts.room)
       (λ row e. (let few = acts.backed row e in let n = promised_same (handed_to old.engine (Some m.step) (found cells m.step)) old.engine same.irrevocable same.room in omega arith))
-      (λ o. asks.ahead (sym inside ∙ o) ∙ sym same_wants) (λ row e. asks.pending row e ∙ sym same_wants) (let k = asks.backed in let n = same.room in let l = same_wants in omega arith) m.resumed.settled what went (λ shut. (let none = (m.sound.tied.settled.closed (sym inside ∙ shut)) in (ap (λ (x : _). x.commits) same_actions ∙ none.2, ap (λ (x : _). x.undos) same_actions ∙ none.3))) (λ step e. plain)
+      (λ o. asks.ahead (sym inside ∙ o) ∙ sym same_wants) (λ row e. asks.pending row e ∙ sym same_wants) (let k = asks.backed in let n = same.room in let l = same_wants in omega arith) m.resumed.settled what went (λ answer is. not_restarted mid_step new answer ((limit_same mid_step new what went).3 ∙ is_mid.restarts) (subst (λ (x : Next). Proceeds mid_step x new) is went)) (λ shut. (let none = (m.sound.tied.settled.closed (sym inside ∙ shut)) in (ap (λ (x : _). x.commits) same_actions ∙ none.2, ap (λ (x : _). x.undos) same_actions ∙ none.3))) (λ step e. plain)
 
   -- what becomes of the clock, as the others see it
   pub step_clocks : (last : Core) → last ≡ new → ClocksOn cells old.engine cells' last
@@ -204,7 +205,7 @@ module _ {P : Type 0} {rules : Rules P} {cells : Cells} {r : Rows} {old : Actor 
       let taken = subst (λ (c : Cells). HoldsOn cells old.engine c mid_step) (sym m.cells_are) (holds_handed cells old.engine m.step m.sound.tied waits.lawful) in
       let kept = limit_same mid_step new what went in
       clocks_twice cells cells' cells' old.engine mid_step last (clocks_of cells cells' old.engine mid_step taken (λ h. (let held = is_mid.holder h in let even = is_mid.even h in omega arith)))
-      (clocks_still cells' mid_step last (ap (λ (c : Core). c.holds) is ∙ (clock_same mid_step new what went).2) (ap (λ (c : Core). c.clock) is ∙ (clock_same mid_step new what went).1) (ap (λ (c : Core). c.max_commits) is ∙ kept.0, ap (λ (c : Core). c.patience) is ∙ kept.1, ap (λ (c : Core). c.depth) is ∙ kept.2))
+      (clocks_still cells' mid_step last (ap (λ (c : Core). c.holds) is ∙ (clock_same mid_step new what went).2) (ap (λ (c : Core). c.clock) is ∙ (clock_same mid_step new what went).1) (ap (λ (c : Core). c.max_commits) is ∙ kept.0, ap (λ (c : Core). c.patience) is ∙ kept.1, ap (λ (c : Core). c.depth) is ∙ kept.2, ap (λ (c : Core). c.restarts) is ∙ kept.3))
 
   -- the value came to the engine, and what came of it was taken up
   pub takes_in : (status : Status) → status ≡ Ready → {rows r' : Rows} {last : Actor P} → last.engine ≡ new → Tells rules (in_transaction old.engine) r rows (record old { engine = new; status = status }) last call what

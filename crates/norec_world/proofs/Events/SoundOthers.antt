@@ -25,6 +25,7 @@ module _ {P : Type 0} (rules : Rules P) where
     late = (let l = t.late in omega arith);
     holder = λ h. ap (λ (c : Cells). c.clock) (held h) ∙ t.holder h;
     settled = t.settled;
+    restarts = t.restarts;
   }
 
   -- over other rows with room for what comes, where its open attempt is no longer

@@ -38,7 +38,7 @@ module _ {P : Type 0} {rules : Rules P} (laws : Obeys rules) {cells : Cells} {r0
     others = others_same old (record old { status = Ended Finished }) r0 r0 refl refl refl refl (let l : r0.room ≤ r0.room = omega arith in l);
     holds = refl;
     clock = refl;
-    limit = (refl, refl, refl);
+    limit = (refl, refl, refl, refl);
     snapshot = refl;
     retries = refl;
     finishes = λ w e. none;
@@ -48,7 +48,7 @@ module _ {P : Type 0} {rules : Rules P} (laws : Obeys rules) {cells : Cells} {r0
 
   -- memory was refused to it
   pub starve_worked : (r1 : Rows) (last : Actor P) → IsSound rules cells r1 last → Starves rules r0 old r1 last → KeepsOthers old r0 last r1 → (old.engine.irrevocable ≡ false → in_transaction last.engine ≡ false) → last.engine.holds ≡ old.engine.holds
-      → (last.engine.max_commits ≡ old.engine.max_commits) × (last.engine.patience ≡ old.engine.patience) × (last.engine.depth ≡ old.engine.depth) → HasWorked rules cells r0 old r1 last
+      → (last.engine.max_commits ≡ old.engine.max_commits) × (last.engine.patience ≡ old.engine.patience) × (last.engine.depth ≡ old.engine.depth) × (last.engine.restarts ≡ old.engine.restarts) → HasWorked rules cells r0 old r1 last
   starve_worked r1 last sound' s others closed holds limit =
       let tries = starve_tries rules cells r0 old sound ready r1 last s (λ revocable. subst (λ (b : Bool). HasRow b r1 last.thread) (closed revocable) sound'.kept.row) in
       let own = others.own in
@@ -108,7 +108,7 @@ module _ {P : Type 0} {rules : Rules P} (laws : Obeys rules) {cells : Cells} {r0
         others = others;
         holds = ap (λ (c : Core). c.holds) x.engine ∙ (clock_same (mid m) a.engine what m.asks.called.proceeds).2;
         clock = ap (λ (c : Core). c.clock) x.engine ∙ (clock_same (mid m) a.engine what m.asks.called.proceeds).1;
-        limit = (ap (λ (c : Core). c.max_commits) x.engine ∙ kept.0, ap (λ (c : Core). c.patience) x.engine ∙ kept.1, ap (λ (c : Core). c.depth) x.engine ∙ kept.2);
+        limit = (ap (λ (c : Core). c.max_commits) x.engine ∙ kept.0, ap (λ (c : Core). c.patience) x.engine ∙ kept.1, ap (λ (c : Core). c.depth) x.engine ∙ kept.2, ap (λ (c : Core). c.restarts) x.engine ∙ kept.3);
         snapshot = ap (λ (c : Core). c.snapshot) x.engine ∙ m.asked.called.stays.snapshot;
         retries = x.retries ∙ m.asked.same.retries;
         finishes = λ w e. absurd (recorded (λ x y. ending_of y.status ≡ Some Finished → ⊥) taken done tells (λ step t e. absurd (cc)) (λ answer is t. not_finished rules r r1 a last call (in_transaction old.engine) taken.ready answer t.told) e);
@@ -129,7 +129,7 @@ module _ {P : Type 0} {rules : Rules P} {cells : Cells} {r : Rows} {a : Actor P}
     others = others_same a a r r refl refl refl refl (let l : r.room ≤ r.room = omega arith in l);
     holds = refl;
     clock = refl;
-    limit = (refl, refl, refl);
+    limit = (refl, refl, refl, refl);
     snapshot = refl;
     retries = refl;
     finishes = λ w. still_going (ready_of a.status w);
@@ -148,7 +148,7 @@ module _ {P : Type 0} {rules : Rules P} {cells : Cells} {r : Rows} {a : Actor P}
         others = others_twice a a1 a2 r r1 r2 x.others y.others;
         holds = y.holds ∙ x.holds;
         clock = y.clock ∙ x.clock;
-        limit = (y.limit.0 ∙ x.limit.0, y.limit.1 ∙ x.limit.1, y.limit.2 ∙ x.limit.2);
+        limit = (y.limit.0 ∙ x.limit.0, y.limit.1 ∙ x.limit.1, y.limit.2 ∙ x.limit.2, y.limit.3 ∙ x.limit.3);
         snapshot = y.snapshot ∙ x.snapshot;
         retries = y.retries ∙ x.retries;
         finishes = λ w. y.finishes ready_1;

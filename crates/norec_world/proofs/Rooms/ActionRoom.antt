@@ -7,6 +7,7 @@ use Rattle.norec_core.specs.Moves.{IsCalled}
 use Rattle.norec_engine.specs.NextSteps.{next_in, ComesInto}
 use Rattle.norec_core.specs.Order.{asked, asked_from, stage_at}
 use Rattle.norec_core.specs.Proceeds.{IsSettled, MayStarveIn, MayStarveOpen}
+use Rattle.norec_core.specs.Restarts.{IsRestart}
 use Rattle.norec_world.specs.Records.{Asks as AsksOf, asked_pending, begins_again}
 use Rattle.norec_world.proofs.Attempts.ActiveRows.{row_from}
 use Rattle.itm_types.specs.declared.call.Call.TheVariants.{Abort, Begin, CommitAction, Copy, Fill, Log, LogBytes, Mode, Read, UndoAction, Write}
@@ -22,6 +23,7 @@ use Rattle.norec_world.proofs.Rooms.CallRoom.{leaves_backed, promised_same, want
 use Rattle.norec_world.proofs.Rooms.HeldRoom.{LeavesRoom, leaves_room, same_room}
 use Rattle.norec_world.proofs.Common.{Actor, Answer, AsksFor, Attempt, Call, Core, Ends, HasRow, Proceeds, Ready, Rows, Step, active_of, cases_Bool, in_transaction, is_begin, is_inside, none_inside, rests, with_changed}
 use Rattle.norec_world.proofs.Rooms.LaterActions.{first_here}
+use Rattle.norec_world.proofs.Engines.NoRestarts.{not_at_once}
 
 cancels_register_none : (call : Call) → is_abort call ≡ true → registers call ≡ 0
 cancels_register_none (Abort outer) e = refl
@@ -66,12 +68,12 @@ module _ {P : Type 0} (r : Rows) (a : Actor P) (mid : Core) (call : Call) (was :
       wanted_on : AsksFor mid step a.engine → wanted a.engine ≡ wanted mid
       wanted_on g = wanted_same a.engine mid (ap (λ (c : Core). c.depth) g.stays) (ap (λ (c : Core). c.blocks) g.stays) (ap (λ (c : Core). c.irrevocable) g.stays) (ap (λ (c : Core). c.doing) g.stays)
 
-  module _ (answer : Answer) (g : Ends mid answer a.engine) (shut : in_transaction mid ≡ false → (mid.actions.commits ≡ []) × (mid.actions.undos ≡ [])) where
+  module _ (answer : Answer) (g : Ends mid answer a.engine) (stays : IsRestart answer → ⊥) (shut : in_transaction mid ≡ false → (mid.actions.commits ≡ []) × (mid.actions.undos ≡ [])) where
     acts : LeavesActions mid call a.engine
-    acts = (rests mid a.engine answer g).acts call doing
+    acts = (rests mid a.engine answer g).acts call doing stays
 
     left : LeavesRoom mid a.engine
-    left = leaves_room mid a.engine call answer doing settled g shut
+    left = leaves_room mid a.engine call answer doing settled g stays shut
 
     cancel_place : in_transaction a.engine ≡ true → (row : Attempt) → active_of a.thread r.active ≡ Some row → length row.ran < length a.engine.actions.ran → length a.engine.actions.ran ≤ vec_capacity a.cancel_room
     cancel_place now row e less = elim (cases_Bool (is_abort call)) [
@@ -97,15 +99,15 @@ module _ {P : Type 0} (r : Rows) (a : Actor P) (mid : Core) (call : Call) (was :
       room = λ held some. (let less = left.room held some in let both = room (left.held held) less.0 in ((let x = both.0 in let y = less.1 in omega arith), (let x = both.1 in let y = less.1 in omega arith)));
       over = left.over;
       still = λ held row e. all row e ∙ sym (left.ran held (was_open row e));
-      adds = λ now row e entry. (leaves_backed mid a.engine call answer doing reserved settled g now).adds row.calls.room a.ahead (backed row e) (ahead (was_open row e));
-      opens = λ now row e. (leaves_backed mid a.engine call answer doing reserved settled g now).opens row.calls.room (asks row e);
+      adds = λ now row e entry. (leaves_backed mid a.engine call answer doing reserved settled g stays now).adds row.calls.room a.ahead (backed row e) (ahead (was_open row e));
+      opens = λ now row e. (leaves_backed mid a.engine call answer doing reserved settled g stays now).opens row.calls.room (asks row e);
     }
 
-  -- whatever it gave
-  pub gave_acting : (what : Next) → Proceeds mid what a.engine → (in_transaction mid ≡ false → (mid.actions.commits ≡ []) × (mid.actions.undos ≡ []))
+  -- whatever it gave, but for a block that went back to its begin alone
+  pub gave_acting : (what : Next) → Proceeds mid what a.engine → ((answer : Answer) → what ≡ Answers answer → IsRestart answer → ⊥) → (in_transaction mid ≡ false → (mid.actions.commits ≡ []) × (mid.actions.undos ≡ []))
       → ((step : Step) → what ≡ Asks step → (is_abort call ≡ false) × (is_some (registered_by call) ≡ false)) → MayRunOn r a call what
-  gave_acting (Asks step) g shut plain = waits_acting step g (plain step refl)
-  gave_acting (Answers answer) g shut plain = answered_acting answer g shut
+  gave_acting (Asks step) g stays shut plain = waits_acting step g (plain step refl)
+  gave_acting (Answers answer) g stays shut plain = answered_acting answer g (stays answer refl) shut
 
 -- ## Calls that wait for a step
 
@@ -194,7 +196,7 @@ pub called_acting : {P E : Type 0} (answer : Answer) (r : Rows) (a : Actor P) (o
     → (in_transaction (came old call again) ≡ false → ((came old call again).actions.commits ≡ []) × ((came old call again).actions.undos ≡ []))
     → (result : Result (Option Step) E) → ComesInto old call again result answer a.engine → IfOk result (λ what. MayRunOn r a call (next_in what answer))
 called_acting answer r a old call again was o has empty all places cancel pending room backed ahead wants reserved shut (Ok what) e =
-    gave_acting r a (came old call again) call was o has refl empty all places cancel pending room backed ahead wants reserved e.settled (next_in what answer) e.proceeds shut (gave_plainly (came old call again) a.engine old call again (next_in what answer) e.proceeds e.order e.asks)
+    gave_acting r a (came old call again) call was o has refl empty all places cancel pending room backed ahead wants reserved e.settled (next_in what answer) e.proceeds (not_at_once (next_in what answer) e.at_once) shut (gave_plainly (came old call again) a.engine old call again (next_in what answer) e.proceeds e.order e.asks)
 called_acting answer r a old call again was o has empty all places cancel pending room backed ahead wants reserved shut (Err x) e = tt
 
 -- a place more where the call registers one

@@ -8,6 +8,7 @@ use Rattle.itm_model.specs.Machine.{after_unless, effect, entered, irrevocable_f
 use Rattle.nest_frames.specs.Nest.{stays_revocable}
 use Rattle.norec_core.specs.Core.{came, irrevocable_room, may_go}
 use Rattle.norec_core.specs.Proceeds.{IsSettled, MayStarveHeld, MayStarveIn, Replies}
+use Rattle.norec_core.specs.Restarts.{IsRestart}
 use Rattle.norec_core.specs.Effects.{room_left}
 use Rattle.norec_core.specs.Stands.{state_in}
 use Rattle.norec_core.proofs.Engines.IrrevocableCalls.{begin_served, mode_enters}
@@ -107,7 +108,7 @@ wanted_as c call doing = ap (λ (o : Option Call). unwrap_or (goes_in c o) 0) do
 pub wanted_none : (c : Core) (call : Call) → c.doing ≡ Some call → is_some (irrevocable_room c call) ≡ false → wanted c ≡ 0
 wanted_none c call doing is = wanted_as c call doing ∙ none_of (irrevocable_room c call) is
 
-module _ (mid new : Core) (call : Call) (answer : Answer) (doing : mid.doing ≡ Some call) (backed : wanted mid ≤ mid.room) (settled : IsSettled new) (g : Ends mid answer new) (now : in_transaction new ≡ true) where
+module _ (mid new : Core) (call : Call) (answer : Answer) (doing : mid.doing ≡ Some call) (backed : wanted mid ≤ mid.room) (settled : IsSettled new) (g : Ends mid answer new) (stays : IsRestart answer → ⊥) (now : in_transaction new ≡ true) where
   by_way : (r : Replied) → Ends mid (Reply r) new → LeavesBacked mid new
   by_way r g = elim (reply_cases mid new call r doing g) [
     | inl w ↦
@@ -131,8 +132,7 @@ module _ (mid new : Core) (call : Call) (answer : Answer) (doing : mid.doing ≡
   -- where the transaction is open after it
   pub leaves_backed : LeavesBacked mid new
   leaves_backed =
-      let reply = (rests mid new answer g).replies now in
-      by_way reply.0 (subst (λ (a : Answer). Ends mid a new) reply.1 g)
+      elim ((rests mid new answer g).replies now) [ inl reply ↦ by_way reply.0 (subst (λ (a : Answer). Ends mid a new) reply.1 g) | inr back ↦ absurd (stays back) ]
 
 -- ## A call comes, and goes on
 

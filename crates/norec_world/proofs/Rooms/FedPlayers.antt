@@ -19,7 +19,7 @@ use Rattle.norec_world.proofs.Rooms.CallRoom.{wanted_as, wanted_none}
 use Rattle.norec_world.proofs.Rooms.HeldRoom.{goes_no_more}
 use Rattle.norec_world.proofs.Engines.Intakes.{HasAnswered, HasTaken}
 use Rattle.norec_world.proofs.Attempts.TryEnds.{begun_or_not}
-use Rattle.norec_world.proofs.Common.{Actor, Answer, Asks, Attempt, Begin, Busy, Call, Cells, Code, Commit, Committed, Conflict, Core, Done, Ends, Full, IsMemory, Props, RecordsReply, Refusal, Replied, Reply, Rows, Rules, State, Step, Waits, active_of, in_transaction, refusal, reply as machine_reply, reply_cases, same_Some, stands_for}
+use Rattle.norec_world.proofs.Common.{Actor, Answer, Asks, Attempt, Begin, Busy, Call, Cells, Code, Commit, Committed, Conflict, Core, Done, Ends, Full, IsMemory, Props, RecordsReply, Refusal, Replied, Reply, Restarted, Rows, Rules, State, Step, Waits, active_of, in_transaction, refusal, reply as machine_reply, reply_cases, same_Some, stands_for}
 
 -- ## The replies of the plain machine
 
@@ -141,6 +141,7 @@ module _ {P : Type 0} {rules : Rules P} {was : Bool} {cells cells' : Cells} {r :
         by_was : (b : Bool) → HasAnswered rules b cells cells' r r1 mid a last call (Conflict clock word) → (k : ℕ) × ComesTo rules k p last.player
         by_was true t = (suc n, (a.player, comes, inr (t.answered.nested.deep, t.told.1)))
         by_was false t = comes_still rules p last.player a.player n comes t.told.1
+    comes_on (Restarted clock word) t = absurd t.told
     comes_on (Busy clock) t = comes_still rules p last.player a.player n comes t.told.1
     comes_on (Full at) t = comes_still rules p last.player a.player n comes t.told.2
 
@@ -199,4 +200,5 @@ module _ {P : Type 0} {rules : Rules P} {was : Bool} {cells cells' : Cells} {r :
         by_answer : (answer : Answer) → HasAnswered rules was cells cells' r r1 mid a last call answer → a.engine.irrevocable ≡ true → in_transaction a.engine ≡ true → (row : Attempt) → active_of last.thread r1.active ≡ Some row → EndsWithin rules row.calls.room last.player
         by_answer (Reply reply) t held now row e =
             subst (EndsWithin rules row.calls.room) (sym (player_told rules was (in_transaction last.engine) r r1 a last call reply t.told)) (within_open was reply refl t t (ap in_transaction t.settled.engine ∙ now) held row e)
+        by_answer (Restarted clock word) t held now row e = absurd t.told
         by_answer answer t held now row e = absurd (true≢false (sym now ∙ t.answered.fits.1))

@@ -11,10 +11,11 @@ use Rattle.nest_frames.specs.Nest.{stays_revocable}
 use Rattle.norec_core.specs.Core.{came, irrevocable_room, may_go}
 use Rattle.norec_core.specs.Stands.{state_in}
 use Rattle.norec_core.specs.Proceeds.{IsSettled}
+use Rattle.norec_core.specs.Restarts.{IsRestart}
 use Rattle.norec_core.specs.Effects.{actions_after, room_left}
 use Rattle.norec_core.proofs.Replies.ActionCounts.{LeavesActions, registers}
 use Rattle.norec_world.specs.ActionRoom.{HasRoomFor, counted, goes_in, is_held}
-use Rattle.norec_world.proofs.Common.{Actor, Answer, Busy, Call, Code, Committed, Conflict, ConflictsIn, Core, Done, Ends, Enters, Full, Refused, Replied, RepliesHeld, Reply, State, cases_Bool, in_transaction, refusal, reply_cases, rests, stands_for}
+use Rattle.norec_world.proofs.Common.{Actor, Answer, Busy, Call, Code, Committed, Conflict, ConflictsIn, Core, Done, Ends, Enters, Full, Refused, Replied, RepliesHeld, Reply, Restarted, State, cases_Bool, in_transaction, refusal, reply_cases, rests, stands_for}
 
 -- ## Whether a transaction is held
 
@@ -110,6 +111,7 @@ answered_idle mid new call (Conflict clock word) doing g = conflicted (in_transa
     conflicted : (inside : Bool) → ConflictsIn inside mid clock word new → new.doing ≡ None
     conflicted true w = ap (λ (c : Core). c.doing) w.stays
     conflicted false w = ap (λ (c : Core). c.doing) w.stays
+answered_idle mid new call (Restarted clock word) doing g = ap (λ (c : Core). c.doing) g.stays
 answered_idle mid new call (Busy clock) doing g = ap (λ (c : Core). c.doing) g.stays
 answered_idle mid new call (Full at) doing g = ap (λ (c : Core). c.doing) g.stays
 
@@ -166,9 +168,9 @@ pub record LeavesRoom (mid new : Core) : Type 0 where
   pub room : is_held new ≡ true → 0 < new.room → (0 < mid.room) × (counted new + new.room ≤ counted mid + mid.room)
   pub ran : is_held new ≡ true → in_transaction mid ≡ true → new.actions.ran ≡ mid.actions.ran
 
-module _ (mid new : Core) (call : Call) (answer : Answer) (doing : mid.doing ≡ Some call) (settled : IsSettled new) (g : Ends mid answer new) (shut : in_transaction mid ≡ false → (mid.actions.commits ≡ []) × (mid.actions.undos ≡ [])) where
+module _ (mid new : Core) (call : Call) (answer : Answer) (doing : mid.doing ≡ Some call) (settled : IsSettled new) (g : Ends mid answer new) (stays : IsRestart answer → ⊥) (shut : in_transaction mid ≡ false → (mid.actions.commits ≡ []) × (mid.actions.undos ≡ [])) where
   acts : LeavesActions mid call new
-  acts = (rests mid new answer g).acts call doing
+  acts = (rests mid new answer g).acts call doing stays
 
   is_irrevocable : is_held new ≡ true → new.irrevocable ≡ true
   is_irrevocable held = sym (held_idle new (answered_idle mid new call answer doing g)) ∙ held
@@ -182,10 +184,12 @@ module _ (mid new : Core) (call : Call) (answer : Answer) (doing : mid.doing ≡
 
   kinds_of : new.irrevocable ≡ true → Kinds
   kinds_of h =
-      let reply = (rests mid new answer g).replies (is_inside h) in
-      elim (reply_cases mid new call reply.0 doing (subst (λ (a : Answer). Ends mid a new) reply.1 g)) [
-        | inl w ↦ absurd (true≢false (sym h ∙ (ap (λ (c : Core). c.irrevocable) w.stays ∙ w.revocable)))
-        | inr w ↦ (reply.0, w)
+      elim ((rests mid new answer g).replies (is_inside h)) [
+        | inl reply ↦ elim (reply_cases mid new call reply.0 doing (subst (λ (a : Answer). Ends mid a new) reply.1 g)) [
+          | inl w ↦ absurd (true≢false (sym h ∙ (ap (λ (c : Core). c.irrevocable) w.stays ∙ w.revocable)))
+          | inr w ↦ (reply.0, w)
+        ]
+        | inr back ↦ absurd (stays back)
       ]
 
   was_held : Kinds → is_held mid ≡ true

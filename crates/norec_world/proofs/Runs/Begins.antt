@@ -1,7 +1,7 @@
 -- An actor's run between two tries: calls outside a transaction, and begins.
 use Rattle.std.proofs.Common.{◌≡◌, ◌⊎◌, ℕ, suc, ◌/◌, ◌<◌, ◌≤◌, Bool, true, false, List, [], Option, None, Some, refl, sym, true≢false, ap, subst, ◌∙◌, arith, is_some, inl, inr}
 use Rattle.user_actions.specs.Actions.{Actions}
-use Rattle.norec_world.proofs.Common.{Actor, Agrees, Answer, Attempt, Begin, Between, Busy, Call, Cells, Committed, Conflict, ConflictsIn, Core, CountsTry, Enters, Full, IsBeforeTry, IsInTry, IsMemory, IsRun, LeadsTo, Obeys, Props, Ready, Refusal, Replied, Replies, RepliesHeld, Reply, Row, Rows, Rules, State, active_of, after, alone, backed, begin_of, begins_at, bytes_at, ending_of, in_transaction, inside_all, is_inside, opened, outside, recoded, refusal, reply, reply_cases, same_Some, stands_for, state_over, state_then, with_opened, words_at, breaks_of}
+use Rattle.norec_world.proofs.Common.{Actor, Agrees, Answer, Attempt, Begin, Between, Busy, Call, Cells, Committed, Conflict, ConflictsIn, Core, CountsTry, Enters, Full, IsBeforeTry, IsInTry, IsMemory, IsRun, LeadsTo, Obeys, Props, Ready, Refusal, Replied, Replies, RepliesHeld, Reply, Restarted, Row, Rows, Rules, State, active_of, after, alone, backed, begin_of, begins_at, bytes_at, ending_of, in_transaction, inside_all, is_inside, opened, outside, recoded, refusal, reply, reply_cases, same_Some, stands_for, state_over, state_then, with_opened, words_at, breaks_of}
 use Rattle.itm_model.specs.Machine.{answer, in_arena, or_else, reply_unless, unless}
 use Rattle.itm_types.specs.declared.call.Refusal.TheVariants.{NoIrrevocable}
 use Rattle.norec_core.specs.Core.{may_go}
@@ -245,4 +245,5 @@ module _ {P : Type 0} {rules : Rules P} (laws : Obeys rules) {first : Between P}
     inside = λ o. absurd (true≢false (sym o ∙ (ap in_transaction m.settled.engine ∙ m.answered.fits.1)));
     between = λ o gave_up starved. absurd (gave_up (ap ending_of m.told.1));
   }
+  shut_runs (Restarted clock word) m = absurd m.told
   shut_runs (Committed at wrote) m = absurd (let f : false ≡ true = m.answered.fits.0 in cc)

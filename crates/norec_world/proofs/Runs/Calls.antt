@@ -3,7 +3,7 @@ use Rattle.tx_attempts.specs.Kept.{grown}
 use Rattle.norec_world.proofs.Rooms.LaterActions.{given_up_as}
 use Rattle.std.proofs.Common.{unwrap_or, ◌≡◌, ℕ, ◌/◌, ◌<◌, ◌≤◌, ◌&&◌, Bool, true, false, not, List, [], ◌++◌, Some, refl, sym, true≢false, ap, subst, ◌∙◌, arith, None, inl, inr}
 use Rattle.std.proofs.lemmas.Bool.{and_right, not_from_true}
-use Rattle.norec_world.proofs.Common.{Actor, Agrees, Answer, AreCounted, AreLaid, Attempt, Begin, Between, Call, Cells, Commit, Core, Ended, HasRow, IsBeforeTry, IsDone, IsHeld, IsInTry, IsNested, IsRun, IsRunOf, IsSound, IsTold, LeadsTo, Next, Obeys, Props, Ready, Reply, Rows, Rules, RunsFrom, Sees, Starves, Status, Step, StillRuns, Tells, active_of, asked_pending, begins_again, begins_at, bytes_at, cases_Bool, cond-false, cond-true, ending_of, found, handed_is, handed_to, in_transaction, is_inside, of_thread, run_after, words_at, RecordsReply}
+use Rattle.norec_world.proofs.Common.{Actor, Agrees, Answer, AreCounted, AreLaid, Attempt, Begin, Between, Call, Cells, Commit, Core, Ended, HasRow, IsBeforeTry, IsDone, IsHeld, IsInTry, IsNested, IsRun, IsRunOf, IsSound, IsTold, LeadsTo, Next, Obeys, Props, Ready, Reply, Restarted, Rows, Rules, RunsFrom, Sees, Starves, Status, Step, StillRuns, Tells, active_of, asked_pending, begins_again, begins_at, bytes_at, cases_Bool, cond-false, cond-true, ending_of, found, handed_is, handed_to, in_transaction, is_inside, of_thread, run_after, words_at, RecordsReply}
 use Rattle.tx_attempts.specs.declared.attempt.Outcome.TheVariants as outcomes
 use Rattle.tx_runs.specs.declared.ending.End.TheVariants as ends
 use Rattle.norec_world.proofs.Attempts.ActiveRows.{changed_here, row_from}
@@ -131,6 +131,7 @@ module _ {P : Type 0} {rules : Rules P} (laws : Obeys rules) {cells : Cells} {r0
           let same : with_call x.1 ≡ row = (let z : Some (with_call x.1) ≡ Some row = sym here ∙ f in cc) in
           ap (λ (x : Attempt). x.at) (sym same) ∙ (runs.reads was x.1 (sym (active_same m) ∙ x.3) ∙ ap (λ (k : ℕ). k / 2) (sym (ap (λ (c : Core). c.snapshot) t.settled.engine ∙ m.asked.called.stays.snapshot)))
       by_answer false (Reply reply) was t now row f = absurd (true≢false (sym (m.asked.called.stays.opens now) ∙ was))
+      by_answer b (Restarted clock word) was t now row f = absurd t.told
       by_answer b answer was t now row f = absurd (true≢false (sym now ∙ t.answered.fits.1))
 
   pub call_runs : (r1 : Rows) (last : Actor P) → IsDone rules (in_transaction old.engine) r r1 a last call what → Tells rules (in_transaction old.engine) r r1 a last call what → (more : List Attempt) → r1.ended ≡ r.ended ++ more → AreCounted cells.clock r1.ended

@@ -1,7 +1,7 @@
 -- A value or a call was taken in, and what the engine gave is recorded: the actor's run goes on, and the words are still those that the commits left.
 use Rattle.tx_attempts.specs.Kept.{grown, spent}
 use Rattle.std.proofs.Common.{◌≡◌, ℕ, suc, ◌+◌, ◌/◌, ◌≤◌, ◌==◌, Bool, true, false, List, [], ◌∷◌, ◌++◌, Option, None, Some, refl, sym, true≢false, ap, subst, ◌∙◌, arith, eq-eqb, append-nil, inl, inr}
-use Rattle.norec_world.proofs.Common.{Actor, Agrees, Answer, Answers, AreCounted, AreLaid, Asks, Attempt, Between, Busy, Call, Cells, Committed, Conflict, Core, Done, Full, IsDone, IsHeld, IsRun, Loaded, Next, NoMemory, Obeys, RecordsReply, Replied, Reply, Rows, Rules, Sees, StandsIn, State, Step, Tells, Waits, active_of, after, alone, backed, bytes_at, committed_at, cond-true, ending_of, frees, in_transaction, is_open, memory_left, opened, reply_cases, rests, same_Some, stands_for, words_at}
+use Rattle.norec_world.proofs.Common.{Actor, Agrees, Answer, Answers, AreCounted, AreLaid, Asks, Attempt, Between, Busy, Call, Cells, Committed, Conflict, Core, Done, Full, IsDone, IsHeld, IsRun, Loaded, Next, NoMemory, Obeys, RecordsReply, Replied, Reply, Restarted, Rows, Rules, Sees, StandsIn, State, Step, Tells, Waits, active_of, after, alone, backed, bytes_at, committed_at, cond-true, ending_of, frees, in_transaction, is_open, memory_left, opened, reply_cases, rests, same_Some, stands_for, words_at}
 use Rattle.tx_attempts.specs.declared.attempt.Outcome.TheVariants as outcomes
 use Rattle.norec_world.proofs.Attempts.OpenTries.{try_asks}
 use Rattle.norec_world.proofs.Commits.LaidWords.{laid_more, laid_on}
@@ -92,6 +92,7 @@ module _ {P : Type 0} {rules : Rules P} (laws : Obeys rules) {first : Between P}
             (omega (arith, half, m.taken.tied.settled.reached, m.taken.tied.late))
     open_runs (Committed at wrote) m held = commit_runs laws r1 a last call seen run (cells'.clock / 2) (clock_grows m.taken.moves) (bytes_stay seen.laid more ended) m.taken.was_is at wrote m held
     open_runs (Conflict clock word) m held = conflict_runs laws r1 a last call seen run (cells'.clock / 2) (clock_grows m.taken.moves) (bytes_stay seen.laid more ended) m.taken.was_is clock word m held
+    open_runs (Restarted clock word) m held = absurd m.told
     open_runs (Busy clock) m held = absurd (let f : true ≡ false = m.answered.fits.0 in cc)
     open_runs (Full at) m held =
         let at_is = m.ends.at_is in
@@ -110,6 +111,7 @@ module _ {P : Type 0} {rules : Rules P} (laws : Obeys rules) {first : Between P}
     pub open_ended : (b : Bool) (answer : Answer) → HasAnswered rules b cells cells' r r1 mid a last call answer → in_transaction a.engine ≡ true → r1.ended ≡ r.ended
     open_ended true (Reply reply) m o = ap (λ (x : Rows). x.ended) (subst (λ (now : Bool). RecordsReply rules true now r r1 a last call reply) (ap in_transaction m.settled.engine ∙ o) m.told).0
     open_ended false (Reply reply) m o = elim (begun_or_not reply m) [ inl b ↦ ap (λ (x : Rows). x.ended) b.3 | inr n ↦ ap (λ (x : Rows). x.ended) n.1 ]
+    open_ended b (Restarted clock word) m o = absurd m.told
     open_ended b answer m o = absurd (true≢false (sym o ∙ m.answered.fits.1))
 
     sees_on : (answer : Answer) → HasAnswered rules was cells cells' r r1 mid a last call answer → Sees (words_at mid.depth base r1.ended) cells' last.engine
@@ -215,6 +217,7 @@ module _ {P : Type 0} {rules : Rules P} (laws : Obeys rules) {first : Between P}
             let s = begin_holds laws r1 a last call seen run (held.shut m.taken.was_is) reply m (ap in_transaction m.settled.engine ∙ inside) now row active in
             let memory : bytes_at mid.depth base r.ended (cells.clock / 2) ≡ bytes_at mid.depth base r1.ended (cells'.clock / 2) = λ i. bytes_at mid.depth base (sym (open_ended false (Reply reply) m inside) i) (sym half i) in
             subst (λ (bytes : List ℕ). IsHeld mid.depth bytes cells'.words row a.engine) memory (stands_held (bytes_at mid.depth base r.ended (cells.clock / 2)) row inside now s.0 s.1 idle)
+        by_answer b (Restarted clock word) m held now inside idle = absurd m.told
         by_answer b answer m held now inside idle = absurd (true≢false (sym inside ∙ m.answered.fits.1))
 
     answers_on : (answer : Answer) → HasAnswered rules was cells cells' r r1 mid a last call answer → HasHeld mid.depth base cells cells' r a.thread mid a.engine call (Answers answer) → HasRun rules first mid.depth base cells' r1 last

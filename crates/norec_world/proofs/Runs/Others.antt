@@ -305,7 +305,7 @@ module _ {P : Type 0} (rules : Rules P) (laws : Obeys rules) where
   -- ## Beginnings
 
   -- an actor that has made no call
-  pub fresh_runs : (cells : Cells) (r : Rows) (a : Actor P) (deepest : ℕ) (base : List ℕ) (size patience max_commits : ℕ) → a.engine ≡ opening (length cells.words) (replicate size 0) patience max_commits deepest → r.ended ≡ [] → a.nth ≡ 1 → a.again ≡ false → a.pending ≡ None → a.status ≡ Ready
+  pub fresh_runs : (cells : Cells) (r : Rows) (a : Actor P) (deepest : ℕ) (base : List ℕ) (size patience max_commits : ℕ) → a.engine ≡ opening (length cells.words) (replicate size 0) patience max_commits deepest 0 → r.ended ≡ [] → a.nth ≡ 1 → a.again ≡ false → a.pending ≡ None → a.status ≡ Ready
       → RunsFrom rules (first_of a.player size) deepest base cells r a
   fresh_runs cells r a deepest base size patience max_commits is none first anew nothing ready =
       let shut : in_transaction a.engine ≡ false = ap in_transaction is in

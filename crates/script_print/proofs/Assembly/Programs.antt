@@ -39,6 +39,7 @@ limits_within b h = record {
   retries = or_else (λ n. n ≤ MAX_RETRIES) b.retries 100 h.retries (omega arith);
   commits = or_else (λ n. (1 ≤ n) × (n ≤ MAX_COMMITS)) b.commits MAX_COMMITS h.commits (omega arith, omega arith);
   depth = or_else (λ n. (1 ≤ n) × (n ≤ MAX_DEPTH)) b.depth USUAL_DEPTH h.depth (omega arith, omega arith);
+  restarts = omega arith;
 }
 
 -- ## The program
@@ -53,6 +54,7 @@ listing_printable s m h k r some e = record {
   inits = k.1;
   arena = arena_within s.limits h.limits;
   limits = limits_within s.limits h.limits;
+  restarts = refl;
   items = h.schedule.few;
   schedule = subst (λ n. AllByRecursion (IsItem n) s.schedule.items) (sym (threads_read s.threads)) (none_stray (thread_total s.threads) s.schedule.items s.schedule.lines h.schedule.in_lines h.schedule.each e);
   some = some_parts s.threads;

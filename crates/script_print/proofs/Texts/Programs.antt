@@ -68,7 +68,8 @@ unfolding end_of
 ends_well p places t h some parts =
     let threads : thread_total t ≡ threads_in p.parts = total t ∙ ap threads_in parts in
     let named : stray_of (thread_total t) p.schedule places ≡ None = ap (λ (n : ℕ). stray_of n p.schedule places) threads ∙ no_stray (threads_in p.parts) p.schedule places h.schedule in
-    rw (lt-ltb 0 t.count some, named) (ap (λ (depth : ℕ). Ok (record p { limits = record p.limits { depth = depth }; parts = parts_of t })) (depth_again p.limits.depth) ∙ ap (λ (parts : List Part). Ok (record p { parts = parts })) parts)
+    rw (lt-ltb 0 t.count some, named) (ap (λ (depth : ℕ). Ok (record p { limits = record p.limits { depth = depth; restarts = 0 }; parts = parts_of t })) (depth_again p.limits.depth)
+    ∙ ap (λ (restarts : ℕ). Ok (record p { limits = record p.limits { restarts = restarts }; parts = parts_of t })) (sym h.restarts) ∙ ap (λ (parts : List Part). Ok (record p { parts = parts })) parts)
 
 -- ## The text
 

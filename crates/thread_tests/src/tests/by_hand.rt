@@ -16,10 +16,11 @@ const LIMITS: Limits = Limits {
     retries: 0,
     max_commits: MAX_COMMITS,
     depth: USUAL_DEPTH,
+    restarts: 0,
 };
 
 /// Does a step on the clock and the words, which follow it in order; the value that it found.
-fn step_on(rt: &impl Abort, cells: &mut [u64], step: Step) -> u64 {
+pub(super) fn step_on(rt: &impl Abort, cells: &mut [u64], step: Step) -> u64 {
     let (Step::Load(cell) | Step::Store(cell, _) | Step::Cas(cell, _, _)) = step;
     let cell = cell as usize;
     assert!(rt; cell < cells.len());

@@ -84,6 +84,7 @@ pub(super) fn thread(
         retries: 0,
         max_commits: MAX_COMMITS,
         depth: USUAL_DEPTH,
+        restarts: 0,
     };
     let arena = Arena::new(alloc, arena)?;
     Thread::new(alloc, words, pass, arena, limits)

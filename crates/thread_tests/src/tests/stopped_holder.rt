@@ -94,6 +94,7 @@ fn engine(alloc: Global) -> Result<Engine, AllocError> {
         retries: 0,
         max_commits: MAX_COMMITS,
         depth: USUAL_DEPTH,
+        restarts: 0,
     };
     Engine::new(alloc, 4, Arena::new(alloc, 0)?, limits)
 }

@@ -46,6 +46,7 @@ starved_begin {rules = rules} {words = words} {c = c} {b = b} {old = old} k none
         known = k.same.known ∙ ap (known_after c.known) (sym items);
         over = subst AreOver (sym items) k.same.over;
         bounds = ap (λ (t : Standing). bounds_of t.engine) same ∙ k.same.bounds;
+        whole = ap (λ (t : Standing). t.engine.restarts) same ∙ k.same.whole;
       };
       has_run = subst (λ (x : Standing × List Attempt). HasRun rules c (view_of x.0.pass) x.1) (λ i. (sym same i, sym items i)) k.running.has_run;
       mine = subst (λ (x : Standing × List Attempt). (view_of x.0.pass).mine ≡ c.view.mine ++ positions x.1) (λ i. (sym same i, sym items i)) k.running.mine;
@@ -76,6 +77,7 @@ module _ {P : Type 0} {rules : Rules P} (laws : Obeys rules) {words : Words} {c 
     known = known ∙ (k.same.known ∙ ap (known_after c.known) (sym kept));
     over = subst AreOver (sym kept) k.same.over;
     bounds = ap (λ (t : Standing). bounds_of t.engine) is ∙ ((λ i. record { max_commits = served.limits.0 i; patience = served.limits.1 i; depth = served.limits.2 i }) ∙ k.same.bounds);
+    whole = ap (λ (t : Standing). t.engine.restarts) is ∙ (served.limits.3 ∙ k.same.whole);
   }
 
   nested : IsNested rules false old.player

@@ -19,7 +19,7 @@ use Rattle.norec_core.specs.Proceeds.{IsBegin, MayStarve, MayStarveIn, MayStarve
 use Rattle.norec_core.specs.Effects.{recoded}
 use Rattle.norec_core.specs.Stands.{stands_for, state_in, state_over}
 use Rattle.norec_core.specs.declared.answer.Answer.{Answer}
-use Rattle.norec_core.specs.declared.answer.Answer.TheVariants.{Busy, Committed, Conflict, Full, Reply}
+use Rattle.norec_core.specs.declared.answer.Answer.TheVariants.{Busy, Committed, Conflict, Full, Reply, Restarted}
 use Rattle.shared_words.specs.declared.view.View.{View}
 use Rattle.itm_runtime.specs.Served.{GoesBegin, Served, Start, came_over, left_over}
 use Rattle.itm_runtime.specs.Ties.{Stands}
@@ -137,6 +137,7 @@ module _ (s : Start) (v : View) (e : Core) (before : Stands s.view s.engine) (ou
         goes_not : (c : Call) → is_begin c ≡ false → GoesBegin c → ⊥
         goes_not (Begin props room) o g = true≢false o
         goes_not c o g = g
+    only_replies {a = Restarted clock word} served = absurd (true≢false (sym served.tells.still.0 ∙ outside))
     only_replies {a = Busy clock} served = absurd (begins_not s.call other served.tells.begins)
       where
         begins_not : (c : Call) → is_begin c ≡ false → IsBegin (Some c) → ⊥

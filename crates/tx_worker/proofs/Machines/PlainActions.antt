@@ -1,5 +1,6 @@
 -- Over a call of an open transaction no action that has run is lost, and there are no more actions in all than before, but for one that is registered.
-use Rattle.std.proofs.Common.{◌≡◌, ℕ, Bool, true, false, if◌then◌else◌, List, [], ◌∷◌, ◌++◌, Option, None, Some, refl, sym, ap, subst, ◌∙◌, arith, append-nil, append_assoc, length-append}
+use Rattle.std.proofs.Common.{◌≡◌, ℕ, Bool, true, false, if◌then◌else◌, List, [], ◌∷◌, ◌++◌, drop, take, Option, None, Some, refl, sym, ap, subst, ◌∙◌, arith, append-nil, append_assoc, length-append}
+use Rattle.std.proofs.lemmas.List.{take-append-drop}
 use Rattle.itm_types.specs.declared.call.Action.{Action}
 use Rattle.itm_types.specs.declared.call.Call.{Call}
 use Rattle.itm_types.specs.declared.call.Call.TheVariants.{Abort, Begin, Commit, CommitAction, Copy, Mode, UndoAction}
@@ -7,17 +8,22 @@ use Rattle.itm_types.specs.declared.call.ActionKind.TheVariants as kinds
 use Rattle.itm_types.specs.declared.call.Props.{Props}
 use Rattle.itm_types.specs.declared.call.Ran.{Ran}
 use Rattle.itm_types.specs.declared.call.Refusal.{Refusal}
+use Rattle.itm_types.specs.declared.row.LogRow.{LogRow}
+use Rattle.itm_types.specs.Memory.{Agrees}
 use Rattle.itm_types.specs.declared.copy.CopyPair.{CopyPair}
 use Rattle.itm_types.specs.declared.copy.CopyPair.TheVariants.{In, Out, Within}
 use Rattle.user_actions.specs.Actions.{Actions, registered}
-use Rattle.itm_model.specs.Machine.{after, after_unless, back_from, closed_actions, effect, entered, irrevocable_from, is_open, made_irrevocable, opened, pushed, refusal, rolled_back, source_bytes, target_written, undone, undone_from, with_undo}
+use Rattle.itm_model.specs.Machine.{after, after_unless, back, back_from, closed_actions, effect, entered, irrevocable_from, is_open, made_irrevocable, opened, pushed, refusal, rolled_back, source_bytes, target_written, undone, undone_from, with_undo}
 use Rattle.itm_model.specs.State.{Block, Saved, State}
+use Rattle.nest_frames.specs.Nest.{Frame, reads_of}
+use Rattle.norec_core.proofs.Accesses.Logs.{agrees_less}
 use Rattle.norec_core.proofs.Replies.ActionCounts.{RunsOn, all_run, commits_run, given_up_actions, registers, still}
 use Rattle.norec_core.specs.Core.{Core, in_transaction}
+use Rattle.norec_core.specs.Restarts.{begun_again}
 use Rattle.norec_core.specs.Stands.{stands_for}
 use Rattle.norec_core.specs.Undoing.{after_undoing}
 use Rattle.norec_core.specs.declared.answer.Answer.{Answer}
-use Rattle.norec_core.specs.declared.answer.Answer.TheVariants.{Busy, Committed, Conflict, Full, Reply}
+use Rattle.norec_core.specs.declared.answer.Answer.TheVariants.{Busy, Committed, Conflict, Full, Reply, Restarted}
 use Rattle.shared_words.specs.declared.view.View.{View}
 use Rattle.itm_runtime.specs.Served.{IsUndone, Served, Start, came_over, left_over}
 use Rattle.itm_runtime.specs.Ties.{Stands}
@@ -39,7 +45,7 @@ runs_both {a} f g = record {
 -- as those of an engine's block with these counts
 rolled_runs : (s : State) (props : Props) (rest : List Block) (saved : Option Saved) → RunsOn 0 s.actions (rolled_back s rest saved).actions
 rolled_runs s props rest None = still 0 s.actions
-rolled_runs s props rest (Some saved) = all_run (record { props = props; rows = []; log = []; commits = saved.commits; undos = saved.undos } ∷ []) s.actions
+rolled_runs s props rest (Some saved) = all_run (record { props = props; rows = []; log = []; commits = saved.commits; undos = saved.undos; reads = 0 } ∷ []) s.actions
 
 back_runs : (s : State) (blocks : List Block) → RunsOn 0 s.actions (back_from s blocks).actions
 back_runs s [] = still 0 s.actions
@@ -112,7 +118,16 @@ plain_runs deepest s c o = by_refusal (refusal deepest s c)
     by_refusal None = effect_runs s c o
     by_refusal (Some why) = still (registers c) s.actions
 
+-- the innermost block is rolled back, and begins again
+again_runs : (blocks : List Frame) (s : State) → RunsOn 0 s.actions (begun_again blocks (back s)).actions
+again_runs [] s = back_runs s s.blocks
+again_runs (b ∷ bs) s = runs_both (back_runs s s.blocks) (entered_runs (back s) b.props)
+
 -- ## A served call of an open transaction
+
+-- the first rows agree with what all agree with
+agrees_cut : (m : List ℕ) (log : List LogRow) (n : ℕ) → Agrees m log → Agrees m (take n log)
+agrees_cut m log n a = agrees_less m (take n log) (drop n log) (subst (Agrees m) (sym (take-append-drop n log)) a)
 
 module _ (s : Start) (v : View) (e : Core) (before : Stands s.view s.engine) (inside : in_transaction s.engine ≡ true) where
   -- over some memory it leaves the plain machine's actions
@@ -133,6 +148,12 @@ module _ (s : Start) (v : View) (e : Core) (before : Stands s.view s.engine) (in
   served_runs {a = Committed at wrote} served =
       subst (λ (c : Call). RunsOn (registers c) s.engine.actions e.actions) (sym served.tells.call) (plainly Commit (came_over s v e) served.tells.actions_is)
   served_runs {a = Conflict clock word} served = rolled served.tells.undone
+  served_runs {a = Restarted clock word} served =
+      let some = before.settled.agreed in
+      let cut : Agrees some.0 e.log = subst (Agrees some.0) (sym served.tells.log) (agrees_cut some.0 s.engine.log (reads_of s.engine.blocks) some.2) in
+      let is : e.actions ≡ (begun_again s.engine.blocks (back (stands_for s.engine some.0))).actions = sym (stands_actions e some.0) ∙ ap (λ (x : State). x.actions) (served.tells.meets some.0 some.1 cut) in
+      runs_within (registers s.call)
+      (subst (RunsOn 0 s.engine.actions) (sym is) (subst (λ (a : Actions). RunsOn 0 a (begun_again s.engine.blocks (back (stands_for s.engine some.0))).actions) (stands_actions s.engine some.0) (again_runs s.engine.blocks (stands_for s.engine some.0))))
   served_runs {a = Busy clock} served = rolled served.tells.undone
   served_runs {a = Full at} served = rolled served.tells.undone
 

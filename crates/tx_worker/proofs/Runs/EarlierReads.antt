@@ -72,7 +72,7 @@ module _ (s : Start) (v : View) (e : Core) (before : Stands s.view s.engine) (st
     told_before o m read = by_after e.irrevocable refl read
       where
         logged_less : e.irrevocable ≡ false → Agrees m e.log → Agrees m s.engine.log
-        logged_less now agrees = elim ((served.grows inside o).log) [
+        logged_less now agrees = elim ((served.grows inside o (λ r. r)).log) [
           | inl more ↦ agrees_less m s.engine.log more.0 (subst (Agrees m) more.1 agrees)
           | inr over ↦ absurd (true≢false (sym over.is ∙ now))
         ]
@@ -87,7 +87,7 @@ module _ (s : Start) (v : View) (e : Core) (before : Stands s.view s.engine) (st
             )
 
         by_after : (b : Bool) → e.irrevocable ≡ b → MayReadIn b v e m → Told m
-        by_after true now is = subst Told (sym is) (position_read (Reply r) served (served.grows inside o).agrees, met_here)
+        by_after true now is = subst Told (sym is) (position_read (Reply r) served (served.grows inside o (λ r. r)).agrees, met_here)
         by_after false now read = by_before s.engine.irrevocable refl now read
 
   -- ## The reply

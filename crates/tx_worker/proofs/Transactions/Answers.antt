@@ -77,6 +77,7 @@ module _ {P : Type 0} {rules : Rules P} (laws : Obeys rules) {words : Words} {c 
     known = known;
     over = over;
     bounds = ap (λ (t : Standing). bounds_of t.engine) thread ∙ a.same.bounds;
+    whole = ap (λ (t : Standing). t.engine.restarts) thread ∙ a.same.whole;
   }
 
   abbrev v : View

@@ -40,7 +40,7 @@ module _ {P : Type 0} {rules : Rules P} {words : Words} {c : Course P} {b : Boun
       let more = roomier.room in
       let few = old.actions in
       record {
-        same = record { own = k.same.own; stands = k.same.stands; number = k.same.number; retries = k.same.retries; few = k.same.few; known = k.same.known; over = k.same.over; bounds = k.same.bounds };
+        same = record { own = k.same.own; stands = k.same.stands; number = k.same.number; retries = k.same.retries; few = k.same.few; known = k.same.known; over = k.same.over; bounds = k.same.bounds; whole = k.same.whole };
         running = subst (IsRunning rules c (view_in w) w.thread.engine) (λ i. record (tally_of w) { open_one = Some (same_row w.number w.nth o o' roomier i) }) k.running;
         roomy = λ x is. (let here : o' ≡ x = same_Some o' x is in subst (IsRoomy w.thread.engine (record w { current = Some o' })) here (record { row = old.row; actions = omega arith }));
       }
@@ -59,6 +59,7 @@ answers w o thread call answer k asks own stands served entry registered = recor
     known = k.same.known;
     over = k.same.over;
     bounds = (λ i. record { max_commits = served.limits.0 i; patience = served.limits.1 i; depth = served.limits.2 i }) ∙ k.same.bounds;
+    whole = served.limits.3 ∙ k.same.whole;
   };
   running = k.running;
   before = k.same.stands;

@@ -51,7 +51,7 @@ module _ {P : Type 0} {rules : Rules P} (laws : Obeys rules) (c : Course P) (s :
     try_goes_on o =
         let h = running.inside inside in
         let try = h.try in
-        let grows = served.grows inside o in
+        let grows = served.grows inside o (λ r. r) in
         record {
           of_block = record {
             start = try.of_block.start;

@@ -21,8 +21,9 @@ use Rattle.tx_attempts.specs.Opacity.{LacksClock, after_try, answered_all, begin
 use Rattle.tx_attempts.specs.declared.attempt.CallRecord.{CallRecord}
 use Rattle.tx_attempts.specs.declared.attempt.Outcome.TheVariants as outcomes
 use Rattle.tx_player.specs.Rules.{Obeys, Rules}
+use Rattle.tx_runs.proofs.Players.{nested_outside}
 use Rattle.tx_runs.proofs.Tries.{lacks_clock}
-use Rattle.tx_runs.specs.Nesting.{IsDeep}
+use Rattle.tx_runs.specs.Nesting.{IsNested}
 use Rattle.tx_worker.proofs.Machines.ClockCalls.{wants_revocable, wants_taking}
 use Rattle.tx_worker.proofs.Runs.OpenRuns.{alone_stood, led, made_open, stood_led, stop_ended, stop_mine}
 use Rattle.tx_worker.proofs.Runs.EarlierReads.{position_read}
@@ -101,11 +102,7 @@ module _ {P : Type 0} {rules : Rules P} (laws : Obeys rules) (c : Course P) (s :
           mine = conflict_mine;
           tried = omega arith;
           tries = omega arith;
-          nested = record {
-            deep = subst (λ (b : Bool). IsDeep b (rules.depth (rules.restarted t.player))) (sym shut) begun;
-            begun = λ o. absurd (true≢false (sym o ∙ shut));
-            less = λ o. absurd (true≢false (sym o ∙ shut));
-          };
+          nested = subst (λ (b : Bool). IsNested rules b (rules.restarted t.player)) (sym shut) (nested_outside rules (rules.restarted t.player) begun);
           depth = begun ∙ sym (ap length (none_inside e.blocks shut));
           deepest = served.limits.2 ∙ running.deepest;
           inside = λ o. absurd (true≢false (sym o ∙ shut));

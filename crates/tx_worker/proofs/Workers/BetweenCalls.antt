@@ -50,7 +50,7 @@ module _ {P : Type 0} {rules : Rules P} {words : Words} {c : Course P} {b : Boun
 -- ## The number of calls matters to nothing
 
 same_counted : {P : Type 0} (n : ℕ) (words : Words) (c : Course P) (b : Bounds) (w : Worker P) → IsSame words c b w → IsSame words c b (record w { calls = n })
-same_counted n words c b w s = record { own = s.own; stands = s.stands; number = s.number; retries = s.retries; few = s.few; known = s.known; over = s.over; bounds = s.bounds }
+same_counted n words c b w s = record { own = s.own; stands = s.stands; number = s.number; retries = s.retries; few = s.few; known = s.known; over = s.over; bounds = s.bounds; whole = s.whole }
 
 module _ {P : Type 0} (rules : Rules P) (n : ℕ) (words : Words) (c : Course P) (b : Bounds) (w : Worker P) where
   works_counted : IsWorking rules words c b w → IsWorking rules words c b (record w { calls = n })

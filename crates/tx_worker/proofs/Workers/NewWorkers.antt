@@ -12,6 +12,7 @@ use Rattle.itm_runtime.specs.Ties.{Stands}
 use Rattle.tx_attempts.specs.declared.attempt.Attempt.{Attempt}
 use Rattle.tx_player.specs.Rules.{Rules}
 use Rattle.tx_runs.specs.Nesting.{IsNested, whole}
+use Rattle.tx_runs.proofs.Players.{nested_outside}
 use Rattle.tx_worker.specs.declared.worker.Worker.{Worker}
 use Rattle.tx_worker.specs.Positions.{AreOver, known_after, positions}
 use Rattle.tx_worker.specs.Progress.{HasRun, now_at}
@@ -22,7 +23,7 @@ none_open : (bs : List Frame) → is_inside bs ≡ false → length bs ≡ 0
 none_open [] e = refl
 none_open (b ∷ bs) e = absurd (cc)
 
-module _ {P : Type 0} (rules : Rules P) (words : Words) (thread : Standing) (player : P) (number retries : ℕ) (own : Owns words thread.pass) (stands : Stands (view_of thread.pass) thread.engine) (outside : in_transaction thread.engine ≡ false) (depth : rules.depth player ≡ 0) (few : retries ≤ MAX_RETRIES) where
+module _ {P : Type 0} (rules : Rules P) (words : Words) (thread : Standing) (player : P) (number retries : ℕ) (own : Owns words thread.pass) (stands : Stands (view_of thread.pass) thread.engine) (outside : in_transaction thread.engine ≡ false) (depth : rules.depth player ≡ 0) (whole_is : thread.engine.restarts ≡ 0) (few : retries ≤ MAX_RETRIES) where
   pub begins_bound : whole rules (in_transaction thread.engine) player ≤ rules.calls_left player
   begins_bound = subst (λ (i : Bool). whole rules i player ≤ rules.calls_left player) (sym outside) (let l : rules.calls_left player ≤ rules.calls_left player = omega arith in l)
 
@@ -55,13 +56,14 @@ module _ {P : Type 0} (rules : Rules P) (words : Words) (thread : Standing) (pla
         known = known_is ∙ ap (known_after (thread.engine.snapshot / 2)) (sym empty);
         over = subst AreOver (sym empty) tt;
         bounds = refl;
+        whole = whole_is;
       };
       running = record {
         has_run = subst (HasRun rules (course_of thread player number retries) (view_of thread.pass)) (sym empty) no_run;
         mine = sym (append-nil (view_of thread.pass).mine) ∙ ap (λ (xs : List Attempt). (view_of thread.pass).mine ++ positions xs) (sym empty);
         tried = omega arith;
         tries = omega arith;
-        nested = subst (λ (i : Bool). IsNested rules i player) (sym outside) (record { deep = depth; begun = λ o. absurd (cc); less = λ o. absurd (cc) });
+        nested = subst (λ (i : Bool). IsNested rules i player) (sym outside) (nested_outside rules player depth);
         depth = depth ∙ sym (none_open thread.engine.blocks outside);
         deepest = refl;
         inside = λ i. absurd (true≢false (sym i ∙ outside));

@@ -4,7 +4,7 @@ use Rattle.std.proofs.lemmas.Option.{none-some}
 use Rattle.itm_types.specs.declared.call.Call.TheVariants.{Commit}
 use Rattle.itm_types.specs.declared.call.Ran.{Ran}
 use Rattle.norec_core.specs.declared.answer.Undone.TheVariants.{Done, Held, Nothing}
-use Rattle.norec_core.specs.Core.{in_transaction, rolled_back}
+use Rattle.norec_core.specs.Core.{Core, in_transaction, rolled_back}
 use Rattle.norec_core.specs.Phases.{Idle}
 use Rattle.norec_core.specs.Undoing.{after_undoing, undone_of}
 use Rattle.shared_words.specs.declared.words.Words.{Words}
@@ -88,6 +88,7 @@ module _ {P : Type 0} {rules : Rules P} (laws : Obeys rules) {words : Words} {c 
                 known = known ∙ (sym (known_more c.known w.ended.items (ending_as outcomes.NoMemory (thread.engine.snapshot / 2) o'.ran.items (row_of w.number w.nth o'))) ∙ ap (known_after c.known) (sym ended));
                 over = subst AreOver (sym ended) (over_more w.ended.items (ending_as outcomes.NoMemory (thread.engine.snapshot / 2) o'.ran.items (row_of w.number w.nth o')) k.same.over (λ e. absurd (cc)));
                 bounds = ap bounds_of engine ∙ (ap (λ (h : Bool). bounds_of (if h then w.thread.engine else record (rolled_back w.thread.engine) { stage = Idle; tries = 0 })) free ∙ k.same.bounds);
+                whole = ap (λ (e : Core). e.restarts) engine ∙ (ap (λ (h : Bool). (if h then w.thread.engine else record (rolled_back w.thread.engine) { stage = Idle; tries = 0 }).restarts) free ∙ k.same.whole);
               };
               has_run = subst (HasRun rules c (view_of thread.pass)) ended_is run.0;
               mine = run.1 ∙ ap (λ (xs : List Attempt). c.view.mine ++ positions xs) ended_is;

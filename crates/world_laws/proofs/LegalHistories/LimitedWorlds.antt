@@ -7,7 +7,7 @@ use Rattle.tx_attempts.specs.Attempts.{of_thread}
 use Rattle.tx_history.specs.Bounds.{AreLimited, HasArenaWidth, IsLimited}
 use Rattle.tx_history.specs.declared.history.Version.{Version}
 use Rattle.tx_history.specs.declared.history.Version.TheVariants.{One, Two, Three}
-use Rattle.tx_history.specs.Versions.{MayTell, thread_limit}
+use Rattle.tx_history.specs.Versions.{MayTell}
 use Rattle.tx_runs.specs.Unbroken.{AreUnbroken}
 use Rattle.tx_player.specs.Rules.{Rules}
 use Rattle.norec_world.specs.Dates.{AreDated}

@@ -7,7 +7,7 @@ use Rattle.itm_types.specs.declared.call.Call.{Call}
 use Rattle.itm_types.specs.declared.call.Reply.TheVariants.{Done}
 use Rattle.norec_core.specs.Core.{Core, in_transaction}
 use Rattle.norec_core.specs.declared.answer.Answer.{Answer}
-use Rattle.norec_core.specs.declared.answer.Answer.TheVariants.{Reply, Committed, Conflict, Busy, Full}
+use Rattle.norec_core.specs.declared.answer.Answer.TheVariants.{Reply, Committed, Conflict, Restarted, Busy, Full}
 use Rattle.norec_core.specs.declared.answer.Next.{Next}
 use Rattle.norec_core.specs.declared.answer.Next.TheVariants.{Step as Steps, Answer as Answers}
 use Rattle.tx_attempts.specs.Kept.{grown, spent}
@@ -150,6 +150,7 @@ module _ {P : Type 0} (rules : Rules P) (r s : Rows) (same : SameRows r s) (a b 
       counted_same (k.retries (λ soon. soon)) (x.1 ∙ (ap rules.restarted player ∙ sym y.1)) x.2 y.2,
     )
     recorded_same false (Conflict clock word) k x y = (rows_same r s same r' s' x.0 y.0, counted_same (k.retries (λ soon. soon)) (x.1 ∙ (player ∙ sym y.1)) x.2 y.2)
+    recorded_same was (Restarted clock word) k x y = absurd x
     recorded_same was (Busy clock) k x y = (rows_same r s same r' s' x.0 y.0, counted_same (k.retries (λ soon. soon)) (x.1 ∙ (player ∙ sym y.1)) x.2 y.2)
     recorded_same true (Full at) k x y = (
       stopped_same r s same a.thread b.thread thread (k.opened refl).0 (k.opened refl).1 at at outcomes.Full a'.engine.actions.ran b'.engine.actions.ran r' s' refl same_ran x.0 y.0,

@@ -19,7 +19,7 @@ use Rattle.norec_core.specs.declared.call_parts.Taking.TheVariants as takings
 use Rattle.norec_world.specs.Rows.{with_one}
 use Rattle.norec_world.specs.LocalWork.{TakesIn, Calls}
 use Rattle.norec_world.proofs.Attempts.ActiveRows.{changed_here}
-use Rattle.norec_world.proofs.Attempts.AnswerEndings.{told_status}
+use Rattle.norec_world.proofs.Attempts.AnswerEndings.{not_told, told_status}
 
 both : (n : Bool) → n ≡ true → n ≡ false → ⊥
 both n t f = absurd (cc)
@@ -100,8 +100,7 @@ module _ {P : Type 0} (rules : Rules P) (r r' : Rows) (a a' : Actor P) (call : C
       → (was ≡ true → HasRowIn r a.thread) → (was ≡ false → in_transaction a'.engine ≡ true → (row : Attempt) × (a.pending ≡ Some row) × (row.thread ≡ a.thread))
       → in_transaction a'.engine ≡ true → HasRowIn r' a.thread
   recorded_in mid was answer x g inside begins o =
-      let reply = (rests mid a'.engine answer g).replies o in
-      replied_in was reply.0 (subst (Records rules was r r' a a' call) reply.1 x) inside begins o
+      elim ((rests mid a'.engine answer g).replies o) [ inl reply ↦ replied_in was reply.0 (subst (Records rules was r r' a a' call) reply.1 x) inside begins o | inr back ↦ absurd (not_told rules r r' a a' call was answer x back) ]
 
   -- who was answered does not wait
   recorded_waits : (was : Bool) (answer : Answer) (c : Call) (s : Step) → a.status ≡ Ready → Records rules was r r' a a' call answer → a'.status ≡ Waits c s → ⊥

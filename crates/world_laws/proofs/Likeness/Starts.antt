@@ -74,7 +74,7 @@ no_rows = record { ended = []; active = []; room = 0 }
 
 module _ {P : Type 0} (rules : Rules P) (clock words size patience max_commits depth retries place : ℕ) (p : P) (a b : Actor P) where
   abbrev Starts : Actor P → Type 0
-  Starts x = HasStarted rules clock (opening words (replicate size 0) patience max_commits depth) retries place p x
+  Starts x = HasStarted rules clock (opening words (replicate size 0) patience max_commits depth 0) retries place p x
 
   shut_first : (x : Actor P) (f : Starts x) → in_transaction f.fresh.engine ≡ false
   shut_first x f = ap in_transaction f.engine_is
@@ -137,10 +137,10 @@ module _ {P : Type 0} (rules : Rules P) (v w : World P) (same : SameOpening v w)
 
   -- the other one's start, with the limits of this one
   start_of : (place : ℕ) (p : P) (b : Actor P) → slice_get v.opening place ≡ Some p → slice_get w.actors place ≡ Some b
-      → HasStarted rules v.cells.clock (opening (length v.base / 8) (replicate v.arena 0) v.patience v.max_commits v.depth) v.retries place p b
-  start_of place p b e d = subst (λ (n : ℕ). HasStarted rules n (opening (length v.base / 8) (replicate v.arena 0) v.patience v.max_commits v.depth) v.retries place p b) (g.clock ∙ sym f.clock)
-      (subst (λ (n : ℕ). HasStarted rules w.cells.clock (opening (length v.base / 8) (replicate v.arena 0) v.patience v.max_commits v.depth) n place p b) same.retries
-      (subst (λ (c : Core). HasStarted rules w.cells.clock c w.retries place p b) (λ i. opening (length (same.base i) / 8) (replicate (same.arena i) 0) (same.patience i) (same.max_commits i) (same.depth i))
+      → HasStarted rules v.cells.clock (opening (length v.base / 8) (replicate v.arena 0) v.patience v.max_commits v.depth 0) v.retries place p b
+  start_of place p b e d = subst (λ (n : ℕ). HasStarted rules n (opening (length v.base / 8) (replicate v.arena 0) v.patience v.max_commits v.depth 0) v.retries place p b) (g.clock ∙ sym f.clock)
+      (subst (λ (n : ℕ). HasStarted rules w.cells.clock (opening (length v.base / 8) (replicate v.arena 0) v.patience v.max_commits v.depth 0) n place p b) same.retries
+      (subst (λ (c : Core). HasStarted rules w.cells.clock c w.retries place p b) (λ i. opening (length (same.base i) / 8) (replicate (same.arena i) 0) (same.patience i) (same.max_commits i) (same.depth i) 0)
       (g.starts place p b (ap (λ (xs : List P). slice_get xs place) same.opening ∙ e) d)))
 
   module _ (place : ℕ) (a b : Actor P) (e : slice_get v.actors place ≡ Some a) (d : slice_get w.actors place ≡ Some b) where

@@ -1,4 +1,4 @@
-use Rattle.std.proofs.Common.{◌≡◌, ◌∷◌, sym, ap, ◌∙◌, true, length, ◌<◌, rules, Option, subst}
+use Rattle.std.proofs.Common.{◌≡◌, ℕ, ◌∷◌, sym, ap, ◌∙◌, true, length, ◌<◌, rules, Option, subst}
 use Rattle.itm_types.specs.declared.call.Call.TheVariants.{Begin}
 use Rattle.norec_irrevocable.proofs.Replies.KeptStates.{begin_kept}
 use Rattle.nest_frames.specs.Nest.{begun}
@@ -22,7 +22,10 @@ served_so c = rw c.in-None.is at c.begin_refusal-refused.ensures.served
 
 entered : (c : goal.After-enter) → HasEntered c.args.state.now c.args.props (record c.start_call.new.self { frames = c.enter.new.self })
 entered c = record {
-  blocks = c.enter.ensures.blocks ∙ ap (λ (x : Data). begun c.args.props x.frames.writes.rows x.frames.actions ∷ x.frames.blocks) c.start_call.ensures;
+  blocks = (let come = c.start_call.new.self in
+      c.enter.ensures.blocks
+      ∙ (ap (λ (n : ℕ). begun c.args.props come.frames.writes.rows come.frames.actions n ∷ come.frames.blocks) c.len.ensures.len
+      ∙ ap (λ (x : Data). begun c.args.props x.frames.writes.rows x.frames.actions (length x.log.rows) ∷ x.frames.blocks) c.start_call.ensures));
   rows = ap (λ (w : Written). w.rows) c.enter.ensures.writes ∙ ap (λ (x : Data). x.frames.writes.rows) c.start_call.ensures;
   actions = c.enter.ensures.actions ∙ ap (λ (x : Data). x.frames.actions) c.start_call.ensures;
   room = c.enter.ensures.room ∙ ap (λ (x : Data). x.frames.room) c.start_call.ensures;

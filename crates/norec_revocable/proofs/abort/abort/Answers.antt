@@ -46,7 +46,7 @@ returns-else-is_outermost c = record {
       let left = c.cancel.ensures in
       record {
         asked = tt;
-        sound = cancelled_sound c.args.state.now c.start_call.new.self c.cancel.new.self c.cancel.new.arena c.start_call.ensures c.requires.sound (sym c.is_open.ensures ∙ c.if-not-is_open.false) inner left.blocks left.rows left.size left.depth left.arena_size;
+        sound = cancelled_sound c.args.state.now c.start_call.new.self c.cancel.new.self c.cancel.new.arena c.start_call.ensures c.requires.sound (sym c.is_open.ensures ∙ c.if-not-is_open.false) inner left.blocks left.rows left.actions left.size left.depth left.arena_size;
       });
   proceeds =
       (let may = sym c.is_kept.ensures ∙ c.if-is_kept.false in

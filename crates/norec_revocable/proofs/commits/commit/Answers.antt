@@ -1,9 +1,15 @@
-use Rattle.std.proofs.Common.{rules}
+use Rattle.std.proofs.Common.{sym, ◌∙◌, rules}
+use Rattle.norec_revocable.proofs.Blocks.NestedCommits.{closed_sound}
 use Rattle.norec_revocable.proofs.commits.commit.Goals as goal
 
 pub returns-then-not-is_outermost : goal.returns-then-not-is_outermost
 returns-then-not-is_outermost c = record {
-  sound = search rules;
+  sound = record {
+    asked = tt;
+    sound =
+        closed_sound c.args.state.now c.start_call.new.self c.leave.new.self c.start_call.ensures c.requires.sound (sym c.is_open.ensures ∙ c.if-not-is_open.false) (sym c.is_outermost.ensures ∙ c.if-not-is_outermost.true)
+        c.leave.ensures.blocks c.leave.ensures.rows c.leave.ensures.actions c.leave.ensures.size c.leave.ensures.depth;
+  };
   proceeds = search rules;
   stays = search rules;
   order = search rules;

@@ -26,7 +26,7 @@ holds_on : (s : Data) (got : Option ℕ) (row : ℕ) → IsHolding s s.taking (2
 holds_on s got row hold =
     let o = hold.is_open in
     record {
-      is_open = record { is_open = o.is_open; log = o.log; writes = o.writes; rows = o.rows; frames = o.frames; tries = o.tries };
+      is_open = record { is_open = o.is_open; log = o.log; writes = o.writes; rows = o.rows; frames = o.frames; begun = o.begun; tries = o.tries };
       wants = wants_later s s.taking s.clock s.snapshot (s.spent + 1) hold.wants;
       settled = hold.settled;
       free = hold.free;

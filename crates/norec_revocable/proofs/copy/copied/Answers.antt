@@ -6,6 +6,7 @@ use Rattle.norec_core.specs.Copies.{source_in}
 use Rattle.norec_core.specs.Core.{is_inside}
 use Rattle.norec_core.specs.Phases.{Idle}
 use Rattle.norec_data.specs.View.{core, rows_before}
+use Rattle.norec_revocable.proofs.Blocks.OpenBegins.{begun_same}
 use Rattle.norec_revocable.specs.InPhases.{AreFrames}
 use Rattle.norec_core.specs.Effects.{arena_copied, writes_copied}
 use Rattle.norec_core.specs.Rows.{AllWritesWithin}
@@ -59,6 +60,7 @@ returns-clause-goes c = record {
           bounds = record {
             patient = may.bounds.patient;
             commits = may.bounds.commits;
+            few = may.bounds.few;
             small = may.bounds.small;
             sized = c.deliver.ensures.size ∙ (may.bounds.sized ∙ sym (ap (length {A = ℕ}) c.deliver.ensures.arena ∙ length-arena_copied s.words s.arena k s.buffer.items served.accepted served.sized));
             deep = subst (λ (n : ℕ). 0 < n) (sym c.deliver.ensures.depth) may.bounds.deep;
@@ -73,6 +75,7 @@ returns-clause-goes c = record {
                 writes = subst (AllWritesWithin s.words) (sym c.deliver.ensures.rows) rows.1;
                 rows = subst AreRows (sym c.deliver.ensures.rows) rows.0;
                 frames = subst (AreFrames s.words) (sym c.deliver.ensures.blocks) may.is_open.frames;
+                begun = begun_same s.log.rows s.log.rows s.frames.actions c.deliver.new.state.frames.actions s.frames.blocks c.deliver.new.state.frames.blocks refl c.deliver.ensures.actions c.deliver.ensures.blocks may.is_open.begun;
                 tries = may.is_open.tries;
               },
               may.settled,

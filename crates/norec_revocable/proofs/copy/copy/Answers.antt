@@ -51,7 +51,7 @@ copied-requires c =
     rw c.take_source.ensures.frame (rw c.start_call.ensures (rw made.frame (rw c.len-written.ensures.len (record {
       may = record {
         bounds = ready_bounds s e k sound accepted made.log made.blocks made.size made.depth made.actions made.room_left made.rows made.may_put;
-        is_open = record { is_open = ready_is.is_open; log = ready_is.log; writes = ready_is.writes; rows = ready_is.rows; frames = ready_is.frames; tries = ready_is.tries };
+        is_open = record { is_open = ready_is.is_open; log = ready_is.log; writes = ready_is.writes; rows = ready_is.rows; frames = ready_is.frames; begun = ready_is.begun; tries = ready_is.tries };
         source = record {
           served = ready_served s e k sound accepted made.log made.blocks made.size made.depth made.actions made.room_left made.rows made.may_put c.take_source.new.state.buffer.items many;
           has = λ m mem agrees. bytes ∙ sym (out_source k.pair s.arena (bytes_of (overlay m e.frames.writes.rows)) k.from k.size (ap is_out c.in-Out.is));

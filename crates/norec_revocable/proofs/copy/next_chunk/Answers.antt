@@ -106,7 +106,7 @@ loop-reading-preserved c =
     record {
       may = record {
         bounds = rw frame may.bounds;
-        is_open = rw frame (record { is_open = may.is_open.is_open; log = may.is_open.log; writes = may.is_open.writes; rows = may.is_open.rows; frames = may.is_open.frames; tries = may.is_open.tries });
+        is_open = rw frame (record { is_open = may.is_open.is_open; log = may.is_open.log; writes = may.is_open.writes; rows = may.is_open.rows; frames = may.is_open.frames; begun = may.is_open.begun; tries = may.is_open.tries });
         copied = c.keep_chunk.ensures.copied;
         settled = rw frame may.settled;
         far = omega (arith, there);

@@ -58,7 +58,7 @@ take_known-take_more-requires t c =
       rw c.next.ensures (omega (arith, left, c.decreases)),
       rw c.next.ensures (
         c.requires.may.0,
-        record { is_open = is_open.is_open; log = is_open.log; writes = is_open.writes; rows = is_open.rows; frames = is_open.frames; tries = is_open.tries },
+        record { is_open = is_open.is_open; log = is_open.log; writes = is_open.writes; rows = is_open.rows; frames = is_open.frames; begun = is_open.begun; tries = is_open.tries },
         record {
           within = reading.within;
           small = reading.small;

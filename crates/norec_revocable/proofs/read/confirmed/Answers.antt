@@ -1,4 +1,4 @@
-use Rattle.std.proofs.Common.{◌≡◌, ℕ, List, [], ◌∷◌, ◌++◌, Some, length, slice_get, take, sym, ap, subst, ◌∙◌, arith, ◌==◌, eq-eqb, Option}
+use Rattle.std.proofs.Common.{◌≡◌, ℕ, List, [], ◌∷◌, ◌++◌, Some, length, slice_get, take, sym, ap, subst, ◌∙◌, arith, ◌==◌, eq-eqb, Option, rules}
 use Rattle.std.proofs.lemmas.Bool.{cond-true}
 use Rattle.norec_core.specs.declared.answer.Answer.{Answer}
 use Rattle.norec_data.specs.Turns.{TurnEndsSo}
@@ -115,3 +115,15 @@ returns-in-Some-piece c =
           (λ o.
           (c.go_past.ensures.goes.stays.log o ∙ log_joined s c.args.value c.args.seen c.add.new.self c.requires.sound c.if-seen-state.true added));
     }
+
+pub returns-else-seen-state : goal.returns-else-seen-state
+returns-else-seen-state c = record {
+  sound = search rules;
+  proceeds = search rules;
+  joins = search rules;
+  order = search rules;
+  ends = search rules;
+  tries = search rules;
+  snapshot = search rules;
+  log = search rules;
+}

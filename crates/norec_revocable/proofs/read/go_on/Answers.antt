@@ -75,7 +75,7 @@ next_chunk-requires c =
     record {
       may = record {
         bounds = rw frame may.bounds;
-        is_open = rw frame (record { is_open = may.is_open.is_open; log = may.is_open.log; writes = may.is_open.writes; rows = may.is_open.rows; frames = may.is_open.frames; tries = may.is_open.tries });
+        is_open = rw frame (record { is_open = may.is_open.is_open; log = may.is_open.log; writes = may.is_open.writes; rows = may.is_open.rows; frames = may.is_open.frames; begun = may.is_open.begun; tries = may.is_open.tries });
         copied = c.keep_chunk.ensures.copied;
         settled = rw frame may.settled;
         far = omega (arith, some_count (chunks_in k) n f.chunk f.is);
@@ -93,7 +93,7 @@ reply_gathered-requires c =
     record {
       may = record {
         bounds = rw c.take_known.ensures.frame may.bounds;
-        is_open = rw c.take_known.ensures.frame (record { is_open = o.is_open; log = o.log; writes = o.writes; rows = o.rows; frames = o.frames; tries = o.tries });
+        is_open = rw c.take_known.ensures.frame (record { is_open = o.is_open; log = o.log; writes = o.writes; rows = o.rows; frames = o.frames; begun = o.begun; tries = o.tries });
         value = subst IsValue (sym c.in-Value.is) tt;
         whole = c.in_default.ensures.whole;
         settled = rw c.take_known.ensures.frame may.settled;

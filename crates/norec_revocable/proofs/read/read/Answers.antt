@@ -22,7 +22,7 @@ use Rattle.norec_data.specs.declared.pending.Pending.TheVariants as waits
 use Rattle.norec_data.specs.declared.turn.Turn.TheVariants.{Wait}
 use Rattle.norec_data.specs.Turns.{Turns}
 use Rattle.norec_data.specs.View.{in_block}
-use Rattle.norec_revocable.specs.InPhases.{IsMissing, IsReading, MayRead}
+use Rattle.norec_revocable.specs.InPhases.{IsMissing, IsOpen, IsReading, MayRead}
 use Rattle.norec_revocable.specs.Between.{between, logged, IsSoundTurn}
 use Rattle.norec_revocable.proofs.ReadCalls.Loads.{load_sound}
 use Rattle.norec_revocable.proofs.ReadCalls.ReadyReads.{gathering, ready, ready_came, ready_missing, ready_open, ready_reading, settled}
@@ -135,3 +135,25 @@ returns-in-None c = record {
   ends = search rules;
   tries = search rules;
 }
+
+pub reply_gathered-requires : goal.reply_gathered-requires
+reply_gathered-requires c =
+    let s = c.args.state.now in
+    let hint = c.args.hint in
+    let width = c.args.width in
+    let bytes = c.from.ensures ∙ c.size.ensures.value in
+    let may = served (in_block s) s.words c.args.at c.from.result (sym c.in_default.ensures.value) in
+    let within = subst (λ (n : ℕ). c.args.at + n ≤ 8 * s.words) bytes may.1 in
+    let small : size_of width ≤ 32 = omega (arith, c.size.ensures.value, c.size.ensures.most) in
+    let g = c.take_known.new.state.gathered in
+    let st : c.take_known.new.state ≡ gathering s g = c.take_known.ensures.frame ∙ (λ i. record (gathering s g) { written = c.len-state.ensures.len i }) in
+    let is : c.start-in-None.new.state ≡ ready s g s.log = c.start-in-None.ensures ∙ (λ i. record (st i) { spent = 0; entry = length (st i).log.rows; tries = 0 }) in
+    record {
+      may = record {
+        bounds = search rules;
+        is_open = subst IsOpen (sym is) (ready_open s hint width c.args.at c.requires.sound may.0 within small g s.log refl);
+        value = search rules;
+        whole = search rules;
+        settled = search rules;
+      };
+    }

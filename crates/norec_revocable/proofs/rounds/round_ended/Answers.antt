@@ -18,7 +18,7 @@ try_round-requires c =
     record {
       may = record {
         bounds = c.requires.sound.bounds;
-        is_open = record { is_open = o.is_open; log = o.log; writes = o.writes; rows = o.rows; frames = o.frames; tries = o.tries };
+        is_open = record { is_open = o.is_open; log = o.log; writes = o.writes; rows = o.rows; frames = o.frames; begun = o.begun; tries = o.tries };
         may = aims_later s (aim_of s) c.args.seen s.snapshot s.spent phase.0.may;
         later = omega (arith, phase.0.later, c.requires.fits);
         spent = round_over s (aim_of s) c.args.seen phase.0;
@@ -39,10 +39,10 @@ returns-in-Read c = record {
       record {
         asked = tt;
         sound = record {
-          bounds = record { patient = sound.bounds.patient; commits = sound.bounds.commits; small = sound.bounds.small; sized = sound.bounds.sized; deep = sound.bounds.deep; even = omega (arith, c.if-is_steady.true, sound.in_phase.1) };
+          bounds = record { patient = sound.bounds.patient; commits = sound.bounds.commits; few = sound.bounds.few; small = sound.bounds.small; sized = sound.bounds.sized; deep = sound.bounds.deep; even = omega (arith, c.if-is_steady.true, sound.in_phase.1) };
           reached = omega arith;
           in_phase = (
-            record { is_open = o.is_open; log = o.log; writes = o.writes; rows = o.rows; frames = o.frames; tries = o.tries },
+            record { is_open = o.is_open; log = o.log; writes = o.writes; rows = o.rows; frames = o.frames; begun = o.begun; tries = o.tries },
             aims_later s (aims.Read r) c.args.seen c.args.seen (s.spent + 1) may,
             refl,
             omega (arith, left, spent, may.logging.grown, more s.tries s.tries (s.entry + total r + 4) round.tried (omega arith)),

@@ -1,5 +1,5 @@
-use Rattle.std.proofs.Common.{◌≡◌, ◌==◌, ◌+◌, Bool, Some, List, arith, refl, rules, sym, ap, subst, ◌∙◌, eq-eqb, take, ◌∷◌, [], ◌++◌}
-use Rattle.std.proofs.lemmas.Bool.{cond-true, cond-false, ne_eqb}
+use Rattle.std.proofs.Common.{◌≡◌, ◌≢◌, ◌==◌, ◌+◌, Bool, Some, List, arith, refl, rules, sym, ap, subst, ◌∙◌, eq-eqb, take, ◌∷◌, [], ◌++◌}
+use Rattle.std.proofs.lemmas.Bool.{cond-true}
 use Rattle.std.proofs.lemmas.List.{take_more}
 use Rattle.std.proofs.lemmas.Option.{get_or_from_slice_get}
 use Rattle.itm_types.specs.declared.row.LogRow.{LogRow}
@@ -13,6 +13,7 @@ use Rattle.norec_revocable.specs.Between.{in_rows}
 use Rattle.norec_data.specs.Turns.{Turns}
 use Rattle.norec_revocable.proofs.Blocks.EndedTransactions.{ended_undone}
 use Rattle.norec_data.proofs.EndedTransactions.{core_ended}
+use Rattle.norec_revocable.proofs.Blocks.DifferentRows.{decides, decides_order, decides_sound, ends_order}
 use Rattle.norec_revocable.proofs.rounds.row_seen.Goals as goal
 
 pub returns-then-logged-seen : goal.returns-then-logged-seen
@@ -33,8 +34,8 @@ returns-then-logged-seen c = record {
   tries = search rules;
 }
 
-pub returns-else-logged-seen : goal.returns-else-logged-seen
-returns-else-logged-seen c = record {
+pub returns-else-may_restart : goal.returns-else-may_restart
+returns-else-may_restart c = record {
   sound = search rules;
   proceeds = (let log = c.args.state.now.log.rows in
       let logged = c.row-logged.result in
@@ -53,6 +54,7 @@ returns-else-logged-seen c = record {
           c.row-logged.ensures,
           refl,
           c.if-logged-seen.false,
+          sym c.may_restart.ensures ∙ c.if-may_restart.false,
         );
         free = refl;
         unfreed = refl;
@@ -64,8 +66,23 @@ returns-else-logged-seen c = record {
   stays = search rules;
   order = (let row = row_at c.args.state.now.log.rows c.args.row in
       let here : row ≡ c.row-logged.result = get_or_from_slice_get c.args.state.now.log.rows c.args.row c.row-logged.result _ c.row-logged.ensures in
-      sym (cond-false (row.value == c.args.seen) _ _ (ne_eqb row.value c.args.seen (λ e. c.if-logged-seen.false (sym (ap (λ (r : LogRow). r.value) here) ∙ e)))));
+      ends_order c.args.state.now c.args.row c.args.seen c.requires.sound (λ e. c.if-logged-seen.false (sym (ap (λ (r : LogRow). r.value) here) ∙ e)) (sym c.may_restart.ensures ∙ c.if-may_restart.false));
   ends = (let here : row_at c.args.state.now.log.rows c.args.row ≡ c.row-logged.result = get_or_from_slice_get c.args.state.now.log.rows c.args.row c.row-logged.result _ c.row-logged.ensures in
       λ i. Conflict (c.roll_back.ensures.ended.clock i) (Some (sym here i).word));
   tries = search rules;
 }
+
+pub returns-then-may_restart : goal.returns-then-may_restart
+returns-then-may_restart c =
+    let s = c.args.state.now in
+    let here : row_at s.log.rows c.args.row ≡ c.row-logged.result = get_or_from_slice_get s.log.rows c.args.row c.row-logged.result _ c.row-logged.ensures in
+    let differs : (row_at s.log.rows c.args.row).value ≢ c.args.seen = λ e. c.if-logged-seen.false (sym (ap (λ (r : LogRow). r.value) here) ∙ e) in
+    let may = sym c.may_restart.ensures ∙ c.if-may_restart.true in
+    record {
+      sound = decides_sound s c.args.row c.args.seen c.requires.sound differs may;
+      proceeds = decides s c.args.row c.args.seen c.requires.sound differs;
+      stays = search rules;
+      order = decides_order s c.args.row c.args.seen c.requires.sound differs may;
+      ends = tt;
+      tries = search rules;
+    }

@@ -4,6 +4,7 @@ use Rattle.write_set.specs.declared.row.Row.{Row}
 use Rattle.write_set.specs.Rows.{overlay, AreRows}
 use Rattle.norec_data.proofs.KeptBounds.{bounds_kept}
 use Rattle.norec_data.specs.View.{in_block}
+use Rattle.norec_revocable.proofs.Blocks.OpenBegins.{begun_same}
 use Rattle.norec_revocable.specs.InPhases.{AreFrames}
 use Rattle.norec_core.specs.Stands.{is_some_row, state_over}
 use Rattle.norec_core.specs.Core.{is_inside}
@@ -67,6 +68,7 @@ returns c = record {
                 writes = subst (AllWritesWithin s.words) (sym rows) (AllWritesWithin-put_all s.words (reserved_all s.frames.writes.rows ps) ps bytes (AllWritesWithin-reserved_all s.words s.frames.writes.rows ps idle.0.writes (words_of-pieces_of c.args.at (size_of w) s.words within)) fit);
                 rows = subst AreRows (sym rows) (AreRows-put_all s.words (reserved_all s.frames.writes.rows ps) ps bytes (AreRows-reserved_all s.frames.writes.rows ps idle.0.rows) fit);
                 frames = subst (AreFrames s.words) (sym blocks) idle.0.frames;
+                begun = begun_same s.log.rows s.log.rows s.frames.actions c.put_value.new.frames.actions s.frames.blocks c.put_value.new.frames.blocks refl c.put_value.ensures.actions blocks idle.0.begun;
                 tries = idle.0.tries;
               },
               idle.1,

@@ -70,7 +70,7 @@ loop-player-preserved g c =
         | inl h ↦
             (let Started : ℕ → g.row.P.Denot → Actor g.row.P.Denot → Type 0 =
             HasStarted g.P.Player c.args.memory.now.clock
-            (opening (length c.args.memory.now.words) (replicate c.args.terms.arena 0) c.args.terms.limits.patience c.args.terms.limits.max_commits c.args.terms.limits.depth) c.args.terms.limits.retries in
+            (opening (length c.args.memory.now.words) (replicate c.args.terms.arena 0) c.args.terms.limits.patience c.args.terms.limits.max_commits c.args.terms.limits.depth 0) c.args.terms.limits.retries in
             subst (Started place p) (sym h.1) (subst (λ (q : g.row.P.Denot). Started place q actor) (same_player place p h.0 e)
             (subst (λ (n : ℕ). Started n c.in-Some.player actor) (sym numbered ∙ (thread ∙ h.0)) c.in_ok-actor.ensures.starts)))
         | inr h ↦ i.starts place p a e h.1

@@ -14,6 +14,6 @@ invariant-loop-player g l = record {
   runs : (place : ℕ) (p : g.row.P.Denot) (a : Actor g.row.P.Denot) → slice_get l.initial.player-iterator.rest.items place ≡ Some p → slice_get l.actors.items place ≡ Some a
       → RunsFrom g.P.Player (first_of p l.terms.arena) l.terms.limits.depth (bytes_of l.memory.words) l.memory l.recorded a;
   starts : (place : ℕ) (p : g.row.P.Denot) (a : Actor g.row.P.Denot) → slice_get l.initial.player-iterator.rest.items place ≡ Some p → slice_get l.actors.items place ≡ Some a
-      → HasStarted g.P.Player l.memory.clock (opening (length l.memory.words) (replicate l.terms.arena 0) l.terms.limits.patience l.terms.limits.max_commits l.terms.limits.depth) l.terms.limits.retries place p a;
+      → HasStarted g.P.Player l.memory.clock (opening (length l.memory.words) (replicate l.terms.arena 0) l.terms.limits.patience l.terms.limits.max_commits l.terms.limits.depth 0) l.terms.limits.retries place p a;
   fed : (place : ℕ) → ending_in l.actors.items place ≡ Some NoMemory → ⊥;
 }

@@ -5,7 +5,7 @@ use Rattle.shared_words.specs.Passes.{view_of}
 use Rattle.script_program.specs.Listing.{Listing}
 use Rattle.tx_host.specs.Starts.{Promised, AllReady}
 use Rattle.tx_host.proofs.Numbers.{numbered_push}
-use Rattle.tx_host.proofs.Passes.Parts.{is_for, is_outside, is_flat}
+use Rattle.tx_host.proofs.Passes.Parts.{is_for, is_outside, is_flat, is_whole}
 use Rattle.tx_host.proofs.start.start_all.Goals as goal
 
 pub start_one-requires : goal.start_one-requires
@@ -24,7 +24,10 @@ start_one-requires g c =
               is_outside base p _ c.in-Some.ready.thread c.in-Some.ready.player rest.0.fresh,
               (
                 is_flat base p _ c.in-Some.ready.thread c.in-Some.ready.player rest.0.fresh,
-                c.limits-retries.ensures.within.retries,
+                (
+                  is_whole base p _ c.in-Some.ready.thread c.in-Some.ready.player rest.0.fresh,
+                  c.limits-retries.ensures.within.retries,
+                ),
               ),
             ),
           ),

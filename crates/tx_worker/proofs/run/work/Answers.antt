@@ -8,8 +8,8 @@ pub loop-end-init : goal.loop-end-init
 loop-end-init g c =
     let r = c.requires in
     record {
-      works = begins_works g.P.Player c.args.words.now c.args.thread c.args.player c.args.number c.args.retries r.own r.stands r.outside r.depth r.few c.new.result c.new.ensures.items (c.snapshot-known.result / 2) (ap (λ (n : ℕ). n / 2) c.snapshot-known.ensures.value);
-      bound = begins_bound g.P.Player c.args.words.now c.args.thread c.args.player c.args.number c.args.retries r.own r.stands r.outside r.depth r.few;
+      works = begins_works g.P.Player c.args.words.now c.args.thread c.args.player c.args.number c.args.retries r.own r.stands r.outside r.depth r.whole r.few c.new.result c.new.ensures.items (c.snapshot-known.result / 2) (ap (λ (n : ℕ). n / 2) c.snapshot-known.ensures.value);
+      bound = begins_bound g.P.Player c.args.words.now c.args.thread c.args.player c.args.number c.args.retries r.own r.stands r.outside r.depth r.whole r.few;
       retries = refl;
     }
 

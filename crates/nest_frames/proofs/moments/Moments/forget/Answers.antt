@@ -18,10 +18,11 @@ loop-moment-preserved c =
     ∙ ap (λ k. map forgotten (take k all) ++ drop k all) (sym next)))
 
 -- all of them
-now_forgotten : (c : goal.After-self-1) → refill (length c.self.inside.places.items) c.self.inside.places.items c.loop-moment.moment-items ≡ map forgotten c.self.inside.places.items
+now_forgotten : (c : goal.After-self-1) → refill c.self.inside.places.len c.self.inside.places.items c.loop-moment.moment-items ≡ map forgotten c.self.inside.places.items
 now_forgotten c =
     let all = c.as_mut_slice-moment-items.ensures.value in
-    all_forgotten forgotten c.self.inside.places.items c.loop-moment.moment-items c.loop-moment.moment-index
+    ap (λ n. refill n c.self.inside.places.items c.loop-moment.moment-items) c.self.inside.places.ok.0
+    ∙ all_forgotten forgotten c.self.inside.places.items c.loop-moment.moment-items c.loop-moment.moment-index
     (subst (λ (ms : List Moment). length ms ≤ c.loop-moment.moment-index) all c.loop-moment-test.false)
     (c.loop-moment.invariant ∙ ap (λ (ms : List Moment). map forgotten (take c.loop-moment.moment-index ms) ++ drop c.loop-moment.moment-index ms) all)
 

@@ -1,17 +1,25 @@
 use Rattle.std.proofs.Common.{◌≡◌, rules, false, sym, ap, subst, ◌∙◌}
 use Rattle.norec_core.specs.Core.{Core}
+use Rattle.norec_core.specs.Proceeds.{Joins}
 use Rattle.norec_data.specs.declared.data.Data.{Data}
 use Rattle.norec_data.specs.Turns.{counted}
 use Rattle.norec_data.specs.View.{phase_of}
 use Rattle.norec_revocable.specs.Between.{IsWord}
+use Rattle.norec_engine.specs.Modes.{engine_in}
 use Rattle.norec_engine.proofs.SettledEngines.{counts_in, settled_in}
-use Rattle.norec_engine.proofs.WholeReads.{confirms, mode_is, same_load, same_wait, stage_is}
+use Rattle.norec_engine.proofs.WholeReads.{confirms, joins_none, mode_is, same_load, same_wait, stage_is}
 use Rattle.norec_engine.proofs.engine.Engine.load_fast.Goals as goal
 
 pub returns-clause-resumed : goal.returns-clause-resumed
 returns-clause-resumed c = record {
   proceeds = search rules;
-  joins = search rules;
+  joins =
+      (let s = c.self.inside.state in
+      let b = c.self.inside.irrevocable in
+      let phase = phase_of s c.self.inside.pending in
+      let next = phase_of (counted c.loaded.new.state) c.in-Wait.next in
+      subst (λ (e : Core). Joins e c.args.value (engine_in b (counted c.loaded.new.state) next)) c.self.view_is
+      (subst (λ (d : Data). Joins (engine_in b s phase) c.args.value (engine_in b (counted d) next)) (sym c.loaded.ensures.state) (joins_none b s phase next c.args.value)));
   order = search rules;
   ends = tt;
   tries = search rules;

@@ -6,6 +6,7 @@ use Rattle.norec_world.specs.ActionRoom.{MayRunOn}
 use Rattle.norec_world.proofs.Rooms.ActionRoom.{asked_inside, asked_served, called_acting, gave_acting, grown_acting, on_err, places_for, starves_begin, unasked_acting}
 use Rattle.norec_world.proofs.Rooms.CallRoom.{backed_came, promised_came, wanted_came}
 use Rattle.norec_world.proofs.Rooms.HeldRoom.{came_room}
+use Rattle.norec_world.proofs.Engines.NoRestarts.{not_at_once}
 use Rattle.norec_world.proofs.Events.SoundOthers.{has_row_same}
 use Rattle.norec_world.proofs.Common.{Actor, Attempt, Begin, Call, HasRow, Rows, Step, active_of, in_transaction, same_Some}
 use Rattle.norec_world.proofs.actor.Actor.ask.Goals.{After-call_into-in_default-2}
@@ -117,4 +118,4 @@ returns-in_ok-next-in-Begin-clause-acts g c =
     ((let x = c.in_ok-reserve-in-Begin-2.ensures.ok in omega arith), (let x = c.in_ok-reserve-in-Begin-3.ensures.ok in omega arith)))))
     (λ row f. absurd (let both : None ≡ Some row = sym none ∙ f in cc)) (λ o. absurd (true≢false (sym o ∙ shut)))
     (λ row f. (let same : attempt ≡ row = same_Some _ _ f in ap (λ (x : Attempt). x.calls.room) (sym same) ∙ (ap (λ (x : Attempt). x.calls.room) made ∙ (asked ∙ sym (wanted_came a.engine call a.again)))))
-    (backed_came a.engine call a.again) e.settled (next_in c.in_ok-next-in-Begin.next c.begin_into.new.answer) e.proceeds (λ over. (let s = c.requires.settled.closed shut in (s.2, s.3))) (λ step is. (refl, refl)))
+    (backed_came a.engine call a.again) e.settled (next_in c.in_ok-next-in-Begin.next c.begin_into.new.answer) e.proceeds (not_at_once (next_in c.in_ok-next-in-Begin.next c.begin_into.new.answer) e.at_once) (λ over. (let s = c.requires.settled.closed shut in (s.2, s.3))) (λ step is. (refl, refl)))

@@ -79,4 +79,4 @@ returns-in-Err-clause-worked g c =
     starve_worked g.met.P.Player.laws c.requires.sound c.requires.ready c.starve.new.recorded c.starve.new.self
     (record { tied = starved.tied c.args.memory.now (subst (IsTied c.args.memory.now) (sym u.engine) c.requires.sound.tied); kept = starved.kept; acts = starved.acts; status = subst (StatusIs g.P.Player c.starve.new.recorded c.starve.new.self) (sym starved.status) (idle_still c.args.self.now.engine c.starve.new.self.engine s.engine (rests c.requires.sound c.requires.ready).idle) })
     s (others_twice c.args.self.now c.ask.new.self c.starve.new.self c.args.recorded.now c.ask.new.recorded c.starve.new.recorded c.ask.ensures.others starved.others) (λ revocable. starved.closed (ap (λ (e : Core). e.irrevocable) u.engine ∙ revocable))
-    (starved.holds ∙ ap (λ (e : Core). e.holds) u.engine) (starved.limit.0 ∙ ap (λ (e : Core). e.max_commits) u.engine, starved.limit.1 ∙ ap (λ (e : Core). e.patience) u.engine, starved.limit.2 ∙ ap (λ (e : Core). e.depth) u.engine)
+    (starved.holds ∙ ap (λ (e : Core). e.holds) u.engine) (starved.limit.0 ∙ ap (λ (e : Core). e.max_commits) u.engine, starved.limit.1 ∙ ap (λ (e : Core). e.patience) u.engine, starved.limit.2 ∙ ap (λ (e : Core). e.depth) u.engine, starved.limit.3 ∙ ap (λ (e : Core). e.restarts) u.engine)

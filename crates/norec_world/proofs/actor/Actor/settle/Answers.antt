@@ -114,6 +114,14 @@ returns-after-is_none-2-clause-recorded g c was d =
           ];
     }
 
+-- no block goes back to its begin alone
+pub unreachable-requires : goal.unreachable-requires
+unreachable-requires g c =
+    let a = c.args.self.now in
+    let was : Bool = c.requires.answered.0 in
+    let d : IsAnswered g.P.Player was c.args.recorded.now a c.args.call c.args.answer = c.requires.answered.1 in
+    absurd (subst (AnswerFits was (g.P.Player.depth a.player) (in_transaction a.engine) (length a.engine.blocks) c.args.call) c.in-Restarted.is d.fits)
+
 pub returns-in-Busy-clause-recorded : goal.returns-in-Busy-clause-recorded
 returns-in-Busy-clause-recorded g c was d =
     let a = c.args.self.now in

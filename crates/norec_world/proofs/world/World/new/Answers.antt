@@ -45,7 +45,7 @@ returns-clause-anew g c =
       starts = λ place p a e f.
           (let players : c.in_ok-opening.opening.items ≡ c.args.players.items = search rules in
           let words : length c.new-memory.result.words ≡ length c.args.setup.bytes / 8 = search rules in
-          subst (λ (n : ℕ). HasStarted g.P.Player c.new-memory.result.clock (opening n (replicate c.args.setup.arena 0) c.args.setup.limits.patience c.args.setup.limits.max_commits c.args.setup.limits.depth) c.args.setup.limits.retries place p a)
+          subst (λ (n : ℕ). HasStarted g.P.Player c.new-memory.result.clock (opening n (replicate c.args.setup.arena 0) c.args.setup.limits.patience c.args.setup.limits.max_commits c.args.setup.limits.depth 0) c.args.setup.limits.retries place p a)
           (words ∙ ap (λ (b : List ℕ). length b / 8) (sym given)) (c.in_ok-actors.ensures.starts place p a (ap (λ (xs : List g.row.P.Denot). slice_get xs place) (sym players) ∙ e) f));
       first = λ place a e.
           (let is = c.in_ok-actors.ensures.first place a e in

@@ -1,0 +1,6 @@
+use Rattle.std.proofs.Common.{refl}
+use Rattle.itm_runtime.proofs.Calls.Restarts.{cancel_whole}
+use Rattle.itm_runtime.proofs.thread.Thread.cancel.Goals as goal
+
+pub returns-clause-whole : goal.returns-clause-whole
+returns-clause-whole c = cancel_whole _ _ _ _ c.args.outer c.in-Ok.ensures.served refl

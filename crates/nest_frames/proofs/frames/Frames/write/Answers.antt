@@ -1,0 +1,24 @@
+use Rattle.std.proofs.Common.{◌≡◌, ◌<◌, length, None, IsSome, ap, sym, subst, ◌∙◌}
+use Rattle.std.proofs.lemmas.Bool.{false≢true}
+use Rattle.write_set.specs.Marks.{write, IsNew}
+use Rattle.write_set.specs.Rows.{lookup}
+use Rattle.nest_frames.specs.Nest.{Nest, rows_of}
+use Rattle.nest_frames.proofs.NewRows.{IsNew-at_begin}
+use Rattle.nest_frames.proofs.OpenBlocks.{nest_written}
+use Rattle.nest_frames.proofs.frames.Frames.write.Goals as goal
+
+pub returns-clause-ok : goal.returns-clause-ok
+returns-clause-ok c =
+    let f = c.self.inside in
+    nest_written f.writes c.write.new.self _ f.undo.olds f.undo.size f.moments.most f.actions.room f.actions.actions f.moments.items c.self.invariant c.write.ensures.marks c.in_ok-write.ensures.ok
+    ∙ ap (λ (v : Nest). record v { writes = write v.writes c.args.word c.args.mask c.args.value }) c.self.view_is
+
+pub returns-in_err-write-clause-has_row : goal.returns-in_err-write-clause-has_row
+returns-in_err-write-clause-has_row c row none =
+    let f = c.self.inside in
+    let word = c.args.word in
+    let some = subst (λ (v : Nest). 0 < length v.blocks) (sym c.self.view_is) c.requires in
+    let here = subst (λ (v : Nest). IsSome (lookup word v.writes.rows)) (sym c.self.view_is) row in
+    let without = subst (λ (v : Nest). lookup word (rows_of v.blocks) ≡ None) (sym c.self.view_is) none in
+    let new : IsNew f.writes word = IsNew-at_begin f.writes f.undo.olds f.actions.actions f.moments.items word c.self.invariant some without in
+    absurd (false≢true (c.in_err-write.ensures.has_row here new))

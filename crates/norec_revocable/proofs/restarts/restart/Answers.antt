@@ -1,0 +1,25 @@
+use Rattle.std.proofs.Common.{◌≡◌, ℕ, take, refl, sym, ap, ◌∙◌}
+use Rattle.std.proofs.lemmas.Option.{get_or_from_slice_get}
+use Rattle.itm_types.specs.declared.row.LogRow.{LogRow}
+use Rattle.norec_core.specs.Rows.{row_at}
+use Rattle.norec_data.specs.declared.end.CallEnd.TheVariants.{Restarted}
+use Rattle.norec_revocable.proofs.restarts.restart.Goals as goal
+
+pub returns : goal.returns
+returns c =
+    let s = c.args.state.now in
+    let here : row_at s.log.rows c.args.row ≡ c.row-logged.result = get_or_from_slice_get s.log.rows c.args.row c.row-logged.result _ c.row-logged.ensures in
+    record {
+      end_is = ap (λ (r : LogRow). Restarted r.word) (sym here);
+      blocks = c.renew.ensures.blocks;
+      rows = c.renew.ensures.rows;
+      actions = c.renew.ensures.actions;
+      room = c.renew.ensures.room;
+      size = c.renew.ensures.size;
+      depth = c.renew.ensures.depth;
+      log = c.cut.ensures.rows ∙ ap (λ (n : ℕ). take n s.log.rows) c.reads-kept.ensures;
+      arena = c.renew.ensures.arena;
+      bytes = c.renew.ensures.restored;
+      arena_size = c.renew.ensures.arena_size;
+      others = refl;
+    }
