@@ -1,23 +1,14 @@
 //! An engine that is driven by hand, over cells that no other thread has.
 
-use crate::tests::helpers::{BEGIN, DONE, IN, read, word, write};
-use itm_types::{Call, Limits, MAX_COMMITS, Step, USUAL_DEPTH};
+use crate::tests::helpers::{BEGIN, DONE, IN, engine, read, word, write};
+use itm_types::{Call, Step};
 use norec_core::{Answer, Next};
 use norec_engine::Engine;
 use std::alloc::{AllocError, Global};
 use std::process::Abort;
-use undo_log::Arena;
 
 /// More steps than any call of the test takes.
 const STEPS: u32 = 100;
-
-const LIMITS: Limits = Limits {
-    patience: 8,
-    retries: 0,
-    max_commits: MAX_COMMITS,
-    depth: USUAL_DEPTH,
-    restarts: 0,
-};
 
 /// Does a step on the clock and the words, which follow it in order; the value that it found.
 pub(super) fn step_on(rt: &impl Abort, cells: &mut [u64], step: Step) -> u64 {
@@ -73,7 +64,7 @@ fn ask(
 
 /// A transaction adds 1 to the second of two words.
 fn add_one(rt: &impl Abort, alloc: Global, cells: &mut [u64; 3]) -> Result<(), AllocError> {
-    let mut engine = Engine::new(alloc, 2, Arena::new(alloc, 0)?, LIMITS)?;
+    let mut engine = engine(alloc, 2, 0, 8, 0)?;
     let engine = &mut engine;
     ask(rt, engine, cells, &BEGIN, &IN)?;
     ask(rt, engine, cells, &read(8), &word(41))?;

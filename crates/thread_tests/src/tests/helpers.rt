@@ -9,6 +9,7 @@ use itm_types::{
     WriteHint,
 };
 use norec_core::Answer;
+use norec_engine::Engine;
 use shared_words::{Pass, Words, WordsFault};
 use std::alloc::{AllocError, Global};
 use std::process::Abort;
@@ -88,6 +89,28 @@ pub(super) fn thread(
     };
     let arena = Arena::new(alloc, arena)?;
     Thread::new(alloc, words, pass, arena, limits)
+}
+
+/// An engine over so many words, with an arena of so many bytes, of so much patience, that restarts inner blocks so often.
+pub(super) fn engine(
+    alloc: Global,
+    words: u32,
+    arena: usize,
+    patience: u32,
+    restarts: u32,
+) -> Result<Engine, AllocError>
+    requires words { (0 < words) × (words ≤ 16) }
+    requires arena { arena ≤ 80 }
+    requires patience { (0 < patience) × (patience ≤ 8) }
+{
+    let limits = Limits {
+        patience,
+        retries: 0,
+        max_commits: MAX_COMMITS,
+        depth: USUAL_DEPTH,
+        restarts,
+    };
+    Engine::new(alloc, words, Arena::new(alloc, arena)?, limits)
 }
 
 pub(super) fn read(at: u64) -> Call {

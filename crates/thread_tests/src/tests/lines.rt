@@ -1,15 +1,12 @@
 //! An engine that is driven by hand, line by line: each of its steps and answers is compared.
 
-ghost use Rattle.std.specs.Prelude.{◌<◌, ◌≤◌};
-
 use crate::tests::by_hand::step_on;
-use crate::tests::helpers::{BEGIN, DONE, IN, read, word, write};
-use itm_types::{Action, Call, Copying, Datum, Limits, MAX_COMMITS, Ran, Step, USUAL_DEPTH, Width};
+use crate::tests::helpers::{BEGIN, DONE, IN, engine, read, word, write};
+use itm_types::{Action, Call, Copying, Datum, Ran, Step, Width};
 use norec_core::{Answer, Next};
 use norec_engine::Engine;
 use std::alloc::{AllocError, Global};
 use std::process::Abort;
-use undo_log::Arena;
 
 /// A call.
 #[derive(Clone, Copy)]
@@ -65,7 +62,8 @@ pub(super) enum Line {
     Due(&'static [Ran]),
 }
 
-/// A transaction over so many words of 0, with an arena of so many bytes, which may restart its blocks so often.
+/// A transaction over so many words of 0, with an arena of so many bytes, that restarts its blocks so often. Its calls try
+/// three times.
 #[derive(Clone, Copy)]
 pub(super) struct Case {
     pub(super) words: u32,
@@ -256,21 +254,6 @@ fn walk(
     Ok(())
 }
 
-/// An engine of three rounds a call.
-fn engine(alloc: Global, words: u32, arena: usize, restarts: u32) -> Result<Engine, AllocError>
-    requires words { (0 < words) × (words ≤ 16) }
-    requires arena { arena ≤ 80 }
-{
-    let limits = Limits {
-        patience: 3,
-        retries: 0,
-        max_commits: MAX_COMMITS,
-        depth: USUAL_DEPTH,
-        restarts,
-    };
-    Engine::new(alloc, words, Arena::new(alloc, arena)?, limits)
-}
-
 /// The case's lines come to an engine of its own.
 pub(super) fn drive(rt: &impl Abort, alloc: Global, case: &Case) -> Result<(), AllocError> {
     let Case {
@@ -280,7 +263,7 @@ pub(super) fn drive(rt: &impl Abort, alloc: Global, case: &Case) -> Result<(), A
         parts,
     } = *case;
     assert!(rt; 0 < words && words <= 16 && arena <= 80);
-    let mut engine = engine(alloc, words, arena, restarts)?;
+    let mut engine = engine(alloc, words, arena, 3, restarts)?;
     let mut cells = [0; 17];
     let (cells, _) = cells.split_at_mut(words as usize + 1);
     walk(rt, &mut engine, cells, parts)

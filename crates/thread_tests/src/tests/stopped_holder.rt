@@ -6,18 +6,17 @@ ghost use Rattle.shared_words.specs.Passes.{Owns, view_of, cells_of};
 ghost use Rattle.shared_words.specs.Steps.{Lawful, StepTells, cell_of};
 
 use crate::tests::helpers::{
-    BEGIN, BEGIN_IRREVOCABLE, DONE, IN, Row, code, cut, opened, part, read, thread, walk, word,
-    write,
+    BEGIN, BEGIN_IRREVOCABLE, DONE, IN, Row, code, cut, engine, opened, part, read, thread, walk,
+    word, write,
 };
 use itm_runtime::Thread;
-use itm_types::{Call, Datum, Limits, MAX_COMMITS, Step, USUAL_DEPTH, Width, WriteHint};
+use itm_types::{Call, Datum, Step, Width, WriteHint};
 use norec_core::{Answer, Next};
 use norec_engine::Engine;
 use shared_words::{Pass, Words};
 use std::alloc::{AllocError, Global};
 use std::process::Abort;
 use std::test::Fail;
-use undo_log::Arena;
 
 /// How often a call of the other thread tries.
 const PATIENCE: u32 = 3;
@@ -85,18 +84,6 @@ fn ask(rt: &impl Abort, engine: &mut Engine, call: &Call, next: &Next) -> Result
     assert!(rt; !engine.waits());
     assert_eq!(rt; engine.call(call)?, *next);
     Ok(())
-}
-
-/// An engine over four words.
-fn engine(alloc: Global) -> Result<Engine, AllocError> {
-    let limits = Limits {
-        patience: 8,
-        retries: 0,
-        max_commits: MAX_COMMITS,
-        depth: USUAL_DEPTH,
-        restarts: 0,
-    };
-    Engine::new(alloc, 4, Arena::new(alloc, 0)?, limits)
 }
 
 /// A block begins.
@@ -253,7 +240,7 @@ fn stop(
     requires idle { (view_of pass.old).holds ≡ false }
     ensures own { Owns words.now pass.new }
 {
-    let mut engine = engine(alloc)?;
+    let mut engine = engine(alloc, 4, 0, 8, 0)?;
     commit_part(rt, words, pass, &mut engine, steps)
 }
 
