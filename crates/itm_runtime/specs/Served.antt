@@ -147,11 +147,7 @@ pub record IsFull (s : Start) (at : ℕ) (v : View) (e : Core) : Type 0 where
   pub full : s.engine.max_commits ≤ at
   pub undone : IsUndone s e
 
--- the word is one that the innermost block has read
-abbrev pub IsOwn : Start → ℕ → Type 0
-IsOwn s word = (log : List LogRow) × (place : ℕ) × (row : LogRow) × StartsWith log s.engine.log × (reads_of s.engine.blocks ≤ place) × (slice_get log place ≡ Some row) × (row.word ≡ word)
-
--- the innermost block, which is within another one, has gone back to just after its begin: the position has moved up to the clock that was seen last, in this call. What is left of the log agrees with its memory, and over every memory that agrees with it the engine stands for that block rolled back and begun again
+-- the innermost block, which is within another one, has gone back to just after its begin: the position has moved up to the clock that was seen last, in this call. What is left of the log agrees with its memory, and over every memory that agrees with it the engine stands for that block rolled back and begun again. Which word was found different, the engine's own clauses say
 pub record Restarts (s : Start) (clock word : ℕ) (v : View) (e : Core) : Type 0 where
   pub still : (in_transaction s.engine ≡ true) × (in_transaction e ≡ true)
   pub within : is_within s.engine.blocks ≡ true
@@ -160,7 +156,6 @@ pub record Restarts (s : Start) (clock word : ℕ) (v : View) (e : Core) : Type 
   pub clock_is : (clock ≡ v.clock) × (clock ≡ e.snapshot)
   pub later : s.engine.snapshot < clock
   pub looks : s.view.looks < v.looks
-  pub word_is : IsOwn s word
   pub revocable : (s.engine.irrevocable ≡ false) × (e.irrevocable ≡ false)
   pub log : e.log ≡ take (reads_of s.engine.blocks) s.engine.log
   pub agrees : Agrees (memory_of v (clock / 2)) e.log

@@ -76,7 +76,6 @@ module _ (s : Start) (w : View) (mid new : Core) (m : IsMid s w mid new) (clock 
           | inl still ↦ absurd (omega arith)
           | inr up ↦ up
         ];
-        word_is = (mid.log, g.place, g.word_is.0, before.log, subst (λ (bs : List Frame). reads_of bs ≤ g.place) blocks_are parts.1, g.word_is.1, g.word_is.2);
         revocable = (was, ap (λ (c : Core). c.irrevocable) g.stays ∙ g.revocable);
         log = log_left;
         agrees = subst (λ (n : ℕ). Agrees (memory_of w (n / 2)) new.log) snap (m.logged is_open);
