@@ -61,6 +61,7 @@ pub record InCall (s : Start) (v : View) (e : Core) (step : Step) : Type 0 where
   pub tied : IsTied v e
   pub kept : Keeps (came s.engine s.call s.again) e
   pub went : Went s.view v
+  pub rises : s.engine.clock ≤ e.clock
   pub mine : v.mine ≡ s.view.mine
   pub looked : (v.clock ≡ s.view.clock) ⊎ (s.view.looks < v.looks)
   pub first : in_transaction s.engine ≡ true → s.view.clock ≡ s.engine.snapshot

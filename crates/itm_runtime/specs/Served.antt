@@ -96,6 +96,8 @@ pub record Commits (s : Start) (at : ℕ) (wrote : Bool) (v : View) (e : Core) :
   pub call : s.call ≡ Commit
   pub wrote_is : wrote ≡ (after s.engine.depth (stands_for s.engine (came_over s v e)) Commit).wrote
   pub next : wrote ≡ true → (at < length v.seen) × (bytes_of (memory_of v (suc at)) ≡ (after s.engine.depth (stands_for s.engine (came_over s v e)) Commit).memory)
+  pub clock : wrote ≡ true → e.clock ≡ e.snapshot + 2  -- the clock is known as it left it
+  pub few : wrote ≡ true → at < s.engine.max_commits
   pub arena_is : e.arena ≡ (after s.engine.depth (stands_for s.engine (came_over s v e)) Commit).arena
   pub actions_is : e.actions ≡ (after s.engine.depth (stands_for s.engine (came_over s v e)) Commit).actions
 
@@ -186,6 +188,7 @@ pub record Served (s : Start) (a : Answer) (v : View) (e : Core) : Type 0 where
   pub tells : Tells s a v e
   pub mine : v.mine ≡ mine_after s.view.mine a
   pub went : Went s.view v
+  pub rises : s.engine.clock ≤ e.clock  -- the clock as the thread knows it does not fall
   pub grows : in_transaction s.engine ≡ true → in_transaction e ≡ true → (IsRestart a → ⊥) → Grows s v e
   pub opens : in_transaction s.engine ≡ false → in_transaction e ≡ true → Opens s v e
   pub steps : length v.steps ≡ length s.view.steps + e.spent  -- it took as many steps as it tells

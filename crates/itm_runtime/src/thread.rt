@@ -250,6 +250,14 @@ impl Thread {
         self.engine.snapshot()
     }
 
+    /// The clock as the thread's calls saw it last; 0 before the first one.
+    pub fn clock(&self) -> u64
+        ensures value { result ≡ self.now.engine.clock }
+        ensures stands { Stands (view_of self.now.pass) self.now.engine }
+    {
+        self.engine.clock()
+    }
+
     /// The number of atomic steps of the last call.
     pub fn spent(&self) -> u128
         ensures { result ≡ self.now.engine.spent }

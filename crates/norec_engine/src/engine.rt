@@ -242,6 +242,13 @@ impl Engine {
         self.state.snapshot
     }
 
+    /// The clock value that was handed in last; 0 before the first one.
+    pub fn clock(&self) -> u64
+        ensures { result ≡ self.now.clock }
+    {
+        self.state.clock
+    }
+
     /// The room that the call asks for, where it is served and makes the transaction irrevocable.
     pub fn irrevocable_room(&self, call: &Call) -> Option<u32>
         ensures { result ≡ irrevocable_room self.now call.now }

@@ -47,16 +47,18 @@ pub use Rattle.norec_world.specs.Moments.{HasWorked}
 pub use Rattle.tx_attempts.specs.Opacity.{Beginning, Between, EndsAs, IsOpaque, IsRunOf, IsTryAt, LacksClock, after_try, takes_clock, answered_all, begin_code, begin_of, begin_within, follows}
 pub use Rattle.norec_world.specs.Headline.{AreCounted, AreOfActors, AreOpaque, bytes_at, first_of}
 pub use Rattle.norec_world.specs.Tied.{AreTied}
-pub use Rattle.norec_world.specs.OthersAttempts.{AllOf, ChangesOwn, KeepsOthers, count_pending}
-pub use Rattle.norec_world.specs.Records.{CountsTry, IsTold, Opens, Records, RecordsReply, StopsAt, StopsIf, Tells, asked_pending, begins_again}
-pub use Rattle.norec_world.specs.Rows.{AreFrom, AreOpen, AreUnfinished, Rows, active_of, changed, is_of, with_changed, with_ended, with_opened, without}
+pub use Rattle.norec_world.specs.Stages.{AllOf, KeepsOthers, active_of, begun_in, count_all, count_in, count_of, open_in, pending_of}
+pub use Rattle.norec_world.specs.Records.{ReadsAt, Records, TakesTo, Tells, begins_again, stand_of, told}
+pub use Rattle.norec_world.specs.Rows.{AreFrom, AreOpen, AreUnfinished, Rows}
 pub use Rattle.norec_world.specs.HeldAttempts.{IsHeld, StandsIn}
 pub use Rattle.norec_world.specs.Runs.{IsBeforeTry, IsInTry, IsRun, ReadsFrom, RunsFrom, StillRuns}
 pub use Rattle.tx_runs.specs.Nesting.{IsNested, whole}
 pub use Rattle.tx_runs.specs.Outcomes.{is_done}
+pub use Rattle.tx_runs.specs.PlayerRuns.{stage_of, tally_of}
 pub use Rattle.tx_runs.specs.Runs.{LeadsTo, begins_at, run_after}
+pub use Rattle.tx_runs.specs.Tallies.{Stage, Tally, Taken, begun, ending_as, took_in, with_call}
 pub use Rattle.norec_world.specs.Progress.{LeavesLess}
-pub use Rattle.norec_world.specs.Sound.{AnswerFits, BeginsAt, Falls, GoesOn, HasLess, HasRow, IsAnswered, IsDone, IsKept, IsNoMore, IsReady, IsSettledBy, IsSound, IsTied, RestsAs, StatusIs, rank, retried, run_left, steps_left}
+pub use Rattle.norec_world.specs.Sound.{AnswerFits, BeginsAt, Falls, GoesOn, HasLess, HasRow, IsAnswered, IsDone, IsKept, IsNoMore, IsReady, IsSettledBy, IsSound, IsTied, RestsAs, StatusIs, rank, run_left, steps_left}
 pub use Rattle.norec_world.specs.Starts.{HasStarted, IsFirst}
 pub use Rattle.norec_world.specs.Status.{ending_of, is_ready, is_waiting, waiting_step}
 pub use Rattle.norec_world.specs.Tries.{Continues, EndsAt, GoesOnAfter, IsBetween, Prior, Tries, TriesAgain, begins, between, current_of, outrun, over, prior_of, runs, shut_out, turned_away}

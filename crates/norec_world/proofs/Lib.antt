@@ -2,7 +2,7 @@ pub mod Common
 pub mod Plan
 mod PlanLaws
 pub mod Examples
-pub mod Attempts
+pub mod Tries
 pub mod Rooms
 pub mod Engines
 pub mod Events

@@ -3,4 +3,6 @@ pub mod LaterActions
 pub mod HeldRoom
 pub mod CallRoom
 pub mod ActionRoom
+pub mod RecordedRoom
 pub mod FedPlayers
+pub mod AskingActors

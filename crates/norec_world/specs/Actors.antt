@@ -1,12 +1,11 @@
 -- The actors of a world, between two events.
-use Rattle.std.specs.Prelude.{◌≡◌, ℕ, ◌%◌, ◌<◌, ◌≤◌, true, false, List, length, Some, slice_get}
-use Rattle.tx_attempts.specs.declared.attempt.Attempt.{Attempt}
+use Rattle.std.specs.Prelude.{◌≡◌, ℕ, ◌%◌, ◌≤◌, true, false, List, length, Some, slice_get}
 use Rattle.norec_world.specs.declared.actor.Actor.{Actor}
 use Rattle.itm_types.specs.declared.limits.TheConstants.{MAX_ACTORS}
 use Rattle.norec_world.specs.Cells.{Cells}
-use Rattle.norec_world.specs.Rows.{Rows, active_of}
+use Rattle.norec_world.specs.Rows.{Rows}
+use Rattle.norec_world.specs.Stages.{count_all}
 use Rattle.norec_world.specs.Status.{is_ready}
-use Rattle.norec_world.specs.OthersAttempts.{pending_in}
 use Rattle.norec_world.specs.Sound.{IsSound}
 use Rattle.tx_player.specs.Rules.{Rules}
 
@@ -15,12 +14,11 @@ module _ {P : Type 0} (rules : Rules P) where
   pub record IsActor (cells : Cells) (r : Rows) (place : ℕ) (a : Actor P) : Type 0 where
     pub sound : IsSound rules cells r a
     pub done : is_ready a.status ≡ false
-    pub thread : a.thread ≡ place
+    pub thread : a.run.thread ≡ place
 
   pub record AreActors (cells : Cells) (r : Rows) (actors : List (Actor P)) : Type 0 where
     pub few : length actors ≤ MAX_ACTORS
     pub each : (place : ℕ) (a : Actor P) → slice_get actors place ≡ Some a → IsActor cells r place a
     pub one : (i j : ℕ) (a b : Actor P) → slice_get actors i ≡ Some a → slice_get actors j ≡ Some b → a.engine.holds ≡ true → b.engine.holds ≡ true → i ≡ j  -- at most one holds the clock
     pub held : cells.clock % 2 ≡ 1 → (place : ℕ) × (a : Actor P) × (slice_get actors place ≡ Some a) × (a.engine.holds ≡ true)  -- and where it is odd one does
-    pub room : pending_in actors ≤ r.room  -- there is room for the attempts that are to be opened
-    pub listed : (thread : ℕ) (row : Attempt) → active_of thread r.active ≡ Some row → thread < length actors  -- no one else has an active one
+    pub room : count_all actors ≤ r.room  -- there is room for the attempts that are under way

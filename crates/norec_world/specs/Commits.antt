@@ -7,7 +7,7 @@ use Rattle.norec_world.specs.World.{World}
 
 -- an actor has the limits of its world
 pub record HasLimits {P : Type 0} (w : World P) (a : Actor P) : Type 0 where
-  pub retries : a.retries ≡ w.retries
+  pub retries : a.run.retries ≡ w.retries
   pub patience : a.engine.patience ≡ w.patience
   pub max_commits : a.engine.max_commits ≡ w.max_commits
   pub depth : a.engine.depth ≡ w.depth

@@ -5,7 +5,7 @@ use Rattle.norec_world.specs.declared.actor.Actor.{Actor}
 use Rattle.norec_world.specs.Cells.{Cells}
 use Rattle.norec_world.specs.Rows.{Rows}
 use Rattle.norec_world.specs.Status.{ending_of}
-use Rattle.norec_world.specs.OthersAttempts.{KeepsOthers}
+use Rattle.norec_world.specs.Stages.{KeepsOthers}
 use Rattle.norec_world.specs.ClockHolder.{ClocksOn}
 use Rattle.norec_world.specs.Tries.{Tries, prior_of}
 use Rattle.norec_world.specs.LocalWork.{TakesIn, Works}
@@ -18,7 +18,7 @@ module _ {P : Type 0} (rules : Rules P) where
     pub takes : TakesIn rules cells r a rows stepped  -- its step is done, and the value goes to its engine
     pub works : Works rules cells'.clock rows stepped r' a'  -- and then it does its local work
     pub tries : Tries cells.clock (prior_of r a) cells'.clock r' a'  -- what becomes of its try
-    pub finishes : ending_of a'.status ≡ Some Finished → rules.next_call a'.player ≡ None  -- it finishes only where its player has no more calls
+    pub finishes : ending_of a'.status ≡ Some Finished → rules.next_call a'.run.player ≡ None  -- it finishes only where its player has no more calls
     pub others : KeepsOthers a r a' r'  -- the others' attempts stay
     pub clocks : ClocksOn cells a.engine cells' a'.engine
-    pub retries : a'.retries ≡ a.retries
+    pub retries : a'.run.retries ≡ a.run.retries

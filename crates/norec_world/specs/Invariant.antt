@@ -2,7 +2,8 @@
 use Rattle.std.specs.Prelude.{◌≡◌, ℕ, [], length, None, Some, slice_get}
 use Rattle.tx_attempts.specs.declared.attempt.Attempt.{Attempt}
 use Rattle.norec_world.specs.declared.actor.Actor.{Actor}
-use Rattle.norec_world.specs.Rows.{Rows, AreFrom, active_of}
+use Rattle.norec_world.specs.Rows.{Rows}
+use Rattle.norec_world.specs.Stages.{active_of, pending_of}
 use Rattle.norec_world.specs.Status.{ending_of}
 use Rattle.norec_world.specs.Dates.{IsDated, AreDated}
 use Rattle.norec_world.specs.Actors.{AreActors}
@@ -16,15 +17,15 @@ use Rattle.tx_runs.specs.Unbroken.{AreUnbroken}
 
 -- the attempt is the actor's present try, and comes next after those that have ended
 pub record IsTry {P : Type 0} (retries : ℕ) (r : Rows) (a : Actor P) (row : Attempt) : Type 0 where
-  pub thread : row.thread ≡ a.thread
-  pub nth : row.nth ≡ a.nth
+  pub thread : row.thread ≡ a.run.thread
+  pub nth : row.nth ≡ a.run.nth
   pub unbroken : row.restarts ≡ []
   pub dated : IsDated retries r.ended row
 
 -- so is the actor's open one, or the one that is to be opened
 pub record IsDatedActor {P : Type 0} (retries : ℕ) (r : Rows) (a : Actor P) : Type 0 where
-  pub opened : (row : Attempt) → active_of a.thread r.active ≡ Some row → IsTry retries r a row
-  pub next : active_of a.thread r.active ≡ None → ending_of a.status ≡ None → (row : Attempt) → a.pending ≡ Some row → IsTry retries r a row
+  pub opened : (row : Attempt) → active_of a ≡ Some row → IsTry retries r a row
+  pub next : ending_of a.status ≡ None → (row : Attempt) → pending_of a ≡ Some row → IsTry retries r a row
 
 -- each attempt comes next after those that ended before it
 pub record IsDatedWorld {P : Type 0} (w : World P) : Type 0 where
@@ -36,7 +37,6 @@ module _ {P : Type 0} (rules : Rules P) where
   -- the headline, with what the actors have not recorded yet
   pub record AreRunning (w : World P) : Type 0 where
     pub laid : AreLaid w.depth w.base w.cells w.attempts
-    pub ordered : AreFrom 0 w.attempts.active
     pub threads : AreOfActors (length w.actors) w.attempts.ended
     pub each : (place : ℕ) (p : P) (a : Actor P) → slice_get w.opening place ≡ Some p → slice_get w.actors place ≡ Some a → RunsFrom rules (first_of p w.arena) w.depth w.base w.cells w.attempts a
 

@@ -1,7 +1,7 @@
 pub mod Cells
 pub mod Rows
 pub mod ActionRoom
-pub mod OthersAttempts
+pub mod Stages
 pub mod Tries
 pub mod Events
 pub mod Starts
@@ -26,3 +26,4 @@ pub mod Tied
 pub mod Moments
 pub mod Invariant
 pub mod Views
+pub mod Listed

@@ -1,5 +1,5 @@
 -- What an actor does with the value of its step, and in the local work that follows, up to its next step or its end.
-use Rattle.std.specs.Prelude.{◌≡◌, ◌⊎◌, ℕ, zero, suc, ◌/◌, ◌<◌, ◌≤◌, true, false, length, is_some, vec_capacity, None, Some}
+use Rattle.std.specs.Prelude.{◌≡◌, ◌⊎◌, ℕ, zero, suc, ◌<◌, ◌≤◌, true, false, is_some, None, Some}
 use Rattle.itm_types.specs.declared.call.Call.{Call}
 use Rattle.itm_types.specs.declared.step.Step.{Step}
 use Rattle.norec_core.specs.declared.answer.Next.{Next}
@@ -15,23 +15,26 @@ use Rattle.tx_runs.specs.declared.ending.End.TheVariants.{Finished, NoMemory}
 use Rattle.norec_world.specs.declared.actor.Actor.{Actor}
 use Rattle.norec_world.specs.declared.actor.Status.TheVariants.{Ready, Waits, Ended}
 use Rattle.norec_world.specs.Cells.{Cells, found}
-use Rattle.norec_world.specs.Rows.{Rows, active_of}
-use Rattle.norec_world.specs.Records.{Asks, Tells, IsTold, StopsAt}
+use Rattle.norec_world.specs.Rows.{Rows}
+use Rattle.norec_world.specs.Stages.{active_of, cancels_in, ends_in, pending_of, with_room}
+use Rattle.norec_world.specs.Records.{Asks, TakesTo, Tells, stand_of, told}
+use Rattle.tx_runs.specs.PlayerRuns.{stage_of, tally_of}
+use Rattle.tx_runs.specs.Tallies.{stopped}
 use Rattle.tx_player.specs.Rules.{Rules}
 
 -- it is the same actor, and where its player is to be asked, no attempt is to be opened
 pub record SameActor {P : Type 0} (a a' : Actor P) : Type 0 where
-  pub thread : a'.thread ≡ a.thread
-  pub retries : a'.retries ≡ a.retries
-  pub nothing : a'.status ≡ Ready → a'.pending ≡ None
+  pub thread : a'.run.thread ≡ a.run.thread
+  pub retries : a'.run.retries ≡ a.run.retries
+  pub nothing : a'.status ≡ Ready → pending_of a' ≡ None
 
 -- There is no room for one action more that runs at the attempt's end, or for those that have run once a cancel is done. Of an irrevocable attempt that is so only once its commit actions have used its room up.
 abbrev pub LacksRoom : {P : Type 0} → Actor P → Call → Type 0
-LacksRoom a call = (a.engine.irrevocable ≡ true → a.engine.room ≡ 0) × (((is_some (registered_by call) ≡ true) × (vec_capacity a.end_room ≤ total a.engine.actions)) ⊎ ((is_abort call ≡ true) × (vec_capacity a.cancel_room < total a.engine.actions)))
+LacksRoom a call = (a.engine.irrevocable ≡ true → a.engine.room ≡ 0) × (((is_some (registered_by call) ≡ true) × (ends_in a.run.current ≤ total a.engine.actions)) ⊎ ((is_abort call ≡ true) × (cancels_in a.run.current < total a.engine.actions)))
 
 -- within a block memory is wanted for the call with its reply where there is no room left for them, likewise for the actions that it leaves, or by the call for itself
-abbrev pub IsShort : {P : Type 0} → Rows → Actor P → Call → Type 0
-IsShort r a call = (row : Attempt) → active_of a.thread r.active ≡ Some row → ((row.calls.room ≡ 0) × (vec_capacity a.spare ≤ length row.calls.list)) ⊎ LacksRoom a call ⊎ MayStarve a.engine call
+abbrev pub IsShort : {P : Type 0} → Actor P → Call → Type 0
+IsShort a call = (row : Attempt) → active_of a ≡ Some row → (row.calls.room ≡ 0) ⊎ LacksRoom a call ⊎ MayStarve a.engine call
 
 -- its step was done on these cells: its engine is handed what was found, and of what comes the call waits for the next step, or is answered
 pub record TakesIn {P : Type 0} (rules : Rules P) (cells : Cells) (r : Rows) (a : Actor P) (r' : Rows) (a' : Actor P) : Type 0 where
@@ -40,47 +43,50 @@ pub record TakesIn {P : Type 0} (rules : Rules P) (cells : Cells) (r : Rows) (a 
   pub waits : a.status ≡ Waits call step
   pub what : Next
   pub resumed : IsResumed a.engine (found cells step) what a'.engine
-  pub rows : Rows
-  pub tells : Tells rules (in_transaction a.engine) r rows (record a { engine = a'.engine; status = Ready }) a' call what
-  pub told : IsTold a.thread (in_transaction a'.engine) rows (a'.engine.snapshot / 2) r'
+  pub recorded : Actor P
+  pub tells : Tells rules r r' (record a { engine = a'.engine; status = Ready }) recorded call what
+  pub moves : a' ≡ told recorded  -- and its open attempt is told where its engine reads then
   pub same : SameActor a a'
+
+-- it stands where it stood, but for a place more in its attempt
+pub record Stays {P : Type 0} (r : Rows) (a : Actor P) (r' : Rows) (a' : Actor P) : Type 0 where
+  pub ended : r'.ended ≡ r.ended
+  pub run : a'.run ≡ record a.run { current = a'.run.current }
+  pub room : ℕ
+  pub stage : stage_of a'.run.current ≡ with_room room (stage_of a.run.current)
 
 module _ {P : Type 0} (rules : Rules P) where
   -- its player's next call goes to its engine, and waits for its first step, or is answered at once
   pub record Calls (clock : ℕ) (r : Rows) (a : Actor P) (r' : Rows) (a' : Actor P) : Type 0 where
     pub call : Call
-    pub next_is : rules.next_call a.player ≡ Some call
+    pub next_is : rules.next_call a.run.player ≡ Some call
     pub what : Next
     pub rows : Rows
     pub asked : Actor P
     pub asks : Asks clock r rows a asked call what
     pub ready : asked.status ≡ Ready
-    pub tells : Tells rules (in_transaction a.engine) rows r' asked a' call what
+    pub tells : Tells rules rows r' asked a' call what
     pub engine : a'.engine ≡ asked.engine
     pub same : SameActor a a'
 
   -- its player has no more calls
   pub record Finishes (r : Rows) (a : Actor P) (r' : Rows) (a' : Actor P) : Type 0 where
-    pub none : rules.next_call a.player ≡ None
+    pub none : rules.next_call a.run.player ≡ None
     pub actor : a' ≡ record a { status = Ended Finished }
     pub rows : r' ≡ r
 
   -- memory was refused to its player's next call
   pub record Starves (r : Rows) (a : Actor P) (r' : Rows) (a' : Actor P) : Type 0 where
     pub call : Call
-    pub next_is : rules.next_call a.player ≡ Some call
+    pub next_is : rules.next_call a.run.player ≡ Some call
     pub grows : in_transaction a.engine ≡ false → is_begin call ≡ true  -- outside a block memory is wanted for a begin alone
-    pub short : in_transaction a.engine ≡ true → IsShort r a call
-    pub used : a.engine.irrevocable ≡ true → (row : Attempt) → active_of a.thread r.active ≡ Some row → row.calls.room ≡ 0  -- an irrevocable attempt has used up the room that it asked for
+    pub short : in_transaction a.engine ≡ true → IsShort a call
+    pub used : a.engine.irrevocable ≡ true → (row : Attempt) → active_of a ≡ Some row → row.calls.room ≡ 0  -- an irrevocable attempt has used up the room that it asked for
     pub status : a'.status ≡ Ended NoMemory
-    pub player : a'.player ≡ a.player
     pub same : SameActor a a'
-    pub counts : (a'.nth ≡ a.nth) × (a'.again ≡ a.again) × (a'.pending ≡ a.pending)
     pub engine : a'.engine ≡ after_undoing a.engine
-    pub room : ℕ
-    pub stops : in_transaction a.engine ≡ true → a.engine.irrevocable ≡ false → StopsAt a.thread (record r { room = room }) (a.engine.snapshot / 2) outcomes.NoMemory a'.engine.actions.ran r'
-    pub stays : in_transaction a.engine ≡ false → r' ≡ record r { room = room }
-    pub held : a.engine.irrevocable ≡ true → r' ≡ record r { room = room }  -- an irrevocable attempt stays unfinished
+    pub stops : a.engine.irrevocable ≡ false → TakesTo (stopped (tally_of a.run) outcomes.NoMemory (stand_of a'.engine) NoMemory) r r' a a'
+    pub held : a.engine.irrevocable ≡ true → Stays r a r' a'  -- an irrevocable attempt stays unfinished
 
   -- one of these
   pub data Acts (clock : ℕ) (r : Rows) (a : Actor P) (r' : Rows) (a' : Actor P) : Type 0 where

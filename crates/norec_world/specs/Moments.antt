@@ -7,7 +7,7 @@ use Rattle.norec_world.specs.declared.actor.Actor.{Actor}
 use Rattle.norec_world.specs.Cells.{Cells, cells_after}
 use Rattle.norec_world.specs.ClockHolder.{ClocksOn}
 use Rattle.norec_world.specs.LocalWork.{TakesIn, Works}
-use Rattle.norec_world.specs.OthersAttempts.{KeepsOthers}
+use Rattle.norec_world.specs.Stages.{KeepsOthers}
 use Rattle.norec_world.specs.Rows.{Rows}
 use Rattle.norec_world.specs.Runs.{StillRuns}
 use Rattle.norec_world.specs.Sound.{Falls, GoesOn, IsNoMore, IsSound}
@@ -40,7 +40,7 @@ module _ {P : Type 0} (rules : Rules P) where
     pub clock : a'.engine.clock ≡ a.engine.clock
     pub limit : (a'.engine.max_commits ≡ a.engine.max_commits) × (a'.engine.patience ≡ a.engine.patience) × (a'.engine.depth ≡ a.engine.depth) × (a'.engine.restarts ≡ a.engine.restarts)
     pub snapshot : a'.engine.snapshot ≡ a.engine.snapshot
-    pub retries : a'.retries ≡ a.retries
-    pub finishes : is_ready a.status ≡ true → ending_of a'.status ≡ Some Finished → rules.next_call a'.player ≡ None
+    pub retries : a'.run.retries ≡ a.run.retries
+    pub finishes : is_ready a.status ≡ true → ending_of a'.status ≡ Some Finished → rules.next_call a'.run.player ≡ None
     pub still : is_ready a.status ≡ false → (a' ≡ a) × (r' ≡ r)
     pub less : ending_of a'.status ≡ None → IsNoMore rules a a'

@@ -15,7 +15,8 @@ use Rattle.tx_attempts.specs.Restarts.{breaks_of}
 use Rattle.tx_runs.specs.Runs.{LeadsTo, begins_at, run_after}
 use Rattle.norec_world.specs.Cells.{Cells}
 use Rattle.norec_world.specs.Records.{ReadsAt}
-use Rattle.norec_world.specs.Rows.{Rows, active_of}
+use Rattle.norec_world.specs.Rows.{Rows}
+use Rattle.norec_world.specs.Stages.{active_of, pending_of}
 use Rattle.norec_world.specs.Status.{ending_of}
 use Rattle.norec_world.specs.Headline.{bytes_at}
 use Rattle.norec_world.specs.Memories.{words_at}
@@ -49,37 +50,37 @@ module _ {P : Type 0} (rules : Rules P) where
   -- before the next one, with so many commits done: the player has come as far as its calls outside a transaction led, and perhaps called its begin
   pub record IsBeforeTry (deepest n : ℕ) (b : Between P) (a : Actor P) : Type 0 where
     pub calls : ℕ
-    pub leads : LeadsTo rules deepest calls b.player b.arena a.player a.engine.arena
-    pub again : a.again ≡ b.again
-    pub tries : b.tries < a.nth
-    pub pending : (row : Attempt) → a.pending ≡ Some row
+    pub leads : LeadsTo rules deepest calls b.player b.arena a.run.player a.engine.arena
+    pub again : a.run.again ≡ b.again
+    pub tries : b.tries < a.run.nth
+    pub pending : (row : Attempt) → pending_of a ≡ Some row
         → (row.began ≤ n) × (row.arena ≡ a.engine.arena) × (row.calls.list ≡ []) × (row.ran ≡ [])
-        × (may_go [] row.props ≡ true → begins_at rules deepest b ≡ Some (record { player = a.player; arena = a.engine.arena; props = row.props })) × (a.engine.again ≡ b.again)
+        × (may_go [] row.props ≡ true → begins_at rules deepest b ≡ Some (record { player = a.run.player; arena = a.engine.arena; props = row.props })) × (a.engine.again ≡ b.again)
         × (row.restarts ≡ [])
 
   -- the actor's attempts are its player's run from here, over the memories of so many commits, and each saw what its player gets alone
   pub record IsRun (first : Between P) (deepest : ℕ) (base : List ℕ) (n : ℕ) (r : Rows) (a : Actor P) : Type 0 where
-    pub run : IsRunOf rules deepest n (bytes_at deepest base r.ended) (Some first) (of_thread a.thread r.ended)
-    pub inside : in_transaction a.engine ≡ true → (b : Between P) × (row : Attempt) × (run_after rules deepest (bytes_at deepest base r.ended) (Some first) (of_thread a.thread r.ended) ≡ Some b) × (active_of a.thread r.active ≡ Some row)
-        × IsInTry deepest (words_at deepest base r.ended n) b row a.player a.engine × (a.again ≡ true) × (row.nth ≡ a.nth)
+    pub run : IsRunOf rules deepest n (bytes_at deepest base r.ended) (Some first) (of_thread a.run.thread r.ended)
+    pub inside : in_transaction a.engine ≡ true → (b : Between P) × (row : Attempt) × (run_after rules deepest (bytes_at deepest base r.ended) (Some first) (of_thread a.run.thread r.ended) ≡ Some b) × (active_of a ≡ Some row)
+        × IsInTry deepest (words_at deepest base r.ended n) b row a.run.player a.engine × (a.run.again ≡ true) × (row.nth ≡ a.run.nth)
     pub between : in_transaction a.engine ≡ false → (ending_of a.status ≡ Some GaveUp → ⊥) → (ending_of a.status ≡ Some NoMemory → ⊥)
-        → (b : Between P) × (run_after rules deepest (bytes_at deepest base r.ended) (Some first) (of_thread a.thread r.ended) ≡ Some b) × IsBeforeTry deepest n b a
+        → (b : Between P) × (run_after rules deepest (bytes_at deepest base r.ended) (Some first) (of_thread a.run.thread r.ended) ≡ Some b) × IsBeforeTry deepest n b a
 
   -- the player has come from here; and if it tells its room truly, its irrevocable attempt has the room for all its calls that are still to come, and wants no memory
-  pub record IsFed (p : P) (r : Rows) (a : Actor P) : Type 0 where
+  pub record IsFed (p : P) (a : Actor P) : Type 0 where
     pub moves : ℕ
-    pub comes : ComesTo rules moves p a.player
-    pub within : a.engine.irrevocable ≡ true → (row : Attempt) → active_of a.thread r.active ≡ Some row → EndsWithin rules row.calls.room a.player
+    pub comes : ComesTo rules moves p a.run.player
+    pub within : a.engine.irrevocable ≡ true → (row : Attempt) → active_of a ≡ Some row → EndsWithin rules row.calls.room a.run.player
     pub fed : ending_of a.status ≡ Some NoMemory → a.engine.irrevocable ≡ false
 
   pub record RunsFrom (first : Between P) (deepest : ℕ) (base : List ℕ) (cells : Cells) (r : Rows) (a : Actor P) : Type 0 where
     pub depth : a.engine.depth ≡ deepest
     pub runs : IsRun first deepest base (cells.clock / 2) r a
     pub sees : Sees (words_at deepest base r.ended) cells a.engine
-    pub held : a.engine.irrevocable ≡ true → (row : Attempt) → active_of a.thread r.active ≡ Some row → IsHeld deepest (bytes_at deepest base r.ended (cells.clock / 2)) cells.words row a.engine
+    pub held : a.engine.irrevocable ≡ true → (row : Attempt) → active_of a ≡ Some row → IsHeld deepest (bytes_at deepest base r.ended (cells.clock / 2)) cells.words row a.engine
     pub starved : ending_of a.status ≡ Some NoMemory → a.engine.irrevocable ≡ false → in_transaction a.engine ≡ false
-    pub reads : ReadsAt r a
-    pub fed : TellsRoom rules first.player → IsFed first.player r a
+    pub reads : ReadsAt a
+    pub fed : TellsRoom rules first.player → IsFed first.player a
 
   -- where the words were those of the commits, and the actor's attempts its player's run, they still are
   abbrev pub StillRuns : Cells → Rows → Actor P → Cells → Rows → Actor P → Type 0

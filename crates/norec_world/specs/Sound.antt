@@ -1,5 +1,5 @@
 -- What is true of an actor between two events.
-use Rattle.std.specs.Prelude.{◌≡◌, ℕ, ◌+◌, ◌-◌, ◌*◌, ◌<◌, ◌≤◌, Bool, true, false, nat_lt, if◌then◌else◌, is_some, [], length, None, Some, vec_capacity}
+use Rattle.std.specs.Prelude.{◌≡◌, ℕ, ◌+◌, ◌-◌, ◌*◌, ◌<◌, ◌≤◌, Bool, true, false, if◌then◌else◌, is_some, length, None, Some}
 use Rattle.itm_types.specs.declared.call.Call.{Call}
 use Rattle.itm_types.specs.declared.call.Props.{Props}
 use Rattle.itm_types.specs.declared.call.Call.TheVariants.{Begin, Commit}
@@ -9,7 +9,6 @@ use Rattle.itm_types.specs.declared.limits.TheConstants.{MAX_RETRIES}
 use Rattle.itm_types.specs.Calls.{is_begin, is_abort}
 use Rattle.tx_player.specs.Depth.{depth_after}
 use Rattle.norec_core.specs.Core.{Core, in_transaction, may_go}
-use Rattle.norec_core.specs.Moves.{IsCalled}
 use Rattle.norec_core.specs.Order.{asked}
 use Rattle.norec_core.specs.Proceeds.{IsLawful, IsSettled, IsWithin, most}
 use Rattle.norec_core.specs.Phases.{Phase}
@@ -21,15 +20,15 @@ use Rattle.norec_core.specs.declared.answer.Answer.TheVariants.{Reply, Committed
 use Rattle.tx_attempts.specs.declared.attempt.Attempt.{Attempt}
 use Rattle.tx_attempts.specs.declared.attempt.Outcome.TheVariants.{Unfinished}
 use Rattle.tx_runs.specs.Nesting.{IsNested, whole}
-use Rattle.tx_runs.specs.declared.ending.End.TheVariants.{GaveUp}
 use Rattle.norec_world.specs.declared.actor.Actor.{Actor}
 use Rattle.norec_world.specs.declared.actor.Status.{Status}
 use Rattle.norec_world.specs.declared.actor.Status.TheVariants.{Ready, Waits, Ended}
 use Rattle.norec_world.specs.ActionRoom.{IsActing}
 use Rattle.norec_world.specs.Cells.{Cells}
-use Rattle.norec_world.specs.OthersAttempts.{KeepsOthers}
 use Rattle.norec_world.specs.Records.{Tells}
-use Rattle.norec_world.specs.Rows.{Rows, active_of}
+use Rattle.norec_world.specs.Rows.{Rows}
+use Rattle.norec_world.specs.Stages.{KeepsOthers, active_of, count_of, pending_of, with_room}
+use Rattle.tx_runs.specs.PlayerRuns.{stage_of}
 use Rattle.norec_world.specs.Status.{is_ready, is_waiting}
 use Rattle.tx_player.specs.Rules.{Rules}
 
@@ -56,33 +55,27 @@ steps_left e = most e e.doing - e.spent
 
 -- ## What is recorded
 
--- the actor has an open attempt, or none
-abbrev pub HasRow : Bool → Rows → ℕ → Type 0
-HasRow false r thread = active_of thread r.active ≡ None
-HasRow true r thread = (row : Attempt) × (active_of thread r.active ≡ Some row) × (row.outcome ≡ Unfinished)
-
 module _ {P : Type 0} where
-  pub record IsKept (is_open : Bool) (r : Rows) (a : Actor P) : Type 0 where
-    pub row : HasRow is_open r a.thread
-    pub empty : a.spare.items ≡ []
-    pub tried : 0 < a.nth
-    pub tries : a.nth ≤ a.retries + 1
-    pub retries : a.retries ≤ MAX_RETRIES
+  -- the actor has an open attempt of its own, or none
+  abbrev pub HasRow : Bool → Actor P → Type 0
+  HasRow false a = active_of a ≡ None
+  HasRow true a = (row : Attempt) × (active_of a ≡ Some row) × (row.outcome ≡ Unfinished) × (row.thread ≡ a.run.thread)
+
+  pub record IsKept (is_open : Bool) (a : Actor P) : Type 0 where
+    pub row : HasRow is_open a
+    pub tried : 0 < a.run.nth
+    pub tries : a.run.nth ≤ a.run.retries + 1
+    pub retries : a.run.retries ≤ MAX_RETRIES
 
   -- the attempt that a begin is to open
-  pub record IsPending (r : Rows) (a : Actor P) (row : Attempt) : Type 0 where
-    pub thread : row.thread ≡ a.thread
-    pub nth : row.nth ≡ a.nth
+  pub record IsPending (a : Actor P) (row : Attempt) : Type 0 where
+    pub thread : row.thread ≡ a.run.thread
+    pub nth : row.nth ≡ a.run.nth
     pub outcome : row.outcome ≡ Unfinished
-    pub room : 0 < r.room
-
-  -- a try of its block came to nothing: the next one, or the end
-  abbrev pub retried : Actor P → Actor P
-  retried a = if nat_lt a.retries a.nth then record a { status = Ended GaveUp } else record a { nth = a.nth + 1 }
 
   -- tries of its block that are left after the present or next one
   abbrev pub tries_left : Actor P → ℕ
-  tries_left a = a.retries + 1 - a.nth
+  tries_left a = a.run.retries + 1 - a.run.nth
 
 -- ## Answers
 
@@ -97,19 +90,17 @@ AnswerFits was before now deep call (Full at) = (was ≡ false → is_begin call
 
 module _ {P : Type 0} (rules : Rules P) where
   -- the call came from the player, and there is room for what comes of it
-  pub record IsInCall (is_open : Bool) (r : Rows) (a : Actor P) (call : Call) : Type 0 where
-    pub asks : rules.next_call a.player ≡ Some call
-    pub begins : is_open ≡ false → is_some a.pending ≡ is_begin call
-    pub inside : is_open ≡ true → a.pending ≡ None
-    pub opens : (row : Attempt) → a.pending ≡ Some row → IsPending r a row
-    pub props : (row : Attempt) (props : Props) (room : ℕ) → a.pending ≡ Some row → call ≡ Begin props room → row.props ≡ props
-    pub room : (row : Attempt) → is_open ≡ true → active_of a.thread r.active ≡ Some row → row.calls.room ≡ 0 → length row.calls.list < vec_capacity a.spare
-    pub ahead : (row : Attempt) → is_open ≡ true → active_of a.thread r.active ≡ Some row → 0 < a.ahead → length row.calls.list + 1 + a.ahead ≤ vec_capacity a.spare
+  pub record IsInCall (is_open : Bool) (a : Actor P) (call : Call) : Type 0 where
+    pub asks : rules.next_call a.run.player ≡ Some call
+    pub begins : is_open ≡ false → is_some (pending_of a) ≡ is_begin call
+    pub inside : is_open ≡ true → pending_of a ≡ None
+    pub opens : (row : Attempt) → pending_of a ≡ Some row → IsPending a row
+    pub props : (row : Attempt) (props : Props) (room : ℕ) → pending_of a ≡ Some row → call ≡ Begin props room → row.props ≡ props
 
-  pub record IsWaiting (r : Rows) (a : Actor P) (call : Call) (step : Step) : Type 0 where
-    pub nested : IsNested rules (in_transaction a.engine) a.player
-    pub depth : rules.depth a.player ≡ length a.engine.blocks
-    pub in_call : IsInCall (in_transaction a.engine) r a call
+  pub record IsWaiting (a : Actor P) (call : Call) (step : Step) : Type 0 where
+    pub nested : IsNested rules (in_transaction a.engine) a.run.player
+    pub depth : rules.depth a.run.player ≡ length a.engine.blocks
+    pub in_call : IsInCall (in_transaction a.engine) a call
     pub doing : a.engine.doing ≡ Some call
     pub waits : a.engine.waits ≡ Some step
     pub lawful : IsLawful a.engine step
@@ -118,43 +109,44 @@ module _ {P : Type 0} (rules : Rules P) where
     pub begun : in_transaction a.engine ≡ false → BeginsAt a.engine a.engine.stage
 
   pub record IsReady (a : Actor P) : Type 0 where
-    pub nested : IsNested rules (in_transaction a.engine) a.player
-    pub depth : rules.depth a.player ≡ length a.engine.blocks  -- it has as many open as the engine
+    pub nested : IsNested rules (in_transaction a.engine) a.run.player
+    pub depth : rules.depth a.run.player ≡ length a.engine.blocks  -- it has as many open as the engine
     pub idle : a.engine.waits ≡ None
     pub free : a.engine.holds ≡ a.engine.irrevocable  -- an irrevocable transaction alone holds the clock between two calls
-    pub nothing : a.pending ≡ None
+    pub nothing : pending_of a ≡ None
 
-  abbrev pub StatusIs : Rows → Actor P → Status → Type 0
-  StatusIs r a Ready = IsReady a
-  StatusIs r a (Waits call step) = IsWaiting r a call step
-  StatusIs r a (Ended end) = a.engine.waits ≡ None
+  abbrev pub StatusIs : Actor P → Status → Type 0
+  StatusIs a Ready = IsReady a
+  StatusIs a (Waits call step) = IsWaiting a call step
+  StatusIs a (Ended end) = a.engine.waits ≡ None
 
   -- between two events, and within local work
   pub record IsSound (cells : Cells) (r : Rows) (a : Actor P) : Type 0 where
     pub tied : IsTied cells a.engine
-    pub kept : IsKept (in_transaction a.engine) r a
-    pub acts : IsActing r a
-    pub status : StatusIs r a a.status
+    pub kept : IsKept (in_transaction a.engine) a
+    pub acts : IsActing a
+    pub status : StatusIs a a.status
+    pub place : count_of a ≤ r.room  -- there is room for its attempt once it ends
 
   -- ## How much is left to do
 
   -- falls with each answer; k bounds the calls left
   abbrev pub rank : ℕ → Bool → Actor P → ℕ
-  rank k is_open a = (whole rules is_open a.player * (a.retries + 1) + tries_left a) * (k + 1) + rules.calls_left a.player
+  rank k is_open a = (whole rules is_open a.run.player * (a.run.retries + 1) + tries_left a) * (k + 1) + rules.calls_left a.run.player
 
   -- less is left to do
   pub record Falls (was now : Bool) (old new : Actor P) : Type 0 where
-    pub whole_falls : whole rules now new.player ≤ whole rules was old.player
-    pub rank_falls : (k : ℕ) → whole rules was old.player ≤ k → rank k now new < rank k was old
+    pub whole_falls : whole rules now new.run.player ≤ whole rules was old.run.player
+    pub rank_falls : (k : ℕ) → whole rules was old.run.player ≤ k → rank k now new < rank k was old
 
   -- ## Answers
 
   -- the call is answered, and nothing is recorded of that yet
-  pub record IsAnswered (was : Bool) (r : Rows) (a : Actor P) (call : Call) (answer : Answer) : Type 0 where
-    pub kept : IsKept was r a
-    pub nested : IsNested rules was a.player
-    pub in_call : IsInCall was r a call
-    pub fits : AnswerFits was (rules.depth a.player) (in_transaction a.engine) (length a.engine.blocks) call answer
+  pub record IsAnswered (was : Bool) (a : Actor P) (call : Call) (answer : Answer) : Type 0 where
+    pub kept : IsKept was a
+    pub nested : IsNested rules was a.run.player
+    pub in_call : IsInCall was a call
+    pub fits : AnswerFits was (rules.depth a.run.player) (in_transaction a.engine) (length a.engine.blocks) call answer
     pub idle : a.engine.waits ≡ None
     pub free : a.engine.holds ≡ a.engine.irrevocable
     pub status : a.status ≡ Ready
@@ -166,44 +158,31 @@ module _ {P : Type 0} (rules : Rules P) where
   RestsAs (Ended end) a = a.engine.waits ≡ None
 
   -- the answer is recorded
-  pub record IsSettledBy (was : Bool) (r : Rows) (old new : Actor P) : Type 0 where
+  pub record IsSettledBy (was : Bool) (old new : Actor P) : Type 0 where
     pub engine : new.engine ≡ old.engine
-    pub thread : new.thread ≡ old.thread
-    pub retries : new.retries ≡ old.retries
-    pub kept : IsKept (in_transaction new.engine) r new
+    pub thread : new.run.thread ≡ old.run.thread
+    pub retries : new.run.retries ≡ old.run.retries
+    pub kept : IsKept (in_transaction new.engine) new
     pub rests : RestsAs new.status new
     pub falls : new.status ≡ Ready → Falls was (in_transaction new.engine) old new
 
   -- ## A call goes to the engine
 
-  -- all but the engine and what has to do with the call is as it was
-  pub record SameBeside (old new : Actor P) : Type 0 where
-    pub thread : new.thread ≡ old.thread
-    pub retries : new.retries ≡ old.retries
-    pub player : new.player ≡ old.player
-    pub nth : new.nth ≡ old.nth
-    pub status : new.status ≡ old.status
-
   -- the engine went on with the call, and there is room for what comes of it
-  pub record IsAsked (r : Rows) (old new : Actor P) (call : Call) (what : Next) : Type 0 where
-    pub same : SameBeside old new
-    pub again : Bool
-    pub called : IsCalled old.engine call again what new.engine
-    pub kept : IsKept (in_transaction old.engine) r new
-    pub in_call : IsInCall (in_transaction old.engine) r new call
+  pub record IsAsked (old new : Actor P) (call : Call) (what : Next) : Type 0 where
+    pub status : new.status ≡ old.status
+    pub kept : IsKept (in_transaction old.engine) new
+    pub in_call : IsInCall (in_transaction old.engine) new call
 
-  -- memory was refused before the call came to the engine
-  pub record IsUnasked (r : Rows) (old new : Actor P) : Type 0 where
-    pub same : SameBeside old new
-    pub engine : new.engine ≡ old.engine
-    pub pending : new.pending ≡ old.pending
-    pub again : new.again ≡ old.again
-    pub kept : IsKept (in_transaction new.engine) r new
+  -- memory was refused before the call came to the engine: its attempt may have a place more
+  pub record IsUnasked (old new : Actor P) : Type 0 where
+    pub actor : new ≡ record old { run = record old.run { current = new.run.current } }
+    pub stage : (room : ℕ) × (stage_of new.run.current ≡ with_room room (stage_of old.run.current))
 
   -- no more is left to do than before
   pub record IsNoMore (old new : Actor P) : Type 0 where
-    pub whole_falls : whole rules (in_transaction new.engine) new.player ≤ whole rules (in_transaction old.engine) old.player
-    pub rank_falls : (k : ℕ) → whole rules (in_transaction old.engine) old.player ≤ k → rank k (in_transaction new.engine) new ≤ rank k (in_transaction old.engine) old
+    pub whole_falls : whole rules (in_transaction new.engine) new.run.player ≤ whole rules (in_transaction old.engine) old.run.player
+    pub rank_falls : (k : ℕ) → whole rules (in_transaction old.engine) old.run.player ≤ k → rank k (in_transaction new.engine) new ≤ rank k (in_transaction old.engine) old
 
   -- the same call goes on, with fewer steps left
   pub record GoesOn (old new : Actor P) : Type 0 where
@@ -217,27 +196,27 @@ module _ {P : Type 0} (rules : Rules P) where
   -- ## What comes next for a call
 
   -- nothing is recorded yet of what the engine gave for the call
-  abbrev pub IsDue : Bool → Rows → Actor P → Call → Next → Type 0
-  IsDue was r a call (Asks step) = a.status ≡ Ready
-  IsDue was r a call (Answers answer) = IsAnswered was r a call answer
+  abbrev pub IsDue : Bool → Actor P → Call → Next → Type 0
+  IsDue was a call (Asks step) = a.status ≡ Ready
+  IsDue was a call (Answers answer) = IsAnswered was a call answer
 
   abbrev pub IsDone : Bool → Rows → Rows → Actor P → Actor P → Call → Next → Type 0
   IsDone was r r' old new call (Asks step) = (new ≡ record old { status = Waits call step }) × (r' ≡ r)
-  IsDone was r r' old new call (Answers answer) = IsSettledBy was r' old new
+  IsDone was r r' old new call (Answers answer) = IsSettledBy was old new
 
   -- it may be recorded: a transaction was open as the call came, or none was
-  abbrev pub MayRecord : Rows → Actor P → Call → Next → Type 0
-  MayRecord r a call what = (was : Bool) × IsDue was r a call what
+  abbrev pub MayRecord : Actor P → Call → Next → Type 0
+  MayRecord a call what = (was : Bool) × IsDue was a call what
 
   -- what is recorded of it
   pub record IsRecorded (was : Bool) (r : Rows) (old : Actor P) (call : Call) (what : Next) (r' : Rows) (new : Actor P) : Type 0 where
     pub done : IsDone was r r' old new call what
-    pub tells : Tells rules was r r' old new call what
+    pub tells : Tells rules r r' old new call what
     pub others : KeepsOthers old r new r'
 
   -- and that is so, whichever of the two it was
   abbrev pub WritesDown : Rows → Actor P → Call → Next → Rows → Actor P → Type 0
-  WritesDown r old call what r' new = (was : Bool) → IsDue was r old call what → IsRecorded was r old call what r' new
+  WritesDown r old call what r' new = (was : Bool) → IsDue was old call what → IsRecorded was r old call what r' new
 
   -- steps of the call in progress that are left, where one is
   abbrev pub call_left : Actor P → ℕ
@@ -251,4 +230,4 @@ module _ {P : Type 0} (rules : Rules P) where
   pub record HasLess (goes_on : Bool) (old new : Actor P) : Type 0 where
     pub on : goes_on ≡ true → (is_waiting new.status ≡ true) × (steps_left new.engine < steps_left old.engine)
     pub less : is_waiting new.status ≡ true → IsNoMore old new
-    pub over : goes_on ≡ false → (k : ℕ) → whole rules (in_transaction old.engine) old.player ≤ k → run_left k new < run_left k old
+    pub over : goes_on ≡ false → (k : ℕ) → whole rules (in_transaction old.engine) old.run.player ≤ k → run_left k new < run_left k old

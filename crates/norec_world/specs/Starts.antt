@@ -11,33 +11,30 @@ use Rattle.norec_world.specs.LocalWork.{Works}
 use Rattle.itm_types.specs.Memory.{words_of}
 use Rattle.norec_world.specs.World.{World, attempts_of, ending_at}
 use Rattle.tx_player.specs.Rules.{Rules}
+use Rattle.tx_runs.specs.declared.player_run.Current.TheVariants.{Outside}
 
 -- an actor with these limits, before or at the begin of its first try; no block of it goes back to its begin alone
-pub record IsFirst {P : Type 0} (clock patience max_commits retries depth : ℕ) (r : Rows) (a : Actor P) : Type 0 where
-  pub between : IsBetween clock 1 r a
+pub record IsFirst {P : Type 0} (clock patience max_commits retries depth : ℕ) (a : Actor P) : Type 0 where
+  pub between : IsBetween clock 1 a
   pub patience_is : a.engine.patience ≡ patience
   pub limit : a.engine.max_commits ≡ max_commits
   pub depth_is : a.engine.depth ≡ depth
   pub restarts_none : a.engine.restarts ≡ 0
-  pub retries_are : a.retries ≡ retries
+  pub retries_are : a.run.retries ≡ retries
   pub seen : a.engine.clock ≡ clock
 
 -- the actor at its place, of this player and with this engine, whose local work up to its first step is done; it has ended only where its player has no call
 pub record HasStarted {P : Type 0} (rules : Rules P) (clock : ℕ) (engine : Core) (retries place : ℕ) (p : P) (a : Actor P) : Type 0 where
   pub fresh : Actor P
-  pub player : fresh.player ≡ p
   pub engine_is : fresh.engine ≡ engine
-  pub place_is : fresh.thread ≡ place
-  pub retries_are : fresh.retries ≡ retries
-  pub tries : (fresh.nth ≡ 1) × (fresh.again ≡ false)
-  pub pending : fresh.pending ≡ None
+  pub run : fresh.run ≡ record { thread = place; retries = retries; player = p; nth = 1; again = false; current = Outside }
   pub ready : fresh.status ≡ Ready
   pub rows : Rows
   pub rows' : Rows
   pub works : Works rules clock rows fresh rows' a
   pub done : is_ready a.status ≡ false
-  pub finishes : ending_of a.status ≡ Some Finished → rules.next_call a.player ≡ None
-  pub thread : a.thread ≡ place
+  pub finishes : ending_of a.status ≡ Some Finished → rules.next_call a.run.player ≡ None
+  pub thread : a.run.thread ≡ place
 
 -- each actor of a world has, with the world's own limits
 abbrev pub AreStarted : {P : Type 0} → Rules P → World P → Type 0
@@ -47,7 +44,7 @@ AreStarted {P} rules w = (place : ℕ) (p : P) (a : Actor P) → slice_get w.ope
 -- a world before its first event, to which no memory was refused
 pub record IsNew {P : Type 0} (rules : Rules P) (w : World P) : Type 0 where
   pub starts : AreStarted rules w
-  pub first : (place : ℕ) (a : Actor P) → slice_get w.actors place ≡ Some a → IsFirst w.cells.clock w.patience w.max_commits w.retries w.depth w.attempts a
+  pub first : (place : ℕ) (a : Actor P) → slice_get w.actors place ≡ Some a → IsFirst w.cells.clock w.patience w.max_commits w.retries w.depth a
   pub clock : w.cells.clock ≡ 0
   pub words : w.cells.words ≡ words_of w.base
   pub none : attempts_of w ≡ []

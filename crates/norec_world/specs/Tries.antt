@@ -11,7 +11,9 @@ use Rattle.tx_runs.specs.declared.ending.End.TheVariants as ends
 use Rattle.norec_world.specs.declared.actor.Actor.{Actor}
 use Rattle.norec_world.specs.declared.actor.Status.TheVariants.{Ended}
 use Rattle.tx_attempts.specs.Attempts.{ClosedBy}
-use Rattle.norec_world.specs.Rows.{Rows, active_of}
+use Rattle.norec_world.specs.Rows.{Rows}
+use Rattle.norec_world.specs.Stages.{active_of, pending_of}
+use Rattle.tx_runs.specs.Tallies.{begun}
 use Rattle.norec_world.specs.Status.{ending_of}
 
 -- it is the same attempt later: it has the calls that it had, and perhaps more, and so the actions that have run; nothing in it was taken back
@@ -50,10 +52,10 @@ pub record Prior : Type 0 where
 abbrev pub prior_of : {P : Type 0} → Rows → Actor P → Prior
 prior_of r a = record {
   ended = r.ended;
-  active = active_of a.thread r.active;
-  pending = a.pending;
-  nth = a.nth;
-  retries = a.retries;
+  active = active_of a;
+  pending = pending_of a;
+  nth = a.run.nth;
+  retries = a.run.retries;
   max_commits = a.engine.max_commits;
   seen = a.engine.clock;
 }
@@ -65,50 +67,49 @@ current_of (Some row) pending = Some row
 
 module _ {P : Type 0} where
   -- no try is open, and the next one is the nth of its block: if its begin was called, that was at this clock
-  pub record IsBetween (clock nth : ℕ) (r : Rows) (a : Actor P) : Type 0 where
-    pub none : active_of a.thread r.active ≡ None
-    pub tries : a.nth ≡ nth
-    pub opens : (row : Attempt) → a.pending ≡ Some row
-        → row ≡ record { thread = a.thread; nth = nth; began = clock / 2; at = 0; props = row.props; arena = a.engine.arena; calls = record { list = []; room = row.calls.room }; restarts = []; ran = []; outcome = Unfinished }
+  pub record IsBetween (clock nth : ℕ) (a : Actor P) : Type 0 where
+    pub none : active_of a ≡ None
+    pub tries : a.run.nth ≡ nth
+    pub opens : (row : Attempt) → pending_of a ≡ Some row → row ≡ begun a.run.thread nth (clock / 2) row.props a.engine.arena row.calls.room
     pub goes_on : ending_of a.status ≡ Some ends.GaveUp → ⊥
 
   -- it has ended so, with no try open
-  pub record HasStopped (end : End) (r : Rows) (a : Actor P) : Type 0 where
-    pub none : active_of a.thread r.active ≡ None
+  pub record HasStopped (end : End) (a : Actor P) : Type 0 where
+    pub none : active_of a ≡ None
     pub status : a.status ≡ Ended end
 
   -- a try came to nothing: it was the last one, or one more comes
-  abbrev pub TriesAgain : Bool → ℕ → ℕ → Rows → Actor P → Type 0
-  TriesAgain true clock nth r a = HasStopped ends.GaveUp r a
-  TriesAgain false clock nth r a = IsBetween clock (nth + 1) r a
+  abbrev pub TriesAgain : Bool → ℕ → ℕ → Actor P → Type 0
+  TriesAgain true clock nth a = HasStopped ends.GaveUp a
+  TriesAgain false clock nth a = IsBetween clock (nth + 1) a
 
   -- what comes after an attempt that ended so
-  abbrev pub GoesOnAfter : Outcome → ℕ → Prior → Rows → Actor P → Type 0
-  GoesOnAfter Committed clock p r a = IsBetween clock 1 r a
-  GoesOnAfter ReadOnly clock p r a = IsBetween clock 1 r a
-  GoesOnAfter Cancelled clock p r a = IsBetween clock 1 r a
-  GoesOnAfter Conflict clock p r a = TriesAgain (nat_lt p.retries p.nth) clock p.nth r a
-  GoesOnAfter Full clock p r a = HasStopped ends.GaveUp r a
-  GoesOnAfter NoMemory clock p r a = HasStopped ends.NoMemory r a
-  GoesOnAfter Unfinished clock p r a = ⊥
+  abbrev pub GoesOnAfter : Outcome → ℕ → Prior → Actor P → Type 0
+  GoesOnAfter Committed clock p a = IsBetween clock 1 a
+  GoesOnAfter ReadOnly clock p a = IsBetween clock 1 a
+  GoesOnAfter Cancelled clock p a = IsBetween clock 1 a
+  GoesOnAfter Conflict clock p a = TriesAgain (nat_lt p.retries p.nth) clock p.nth a
+  GoesOnAfter Full clock p a = HasStopped ends.GaveUp a
+  GoesOnAfter NoMemory clock p a = HasStopped ends.NoMemory a
+  GoesOnAfter Unfinished clock p a = ⊥
 
   -- no try was under way
   pub record StaysBetween (clock : ℕ) (p : Prior) (clock' : ℕ) (r : Rows) (a : Actor P) : Type 0 where
     pub idle : current_of p.active p.pending ≡ None
     pub ended : r.ended ≡ p.ended
     pub half : clock' / 2 ≡ clock / 2
-    pub between : IsBetween clock' p.nth r a
+    pub between : IsBetween clock' p.nth a
 
   -- its begin goes on
   pub record StaysAtBegin (clock : ℕ) (p : Prior) (clock' : ℕ) (r : Rows) (a : Actor P) : Type 0 where
     pub none : p.active ≡ None
     pub row : Attempt
     pub was : p.pending ≡ Some row
-    pub now : a.pending ≡ Some row
+    pub now : pending_of a ≡ Some row
     pub ended : r.ended ≡ p.ended
-    pub still : active_of a.thread r.active ≡ None
+    pub still : active_of a ≡ None
     pub half : clock' / 2 ≡ clock / 2
-    pub tries : a.nth ≡ p.nth
+    pub tries : a.run.nth ≡ p.nth
     pub on : ending_of a.status ≡ None
 
   -- the attempt is open, or was opened
@@ -116,11 +117,11 @@ module _ {P : Type 0} where
     pub row : Attempt
     pub row' : Attempt
     pub was : current_of p.active p.pending ≡ Some row
-    pub now : active_of a.thread r.active ≡ Some row'
+    pub now : active_of a ≡ Some row'
     pub continues : Continues row row'
     pub ended : r.ended ≡ p.ended
     pub half : clock' / 2 ≡ clock / 2
-    pub tries : a.nth ≡ p.nth
+    pub tries : a.run.nth ≡ p.nth
     pub goes_on : ending_of a.status ≡ Some ends.GaveUp → ⊥
     pub fed : ending_of a.status ≡ Some ends.NoMemory → a.engine.irrevocable ≡ true  -- an irrevocable one that finds no memory stays unfinished
 
@@ -135,7 +136,7 @@ module _ {P : Type 0} where
     pub at : EndsAt p.max_commits clock clock' row'.at row'.outcome
     pub closed : ClosedBy row'.outcome row'.calls.list
     pub spent : row'.calls.room ≡ 0  -- no place is promised in it any more
-    pub after : GoesOnAfter row'.outcome clock' p r a
+    pub after : GoesOnAfter row'.outcome clock' p a
 
   -- its begin found the clock odd once too often
   pub record IsTurnedAway (clock : ℕ) (p : Prior) (clock' : ℕ) (r : Rows) (a : Actor P) : Type 0 where
@@ -145,7 +146,7 @@ module _ {P : Type 0} where
     pub ended : r.ended ≡ p.ended
     pub odd : clock' % 2 ≡ 1
     pub same : clock' ≡ clock
-    pub after : TriesAgain (nat_lt p.retries p.nth) clock' p.nth r a
+    pub after : TriesAgain (nat_lt p.retries p.nth) clock' p.nth a
 
   -- its begin lost the clock once too often: it had moved since the engine saw it last
   pub record IsOutrun (clock : ℕ) (p : Prior) (clock' : ℕ) (r : Rows) (a : Actor P) : Type 0 where
@@ -155,7 +156,7 @@ module _ {P : Type 0} where
     pub ended : r.ended ≡ p.ended
     pub moved : p.seen < clock
     pub same : clock' ≡ clock
-    pub after : TriesAgain (nat_lt p.retries p.nth) clock' p.nth r a
+    pub after : TriesAgain (nat_lt p.retries p.nth) clock' p.nth a
 
   -- its begin goes irrevocable, and as many have committed as may
   pub record IsShutOut (clock : ℕ) (p : Prior) (clock' : ℕ) (r : Rows) (a : Actor P) : Type 0 where
@@ -167,7 +168,7 @@ module _ {P : Type 0} where
     pub may : may_go [] row.props ≡ true
     pub full : p.max_commits ≤ clock / 2
     pub same : clock' ≡ clock
-    pub after : HasStopped ends.GaveUp r a
+    pub after : HasStopped ends.GaveUp a
 
   -- one of these
   pub data Tries (clock : ℕ) (p : Prior) (clock' : ℕ) (r : Rows) (a : Actor P) : Type 0 where

@@ -1,5 +1,6 @@
 -- The fields of a world as what contracts see.
 use Rattle.norec_world.specs.declared.world.World.TheInside.{Inside}
+use Rattle.norec_world.specs.Rows.{rows_in}
 use Rattle.norec_world.specs.World.{World}
 
 abbrev pub world_of : {P : Type 0} → Inside P → World P
@@ -13,6 +14,6 @@ world_of w = record {
   depth = w.terms.limits.depth;
   cells = w.memory;
   actors = w.actors.items;
-  attempts = w.recorded;
+  attempts = rows_in w.ended;
   events = w.events;
 }

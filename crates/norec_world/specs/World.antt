@@ -1,5 +1,5 @@
 -- What contracts see of a world.
-use Rattle.std.specs.Prelude.{◌≡◌, ℕ, ◌+◌, ◌-◌, ◌^◌, min, Bool, true, false, List, Option, None, Some, Result, Ok, Err, slice_get}
+use Rattle.std.specs.Prelude.{◌≡◌, ℕ, ◌+◌, ◌-◌, ◌^◌, min, Bool, true, false, List, ◌++◌, Option, None, Some, Result, Ok, Err, slice_get}
 use Rattle.std.specs.Option.{option_and_then}
 use Rattle.itm_types.specs.declared.step.Step.{Step}
 use Rattle.itm_types.specs.Memory.{bytes_of}
@@ -8,7 +8,8 @@ use Rattle.tx_runs.specs.declared.ending.End.{End}
 use Rattle.tx_runs.specs.declared.ending.End.TheVariants.{Finished, GaveUp, NoMemory}
 use Rattle.norec_world.specs.declared.fault.WorldFault.{WorldFault}
 use Rattle.norec_world.specs.declared.fault.WorldFault.TheVariants as faults
-use Rattle.norec_world.specs.Rows.{Rows, all_of}
+use Rattle.norec_world.specs.Rows.{Rows}
+use Rattle.norec_world.specs.Stages.{opens}
 use Rattle.norec_world.specs.declared.actor.Actor.{Actor}
 use Rattle.norec_world.specs.Cells.{Cells}
 use Rattle.norec_world.specs.Status.{ending_of, waiting_step}
@@ -24,7 +25,7 @@ pub record World (P : Type 0) : Type 0 where
   pub depth : ℕ  -- how many blocks may be open at once
   pub cells : Cells
   pub actors : List (Actor P)
-  pub attempts : Rows
+  pub attempts : Rows  -- those that have ended
   pub events : ℕ
 
 -- it is a world of the same beginning
@@ -43,7 +44,7 @@ counted events more = min (events + more) (2 ^ 64 - 1)
 
 -- the attempts that have ended, and then the open ones
 abbrev pub attempts_of : {P : Type 0} → World P → List Attempt
-attempts_of w = all_of w.attempts
+attempts_of w = w.attempts.ended ++ opens w.actors
 
 -- the shared memory
 abbrev pub memory_of : {P : Type 0} → World P → List ℕ

@@ -1,19 +1,18 @@
 //! One actor.
 
-ghost use Rattle.norec_core.specs.Core.{in_transaction};
 ghost use Rattle.norec_core.specs.declared.answer.Next.TheVariants.{Answer as Answers};
 ghost use Rattle.norec_engine.specs.NextSteps.{next_in};
+ghost use Rattle.tx_attempts.specs.declared.attempt.Attempt.{Attempt};
+ghost use Rattle.norec_world.specs.Rows.{rows_in};
 
 use crate::memory::Memory;
-use crate::recorded::Recorded;
-use itm_types::{Call, Ran, Reply, Step};
+use itm_types::{Call, Reply, Step};
 use norec_core::Answer;
 use norec_engine::Engine;
-use std::alloc::Global;
 use std::mem;
-use tx_attempts::{Attempt, CallRecord};
+use tx_attempts::Attempt;
 use tx_player::Player;
-use tx_runs::End;
+use tx_runs::{Current, End, PlayerRun};
 
 /// What an actor does next.
 #[derive(Drop)]
@@ -29,56 +28,30 @@ pub(crate) enum Status {
 /// A player with its engine.
 #[derive(Drop)]
 pub(crate) struct Actor<P> {
-    pub(crate) thread: u8,
-    /// How often a block may be tried again.
-    pub(crate) retries: u32,
-    pub(crate) player: P,
+    pub(crate) run: PlayerRun<P>,
     pub(crate) engine: Engine,
-    /// Room for the calls of the open attempt, and one more while a call is in progress.
-    pub(crate) spare: Vec<CallRecord>,
-    /// The room that the call in progress asks for, where it makes the open attempt irrevocable.
-    pub(crate) ahead: usize,
-    /// Room for the actions that have run once the open attempt ends.
-    pub(crate) end_room: Vec<Ran>,
-    /// Room for those that have run once the cancel in progress is done, where the attempt stays open.
-    pub(crate) cancel_room: Vec<Ran>,
-    /// The attempt that its begin, which is in progress, is to open.
-    pub(crate) pending: Option<Attempt>,
-    /// Which try of its block is under way or comes next, counted from 1.
-    pub(crate) nth: u32,
-    /// An earlier try of the block got past its begin.
-    pub(crate) again: bool,
     pub(crate) status: Status,
 }
 
 impl<P: Player> Actor<P> {
-    ghost use Rattle.std.specs.Prelude.{◌≡◌, ◌/◌, true, false, [], Some, None};
+    ghost use Rattle.std.specs.Prelude.{◌≡◌, ◌≤◌, true, false, Some, None, MatchOption};
+    ghost use Rattle.norec_world.specs.Stages.{active_of, count_of};
     ghost use Rattle.norec_world.specs.Status.{ending_of, is_waiting, InProgress};
-    ghost use Rattle.norec_world.specs.Records.{IsTold, ReadsAt};
+    ghost use Rattle.norec_world.specs.Records.{ReadsAt, told};
     ghost use Rattle.norec_world.specs.Moments.{HasStepped};
-    ghost use Rattle.norec_world.specs.OthersAttempts.{KeepsOthers};
     ghost use Rattle.norec_world.specs.ActionRoom.{MayRun, MayRunOn, IsActing};
-    ghost use Rattle.norec_world.specs.Sound.{IsKept, IsSound, MayRecord, StatusIs, WritesDown};
+    ghost use Rattle.norec_world.specs.Sound.{IsSound, MayRecord, WritesDown};
+    ghost use Rattle.tx_runs.specs.declared.player_run.Current.TheVariants.{Outside};
 
     /// An actor that has made no call.
-    pub(crate) fn new(alloc: Global, thread: u8, retries: u32, player: P, engine: Engine) -> Self
-        ensures parts { (result.thread ≡ thread) × (result.retries ≡ retries) × (result.player ≡ player)
-            × (result.engine ≡ engine) }
-        ensures tries { (result.nth ≡ 1) × (result.again ≡ false) }
-        ensures nothing { (result.spare.items ≡ []) × (result.end_room.items ≡ []) × (result.cancel_room.items ≡ []) × (result.pending ≡ None) × (result.status ≡ Status.Ready) }
+    pub(crate) fn new(thread: u8, retries: u32, player: P, engine: Engine) -> Self
+        ensures run { result.run ≡ record { thread = thread; retries = retries; player = player; nth = 1; again = false; current = Outside } }
+        ensures engine { result.engine ≡ engine }
+        ensures status { result.status ≡ Status.Ready }
     {
         Actor {
-            thread,
-            retries,
-            player,
+            run: PlayerRun::new(thread, retries, player),
             engine,
-            spare: Vec::new(alloc),
-            ahead: 0,
-            end_room: Vec::new(alloc),
-            cancel_room: Vec::new(alloc),
-            pending: None,
-            nth: 1,
-            again: false,
             status: Status::Ready,
         }
     }
@@ -103,13 +76,23 @@ impl<P: Player> Actor<P> {
         }
     }
 
+    /// Its open attempt.
+    pub(crate) fn attempt(&self) -> Option<&Attempt>
+        ensures { MatchOption result (active_of self.now ≡ None) (λ row. active_of self.now ≡ Some row.now) }
+    {
+        match &self.run.current {
+            Current::Within(open) => Some(open.row()),
+            _ => None,
+        }
+    }
+
     /// The operation that it waits for: the call goes on, or is answered.
     #[inline(always)]
-    pub(crate) fn step(&mut self, memory: &mut Memory, recorded: &mut Recorded)
-        requires sound { IsSound P.Player memory.old recorded.old self.old }
-        requires reads { ReadsAt recorded.old self.old }
+    pub(crate) fn step(&mut self, memory: &mut Memory, ended: &mut Vec<Attempt>)
+        requires sound { IsSound P.Player memory.old (rows_in ended.old) self.old }
+        requires reads { ReadsAt self.old }
         requires waits { is_waiting self.old.status ≡ true }
-        ensures { HasStepped P.Player memory.old recorded.old self.old memory.new recorded.new self.new }
+        ensures { HasStepped P.Player memory.old (rows_in ended.old) self.old memory.new (rows_in ended.new) self.new }
     {
         let Status::Waits { step, .. } = self.status else {
             return;
@@ -118,43 +101,45 @@ impl<P: Player> Actor<P> {
         let seen = memory.apply(step);
         let mut answer = Answer::Reply(Reply::Done);
         let next = self.engine.resume_into(seen, &mut answer);
-        self.proceed(recorded, next, answer);
-        self.follow(recorded, from);
+        self.proceed(ended, next, answer);
+        self.follow(from);
     }
 
     /// The call in progress waits for a step, or what comes of its answer is recorded. The call stays where it is while it
     /// waits.
     #[inline(always)]
-    fn proceed(&mut self, recorded: &mut Recorded, next: Option<Step>, answer: Answer)
+    fn proceed(&mut self, ended: &mut Vec<Attempt>, next: Option<Step>, answer: Answer)
         requires waits { is_waiting self.old.status ≡ true }
         requires due { InProgress self.old.status
-            (λ call. MayRecord P.Player recorded.old (record self.old { status = Status.Ready }) call (next_in next answer)) }
+            (λ call. MayRecord P.Player (record self.old { status = Status.Ready }) call (next_in next answer)) }
         requires acts { InProgress self.old.status
-            (λ call. MayRunOn recorded.old (record self.old { status = Status.Ready }) call (next_in next answer)) }
-        ensures acts { IsActing recorded.new self.new }
+            (λ call. MayRunOn (record self.old { status = Status.Ready }) call (next_in next answer)) }
+        requires place { count_of self.old ≤ (rows_in ended.old).room }
+        ensures acts { IsActing self.new }
         ensures recorded { InProgress self.old.status
-            (λ call. WritesDown P.Player recorded.old (record self.old { status = Status.Ready }) call (next_in next answer) recorded.new self.new) }
+            (λ call. WritesDown P.Player (rows_in ended.old) (record self.old { status = Status.Ready }) call (next_in next answer) (rows_in ended.new) self.new) }
     {
         match next {
             Some(next) => self.wait(next),
-            None => self.end_call(recorded, answer),
+            None => self.end_call(ended, answer),
         }
     }
 
     /// The call in progress is answered, and what comes of that is recorded. Its code stands apart, so that of the events that
     /// end no call stays small.
     #[inline(never)]
-    fn end_call(&mut self, recorded: &mut Recorded, answer: Answer)
+    fn end_call(&mut self, ended: &mut Vec<Attempt>, answer: Answer)
         requires waits { is_waiting self.old.status ≡ true }
         requires answered { InProgress self.old.status
-            (λ call. MayRecord P.Player recorded.old (record self.old { status = Status.Ready }) call (Answers answer)) }
-        requires acts { MayRun recorded.old (record self.old { status = Status.Ready }) }
-        ensures acts { IsActing recorded.new self.new }
+            (λ call. MayRecord P.Player (record self.old { status = Status.Ready }) call (Answers answer)) }
+        requires acts { MayRun (record self.old { status = Status.Ready }) }
+        requires place { count_of self.old ≤ (rows_in ended.old).room }
+        ensures acts { IsActing self.new }
         ensures recorded { InProgress self.old.status
-            (λ call. WritesDown P.Player recorded.old (record self.old { status = Status.Ready }) call (Answers answer) recorded.new self.new) }
+            (λ call. WritesDown P.Player (rows_in ended.old) (record self.old { status = Status.Ready }) call (Answers answer) (rows_in ended.new) self.new) }
     {
         if let Status::Waits { call, .. } = mem::replace(&mut self.status, Status::Ready) {
-            self.settle(recorded, call, answer);
+            self.settle(ended, call, answer);
         }
     }
 
@@ -168,23 +153,16 @@ impl<P: Player> Actor<P> {
     }
 
     /// The open attempt is told where the engine reads, where that is not where it has read.
-    fn follow(&self, recorded: &mut Recorded, from: u64)
-        requires kept { IsKept (in_transaction self.now.engine) recorded.old self.now }
-        requires reads { from ≡ self.now.engine.snapshot → ReadsAt recorded.old self.now }
-        ensures acts { IsActing recorded.old self.now → IsActing recorded.new self.now }
-        ensures kept { IsKept (in_transaction self.now.engine) recorded.new self.now }
-        ensures told { IsTold self.now.thread (in_transaction self.now.engine) recorded.old
-            (self.now.engine.snapshot / 2) recorded.new }
-        ensures others { KeepsOthers self.now recorded.old self.now recorded.new }
-        ensures status { (status : Status) → StatusIs P.Player recorded.old self.now status
-            → StatusIs P.Player recorded.new self.now status }
+    fn follow(&mut self, from: u64)
+        requires { from ≡ self.old.engine.snapshot → ReadsAt self.old }
+        ensures { self.new ≡ told self.old }
     {
         let now = self.engine.snapshot();
         if now == from {
             return;
         }
-        if self.engine.is_open() {
-            recorded.move_to(self.thread, now / 2);
+        if let Current::Within(open) = &mut self.run.current {
+            open.move_to(now / 2);
         }
     }
 }

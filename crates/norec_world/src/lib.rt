@@ -3,9 +3,9 @@
 
 mod actor;
 mod fault;
+mod listed;
 mod memory;
 mod places;
-mod recorded;
 mod schedule;
 mod setup;
 mod start;
@@ -13,6 +13,7 @@ mod work;
 mod world;
 
 pub use fault::WorldFault;
+pub use listed::Attempts;
 pub use schedule::Passes;
 pub use setup::Setup;
 pub use tx_attempts::{Attempt, Bytes, CallRecord, Calls, Outcome, RanActions};

@@ -1,12 +1,12 @@
 //! How actors begin.
 
-ghost use Rattle.std.specs.Prelude.{◌≡◌, ℕ, ◌<◌, ◌≤◌, false, [], length, replicate, slice_get, None, Some, IfOk, All};
+ghost use Rattle.std.specs.Prelude.{◌≡◌, ℕ, ◌+◌, ◌<◌, ◌≤◌, false, [], length, replicate, slice_get, None, Some, IfOk, All};
 ghost use Rattle.itm_types.specs.Memory.{AllFit, bytes_of};
-ghost use Rattle.itm_types.specs.declared.limits.TheConstants.{MAX_ARENA, MAX_COMMITS, MAX_PATIENCE, MAX_RETRIES};
+ghost use Rattle.itm_types.specs.declared.limits.TheConstants.{MAX_ACTORS, MAX_ARENA, MAX_COMMITS, MAX_PATIENCE, MAX_RETRIES};
 ghost use Rattle.norec_world.specs.Status.{ending_of, is_ready};
 ghost use Rattle.norec_world.specs.Sound.{IsSound};
-ghost use Rattle.norec_world.specs.Rows.{active_of};
-ghost use Rattle.norec_world.specs.OthersAttempts.{KeepsOthers};
+ghost use Rattle.norec_world.specs.Rows.{rows_in};
+ghost use Rattle.norec_world.specs.Stages.{KeepsOthers, active_of, count_of};
 ghost use Rattle.norec_world.specs.Actors.{AreActors};
 ghost use Rattle.norec_world.specs.World.{ending_in};
 ghost use Rattle.norec_core.specs.Core.{opening};
@@ -17,10 +17,10 @@ ghost use Rattle.norec_world.specs.declared.actor.Actor.{Actor};
 
 use crate::actor::Actor;
 use crate::memory::Memory;
-use crate::recorded::Recorded;
 use itm_types::{Limits, MAX_ACTORS, MAX_WORDS};
 use norec_engine::Engine;
 use std::alloc::{AllocError, Global};
+use tx_attempts::Attempt;
 use tx_player::Player;
 use tx_runs::End;
 use undo_log::Arena;
@@ -45,34 +45,35 @@ pub(crate) fn start_all<P: Player>(
     alloc: Global,
     terms: Terms,
     memory: &Memory,
-    recorded: &mut Recorded,
+    ended: &mut Vec<Attempt>,
     players: Vec<P>,
 ) -> Result<Vec<Actor<P>>, AllocError>
     requires few { length players.items ≤ MAX_ACTORS }
     requires outside { All (λ p. P.depth p ≡ 0) players.items }
     requires size { (0 < length memory.now.words) × (length memory.now.words ≤ MAX_WORDS) }
     requires fit { AllFit memory.now.words }
-    requires empty { (recorded.old.ended ≡ []) × (recorded.old.active ≡ []) }
+    requires empty { ended.old.items ≡ [] }
     requires clock { memory.now.clock ≡ 0 }
     ensures count { IfOk result (λ actors. length actors.items ≡ length players.items) }
-    ensures sound { IfOk result (λ actors. AreActors P.Player memory.now recorded.new actors.items) }
+    ensures sound { IfOk result (λ actors. AreActors P.Player memory.now (rows_in ended.new) actors.items) }
     ensures first { IfOk result (λ actors. (place : ℕ) (a : Actor P) → slice_get actors.items place ≡ Some a
         → IsFirst memory.now.clock terms.limits.patience terms.limits.max_commits terms.limits.retries
-        terms.limits.depth recorded.new a) }
+        terms.limits.depth a) }
     ensures starts { IfOk result (λ actors. (place : ℕ) (p : P) (a : Actor P) → slice_get players.items place ≡ Some p
         → slice_get actors.items place ≡ Some a
         → HasStarted P.Player memory.now.clock (opening (length memory.now.words) (replicate terms.arena 0)
         terms.limits.patience terms.limits.max_commits terms.limits.depth 0) terms.limits.retries place p a) }
     ensures runs { IfOk result (λ actors. (place : ℕ) (p : P) (a : Actor P) → slice_get players.items place ≡ Some p
         → slice_get actors.items place ≡ Some a
-        → RunsFrom P.Player (first_of p terms.arena) terms.limits.depth (bytes_of memory.now.words) memory.now recorded.new a) }
-    ensures none { IfOk result (λ actors. (recorded.new.ended ≡ []) × (recorded.new.active ≡ [])) }
+        → RunsFrom P.Player (first_of p terms.arena) terms.limits.depth (bytes_of memory.now.words) memory.now (rows_in ended.new) a) }
+    ensures none { IfOk result (λ actors. ended.new.items ≡ []) }
+    ensures none_open { IfOk result (λ actors. (place : ℕ) (a : Actor P) → slice_get actors.items place ≡ Some a → active_of a ≡ None) }
     ensures fed { IfOk result (λ actors. (place : ℕ) → ending_in actors.items place ≡ Some End.NoMemory → ⊥) }
 {
     let mut actors = Vec::new(alloc);
     for player in players {
         let thread = actors.len() as u8;
-        let actor = start(alloc, terms, memory, recorded, thread, player)?;
+        let actor = start(alloc, terms, memory, ended, thread, player)?;
         actors.push(actor)?;
     }
     Ok(actors)
@@ -83,37 +84,36 @@ fn start<P: Player>(
     alloc: Global,
     terms: Terms,
     memory: &Memory,
-    recorded: &mut Recorded,
+    ended: &mut Vec<Attempt>,
     thread: u8,
     player: P,
 ) -> Result<Actor<P>, AllocError>
     requires outside { P.depth player ≡ 0 }
     requires size { (0 < length memory.now.words) × (length memory.now.words ≤ MAX_WORDS) }
     requires fit { AllFit memory.now.words }
-    requires none { active_of thread recorded.old.active ≡ None }
     requires clock { memory.now.clock ≡ 0 }
-    ensures sound { IfOk result (IsSound P.Player memory.now recorded.new) }
+    ensures sound { IfOk result (IsSound P.Player memory.now (rows_in ended.new)) }
     ensures fed { IfOk result (λ a. ending_of a.status ≡ Some End.NoMemory → ⊥) }
     ensures done { IfOk result (λ a. is_ready a.status ≡ false) }
-    ensures thread { IfOk result (λ a. a.thread ≡ thread) }
+    ensures thread { IfOk result (λ a. a.run.thread ≡ thread) }
     ensures first { IfOk result
         (λ a. IsFirst memory.now.clock terms.limits.patience terms.limits.max_commits terms.limits.retries
-        terms.limits.depth recorded.new a) }
+        terms.limits.depth a) }
     ensures starts { IfOk result
         (HasStarted P.Player memory.now.clock
         (opening (length memory.now.words) (replicate terms.arena 0) terms.limits.patience
         terms.limits.max_commits terms.limits.depth 0) terms.limits.retries thread player) }
-    ensures ended { IfOk result (λ a. recorded.new.ended ≡ recorded.old.ended) }
-    ensures runs { IfOk result (λ a. recorded.old.ended ≡ []
-        → RunsFrom P.Player (first_of player terms.arena) terms.limits.depth (bytes_of memory.now.words) memory.now recorded.new a) }
+    ensures ended { IfOk result (λ a. ended.new.items ≡ ended.old.items) }
+    ensures runs { IfOk result (λ a. ended.old.items ≡ []
+        → RunsFrom P.Player (first_of player terms.arena) terms.limits.depth (bytes_of memory.now.words) memory.now (rows_in ended.new) a) }
     ensures free { IfOk result (λ a. a.engine.holds ≡ false) }
-    ensures others { IfOk result (λ a. (fresh : Actor P) × (fresh.thread ≡ thread) × (fresh.pending ≡ None)
-        × KeepsOthers fresh recorded.old a recorded.new) }
+    ensures others { IfOk result (λ a. (others : ℕ) → others < MAX_ACTORS → others ≤ (rows_in ended.old).room
+        → others + count_of a ≤ (rows_in ended.new).room) }
 {
     let arena = Arena::new(alloc, terms.arena as usize)?;
     let engine = Engine::new(alloc, memory.words(), arena, terms.limits)?;
-    let mut actor = Actor::new(alloc, thread, terms.limits.retries, player, engine);
-    actor.work(alloc, memory, recorded);
+    let mut actor = Actor::new(thread, terms.limits.retries, player, engine);
+    actor.work(alloc, memory, ended);
     match actor.ending() {
         Some(End::NoMemory) => Err(AllocError),
         _ => Ok(actor),

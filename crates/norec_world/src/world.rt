@@ -5,8 +5,8 @@ ghost use Rattle.norec_world.specs.World.{event_result};
 
 use crate::actor::Actor;
 use crate::fault::WorldFault;
+use crate::listed::Attempts;
 use crate::memory::Memory;
-use crate::recorded::Recorded;
 use crate::setup::Setup;
 use crate::start::{Terms, start_all};
 use itm_types::{
@@ -27,7 +27,8 @@ pub struct World<P: Player> {
     terms: Terms,
     memory: Memory,
     actors: Vec<Actor<P>>,
-    recorded: Recorded,
+    /// The attempts that have ended, in the order in which they did. There is room for those that are under way.
+    ended: Vec<Attempt>,
     events: u64,
 }
 
@@ -51,6 +52,8 @@ impl<P: Player> World<P> {
     ghost use Rattle.norec_world.specs.Status.{is_waiting};
     ghost use Rattle.norec_world.specs.Actors.{AreActors};
     ghost use Rattle.norec_world.specs.Rows.{AreOpen};
+    ghost use Rattle.norec_world.specs.Stages.{opens};
+    ghost use Rattle.norec_world.specs.Listed.{left_of};
     ghost use Rattle.norec_world.specs.Tries.{IsBetween};
     ghost use Rattle.norec_world.specs.Starts.{IsNew};
     ghost use Rattle.norec_world.specs.declared.actor.Actor.{Actor};
@@ -81,7 +84,7 @@ impl<P: Player> World<P> {
         ensures retries { IfOk result (λ w. w.retries ≡ setup.limits.retries) }
         ensures depth { IfOk result (λ w. w.depth ≡ setup.limits.depth) }
         ensures first { IfOk result (λ w. (place : ℕ) (a : Actor P) → slice_get w.actors place ≡ Some a
-            → IsBetween 0 1 w.attempts a) }
+            → IsBetween 0 1 a) }
         ensures commits { IfOk result (λ w. CommitsInOrder w) }
         ensures opaque { IfOk result (λ w. AreOpaque P.Player (observed w)) }
         ensures tied { IfOk result (AreTied P.Player) }
@@ -97,15 +100,15 @@ impl<P: Player> World<P> {
             },
         };
         let memory = Memory::new(setup.bytes.into_vec());
-        let mut recorded = Recorded::new(alloc);
-        let actors = start_all(alloc, terms, &memory, &mut recorded, players)?;
+        let mut ended = Vec::new(alloc);
+        let actors = start_all(alloc, terms, &memory, &mut ended, players)?;
         Ok(World {
             opening,
             base,
             terms,
             memory,
             actors,
-            recorded,
+            ended,
             events: 0,
         })
     }
@@ -161,9 +164,9 @@ impl<P: Player> World<P> {
         ensures less { LeavesLess P.Player actor result self.old self.new }
     {
         let a = &mut self.actors[actor as usize];
-        a.step(&mut self.memory, &mut self.recorded);
+        a.step(&mut self.memory, &mut self.ended);
         let goes_on = a.waits();
-        a.work(alloc, &self.memory, &mut self.recorded);
+        a.work(alloc, &self.memory, &mut self.ended);
         self.events = self.events.saturating_add(1);
         goes_on
     }
@@ -223,23 +226,45 @@ impl<P: Player> World<P> {
 
     /// The attempts that have ended, in the order in which they did, and then the open ones by actor. Each position
     /// below half the clock is that of one that committed.
-    pub fn attempts(&self) -> &[Attempt]
-        ensures value { result.now ≡ attempts_of self.now }
-        ensures unfinished { AreOpen self.now.attempts.active }
+    pub fn attempts(&self) -> Attempts<'_, P>
+        ensures value { left_of result ≡ attempts_of self.now }
+        ensures unfinished { AreOpen (opens self.now.actors) }
         ensures commits { CommitsInOrder self.now }
         ensures opaque { AreOpaque P.Player (observed self.now) }
         ensures tied { AreTied P.Player self.now }
     {
-        self.recorded.all()
+        Attempts {
+            ended: &self.ended,
+            actors: &self.actors,
+        }
+    }
+
+    /// Those of them that are open.
+    pub fn open_attempts(&self) -> Attempts<'_, P>
+        ensures { left_of result ≡ opens self.now.actors }
+    {
+        let (none, _) = self.ended.split_at(0);
+        Attempts {
+            ended: none,
+            actors: &self.actors,
+        }
     }
 
     /// How many of the attempts have ended; `attempts` has those first, and then the open ones.
     pub fn ended(&self) -> usize
         ensures value { result ≡ length self.now.attempts.ended }
         ensures ended { take result (attempts_of self.now) ≡ self.now.attempts.ended }
-        ensures active { drop result (attempts_of self.now) ≡ self.now.attempts.active }
+        ensures active { drop result (attempts_of self.now) ≡ opens self.now.actors }
     {
-        self.recorded.ended()
+        self.ended.len()
+    }
+
+    /// The attempts that have ended, but for the first ones.
+    pub fn ended_from(&self, first: usize) -> &[Attempt]
+        requires { first ≤ length self.now.attempts.ended }
+        ensures { result.now ≡ drop first self.now.attempts.ended }
+    {
+        &self.ended[first..]
     }
 
     /// The shared memory.

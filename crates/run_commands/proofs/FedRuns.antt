@@ -36,5 +36,5 @@ module _ (p : Listing) (nested : HasNestedCode p) (first w : World Thread) (begi
         let long : length w.actors ≡ 1 = tied.each ∙ (ap (λ (l : List Thread). length l) players ∙ (length-map (threads_of p) (opening p.limits.depth) ∙ one)) in
         let at_first : held.0 ≡ 0 = (let within = slice_get_within w.actors held.0 held.1 held.2 in omega arith) in
         let row = tied.holder held.0 held.1 held.2 held.3 in
-        absurd (starved_shut thread_rules schedule led.0 first w begins.anew led.1 tied fed held.0 row.0 row.1 (subst (λ (n : ℕ). ending_at w n ≡ Some NoMemory) (sym at_first) starved)))
+        absurd (starved_shut thread_rules schedule led.0 first w begins.anew led.1 fed held.0 held.1 row.0 held.2 row.1 (subst (λ (n : ℕ). ending_at w n ≡ Some NoMemory) (sym at_first) starved)))
   ]

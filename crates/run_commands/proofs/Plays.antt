@@ -11,6 +11,7 @@ use Rattle.std.specs.Result.{result_err}
 use Rattle.std.specs.declared.io.Error.{Error}
 use Rattle.norec_world.specs.declared.actor.Actor.{Actor}
 use Rattle.norec_world.specs.Rows.{Rows}
+use Rattle.norec_world.specs.Stages.{opens}
 use Rattle.norec_world.specs.Tries.{Prior, Tries, prior_of, between, begins, runs, over, turned_away, outrun, shut_out}
 use Rattle.norec_world.specs.World.{World, ending_at, event_result, waits_at}
 use Rattle.norec_world.specs.WorldEvents.{Goes}
@@ -242,14 +243,14 @@ module _ {P : Type 0} (version : Version) where
       adds_as s u _ _ (adds_then s t u _ _ p f.adds)
       (sym (so_far_more version a.base a.attempts.ended f.more) ∙ (λ i. lines_so_far version (sym f.base i) (sym f.ended i)))
 
-  text_of : (w : World P) → history_text (told_of version w) ≡ lines_so_far version w.base w.attempts.ended ++ (flat_map attempt_lines w.attempts.active ++ last_line w.cells.clock (told_of version w).bytes)
+  text_of : (w : World P) → history_text (told_of version w) ≡ lines_so_far version w.base w.attempts.ended ++ (flat_map attempt_lines (opens w.actors) ++ last_line w.cells.clock (told_of version w).bytes)
   unfolding history_text
   text_of w =
-      ap (λ (l : List ℕ). l ++ last_line w.cells.clock (told_of version w).bytes) (so_far_more version w.base w.attempts.ended w.attempts.active)
-      ∙ append_assoc (lines_so_far version w.base w.attempts.ended) (flat_map attempt_lines w.attempts.active) (last_line w.cells.clock (told_of version w).bytes)
+      ap (λ (l : List ℕ). l ++ last_line w.cells.clock (told_of version w).bytes) (so_far_more version w.base w.attempts.ended (opens w.actors))
+      ∙ append_assoc (lines_so_far version w.base w.attempts.ended) (flat_map attempt_lines (opens w.actors)) (last_line w.cells.clock (told_of version w).bytes)
 
   pub adds_history : (w : World P) (s t u : Standing) → Adds s t (lines_so_far version w.base w.attempts.ended)
-      → Adds t u (flat_map attempt_lines w.attempts.active ++ last_line w.cells.clock (told_of version w).bytes) → Adds s u (history_text (told_of version w))
+      → Adds t u (flat_map attempt_lines (opens w.actors) ++ last_line w.cells.clock (told_of version w).bytes) → Adds s u (history_text (told_of version w))
   adds_history w s t u p q = adds_as s u _ _ (adds_then s t u _ _ p q) (sym (text_of w))
 
   -- a write failed before all of it was written
@@ -261,10 +262,10 @@ take_all xs = grind (arith, common_steps)
 
 -- the numbers of a whole history
 pub history_fits : {P : Type 0} (version : Version) (a b : World P) (s t : Standing) → IsBytes a.base × All AttemptFits a.attempts.ended → AddsEnded a b s t → t.fault ≡ None
-    → All AttemptFits b.attempts.active × IsWord b.cells.clock × IsBytes (told_of version b).bytes → HistoryFits (told_of version b)
+    → All AttemptFits (opens b.actors) × IsWord b.cells.clock × IsBytes (told_of version b).bytes → HistoryFits (told_of version b)
 history_fits version a b s t first f good last = record {
   memory = subst IsBytes (sym f.base) first.0;
-  attempts = All-append AttemptFits b.attempts.ended b.attempts.active (subst (All AttemptFits) (sym f.ended) (All-append AttemptFits a.attempts.ended f.more first.1 (f.fits good))) last.0;
+  attempts = All-append AttemptFits b.attempts.ended (opens b.actors) (subst (All AttemptFits) (sym f.ended) (All-append AttemptFits a.attempts.ended f.more first.1 (f.fits good))) last.0;
   clock = last.1;
   bytes = last.2;
 }
@@ -341,8 +342,8 @@ module _ {P : Type 0} (rules : Rules P) (version : Version) (items : List Item) 
       items_whole rules a c items l,
       inl refl,
       (
-        flat_map attempt_lines c.attempts.active ++ last_line c.cells.clock (told_of version c).bytes,
-        subst (Appends u v) (text_of version c ∙ ap (λ (b : List ℕ). lines_so_far version b c.attempts.ended ++ (flat_map attempt_lines c.attempts.active ++ last_line c.cells.clock (told_of version c).bytes)) base) p,
+        flat_map attempt_lines (opens c.actors) ++ last_line c.cells.clock (told_of version c).bytes,
+        subst (Appends u v) (text_of version c ∙ ap (λ (b : List ℕ). lines_so_far version b c.attempts.ended ++ (flat_map attempt_lines (opens c.actors) ++ last_line c.cells.clock (told_of version c).bytes)) base) p,
       ),
     );
   }

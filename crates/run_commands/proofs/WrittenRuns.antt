@@ -1,5 +1,5 @@
 -- What was written of a program's run on threads.
-use Rattle.std.proofs.Common.{◌≡◌, ℕ, List, map, take, Option, Some, Ok, Err, refl}
+use Rattle.std.proofs.Common.{◌≡◌, ℕ, false, List, map, take, Option, Some, Ok, Err, refl}
 use Rattle.std.specs.Io.KnownBytes.{Appends, Keeps}
 use Rattle.arrayvec.specs.ArrayVec.{ArrayVec}
 use Rattle.script_program.specs.Listing.{Listing}
@@ -16,7 +16,7 @@ use Rattle.tx_host.specs.Reports.{Ran}
 use Rattle.tx_runs.specs.declared.ending.End.{End}
 use Rattle.run_commands.specs.Threading.{IsFailure, IsThreadedRun, threading}
 
-module _ (p : Listing) (r : Report) (o n : Option (List ℕ)) (ran : Ran p r) (limited : AreLimited r.history) (fits : HistoryFits r.history) where
+module _ (p : Listing) (r : Report) (o n : Option (List ℕ)) (ran : Ran false p r) (limited : AreLimited r.history) (fits : HistoryFits r.history) where
   run_of : (endings : ArrayVec (Option End)) → endings.items ≡ map Some r.ends.items → IsThreadedRun p endings (history_text r.history)
   run_of endings stand = record { report = r; ran = ran; stand = stand; told = refl; read = legal_text r.history ran.legal fits limited }
 

@@ -1,5 +1,5 @@
 -- The command that runs scripts on threads of their own.
-use Rattle.std.specs.Prelude.{◌≡◌, ℕ, List, map, Option, Some}
+use Rattle.std.specs.Prelude.{◌≡◌, ℕ, false, List, map, Option, Some}
 use Rattle.arrayvec.specs.ArrayVec.{ArrayVec}
 use Rattle.history_reader.specs.LegalTexts.{IsLegalText}
 use Rattle.script_fields.specs.declared.fault.AsmFault.{AsmFault}
@@ -19,7 +19,7 @@ use Rattle.run_commands.specs.Endings.{ending_lines, endings_status}
 -- a run of the program on threads, after which they stand so, and the text of its history
 pub record IsThreadedRun (p : Listing) (endings : ArrayVec (Option End)) (text : List ℕ) : Type 0 where
   pub report : Report
-  pub ran : Ran p report
+  pub ran : Ran false p report  -- whose gate never shuts
   pub stand : endings.items ≡ map Some report.ends.items
   pub told : text ≡ history_text report.history
   pub read : IsLegalText text  -- so who checks it finds it legal

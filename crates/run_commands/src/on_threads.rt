@@ -1,6 +1,6 @@
 //! Scripts that are run on threads of their own, and what they are answered.
 
-ghost use Rattle.std.specs.Prelude.{◌≡◌, ◌+◌, ◌≤◌, ℕ, List, Some, IfErr, IfOk, IfSome, Ok, length, map};
+ghost use Rattle.std.specs.Prelude.{◌≡◌, ◌+◌, ◌≤◌, ℕ, false, List, Some, IfErr, IfOk, IfSome, Ok, length, map};
 ghost use Rattle.script_asm.specs.Assembly.{program_of};
 ghost use Rattle.script_program.specs.Listing.{Listing, threads_of};
 ghost use Rattle.text_commands.specs.declared.failure.Failure.TheVariants.{Writing};
@@ -79,7 +79,7 @@ fn run_on<T: Threads + Wait>(
     alloc: Global,
     program: &Program,
 ) -> Result<Report, Failure<AsmFault>>
-    ensures ran { IfOk result (λ report. Ran program.now report) }
+    ensures ran { IfOk result (λ report. Ran false program.now report) }
     ensures limited { IfOk result (λ report. AreLimited report.history) }
     ensures failure { IfErr result IsFailure }
 {

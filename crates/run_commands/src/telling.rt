@@ -2,12 +2,14 @@
 
 ghost use Rattle.std.specs.Prelude.{◌≡◌, ◌≤◌, ◌++◌, All, None, drop, flat_map, length};
 ghost use Rattle.hex.specs.Hex.{IsBytes};
+ghost use Rattle.norec_world.specs.Listed.{left_of};
+ghost use Rattle.norec_world.specs.Stages.{opens};
 ghost use Rattle.norec_world.specs.World.{memory_of};
 ghost use Rattle.tx_history.specs.Bounds.{AttemptFits, IsWord};
 ghost use Rattle.tx_history.specs.Histories.{attempt_lines, last_line};
 ghost use Rattle.tx_history.specs.Streams.{Sends, fault_of, lines_so_far};
 
-use norec_world::World;
+use norec_world::{Attempts, World};
 use std::io;
 use std::io::Write;
 use tx_attempts::Attempt;
@@ -26,6 +28,21 @@ fn put_attempts<W: Write>(stream: &mut Stream<'_, W>, attempts: &[Attempt]) -> i
     Ok(())
 }
 
+/// Writes the lines of those that are left of a world's attempts.
+fn put_left<P: Player, W: Write>(
+    attempts: Attempts<'_, P>,
+    stream: &mut Stream<'_, W>,
+) -> io::Result<()>
+    requires { fault_of stream.old ≡ None }
+    ensures { Sends W.contents stream.old stream.new (flat_map attempt_lines (left_of attempts.entry))
+        (All AttemptFits (left_of attempts.entry)) result }
+{
+    for attempt in attempts {
+        stream.attempt(attempt)?;
+    }
+    Ok(())
+}
+
 /// Writes the lines of the attempts that have ended, but for the first ones.
 pub(crate) fn put_ended<P: Player, W: Write>(
     world: &World<P>,
@@ -37,9 +54,7 @@ pub(crate) fn put_ended<P: Player, W: Write>(
     ensures { Sends W.contents stream.old stream.new (flat_map attempt_lines (drop first world.now.attempts.ended))
         (All AttemptFits (drop first world.now.attempts.ended)) result }
 {
-    let (ended, _) = world.attempts().split_at(world.ended());
-    let (_, rest) = ended.split_at(first);
-    put_attempts(stream, rest)
+    put_attempts(stream, world.ended_from(first))
 }
 
 /// Writes the lines before the first event: those before the first attempt, and those of attempts that have ended already.
@@ -62,10 +77,9 @@ pub(crate) fn close_history<P: Player, W: Write>(
 ) -> io::Result<()>
     requires { fault_of stream.old ≡ None }
     ensures { Sends W.contents stream.old stream.new
-        (flat_map attempt_lines world.now.attempts.active ++ last_line world.now.cells.clock (memory_of world.now))
-        (All AttemptFits world.now.attempts.active × IsWord world.now.cells.clock × IsBytes (memory_of world.now)) result }
+        (flat_map attempt_lines (opens world.now.actors) ++ last_line world.now.cells.clock (memory_of world.now))
+        (All AttemptFits (opens world.now.actors) × IsWord world.now.cells.clock × IsBytes (memory_of world.now)) result }
 {
-    let (_, active) = world.attempts().split_at(world.ended());
-    put_attempts(stream, active)?;
+    put_left(world.open_attempts(), stream)?;
     stream.finish(world.clock(), world.bytes())
 }

@@ -64,7 +64,7 @@ impl Model for Calls {
 }
 
 impl Calls {
-    ghost use Rattle.tx_attempts.specs.Kept.{grown, spent};
+    ghost use Rattle.tx_attempts.specs.Kept.{grown, reserved, spent};
 
     /// No calls, and no room. Takes no memory.
     pub fn new(alloc: Global) -> Self
@@ -106,25 +106,28 @@ impl Calls {
         self.room
     }
 
-    /// One more, and where `ahead` is not 0 room for so many from then on; else it takes of the room that there is. The
-    /// places are those of the room, or of `spare`, to which the calls move over.
+    /// Makes room for so many more. What is promised already counts.
     #[inline(always)]
-    pub fn push(&mut self, spare: &mut Vec<CallRecord>, entry: CallRecord, ahead: usize)
-        requires empty { spare.old.items ≡ [] }
-        requires place { self.old.room ≡ 0 → length self.old.list < vec_capacity spare.old }
-        requires places { 0 < ahead → length self.old.list + 1 + ahead ≤ vec_capacity spare.old }
-        ensures added { self.new ≡ grown self.old entry ahead }
-        ensures empty { spare.new.items ≡ [] }
+    pub fn reserve(&mut self, more: usize) -> Result<(), AllocError>
+        ensures room { OnOk result (self.new ≡ reserved self.old more) }
+        ensures err { OnErr result (self.new ≡ self.old) }
+        ensures short { OnErr result (self.old.room < more) }
     {
-        if ahead > 0 || (self.room == 0 && self.items.len() == self.items.capacity()) {
-            move_over(&mut self.items, spare);
+        if self.room < more {
+            self.items.reserve(more)?;
+            self.room = more;
         }
+        Ok(())
+    }
+
+    /// One more, in a place of the room.
+    #[inline(always)]
+    pub fn push(&mut self, entry: CallRecord)
+        requires { 0 < self.old.room }
+        ensures { self.new ≡ grown self.old entry }
+    {
         self.items.push_reserved(entry);
-        self.room = if ahead > 0 {
-            ahead
-        } else {
-            self.room.saturating_sub(1)
-        };
+        self.room -= 1;
     }
 
     /// No place is promised any more.
@@ -133,19 +136,6 @@ impl Calls {
     {
         self.room = 0;
     }
-}
-
-/// The calls move over to `spare`, into the places that it has, and leave it their own.
-#[inline(never)]
-fn move_over(items: &mut Vec<CallRecord>, spare: &mut Vec<CallRecord>)
-    requires empty { spare.old.items ≡ [] }
-    requires places { vec_len items.old ≤ vec_capacity spare.old }
-    ensures items { items.new.items ≡ items.old.items }
-    ensures capacity { vec_capacity spare.old ≤ vec_capacity items.new }
-    ensures empty { spare.new.items ≡ [] }
-{
-    let _ = spare.append(items);
-    mem::swap(spare, items);
 }
 
 /// Attempts, in order.

@@ -1,5 +1,11 @@
--- Worked cases: attempts by thread, the lists of two workers, how threads with no call end, and which version tells of a run.
-use Rattle.std.proofs.Common.{◌≡◌, ℕ, false, List, [], ◌∷◌, refl, inl}
+-- Worked cases: attempts by thread, the lists of two workers, how threads with no call end, after which answers there is no further try, and which version tells of a run.
+use Rattle.std.proofs.Common.{◌≡◌, ℕ, false, List, [], ◌∷◌, Ok, refl, inl, arith}
+use Rattle.norec_core.specs.declared.answer.Answer.TheVariants.{Busy, Full}
+use Rattle.shared_words.specs.declared.words.Words.{Words}
+use Rattle.shared_words.specs.Passes.{Owns, view_of}
+use Rattle.script_vm.specs.Threads.{opening}
+use Rattle.itm_runtime.specs.Standing.{Standing}
+use Rattle.itm_runtime.specs.Ties.{Stands}
 use Rattle.tx_attempts.specs.declared.attempt.Attempt.{Attempt}
 use Rattle.tx_attempts.specs.declared.attempt.Outcome.TheVariants.{Conflict, ReadOnly}
 use Rattle.tx_runs.specs.declared.ending.End.TheVariants.{Finished, GaveUp}
@@ -7,11 +13,14 @@ use Rattle.script_program.specs.Listing.{Listing, codes_of}
 use Rattle.tx_history.specs.declared.history.Version.TheVariants.{One, Three}
 use Rattle.tx_history.specs.Depths.{depth_from}
 use Rattle.tx_history.specs.Versions.{depth_of}
+use Rattle.tx_worker.specs.Accounts.{first_account}
 use Rattle.tx_host.specs.declared.join.Done.{Done}
 use Rattle.tx_host.specs.Courses.{EndsBy, first_of}
 use Rattle.tx_host.specs.Joins.{attempts_in, ends_in}
 use Rattle.tx_host.specs.Numbers.{Numbered}
 use Rattle.tx_host.specs.Reports.{by_number}
+use Rattle.tx_host.specs.Rows.{IsLast, WasRun}
+use Rattle.tx_host.specs.Starts.{IsFresh}
 use Rattle.tx_host.specs.Versions.{version_of}
 
 -- the second try of a thread's block
@@ -63,6 +72,47 @@ program memory threads depth = record {
 -- a thread of it is over at once, whatever the memories
 nothing_to_do : (memory : ℕ → List ℕ) → EndsBy 16 memory (first_of (program 8 1 16) []) Finished []
 nothing_to_do memory = inl (record { between = first_of (program 8 1 16) []; now_is = refl; none = refl })
+
+-- and its run has no call: who tells of no attempt, and that it finished, tells of it
+idle : (words : Words) (base : List ℕ) (start : Standing) → Owns words start.pass → Stands (view_of start.pass) start.engine → IsFresh (program 8 1 16) base 0 start (opening 16 []) → (view_of start.pass).holds ≡ false → WasRun words (program 8 1 16) base false 0 Finished []
+idle words base start own stands fresh free = record {
+  start = start;
+  player = opening 16 [];
+  own = own;
+  stands = stands;
+  fresh = fresh;
+  worked = record { thread = 0; attempts = []; end = Finished; pass = Ok start.pass };
+  row = record {
+    calls = 0;
+    account = first_account (opening 16 []);
+    standing = start;
+    made = (refl, refl);
+    left = first_account (opening 16 []);
+    thread = start;
+    stops = (refl, refl, refl);
+    attempts = refl;
+    pass = (refl, free);
+  };
+  end_is = refl;
+  attempts_are = refl;
+  why = refl;
+}
+
+-- ## The last answer
+
+-- where a block may be tried again once, its second try is the last
+last_try : IsLast 1 2 (Busy 7)
+last_try = omega arith
+
+-- and its first one is not
+try_left : IsLast 1 1 (Busy 7) → ⊥
+try_left l = omega arith
+
+-- no try is left where no commit more may be, whichever try it is
+no_commit_left : IsLast 100 1 (Full 0)
+no_commit_left = tt
+
+-- ## Versions
 
 -- the first version tells of the largest run that it may tell of
 largest_early : version_of (program 65536 32 16) ≡ One

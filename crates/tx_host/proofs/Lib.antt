@@ -1,4 +1,5 @@
 pub mod Numbers
+pub mod Rows
 pub mod Passes
 pub mod Histories
 pub mod Examples

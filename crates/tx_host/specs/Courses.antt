@@ -37,7 +37,7 @@ module _ (deepest : ℕ) (memory : ℕ → List ℕ) (first : Between Thread) wh
     pub begins : begins_at thread_rules deepest between ≡ Some start
     pub none : thread_rules.next_call (player_then thread_rules.answered (thread_rules.answered start.player (begin_code between.again)) last.calls.list) ≡ None
 
-  -- a thread that finished had no more calls. One that gave up was stopped by its gate, found as many commits as may be, or had looked at the clock as often as it has tries: which of these, no attempt tells
+  -- a thread that finished had no more calls. At which call one gave up, no attempt tells: see `Rows`
   abbrev pub EndsBy : End → List Attempt → Type 0
   EndsBy Finished attempts = IsOver attempts ⊎ IsOverWithin attempts
   EndsBy GaveUp attempts = Unit {0}

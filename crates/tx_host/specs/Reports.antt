@@ -1,5 +1,7 @@
 -- What a run of a program on threads leaves.
-use Rattle.std.specs.Prelude.{◌≡◌, ℕ, ◌+◌, ◌*◌, nat_lt, zero, suc, List, [], ◌++◌, length, Some, slice_get}
+use Rattle.std.specs.Prelude.{◌≡◌, ℕ, ◌+◌, ◌*◌, ◌≤◌, nat_lt, zero, suc, Bool, List, [], ◌++◌, length, Some, slice_get}
+use Rattle.itm_types.specs.Memory.{bytes_of}
+use Rattle.shared_words.specs.declared.words.Words.{Words}
 use Rattle.script_program.specs.declared.instruction.Instruction.{Instruction}
 use Rattle.script_program.specs.Listing.{Listing, opening_of, threads_of}
 use Rattle.tx_attempts.specs.declared.attempt.Attempt.{Attempt}
@@ -9,6 +11,7 @@ use Rattle.tx_history.specs.Legal.{IsLegal, memory_at}
 use Rattle.tx_runs.specs.declared.ending.End.{End}
 use Rattle.tx_host.specs.declared.report.Report.{Report}
 use Rattle.tx_host.specs.Courses.{IsCourse}
+use Rattle.tx_host.specs.Rows.{WasRun}
 use Rattle.tx_host.specs.Versions.{version_of}
 
 -- the attempts of thread k, then those of k + 1, and so on, of n threads
@@ -19,15 +22,20 @@ by_number k (suc n) attempts = of_thread k attempts ++ by_number (k + 1) n attem
 abbrev pub commits_of : Report → ℕ
 commits_of r = count_committed r.history.attempts
 
--- of each thread of the program its run, by the bytes that the first commits left, each run alone on those that the one before it left
-pub record Ran (p : Listing) (r : Report) : Type 0 where
+-- of each thread of the program its run, call by call, and by the bytes that the first commits left, each run alone on those that the one before it left. `shuts` says whether its gate may shut
+pub record Ran (shuts : Bool) (p : Listing) (r : Report) : Type 0 where
   pub version : r.history.version ≡ version_of p
   pub memory : r.history.memory ≡ opening_of p
   pub count : length r.ends.items ≡ length (threads_of p)
   pub threads : (number : ℕ) (code : List Instruction) (end : End) → slice_get (threads_of p) number ≡ Some code → slice_get r.ends.items number ≡ Some end
       → IsCourse p (commits_of r) (memory_at r.history) number code end (of_thread number r.history.attempts)
+  pub words : Words
+  pub base : List ℕ
+  pub base_is : bytes_of base ≡ r.history.memory
+  pub rows : (number : ℕ) (end : End) → slice_get r.ends.items number ≡ Some end → WasRun words p base shuts number end (of_thread number r.history.attempts)  -- each made its calls up to that end, within the program's limits
   pub by_thread : r.history.attempts ≡ by_number 0 (length (threads_of p)) r.history.attempts  -- there are no others
   pub counted : (position : ℕ) → count_at position r.history.attempts ≡ one_where (nat_lt position (commits_of r))  -- each position below their number is that of one commit
+  pub few : commits_of r ≤ p.limits.max_commits  -- no more than the program lets there be
   pub clock : r.history.clock ≡ 2 * commits_of r
   pub bytes : r.history.bytes ≡ memory_at r.history (commits_of r)
   pub legal : IsLegal r.history  -- the history is legal, by the plain machine alone

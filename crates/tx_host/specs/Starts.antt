@@ -30,17 +30,19 @@ pub record IsFresh (p : Listing) (base : List ℕ) (number : ℕ) (t : Standing)
   pub share : (view_of t.pass).share ≡ 1
 
 -- the promise is of the worker with this number
-pub record IsFor (words : Words) (base : List ℕ) (p : Listing) (number : ℕ) (w : WorksOn) : Type 0 where
+pub record IsFor {G : Type 0} (words : Words) (base : List ℕ) (p : Listing) (number : ℕ) (w : WorksOn G) : Type 0 where
   pub words_are : w.words.now ≡ words
   pub number_is : w.number ≡ number
   pub retries_are : w.retries ≡ p.limits.retries
+  pub own : Owns words w.start.value.pass
+  pub stands : Stands (view_of w.start.value.pass) w.start.value.engine
   pub fresh : IsFresh p base number w.start.value w.player.value
 
-abbrev pub Handle : Type 0
-Handle = PromisedHandle Worked WorksOn
+abbrev pub Handle : Type 0 → Type 0
+Handle G = PromisedHandle Worked (WorksOn G)
 
 -- the handles are those of the workers from this number on
-abbrev pub Promised : Words → List ℕ → Listing → ℕ → List Handle → Type 0
+abbrev pub Promised : {G : Type 0} → Words → List ℕ → Listing → ℕ → List (Handle G) → Type 0
 Promised words base p n hs = Numbered (λ k h. IsFor words base p k h.promise) n hs
 
 -- what the worker with this number is to be given
@@ -61,7 +63,7 @@ pub record Prepares (words : Words) (start : View) (p : Listing) (now : View) (a
   pub share : now.share + length (threads_of p) ≡ start.share
 
 -- the workers were started in order
-pub record Starts (words : Words) (base : List ℕ) (p : Listing) (threads : ℕ) (s : Started) : Type 0 where
+pub record Starts {G : Type 0} (words : Words) (base : List ℕ) (p : Listing) (threads : ℕ) (s : Started G) : Type 0 where
   pub handles : Promised words base p 0 s.handles.items
   pub few : vec_len s.handles ≤ threads
   pub whole : s.whole ≡ true → vec_len s.handles ≡ threads

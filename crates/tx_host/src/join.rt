@@ -15,7 +15,7 @@ use shared_words::{Pass, Words};
 use std::thread::{PromisedHandle, Threads};
 use tx_attempts::Attempts;
 use tx_runs::End;
-use tx_worker::Worked;
+use tx_worker::{Gate, Worked};
 
 /// What a worker did, without its pass.
 #[derive(Drop)]
@@ -52,12 +52,12 @@ fn take_in(words: &Words, pass: &mut Pass, theirs: Result<Pass, Thread>) -> bool
 }
 
 /// Joins each worker in order, and its pass to this one.
-pub(crate) fn join_all<'e, R: Threads>(
+pub(crate) fn join_all<'e, R: Threads, G: Gate>(
     rt: &R,
     words: &Words,
     pass: Pass,
     program: &Program,
-    handles: Vec<PromisedHandle<Worked, WorksOn<'e>>>,
+    handles: Vec<PromisedHandle<Worked, WorksOn<'e, G>>>,
     room: Vec<Done>,
 ) -> Joined
     requires own { Owns words.now pass }
@@ -67,7 +67,7 @@ pub(crate) fn join_all<'e, R: Threads>(
     ensures own { Owns words.now result.pass }
     ensures idle { (view_of result.pass).holds ≡ false }
     ensures len { vec_len result.all ≡ vec_len handles.entry }
-    ensures joins { result.held ≡ false → Joins (view_of pass) program.now (vec_len handles.entry) (view_of result.pass) result.all.items }
+    ensures joins { result.held ≡ false → Joins words.now (view_of pass) program.now G.shuts (vec_len handles.entry) (view_of result.pass) result.all.items }
 {
     let mut pass = pass;
     let mut all = room;

@@ -20,23 +20,23 @@ use std::thread::{Promise, PromisedHandle, Scope};
 use tx_worker::{ActionSink, Gate, Worked, work};
 use undo_log::Arena;
 
-/// What a started worker's result has to keep: what `work` says of it, for the thread, the player and the number that it
-/// was given.
+/// What a started worker's result has to keep: what `work` says of it, for the thread, the player, the number and the gate
+/// that it was given.
 #[derive(Drop)]
-pub(crate) struct WorksOn<'a> {
+pub(crate) struct WorksOn<'a, G> {
     pub(crate) words: &'a Words,
     pub(crate) start: Snapshot<Thread>,
     pub(crate) player: Snapshot<Script<'a>>,
     pub(crate) number: u8,
     pub(crate) retries: u32,
+    pub(crate) gate: &'a G,
 }
 
-impl<'a> Promise<Worked> for WorksOn<'a> {
-    ghost use Rattle.std.specs.Prelude.{Bool};
+impl<'a, G: Gate> Promise<Worked> for WorksOn<'a, G> {
     ghost use Rattle.script_vm.specs.Threads.{thread_rules};
     ghost use Rattle.tx_worker.specs.Works.{Works};
 
-    ghost kept_by = { λ p w. (shuts : Bool) × Works thread_rules p.words.now p.start.value p.player.value p.number p.retries shuts w };
+    ghost kept_by = { λ p w. Works thread_rules p.words.now p.start.value p.player.value p.number p.retries G.shuts w };
 }
 
 /// What one worker is to be given: its number, its own thread and its player.
@@ -56,7 +56,7 @@ pub(crate) fn start_one<'s, 'e: 's, G: Gate + Sync, A: ActionSink + Sync>(
     retries: u32,
     gate: &'e G,
     sink: &'e A,
-) -> Option<PromisedHandle<Worked, WorksOn<'e>>>
+) -> Option<PromisedHandle<Worked, WorksOn<'e, G>>>
     requires own { Owns words.now ready.thread.pass }
     requires stands { Stands (view_of ready.thread.pass) ready.thread.engine }
     requires outside { in_transaction ready.thread.engine ≡ false }
@@ -77,6 +77,7 @@ pub(crate) fn start_one<'s, 'e: 's, G: Gate + Sync, A: ActionSink + Sync>(
         player: Snapshot::of(&player),
         number,
         retries,
+        gate,
     };
     match scope.spawn_with(
         promise,
@@ -123,8 +124,8 @@ pub(crate) fn prepare<'p>(
 
 /// The workers that were started, in order. Not whole where a thread was refused.
 #[derive(Drop)]
-pub(crate) struct Started<'a> {
-    pub(crate) handles: Vec<PromisedHandle<Worked, WorksOn<'a>>>,
+pub(crate) struct Started<'a, G: Gate> {
+    pub(crate) handles: Vec<PromisedHandle<Worked, WorksOn<'a, G>>>,
     pub(crate) whole: bool,
 }
 
@@ -138,8 +139,8 @@ pub(crate) fn start_all<'s, 'e: 's, G: Gate + Sync, A: ActionSink + Sync>(
     all: Vec<Ready<'e>>,
     gate: &'e G,
     sink: &'e A,
-    room: Vec<PromisedHandle<Worked, WorksOn<'e>>>,
-) -> Started<'e>
+    room: Vec<PromisedHandle<Worked, WorksOn<'e, G>>>,
+) -> Started<'e, G>
     requires ready { AllReady words.now (view_of base.value).base program.now 0 all.items }
     requires room { (room.items ≡ []) × (vec_len all ≤ vec_capacity room) }
     ensures { Starts words.now (view_of base.value).base program.now (vec_len all.entry) result }

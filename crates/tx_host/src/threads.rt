@@ -60,7 +60,7 @@ pub fn run_threads<R: Threads + Wait, G: Gate + Sync, A: ActionSink + Sync>(
     gate: &G,
     sink: &A,
 ) -> Result<Report, HostFault>
-    ensures ran { IfOk result (λ r. Ran program.now r) }
+    ensures ran { IfOk result (λ r. Ran G.shuts program.now r) }
     ensures limited { IfOk result (λ r. AreLimited r.history) }
 {
     let Ok((before, room)) = memories(alloc, program) else {

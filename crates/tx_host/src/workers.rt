@@ -31,7 +31,7 @@ fn start_and_join<'s, 'e: 's, R: Threads, G: Gate + Sync, A: ActionSink + Sync>(
     requires idle { (view_of pass).holds ≡ false }
     requires whole { (view_of pass).share ≡ 128 }
     ensures own { IfOk result (λ r. Owns words.now r.0) }
-    ensures gathers { IfOk result (λ r. Gathers (view_of pass) program.now (view_of r.0) r.1.items) }
+    ensures gathers { IfOk result (λ r. Gathers words.now (view_of pass) program.now G.shuts (view_of r.0) r.1.items) }
 {
     let mut pass = pass;
     let count = program.threads();
@@ -73,7 +73,7 @@ pub(crate) fn run_all<R: Threads + Wait, G: Gate + Sync, A: ActionSink + Sync>(
     requires idle { (view_of pass).holds ≡ false }
     requires whole { (view_of pass).share ≡ 128 }
     ensures own { IfOk result (λ r. Owns words.now r.0) }
-    ensures gathers { IfOk result (λ r. Gathers (view_of pass) program.now (view_of r.0) r.1.items) }
+    ensures gathers { IfOk result (λ r. Gathers words.now (view_of pass) program.now G.shuts (view_of r.0) r.1.items) }
 {
     thread::scope(
         thread::scope_env(),
@@ -81,7 +81,7 @@ pub(crate) fn run_all<R: Threads + Wait, G: Gate + Sync, A: ActionSink + Sync>(
         move |scope| -> Result<(Pass, Vec<Done>), HostFault>
             requires { Owns words.now pass × ((view_of pass).holds ≡ false) × ((view_of pass).share ≡ 128) }
             ensures { IfOk result (λ r. Owns words.entry.now r.0
-                × Gathers (view_of pass) program.entry.now (view_of r.0) r.1.items) }
+                × Gathers words.entry.now (view_of pass) program.entry.now G.shuts (view_of r.0) r.1.items) }
         { start_and_join(rt, scope, alloc, words, pass, program, gate, sink) },
     )
 }

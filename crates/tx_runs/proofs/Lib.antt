@@ -6,3 +6,5 @@ pub mod Players
 pub mod Unbroken
 pub mod OpenBegins
 pub mod OpenCalls
+pub mod OpenRooms
+pub mod TookIn

@@ -15,7 +15,6 @@ use Rattle.tx_attempts.specs.Alone.{IsAlone, player_then, state_then}
 use Rattle.tx_attempts.specs.Attempts.{ClosedBy, alone, pair_of}
 use Rattle.tx_attempts.specs.Opacity.{AreRestarts, Beginning, Between, EndsAs, IsTryAt, LacksClock, begin_code, ran_of, takes_clock}
 use Rattle.tx_attempts.specs.declared.attempt.Attempt.{Attempt}
-use Rattle.tx_attempts.specs.Kept.{grown}
 use Rattle.tx_attempts.specs.declared.attempt.CallRecord.{CallRecord}
 use Rattle.tx_attempts.specs.declared.attempt.Outcome.{Outcome}
 use Rattle.tx_attempts.specs.declared.attempt.Outcome.TheVariants as outcomes
@@ -168,21 +167,21 @@ module _ {P : Type 0} {rules : Rules P} (laws : Obeys rules) (deepest : ℕ) whe
       closing_alone = alone_more (breaks_of row.restarts) by p from row.calls.list last made.alone made.still_open t.player asks replied
 
       -- its last call ends its block: the state that it leaves is that of the call
-      pub try_closes : (n : ℕ) (memories : ℕ → List ℕ) (at : ℕ) (outcome : Outcome) (ran : List Ran) → memories at ≡ memory → row.began ≤ at → at ≤ n → EndsAs outcome (after deepest (state_then deepest (breaks_of row.restarts) (opened memory t.start.arena t.start.props) row.calls.list) call)
+      pub try_closes : (room n : ℕ) (memories : ℕ → List ℕ) (at : ℕ) (outcome : Outcome) (ran : List Ran) → memories at ≡ memory → row.began ≤ at → at ≤ n → EndsAs outcome (after deepest (state_then deepest (breaks_of row.restarts) (opened memory t.start.arena t.start.props) row.calls.list) call)
           → ClosedBy outcome (row.calls.list ++ record { call = call; reply = r } ∷ []) → ran ≡ ran_of outcome (after deepest (state_then deepest (breaks_of row.restarts) (opened memory t.start.arena t.start.props) row.calls.list) call) → (outcome ≡ outcomes.Full → ⊥)
-          → IsTryAt rules deepest n memories b (Some t.start) (record row { calls = grown row.calls (record { call = call; reply = r }) 0; at = at; ran = ran; outcome = outcome })
-      try_closes n memories at outcome ran here older newer ends closed ran_is never =
+          → IsTryAt rules deepest n memories b (Some t.start) (record row { calls = record { list = row.calls.list ++ record { call = call; reply = r } ∷ []; room = room }; at = at; ran = ran; outcome = outcome })
+      try_closes room n memories at outcome ran here older newer ends closed ran_is never =
           let so : state_then deepest (breaks_of row.restarts) (opened (memories at) t.start.arena t.start.props) (row.calls.list ++ last ∷ []) ≡ after deepest (state_then deepest (breaks_of row.restarts) from row.calls.list) call =
           ap (λ (bytes : List ℕ). state_then deepest (breaks_of row.restarts) (opened bytes t.start.arena t.start.props) (row.calls.list ++ last ∷ [])) here ∙ closing_state in
-          is_try n memories b t.start (record row { calls = grown row.calls last 0; at = at; ran = ran; outcome = outcome }) t.arena t.props t.tries older newer
+          is_try n memories b t.start (record row { calls = record { list = row.calls.list ++ last ∷ []; room = room }; at = at; ran = ran; outcome = outcome }) t.arena t.props t.tries older newer
           (subst (λ (bytes : List ℕ). IsAlone rules deepest (breaks_of row.restarts) by (opened bytes t.start.arena t.start.props) (row.calls.list ++ last ∷ [])) (sym here) closing_alone)
           (subst (EndsAs outcome) (sym so) ends) closed (ran_is ∙ ap (ran_of outcome) (sym so)) (λ f. absurd (never f))
-          (restarts_more deepest row (memories at) (last ∷ []) at (grown row.calls last 0).room ran outcome (subst (AreRestarts deepest row) (sym here) made.again))
+          (restarts_more deepest row (memories at) (last ∷ []) at room ran outcome (subst (AreRestarts deepest row) (sym here) made.again))
 
-      pub closing_left : (at : ℕ) (outcome : Outcome) (ran : List Ran)
-          → alone deepest memory (record row { calls = grown row.calls (record { call = call; reply = r }) 0; at = at; ran = ran; outcome = outcome })
+      pub closing_left : (room at : ℕ) (outcome : Outcome) (ran : List Ran)
+          → alone deepest memory (record row { calls = record { list = row.calls.list ++ record { call = call; reply = r } ∷ []; room = room }; at = at; ran = ran; outcome = outcome })
           ≡ after deepest (state_then deepest (breaks_of row.restarts) (opened memory t.start.arena t.start.props) row.calls.list) call
-      closing_left at outcome ran = (λ i. state_then deepest (breaks_of row.restarts) (opened memory (t.arena i) (t.props i)) (row.calls.list ++ last ∷ [])) ∙ closing_state
+      closing_left room at outcome ran = (λ i. state_then deepest (breaks_of row.restarts) (opened memory (t.arena i) (t.props i)) (row.calls.list ++ last ∷ [])) ∙ closing_state
 
       -- it takes the clock, which is refused as full
       pub lacks_clock : (state_then deepest (breaks_of row.restarts) (opened memory t.start.arena t.start.props) row.calls.list).irrevocable ≡ false → takes_clock (after deepest (state_then deepest (breaks_of row.restarts) (opened memory t.start.arena t.start.props) row.calls.list) call) ≡ true

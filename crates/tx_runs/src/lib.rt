@@ -3,7 +3,11 @@
 #![tactic(auto)]
 
 mod ending;
+mod open_attempt;
 mod outcome;
+mod player_run;
 
 pub use ending::End;
+pub use open_attempt::OpenAttempt;
 pub use outcome::{ahead_of, outcome_of};
+pub use player_run::{Current, PlayerRun};

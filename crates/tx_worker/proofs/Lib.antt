@@ -2,4 +2,5 @@ pub mod Machines
 pub mod Runs
 pub mod Begins
 pub mod Transactions
-pub mod Workers
+pub mod Shapes
+pub mod Laws

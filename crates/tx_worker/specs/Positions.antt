@@ -30,10 +30,10 @@ AreLeft deepest v (a ∷ rest) = (is_committed a.outcome ≡ true → IsLeft dee
 abbrev pub known_by : Attempt → ℕ
 known_by a = if is_committed a.outcome then suc a.at else a.at
 
--- each attempt began with the commits that the one before it told its thread of, the first one with so many
+-- each attempt began with no fewer commits than the one before it told its thread of, the first one with no fewer than so many
 abbrev pub AreSince : ℕ → List Attempt → Type 0
 AreSince known [] = Unit {0}
-AreSince known (a ∷ rest) = (a.began ≡ known) × AreSince (known_by a) rest
+AreSince known (a ∷ rest) = (known ≤ a.began) × AreSince (known_by a) rest
 
 -- and so many are known after them
 abbrev pub known_after : ℕ → List Attempt → ℕ
@@ -44,6 +44,11 @@ known_after known (a ∷ rest) = known_after (known_by a) rest
 abbrev pub AreOwn : ℕ → ℕ → List Attempt → Type 0
 AreOwn thread tries [] = Unit {0}
 AreOwn thread tries (a ∷ rest) = (a.thread ≡ thread) × (a.nth ≤ tries) × AreOwn thread tries rest
+
+-- each that committed stands below this limit
+abbrev pub AreFew : ℕ → List Attempt → Type 0
+AreFew most [] = Unit {0}
+AreFew most (a ∷ rest) = (is_committed a.outcome ≡ true → a.at < most) × AreFew most rest
 
 -- none of them has not ended
 abbrev pub AreOver : List Attempt → Type 0

@@ -1,5 +1,5 @@
 -- Where a worker stands between two calls.
-use Rattle.std.specs.Prelude.{◌≡◌, ℕ, ◌+◌, ◌/◌, ◌<◌, ◌≤◌, Bool, true, false, List, [], ◌++◌, length, Option, None, Some}
+use Rattle.std.specs.Prelude.{◌≡◌, ℕ, ◌+◌, ◌/◌, ◌<◌, ◌≤◌, Bool, true, false, List, [], ◌++◌, length, Option, Some}
 use Rattle.itm_types.specs.Memory.{bytes_of, IsMemory, Agrees}
 use Rattle.itm_model.specs.Machine.{opened}
 use Rattle.norec_core.specs.Core.{Core, in_transaction}
@@ -17,7 +17,8 @@ use Rattle.tx_runs.specs.Nesting.{IsNested}
 use Rattle.tx_runs.specs.Runs.{run_after, IsOfBlock, LeadsTo}
 use Rattle.tx_runs.specs.Unbroken.{AreUnbroken}
 use Rattle.tx_worker.specs.Positions.{bytes_at, positions, AreLeft, AreSince, known_after, AreOwn}
-use Rattle.tx_worker.specs.Tallies.{Tally}
+use Rattle.tx_runs.specs.Tallies.{outside, within}
+use Rattle.tx_worker.specs.Accounts.{Account}
 
 -- the memories that the open attempt may have read: those that agree with its log, or, once it is irrevocable, that of its position
 abbrev pub MayReadIn : Bool → View → Core → List ℕ → Type 0
@@ -53,7 +54,7 @@ module _ {P : Type 0} (rules : Rules P) where
         × (stands_for e (stood e.irrevocable v m) ≡ state_then deepest (breaks_of row.restarts) (opened (bytes_of m) of_block.start.arena of_block.start.props) row.calls.list)
 
   -- before the next one: the player has come as far as its calls outside a transaction led
-  pub record IsBefore (deepest : ℕ) (b : Between P) (t : Tally P) (arena : List ℕ) : Type 0 where
+  pub record IsBefore (deepest : ℕ) (b : Between P) (t : Account P) (arena : List ℕ) : Type 0 where
     pub calls : ℕ
     pub leads : LeadsTo rules deepest calls b.player b.arena t.player arena
     pub again : t.again ≡ b.again
@@ -74,27 +75,28 @@ module _ {P : Type 0} (rules : Rules P) where
   now_at c v ended = run_after rules c.depth (bytes_at v) (Some c.first) ended
 
   -- within a transaction an attempt is open
-  pub record IsInside (c : Course P) (v : View) (e : Core) (t : Tally P) : Type 0 where
+  pub record IsInside (c : Course P) (v : View) (e : Core) (t : Account P) : Type 0 where
     pub between : Between P
     pub row : Attempt
-    pub open_is : t.open_one ≡ Some row
+    pub stage_is : t.stage ≡ within row
     pub now_is : now_at c v t.ended ≡ Some between
     pub try : IsTry c.depth between row t.player v e
     pub again : t.again ≡ true
     pub nth : row.nth ≡ t.nth
     pub thread : row.thread ≡ c.number
-    pub began : row.began ≡ known_after c.known t.ended
+    pub known : known_after c.known t.ended ≤ row.began
     pub looked : c.view.looks + t.nth ≤ v.looks  -- each try of the block has looked at the clock
 
   -- outside none is
-  pub record IsOutside (c : Course P) (v : View) (e : Core) (t : Tally P) : Type 0 where
+  pub record IsOutside (c : Course P) (v : View) (e : Core) (t : Account P) : Type 0 where
     pub between : Between P
-    pub none : t.open_one ≡ None
+    pub stage_is : t.stage ≡ outside
     pub now_is : now_at c v t.ended ≡ Some between
     pub before : IsBefore c.depth between t e.arena
+    pub known : known_after c.known t.ended ≤ e.clock / 2
     pub looked : c.view.looks + t.nth ≤ v.looks + 1
 
-  pub record IsRunning (c : Course P) (v : View) (e : Core) (t : Tally P) : Type 0 where
+  pub record IsRunning (c : Course P) (v : View) (e : Core) (t : Account P) : Type 0 where
     pub has_run : HasRun c v t.ended
     pub mine : v.mine ≡ c.view.mine ++ positions t.ended
     pub tried : 0 < t.nth

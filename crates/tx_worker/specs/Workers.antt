@@ -1,25 +1,33 @@
 -- A worker between two calls, and one that has stopped.
-use Rattle.std.specs.Prelude.{◌≡◌, ◌⊎◌, ℕ, ◌+◌, ◌<◌, ◌≤◌, ◌++◌, Bool, true, false, Option, None, Some, is_some, length, vec_len, vec_capacity}
+use Rattle.std.specs.Prelude.{◌≡◌, ℕ, ◌/◌, ◌<◌, ◌≤◌, Bool, true, false, Option, None, Some, unwrap_or, Vec, vec_len, vec_capacity}
+use Rattle.std.specs.declared.alloc.Global.{Global}
 use Rattle.itm_types.specs.declared.limits.TheConstants.{MAX_RETRIES}
+use Rattle.itm_types.specs.Calls.{is_begin}
 use Rattle.itm_types.specs.declared.call.Call.{Call}
-use Rattle.itm_types.specs.Calls.{registered_by}
+use Rattle.itm_types.specs.declared.call.Call.TheVariants.{Begin}
 use Rattle.norec_core.specs.declared.answer.Answer.{Answer}
-use Rattle.norec_core.specs.Core.{Core, in_transaction}
+use Rattle.norec_core.specs.Core.{Core, in_transaction, irrevocable_room}
 use Rattle.user_actions.specs.Actions.{total}
 use Rattle.shared_words.specs.declared.view.View.{View}
 use Rattle.shared_words.specs.declared.words.Words.{Words}
 use Rattle.shared_words.specs.Passes.{Owns, view_of}
-use Rattle.itm_runtime.specs.Served.{Start, Served}
+use Rattle.itm_runtime.specs.CallResults.{IsAnswered}
+use Rattle.itm_runtime.specs.Standing.{start_of}
 use Rattle.itm_runtime.specs.Ties.{Stands}
+use Rattle.tx_attempts.specs.declared.attempt.Attempt.{Attempt}
 use Rattle.tx_runs.specs.declared.ending.End.{End}
-use Rattle.tx_runs.specs.declared.ending.End.TheVariants.{Finished, GaveUp, NoMemory}
+use Rattle.tx_runs.specs.declared.player_run.Current.{Current}
+use Rattle.tx_runs.specs.declared.player_run.Current.TheVariants.{Outside, Begins, Within}
+use Rattle.tx_runs.specs.OpenAttempts.{HasPlacesFor}
+use Rattle.tx_runs.specs.PlayerRuns.{MayStop, MayTell, stage_of, tally_of}
+use Rattle.tx_runs.specs.Tallies.{begins_again, outside}
 use Rattle.tx_player.specs.Rules.{Rules}
-use Rattle.tx_worker.specs.declared.current.OpenAttempt.{OpenAttempt}
 use Rattle.tx_worker.specs.declared.worker.Worker.{Worker}
-use Rattle.tx_worker.specs.Positions.{AreOver, known_after, positions}
+use Rattle.tx_worker.specs.Accounts.{Account, account_of, stand_of, told}
+use Rattle.tx_worker.specs.Calls.{IsMade, StopsAs, asked}
+use Rattle.tx_worker.specs.Positions.{AreFew, AreOver}
 use Rattle.tx_worker.specs.Falls.{Falls}
-use Rattle.tx_worker.specs.Progress.{Course, HasRun, IsRunning}
-use Rattle.tx_worker.specs.Tallies.{tally_of}
+use Rattle.tx_worker.specs.Progress.{Course, IsRunning}
 
 -- the limits of a thread, which no call changes
 pub record Bounds : Type 0 where
@@ -30,79 +38,106 @@ pub record Bounds : Type 0 where
 abbrev pub bounds_of : Core → Bounds
 bounds_of e = record { max_commits = e.max_commits; patience = e.patience; depth = e.depth }
 
+-- ## Room
+
+-- there is a place for the open attempt among those that have ended, and in it for each action that may still run
+abbrev pub HasPlaces : Core → Vec Attempt Global → Current → Type 0
+HasPlaces e ended Outside = Unit {0}
+HasPlaces e ended (Begins o) = Unit {0}
+HasPlaces e ended (Within o) = (vec_len ended < vec_capacity ended) × (total e.actions ≤ o.ends)
+
+-- and for what comes of this call, which asks for so many more
+abbrev pub IsReadyFor : Core → Call → ℕ → Vec Attempt Global → Current → Type 0
+IsReadyFor e call ahead ended Outside = Unit {0}
+IsReadyFor e call ahead ended (Begins o) = vec_len ended < vec_capacity ended
+IsReadyFor e call ahead ended (Within o) = (vec_len ended < vec_capacity ended) × (total e.actions ≤ o.ends) × HasPlacesFor call (total e.actions) ahead o
+
+-- a begin is told whether an earlier try of its block got past it, where it is to open an attempt
+abbrev pub again_for : Current → Bool → Call → Bool
+again_for (Begins o) again (Begin props room) = again
+again_for (Begins o) again call = false
+again_for Outside again call = false
+again_for (Within o) again call = false
+
+-- the same open attempt, perhaps with more room; or none is open still, though one may be about to be opened
+abbrev pub IsRoomier : Current → Current → Type 0
+IsRoomier (Within o) (Within o') = (o'.row ≡ record o.row { calls = record o.row.calls { room = o'.row.calls.room } })
+IsRoomier Outside Outside = Unit {0}
+IsRoomier Outside (Begins o') = Unit {0}
+IsRoomier old new = ⊥
+
 module _ {P : Type 0} where
   abbrev pub view_in : Worker P → View
   view_in w = view_of w.thread.pass
-
-  -- there is room for the open attempt among those that have ended, and for each action that may still run in it
-  pub record IsRoomy (e : Core) (w : Worker P) (o : OpenAttempt) : Type 0 where
-    pub row : vec_len w.ended < vec_capacity w.ended
-    pub actions : total e.actions ≤ vec_capacity o.ran
 
   -- it is the worker that it was, on words that own its pass
   pub record IsSame (words : Words) (c : Course P) (b : Bounds) (w : Worker P) : Type 0 where
     pub own : Owns words w.thread.pass
     pub stands : Stands (view_in w) w.thread.engine
-    pub number : w.number ≡ c.number
-    pub retries : w.retries ≡ c.retries
+    pub number : w.run.thread ≡ c.number
+    pub retries : w.run.retries ≡ c.retries
     pub few : c.retries ≤ MAX_RETRIES
-    pub known : w.known ≡ known_after c.known w.ended.items
     pub over : AreOver w.ended.items
+    pub below : AreFew b.max_commits w.ended.items
     pub bounds : bounds_of w.thread.engine ≡ b
     pub whole : w.thread.engine.restarts ≡ 0  -- no inner block goes back to its begin alone
+
+  -- there is room for what comes of its player's next call, and nothing else has changed
+  pub record IsPrepared (words : Words) (rules : Rules P) (old : Worker P) (call : Call) (new : Worker P) : Type 0 where
+    pub came : tally_of new.run ≡ asked words rules old.run.thread old.run.retries old.thread (account_of old) call
+    pub ready : IsReadyFor old.thread.engine call (unwrap_or (irrevocable_room old.thread.engine call) 0) new.ended new.run.current
+    pub thread : new.run.thread ≡ old.run.thread
+    pub retries : new.run.retries ≡ old.run.retries
+    pub ended : new.ended.items ≡ old.ended.items
+
+  -- there was no memory for that
+  pub record IsUnprepared (old : Worker P) (call : Call) (new : Worker P) : Type 0 where
+    pub roomier : IsRoomier old.run.current new.run.current
+    pub roomy : HasPlaces old.thread.engine new.ended new.run.current
+    pub ended : new.ended.items ≡ old.ended.items
+    pub begins : stage_of old.run.current ≡ outside → is_begin call ≡ true
 
 module _ {P : Type 0} (rules : Rules P) where
   pub record IsWorking (words : Words) (c : Course P) (b : Bounds) (w : Worker P) : Type 0 where
     pub same : IsSame words c b w
-    pub running : IsRunning rules c (view_in w) w.thread.engine (tally_of w)
-    pub roomy : (o : OpenAttempt) → w.current ≡ Some o → IsRoomy w.thread.engine w o
+    pub running : IsRunning rules c (view_in w) w.thread.engine (account_of w)
+    pub roomy : HasPlaces w.thread.engine w.ended w.run.current
 
-  -- why it stopped: its player had no more calls; or the gate was shut, as many commits as may be were done, or it had looked at the clock as often as there are tries
-  abbrev pub StopsAs : Course P → Bounds → Bool → End → Worker P → Type 0
-  StopsAs c b shuts Finished w = IsRunning rules c (view_in w) w.thread.engine (tally_of w) × (rules.next_call w.player ≡ None)
-  StopsAs c b shuts GaveUp w = (shuts ≡ true) ⊎ (b.max_commits ≤ length (view_in w).seen) ⊎ (c.view.looks + (c.retries + 1) ≤ (view_in w).looks)
-  StopsAs c b shuts NoMemory w = Unit {0}
+  -- its player's next call is answered, and nothing has come of that yet
+  pub record IsAsked (words : Words) (c : Course P) (b : Bounds) (old : Worker P) (call : Call) (answer : Answer) (new : Worker P) : Type 0 where
+    pub works : IsWorking words c b old
+    pub asks : rules.next_call old.run.player ≡ Some call
+    pub prepared : IsPrepared words rules old call new
+    pub answered : IsAnswered words (start_of old.thread call (begins_again (stage_of old.run.current) old.run.again call)) answer new.thread.pass new.thread.engine
 
-  pub record IsStopped (words : Words) (c : Course P) (b : Bounds) (shuts : Bool) (end : End) (w : Worker P) : Type 0 where
-    pub same : IsSame words c b w
-    pub has_run : HasRun rules c (view_in w) w.ended.items
-    pub mine : (view_in w).mine ≡ c.view.mine ++ positions w.ended.items
-    pub inside : (o : OpenAttempt) → w.current ≡ Some o → (in_transaction w.thread.engine ≡ true) × IsRunning rules c (view_in w) w.thread.engine (tally_of w) × IsRoomy w.thread.engine w o
-    pub outside : w.current ≡ None → in_transaction w.thread.engine ≡ false
-    pub stops : StopsAs c b shuts end w
+  -- memory was refused to its player's next call, and nothing has come of that yet
+  pub record IsHungry (words : Words) (c : Course P) (b : Bounds) (old : Worker P) (call : Call) (new : Worker P) : Type 0 where
+    pub works : IsWorking words c b old
+    pub asks : rules.next_call old.run.player ≡ Some call
+    pub thread : new.thread ≡ old.thread
+    pub run : new.run ≡ record old.run { current = new.run.current }
+    pub unprepared : IsUnprepared old call new
 
-  -- an answer to a call of the open transaction, which is to be recorded
-  pub record IsAnswered (words : Words) (c : Course P) (b : Bounds) (s : Start) (w : Worker P) (o : OpenAttempt) (call : Call) (answer : Answer) : Type 0 where
-    pub same : IsSame words c b w
-    pub running : IsRunning rules c s.view s.engine (tally_of (record w { current = Some o }))
-    pub before : Stands s.view s.engine
-    pub inside : in_transaction s.engine ≡ true
-    pub call_is : s.call ≡ call
-    pub first_time : s.again ≡ false
-    pub asks : rules.next_call w.player ≡ Some call
-    pub served : Served s answer (view_in w) w.thread.engine
-    pub row : vec_len w.ended < vec_capacity w.ended
-    pub entry : length o.calls.items < vec_capacity o.calls
-    pub actions : total s.engine.actions ≤ vec_capacity o.ran
-    pub registered : is_some (registered_by call) ≡ true → total s.engine.actions < vec_capacity o.ran
-
-  -- a worker goes on with less left to do
+  -- it goes on after its player's next call, with less left to do
   pub record GoesOn (words : Words) (old new : Worker P) : Type 0 where
+    pub made : IsMade words rules old.run.thread old.run.retries (account_of old) old.thread None (account_of new) new.thread
     pub works : (c : Course P) (b : Bounds) → IsWorking words c b old → IsWorking words c b new
-    pub falls : Falls rules old.retries (in_transaction old.thread.engine) (in_transaction new.thread.engine) old.nth new.nth old.player new.player
-    pub retries : new.retries ≡ old.retries
+    pub falls : Falls rules old.run.retries (in_transaction old.thread.engine) (in_transaction new.thread.engine) old.run.nth new.run.nth old.run.player new.run.player
+    pub thread : new.run.thread ≡ old.run.thread
+    pub retries : new.run.retries ≡ old.run.retries
+
+  -- it has stopped, and what it leaves to be told is what this account does
+  pub record IsStopped (words : Words) (c : Course P) (b : Bounds) (shuts : Bool) (end : End) (old new : Worker P) : Type 0 where
+    pub same : IsSame words c b new
+    pub left : Account P
+    pub stops : StopsAs words rules old.run.thread old.run.retries shuts end (account_of old) old.thread left new.thread
+    pub over : AreOver left.ended
+    pub below : AreFew b.max_commits left.ended
+    pub told_is : told (account_of new) (stand_of new.thread.engine) ≡ told left (stand_of new.thread.engine)
+    pub may_stop : MayStop (new.thread.engine.snapshot / 2) new.thread.engine.actions.ran new.run.current
+    pub may_tell : MayTell new.run.current new.ended
 
   -- it goes on, or it has stopped
   abbrev pub GoesOnOrStops : Words → Bool → Worker P → Option End → Worker P → Type 0
   GoesOnOrStops words shuts old None new = GoesOn words old new
-  GoesOnOrStops words shuts old (Some end) new = (c : Course P) (b : Bounds) → IsWorking words c b old → IsStopped words c b shuts end new
-
-  -- what comes of an answer
-  pub record Settles (words : Words) (c : Course P) (b : Bounds) (s : Start) (old new : Worker P) : Type 0 where
-    pub works : IsWorking words c b new
-    pub falls : Falls rules old.retries true (in_transaction new.thread.engine) old.nth new.nth old.player new.player
-    pub retries : new.retries ≡ old.retries
-
-  abbrev pub SettlesAs : Words → Course P → Bounds → Bool → Start → Worker P → Option End → Worker P → Type 0
-  SettlesAs words c b shuts s old None new = Settles words c b s old new
-  SettlesAs words c b shuts s old (Some end) new = IsStopped words c b shuts end new
+  GoesOnOrStops words shuts old (Some end) new = (c : Course P) (b : Bounds) → IsWorking words c b old → IsStopped words c b shuts end old new

@@ -16,7 +16,9 @@ use Rattle.tx_runs.specs.declared.ending.End.TheVariants.{Finished, GaveUp, NoMe
 use Rattle.tx_runs.specs.Runs.{begins_at}
 use Rattle.tx_player.specs.Rules.{Rules}
 use Rattle.tx_worker.specs.declared.worked.Worked.{Worked}
-use Rattle.tx_worker.specs.Positions.{bytes_at, positions}
+use Rattle.tx_worker.specs.Accounts.{Account, first_account, stand_of, told}
+use Rattle.tx_worker.specs.Calls.{HasMade, StopsAs}
+use Rattle.tx_worker.specs.Positions.{AreFew, bytes_at, positions}
 use Rattle.tx_worker.specs.Progress.{Course, HasRun, now_at}
 
 -- the view at the end
@@ -28,6 +30,11 @@ view_left (Err thread) = view_of thread.pass
 abbrev pub IsBack : Words → Result Pass Standing → Type 0
 IsBack words (Ok pass) = Owns words pass × ((view_of pass).holds ≡ false)
 IsBack words (Err thread) = Owns words thread.pass × (thread.engine.irrevocable ≡ true) × Stands (view_of thread.pass) thread.engine
+
+-- what comes of a thread that is no longer wanted: its pass, which does not hold the clock, or the thread itself where its transaction stays irrevocable
+abbrev pub Parts : Standing → Result Pass Standing → Type 0
+Parts thread (Ok pass) = (pass ≡ thread.pass) × ((view_of pass).holds ≡ false)
+Parts thread (Err left) = (left ≡ thread) × (thread.engine.irrevocable ≡ true)
 
 abbrev pub is_held : Result Pass Standing → Bool
 is_held (Ok pass) = false
@@ -49,7 +56,7 @@ course_of start player number retries = record {
   number = number;
   retries = retries;
   depth = start.engine.depth;
-  known = start.engine.snapshot / 2;
+  known = start.engine.clock / 2;
   first = record { player = player; arena = start.engine.arena; again = false; tries = 0 };
 }
 
@@ -83,11 +90,25 @@ module _ {P : Type 0} (rules : Rules P) where
     pub back : IsBack words w.pass
     pub runs : HasRun rules c (view_left w.pass) w.attempts  -- its attempts are the player's run, each opaque over the commits that were seen
     pub mine : (view_left w.pass).mine ≡ c.view.mine ++ positions w.attempts  -- just those that committed hold positions
+    pub few : AreFew max_commits w.attempts  -- none commits beyond the limit
     pub held : AreHeld c.depth (view_left w.pass) (is_held w.pass) w.attempts
     pub kept : is_held w.pass ≡ true → EndsOpen w.attempts  -- a thread that stays irrevocable tells the attempt that holds the clock
     pub ends : EndsAs c max_commits shuts w.end (view_left w.pass) w.attempts
 
+  -- the run as a row of calls, each with what came of it, and how it ended
+  pub record IsRow (words : Words) (start : Standing) (player : P) (number retries : ℕ) (shuts : Bool) (w : Worked) : Type 0 where
+    pub calls : ℕ
+    pub account : Account P
+    pub standing : Standing
+    pub made : HasMade words rules number retries calls (first_account player) start account standing
+    pub left : Account P
+    pub thread : Standing
+    pub stops : StopsAs words rules number retries shuts w.end account standing left thread
+    pub attempts : w.attempts ≡ told left (stand_of thread.engine)  -- just these attempts are told
+    pub pass : Parts thread w.pass
+
   -- a player's run on a thread
   pub record Works (words : Words) (start : Standing) (player : P) (number retries : ℕ) (shuts : Bool) (w : Worked) : Type 0 where
     pub number_is : w.thread ≡ number
-    pub finished : IsFinished words (course_of start player number retries) start.engine.max_commits shuts w
+    pub row : IsRow words start player number retries shuts w
+    pub finished : IsFinished words (course_of start player number retries) start.engine.max_commits shuts w  -- this follows from it

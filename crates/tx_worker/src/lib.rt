@@ -1,7 +1,6 @@
 //! One thread's whole run over shared words: a player's transactions, one after the other, each try of them recorded.
 #![tactic(auto)]
 
-mod current;
 mod gate;
 mod run;
 mod sink;

@@ -15,6 +15,7 @@ use itm_runtime::Thread;
 use shared_words::Words;
 use std::alloc::Global;
 use tx_player::Player;
+use tx_runs::PlayerRun;
 
 /// Runs a player's transactions on a thread that has none open, up to its end: each call that it makes, and each block
 /// again from its begin, at most `retries` times, where it came to a conflict or found the clock held.
@@ -42,17 +43,10 @@ pub fn work<P: Player, G: Gate, A: ActionSink>(
     requires few { retries ≤ MAX_RETRIES }
     ensures { Works P.Player words.now thread player number retries G.shuts result }
 {
-    let known = thread.snapshot() / 2;
     let mut worker = Worker {
-        number,
-        retries,
-        player,
+        run: PlayerRun::new(number, retries, player),
         thread,
         ended: Vec::new(alloc),
-        current: None,
-        nth: 1,
-        again: false,
-        known,
         calls: 0,
     };
     loop {

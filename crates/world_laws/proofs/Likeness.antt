@@ -1,6 +1,5 @@
 -- Two worlds that are the same still are over the same events.
 pub mod Answers
-pub mod HeldAttempts
 pub mod Calls
 pub mod Work
 pub mod Worlds

@@ -2,7 +2,7 @@
 use Rattle.std.specs.Prelude.{◌≡◌, ℕ, length, Some, slice_get}
 use Rattle.norec_world.specs.declared.actor.Actor.{Actor}
 use Rattle.norec_world.specs.World.{World, SameOpening, attempts_of, memory_of, ending_at}
-use Rattle.world_laws.specs.Alike.{SameRows, AreAlike, HasAttempt}
+use Rattle.world_laws.specs.Alike.{AreAlike}
 
 module _ {P : Type 0} where
   -- all that a world shows
@@ -13,13 +13,11 @@ module _ {P : Type 0} where
     pub events : v.events ≡ w.events
     pub endings : (actor : ℕ) → ending_at v actor ≡ ending_at w actor
 
-  -- and all that decides what comes next
+  -- and all that decides what comes next; there may be room for more attempts in the one than in the other
   pub record SameWorld (v w : World P) : Type 0 where
     pub opening : SameOpening v w
     pub cells : v.cells ≡ w.cells
     pub events : v.events ≡ w.events
-    pub rows : SameRows v.attempts w.attempts
+    pub ended : v.attempts.ended ≡ w.attempts.ended
     pub count : length v.actors ≡ length w.actors
     pub actors : (place : ℕ) (a b : Actor P) → slice_get v.actors place ≡ Some a → slice_get w.actors place ≡ Some b → AreAlike a b
-    pub places : (place : ℕ) (a : Actor P) → slice_get v.actors place ≡ Some a → a.thread ≡ place
-    pub held : (place : ℕ) (a : Actor P) → slice_get v.actors place ≡ Some a → HasAttempt v.attempts a

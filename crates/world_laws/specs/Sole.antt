@@ -11,7 +11,8 @@ use Rattle.tx_attempts.specs.Attempts.{is_committed, of_thread}
 use Rattle.norec_world.specs.Headline.{bytes_at}
 use Rattle.tx_attempts.specs.Opacity.{Beginning, Between}
 use Rattle.tx_runs.specs.Runs.{begins_at, run_after}
-use Rattle.norec_world.specs.Rows.{Rows, active_of}
+use Rattle.norec_world.specs.Rows.{Rows}
+use Rattle.norec_world.specs.Stages.{active_of, pending_of}
 use Rattle.world_laws.specs.Solo.{one_if}
 use Rattle.norec_world.specs.Status.{ending_of}
 use Rattle.tx_runs.specs.Outcomes.{is_done}
@@ -45,14 +46,14 @@ module _ {P : Type 0} (rules : Rules P) (max_commits deepest : ℕ) (base : List
   -- after these attempts it goes on, at the first try of its block
   pub record IsOnWay (past : List Attempt) (n : ℕ) (r : Rows) (a : Actor P) : Type 0 where
     pub ended : r.ended ≡ past
-    pub nth : a.nth ≡ 1
-    pub current : (row : Attempt) → current_of (active_of a.thread r.active) a.pending ≡ Some row → IsFirstTry n row
+    pub nth : a.run.nth ≡ 1
+    pub current : (row : Attempt) → current_of (active_of a) (pending_of a) ≡ Some row → IsFirstTry n row
 
   -- after these attempts the next block goes irrevocable, and has not begun
   pub record IsKeptOut (past : List Attempt) (r : Rows) (a : Actor P) : Type 0 where
     pub ended : r.ended ≡ past
     pub before : Between P
-    pub led : run_after rules deepest (bytes_at deepest base r.ended) (Some first) (of_thread a.thread r.ended) ≡ Some before
+    pub led : run_after rules deepest (bytes_at deepest base r.ended) (Some first) (of_thread a.run.thread r.ended) ≡ Some before
     pub start : Beginning P
     pub begins : begins_at rules deepest before ≡ Some start
     pub goes : start.props.goes_irrevocable ≡ true
@@ -60,9 +61,9 @@ module _ {P : Type 0} (rules : Rules P) (max_commits deepest : ℕ) (base : List
   -- by how it ended, if it has
   abbrev pub StandsSole : Option End → List Attempt → ℕ → Rows → Actor P → Type 0
   StandsSole None past n r a = IsOnWay past n r a
-  StandsSole (Some Finished) past n r a = IsOnWay past n r a × (rules.next_call a.player ≡ None) × IsIdle a.engine
-  StandsSole (Some GaveUp) past n r a = (active_of a.thread r.active ≡ None) × (max_commits ≤ n) × (IsKeptOut past r a ⊎ EndsWith past n outcomes.Full r)
-  StandsSole (Some NoMemory) past n r a = ((active_of a.thread r.active ≡ None) × ((r.ended ≡ past) ⊎ EndsWith past n outcomes.NoMemory r)) ⊎ ((a.engine.irrevocable ≡ true) × IsOnWay past n r a)
+  StandsSole (Some Finished) past n r a = IsOnWay past n r a × (rules.next_call a.run.player ≡ None) × IsIdle a.engine
+  StandsSole (Some GaveUp) past n r a = (active_of a ≡ None) × (max_commits ≤ n) × (IsKeptOut past r a ⊎ EndsWith past n outcomes.Full r)
+  StandsSole (Some NoMemory) past n r a = ((active_of a ≡ None) × ((r.ended ≡ past) ⊎ EndsWith past n outcomes.NoMemory r)) ⊎ ((a.engine.irrevocable ≡ true) × IsOnWay past n r a)
 
   pub record IsSole (clock : ℕ) (r : Rows) (a : Actor P) : Type 0 where
     pub past : List Attempt

@@ -228,6 +228,8 @@ module _ (s : Start) (w : View) (mid new : Core) (m : IsMid s w mid new) where
         call = call;
         wrote_is = does.wrote_is;
         next = λ y. ((next_memory at (m.freed (g.freed ∙ y)) at_is).0, does.memory_is y);
+        clock = λ y. ap (λ (c : Core). c.clock) stays ∙ (m.freed (g.freed ∙ y)).clock;
+        few = λ y. (let l = (m.freed (g.freed ∙ y)).few in omega arith);
         arena_is = does.arena_is;
         actions_is = does.actions_is;
       } in

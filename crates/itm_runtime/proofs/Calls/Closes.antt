@@ -53,6 +53,7 @@ module _ (s : Start) (w : View) (mid new : Core) (m : IsMid s w mid new) where
       tells = tells;
       mine = mine;
       went = m.went;
+      rises = (let a = m.rises in let b = r.clock in omega arith);
       grows = λ o o' stays. m.grows o o' (r.restarted stays);
       opens = λ o o'. (let count = (reads o').count in let longer = starts_le w.seen s.view.seen m.went.grows in record { looks = m.opens o o'; seen = omega arith });
       steps = (let a = m.steps in omega arith);

@@ -42,6 +42,8 @@ pub record Freed (s : Start) (w : View) (mid new : Core) : Type 0 where
   pub laid : mid.irrevocable ≡ false → stored (after w.base past) last ≡ backed mid (after w.base past)
   pub mine : w.mine ≡ s.view.mine ++ (new.snapshot / 2) ∷ []
   pub done : w.done ≡ []
+  pub clock : mid.clock ≡ new.snapshot + 2
+  pub few : new.snapshot / 2 < s.engine.max_commits
 
 -- mid is such an engine with the view w, and goes on to new
 pub record IsMid (s : Start) (w : View) (mid new : Core) : Type 0 where
@@ -50,6 +52,7 @@ pub record IsMid (s : Start) (w : View) (mid new : Core) : Type 0 where
   pub went : Went s.view w
   pub behind : mid.clock ≤ w.clock
   pub known : mid.clock / 2 ≤ length w.seen
+  pub rises : s.engine.clock ≤ mid.clock
   pub holds : w.holds ≡ mid.holds
   pub fresh : IsFresh w mid
   pub before : in_transaction mid ≡ true → Before s w mid new

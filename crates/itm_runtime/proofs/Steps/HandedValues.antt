@@ -37,6 +37,7 @@ module _ (s : Start) (v : View) (e : Core) (step : Step) (i : InCall s v e step)
   record Differs (w : View) (mid : Core) : Type 0 where
     pub behind : mid.clock ≤ w.clock
     pub known : mid.clock / 2 ≤ length w.seen
+    pub rises : e.clock ≤ mid.clock
     pub holds : w.holds ≡ mid.holds
     pub fresh : IsFresh w mid
     pub clocks : in_transaction mid ≡ true → Follows w mid
@@ -55,6 +56,7 @@ module _ (s : Start) (v : View) (e : Core) (step : Step) (i : InCall s v e step)
     went = went_on s v e step i n new joins settled w base_is share_is k;
     behind = d.behind;
     known = d.known;
+    rises = (let a = i.rises in let b = d.rises in omega arith);
     holds = d.holds;
     fresh = d.fresh;
     before = λ x. before_on s v e step i n new joins settled w base_is share_is k mid h.log h.snapshot h.keeps.restarted (sym (ap is_inside h.keeps.blocks) ∙ x);
@@ -108,6 +110,7 @@ module _ (s : Start) (v : View) (e : Core) (step : Step) (i : InCall s v e step)
       made w (handed_to e (Some (Load 0)) n) refl refl (looks_at h c) o (handed_is e (Load 0) n) (record {
         behind = (let r : n ≤ n = omega arith in r);
         known = (let r : n / 2 ≤ length h = omega arith in r);
+        rises = (let a = t.behind in let b = c.late in let r : e.clock ≤ n = omega arith in r);
         holds = t.holds;
         fresh = λ m l st. tt;
         clocks = λ x. record { clock = refl; count = c.counts };
@@ -146,6 +149,7 @@ module _ (s : Start) (v : View) (e : Core) (step : Step) (i : InCall s v e step)
         made w _ refl refl (tried h c) o handed (record {
           behind = (let r : n ≤ n = omega arith in r);
           known = (let r : n / 2 ≤ length h = omega arith in r);
+          rises = (let a = t.behind in let b = c.late in let r : e.clock ≤ n = omega arith in r);
           holds = t.holds ∙ lawful.1;
           fresh = λ m l st. tt;
           clocks = λ x. record { clock = refl; count = c.counts };
@@ -167,6 +171,7 @@ module _ (s : Start) (v : View) (e : Core) (step : Step) (i : InCall s v e step)
         made w _ refl refl (tried h seen) o handed (record {
           behind = (let r : n ≤ from = omega arith in r);
           known = (let r : n / 2 ≤ length h = omega arith in r);
+          rises = (let a = t.behind in let b = seen.late in let r : e.clock ≤ n = omega arith in r);
           holds = refl;
           fresh = λ m l st. tt;
           clocks = λ x. record { clock = sym hit; count = count };
@@ -208,6 +213,7 @@ module _ (s : Start) (v : View) (e : Core) (step : Step) (i : InCall s v e step)
           opened = open_before is_open (read v (Load (suc word)) word n) (word_loaded e false word n);
           behind = t.behind;
           known = t.known;
+          rises = (let r : e.clock ≤ e.clock = omega arith in r);
           holds = t.holds;
           fresh = λ m l st. (let r = stand_less m v.fresh word n st in agrees_more m e.fresh _ (t.fresh m l r.0) (get_of m word n (omega arith) r.1, tt));
           clocks = λ y. (let c = t.clocks is_open in record { clock = c.clock; count = c.count });
@@ -225,6 +231,7 @@ module _ (s : Start) (v : View) (e : Core) (step : Step) (i : InCall s v e step)
           opened = open_before is_open (noted v (Load (suc word)) n) (word_loaded e true word n);
           behind = t.behind;
           known = t.known;
+          rises = (let r : e.clock ≤ e.clock = omega arith in r);
           holds = t.holds;
           fresh = t.fresh;
           clocks = λ y. (let c = t.clocks is_open in record { clock = c.clock; count = c.count });
@@ -281,6 +288,7 @@ module _ (s : Start) (v : View) (e : Core) (step : Step) (i : InCall s v e step)
           opened = open_before is_open x mid;
           behind = t.behind;
           known = t.known;
+          rises = (let r : e.clock ≤ e.clock = omega arith in r);
           holds = t.holds;
           fresh = t.fresh;
           clocks = λ y. (let c = t.clocks is_open in record { clock = c.clock; count = c.count });
@@ -320,6 +328,7 @@ module _ (s : Start) (v : View) (e : Core) (step : Step) (i : InCall s v e step)
           opened = open_before is_open x mid;
           behind = (let r : value ≤ value = omega arith in r);
           known = (let r : value / 2 ≤ length (v.seen ++ v.done ∷ []) = omega arith in r);
+          rises = (let r : e.clock ≤ value = omega arith in r);
           holds = refl;
           fresh = λ m l st. tt;
           clocks = λ y. record { clock = refl; count = long };
@@ -332,6 +341,8 @@ module _ (s : Start) (v : View) (e : Core) (step : Step) (i : InCall s v e step)
             laid = λ z. (t.holding lawful.1 z).laid;
             mine = λ j. i.mine j ++ half j ∷ [];
             done = refl;
+            clock = (let r : value ≡ new.snapshot + 2 = omega arith in r);
+            few = (let most = (t.settled.holder lawful.1).2 in let same = i.kept.max_commits in let r : new.snapshot / 2 < s.engine.max_commits = omega arith in r);
           };
           mine = λ y. absurd (cc);
           looked = λ y. absurd (cc);

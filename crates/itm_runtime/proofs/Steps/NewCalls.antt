@@ -65,6 +65,7 @@ module _ (s : Start) (w : View) (mid new : Core) (m : IsMid s w mid new) where
         };
         kept = kept;
         went = m.went;
+        rises = (let r = m.rises in omega arith);
         mine = m.mine g.unfreed;
         looked = m.looked g.unfreed;
         taken = λ h i. m.taken (sym holds ∙ h) (sym mode ∙ i);
@@ -109,6 +110,7 @@ module _ (v : View) (e new : Core) (call : Call) (again : Bool) (t : Stands v e)
         went = record { base = refl; share = refl; grows = starts_self v.seen; looks = le };
         behind = t.behind;
         known = t.known;
+        rises = (let r : e.clock ≤ e.clock = omega arith in r);
         holds = t.holds;
         fresh = λ m l st. tt;
         before = λ o. (let r = t.reads o in let count = r.count in record {

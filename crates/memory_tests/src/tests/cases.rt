@@ -1,7 +1,7 @@
 //! What becomes of a block, with memory for all and where memory is refused.
 
 use itm_types::{Action, ActionKind, Ran};
-use norec_world::{Attempt, Outcome, World};
+use norec_world::{Outcome, World};
 use std::process::Abort;
 use tx_player::Player;
 use tx_runs::End;
@@ -49,18 +49,14 @@ pub(super) struct Case {
     pub(super) held: usize,
 }
 
-/// How many calls the first attempt has.
-fn calls_of(attempts: &[Attempt]) -> usize {
-    match attempts.first() {
-        Some(attempt) => attempt.calls.as_slice().len(),
-        None => 0,
-    }
-}
-
-/// How many calls the only attempt has; there may be none.
-fn calls_of_one(rt: &impl Abort, attempts: &[Attempt]) -> usize {
-    assert!(rt; attempts.len() <= 1);
-    calls_of(attempts)
+/// How many calls the world's only attempt has; there may be none.
+fn calls_of_one<P: Player>(rt: &impl Abort, world: &World<P>) -> usize {
+    let mut attempts = world.attempts();
+    let Some(attempt) = attempts.next() else {
+        return 0;
+    };
+    assert!(rt; attempts.next().is_none());
+    attempt.calls.as_slice().len()
 }
 
 /// Whether the thread has come to its end; else it has found no memory.
@@ -110,9 +106,9 @@ fn stands<P: Player>(rt: &impl Abort, world: &World<P>, left: Left) {
     assert_eq!(rt; world.bytes().first().copied(), Some(left.byte));
 }
 
-/// The first attempt, where there is one, has ended so.
-fn attempted(rt: &impl Abort, attempts: &[Attempt], outcome: Outcome, wanted: &[Due]) {
-    if let Some(attempt) = attempts.first() {
+/// The world's first attempt, where there is one, has ended so.
+fn attempted<P: Player>(rt: &impl Abort, world: &World<P>, outcome: Outcome, wanted: &[Due]) {
+    if let Some(attempt) = world.attempts().next() {
         assert_eq!(rt; attempt.outcome, outcome);
         expect_ran(rt, attempt.ran.as_slice(), wanted);
     }
@@ -121,11 +117,11 @@ fn attempted(rt: &impl Abort, attempts: &[Attempt], outcome: Outcome, wanted: &[
 /// The block has come to its end, or has found no memory.
 pub(super) fn expect_end<P: Player>(rt: &impl Abort, world: &World<P>, case: &Case) -> bool {
     let found = ends(rt, world);
-    let calls = calls_of_one(rt, world.attempts());
+    let calls = calls_of_one(rt, world);
     assert!(rt; !found || calls == case.calls);
     let left = left_of(case, found, calls);
     stands(rt, world, left);
     let wanted = ran_of(rt, case, found, calls);
-    attempted(rt, world.attempts(), left.outcome, wanted);
+    attempted(rt, world, left.outcome, wanted);
     found
 }

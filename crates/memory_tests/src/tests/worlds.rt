@@ -321,7 +321,8 @@ fn takes<P: Player>(
 /// Both blocks have ended after seven events.
 fn has_ended<P: Player>(rt: &impl Abort, world: &World<P>) {
     assert_eq!(rt; world.events(), 7);
-    assert_eq!(rt; world.attempts().len(), 2);
+    assert_eq!(rt; world.ended(), 2);
+    assert!(rt; world.open_attempts().next().is_none());
     assert_eq!(rt; world.ending(0), Some(End::Finished));
 }
 

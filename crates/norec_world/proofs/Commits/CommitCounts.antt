@@ -142,7 +142,7 @@ module _ {P : Type 0} (rules : Rules P) (w : World P) (c : CommitsInOrder w) (i 
 -- a world that has just begun
 module _ {P : Type 0} (rules : Rules P) (w : World P)
     (sound : AreActors rules w.cells w.attempts w.actors) (zero_clock : w.cells.clock ≡ 0) (none : w.attempts.ended ≡ [])
-    (first : (place : ℕ) (a : Actor P) → slice_get w.actors place ≡ Some a → IsFirst w.cells.clock w.patience w.max_commits w.retries w.depth w.attempts a) where
+    (first : (place : ℕ) (a : Actor P) → slice_get w.actors place ≡ Some a → IsFirst w.cells.clock w.patience w.max_commits w.retries w.depth a) where
   pub commits_first : CommitsInOrder w
   commits_first = record {
     counted = record {

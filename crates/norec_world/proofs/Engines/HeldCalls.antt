@@ -1,5 +1,5 @@
 -- What a call comes to in an irrevocable transaction, by the plain state that the attempt's calls alone lead to.
-use Rattle.std.proofs.Common.{◌≡◌, ◌≢◌, ℕ, suc, ◌/◌, ◌&&◌, Bool, true, false, not, nat_lt, List, [], ◌∷◌, length, None, Some, is_some, if◌then◌else◌, slice_get, refl, sym, ap, ◌∙◌}
+use Rattle.std.proofs.Common.{◌≡◌, ◌≢◌, ℕ, suc, ◌/◌, ◌&&◌, Bool, true, false, not, nat_lt, List, [], ◌∷◌, length, Option, None, Some, is_some, if◌then◌else◌, slice_get, refl, sym, ap, ◌∙◌}
 use Rattle.std.proofs.lemmas.Bool.{ltb-true}
 use Rattle.itm_types.specs.declared.call.Call.TheVariants.{Mode}
 use Rattle.nest_frames.specs.Nest.{stays_revocable}
@@ -9,17 +9,21 @@ use Rattle.norec_core.specs.Held.{ComesTo}
 use Rattle.norec_core.specs.Proceeds.{WantsClock}
 use Rattle.norec_core.specs.Stands.{is_some_row, state_in}
 use Rattle.norec_core.proofs.Engines.IrrevocableCalls.{begin_enters, mode_enters}
-use Rattle.norec_world.proofs.Common.{Attempt, Begin, Call, Cells, Commit, Core, Got, Next, Row, Rows, State, Store, active_of, after, alone, bytes_at, bytes_of, in_transaction, is_open, reply, stands_for, state_over, takes_clock}
+use Rattle.norec_world.proofs.Common.{Attempt, Begin, Call, Cells, Commit, Core, Got, IsHeld, Next, Row, Rows, State, Store, after, alone, bytes_at, bytes_of, in_transaction, is_open, reply, stands_for, state_over, takes_clock}
 
 -- the attempt's calls alone on the memory of its position lead to an open block, and the call comes to what the plain machine makes of it then
-pub record HasHeld (deepest : ℕ) (base : List ℕ) (cells cells' : Cells) (r : Rows) (thread : ℕ) (mid new : Core) (call : Call) (what : Next) : Type 0 where
-  pub still_open : mid.irrevocable ≡ true → (row : Attempt) → active_of thread r.active ≡ Some row → is_open (alone deepest (bytes_at deepest base r.ended (cells.clock / 2)) row) ≡ true
-  pub mode : mid.irrevocable ≡ true → (row : Attempt) → active_of thread r.active ≡ Some row → (alone deepest (bytes_at deepest base r.ended (cells.clock / 2)) row).irrevocable ≡ true
-  pub ran : mid.irrevocable ≡ true → (row : Attempt) → active_of thread r.active ≡ Some row → row.ran ≡ (alone deepest (bytes_at deepest base r.ended (cells.clock / 2)) row).actions.ran
-  pub comes : mid.irrevocable ≡ true → (row : Attempt) → active_of thread r.active ≡ Some row
+pub record HasHeld (deepest : ℕ) (base : List ℕ) (cells cells' : Cells) (r : Rows) (o : Option Attempt) (mid new : Core) (call : Call) (what : Next) : Type 0 where
+  pub still_open : mid.irrevocable ≡ true → (row : Attempt) → o ≡ Some row → is_open (alone deepest (bytes_at deepest base r.ended (cells.clock / 2)) row) ≡ true
+  pub mode : mid.irrevocable ≡ true → (row : Attempt) → o ≡ Some row → (alone deepest (bytes_at deepest base r.ended (cells.clock / 2)) row).irrevocable ≡ true
+  pub ran : mid.irrevocable ≡ true → (row : Attempt) → o ≡ Some row → row.ran ≡ (alone deepest (bytes_at deepest base r.ended (cells.clock / 2)) row).actions.ran
+  pub comes : mid.irrevocable ≡ true → (row : Attempt) → o ≡ Some row
       → ComesTo (after deepest (alone deepest (bytes_at deepest base r.ended (cells.clock / 2)) row) call) (reply deepest (alone deepest (bytes_at deepest base r.ended (cells.clock / 2)) row) call) what new cells'.words
   pub shut : in_transaction mid ≡ false → mid.irrevocable ≡ false
   pub got : mid.irrevocable ≡ true → (word value : ℕ) → new.waits ≡ Some (Store (suc word) value) → Got new.got (slice_get cells'.words word)
+
+-- an attempt that stands elsewhere, with another room for its calls, is held as well
+pub held_same : {deepest : ℕ} {memory words : List ℕ} {row : Attempt} {e : Core} (at room : ℕ) → IsHeld deepest memory words row e → IsHeld deepest memory words (record row { at = at; calls = record row.calls { room = room } }) e
+held_same at room h = record { still_open = h.still_open; mode = h.mode; ran = h.ran; stands = h.stands; got = h.got }
 
 -- what an engine stands for has its actions and its arena
 pub stands_actions : (c : Core) (m : List ℕ) → (stands_for c m).actions ≡ c.actions

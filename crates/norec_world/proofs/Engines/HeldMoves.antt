@@ -1,10 +1,12 @@
 -- An irrevocable attempt over a call that comes, and over a step.
-use Rattle.std.proofs.Common.{◌≡◌, ℕ, zero, suc, ◌/◌, true, false, List, Option, Some, slice_get, refl, sym, ap, subst, ◌∙◌, arith}
+use Rattle.std.proofs.Common.{◌≡◌, ℕ, zero, suc, ◌/◌, true, false, List, Option, Some, slice_get, refl, sym, ap, subst, ◌∙◌, arith, unwrap_or, ◌+◌}
+use Rattle.norec_core.specs.Core.{irrevocable_room}
+use Rattle.tx_attempts.specs.Kept.{reserved}
 use Rattle.norec_core.specs.Held.{ComesTo, IsFound, answers, leaves, memory_after}
 use Rattle.norec_core.specs.Order.{asked_from, stage_from}
 use Rattle.norec_world.proofs.Common.{Actor, Answers, Asks, AsksFor, Attempt, Call, Cas, Cells, Core, Got, IsHeld, IsLawful, IsTied, Load, Next, Proceeds, Replied, Rows, Rules, StandsIn, State, Step, Store, active_of, after, alone, bytes_at, cells_after, found, handed_to, is_inside, reply, rests, slice_get-get_or, stands_for}
-use Rattle.norec_world.proofs.Engines.HeldCalls.{HasHeld}
-use Rattle.norec_world.proofs.Engines.SoundSteps.{IsCalling, IsStepping, active_same, ended_same, mid, mid_step, same, waits, went}
+use Rattle.norec_world.proofs.Engines.HeldCalls.{HasHeld, held_same}
+use Rattle.norec_world.proofs.Engines.SoundSteps.{IsCalling, IsStepping, asked_row, mid, mid_step, same, waits, went}
 use Rattle.norec_world.proofs.Engines.SoundSteps as steps
 use Rattle.norec_core.proofs.Engines.HeldStores.{IsLoaded, none_got, shut_revocable}
 use Rattle.norec_core.proofs.Engines.HeldStores as stores
@@ -12,18 +14,21 @@ use Rattle.norec_core.proofs.Engines.HeldStores as stores
 -- ## A call comes
 
 module _ {P : Type 0} {rules : Rules P} {cells : Cells} {r0 r : Rows} {old a : Actor P} {call : Call} {what : Next} (m : IsCalling rules cells r0 r old a call what)
-    (base : List ℕ) (held : old.engine.irrevocable ≡ true → (row : Attempt) → active_of old.thread r0.active ≡ Some row → IsHeld old.engine.depth (bytes_at old.engine.depth base r0.ended (cells.clock / 2)) cells.words row old.engine) where
+    (base : List ℕ) (held : old.engine.irrevocable ≡ true → (row : Attempt) → active_of old ≡ Some row → IsHeld old.engine.depth (bytes_at old.engine.depth base r0.ended (cells.clock / 2)) cells.words row old.engine) where
   memory_same : bytes_at old.engine.depth base r.ended (cells.clock / 2) ≡ bytes_at old.engine.depth base r0.ended (cells.clock / 2)
-  memory_same = ap (λ (l : List Attempt). bytes_at old.engine.depth base l (cells.clock / 2)) (ended_same m)
+  memory_same = ap (λ (l : List Attempt). bytes_at old.engine.depth base l (cells.clock / 2)) m.asks.ended
 
-  held_then : old.engine.irrevocable ≡ true → (row : Attempt) → active_of a.thread r.active ≡ Some row → IsHeld old.engine.depth (bytes_at old.engine.depth base r.ended (cells.clock / 2)) cells.words row old.engine
-  held_then i row f = subst (λ (bytes : List ℕ). IsHeld old.engine.depth bytes cells.words row old.engine) (sym memory_same) (held i row (sym (active_same m) ∙ f))
+  held_then : old.engine.irrevocable ≡ true → (row : Attempt) → active_of a ≡ Some row → IsHeld old.engine.depth (bytes_at old.engine.depth base r.ended (cells.clock / 2)) cells.words row old.engine
+  held_then i row f =
+      let was = asked_row m row f in
+      subst (λ (bytes : List ℕ). IsHeld old.engine.depth bytes cells.words row old.engine) (sym memory_same)
+      (subst (λ (x : Attempt). IsHeld old.engine.depth (bytes_at old.engine.depth base r0.ended (cells.clock / 2)) cells.words x old.engine) (sym was.2) (held_same was.0.at (reserved was.0.calls (unwrap_or (irrevocable_room old.engine call) 0 + 1)).room (held i was.0 was.1)))
 
-  stands_then : old.engine.irrevocable ≡ true → (row : Attempt) → active_of a.thread r.active ≡ Some row → stands_for old.engine cells.words ≡ alone old.engine.depth (bytes_at old.engine.depth base r.ended (cells.clock / 2)) row
+  stands_then : old.engine.irrevocable ≡ true → (row : Attempt) → active_of a ≡ Some row → stands_for old.engine cells.words ≡ alone old.engine.depth (bytes_at old.engine.depth base r.ended (cells.clock / 2)) row
   stands_then i row f =
       subst (λ (w : Option Step). StandsIn old.engine.depth w old.engine.doing old.engine cells.words (alone old.engine.depth (bytes_at old.engine.depth base r.ended (cells.clock / 2)) row)) (steps.rests m.sound m.ready).idle (held_then i row f).stands
 
-  pub call_held : HasHeld old.engine.depth base cells cells r a.thread (mid m) a.engine call what
+  pub call_held : HasHeld old.engine.depth base cells cells r (active_of a) (mid m) a.engine call what
   call_held = record {
     still_open = λ i row f. (held_then i row f).still_open;
     mode = λ i row f. (held_then i row f).mode;
@@ -65,18 +70,18 @@ got_handed cells e new word value writes t step l held unfreed was now =
     subst (λ (m : List ℕ). Got (handed_to e (Some step) (found cells step)).got (slice_get m word)) (words_then cells step) (stores.got_handed e new word value (found cells step) writes cells.words held now step l unfreed was (is_loaded cells e step t l))
 
 module _ {P : Type 0} {rules : Rules P} {cells : Cells} {r : Rows} {old : Actor P} {call : Call} {what : Next} {cells' : Cells} {new : Core} (m : IsStepping rules cells r old call what cells' new)
-    (deepest : ℕ) (base : List ℕ) (held : old.engine.irrevocable ≡ true → (row : Attempt) → active_of old.thread r.active ≡ Some row → IsHeld deepest (bytes_at deepest base r.ended (cells.clock / 2)) cells.words row old.engine) where
+    (deepest : ℕ) (base : List ℕ) (held : old.engine.irrevocable ≡ true → (row : Attempt) → active_of old ≡ Some row → IsHeld deepest (bytes_at deepest base r.ended (cells.clock / 2)) cells.words row old.engine) where
   was : (mid_step m).irrevocable ≡ true → old.engine.irrevocable ≡ true
   was i = sym (same m).irrevocable ∙ i
 
-  in_call : old.engine.irrevocable ≡ true → (row : Attempt) → active_of old.thread r.active ≡ Some row
+  in_call : old.engine.irrevocable ≡ true → (row : Attempt) → active_of old ≡ Some row
       → (leaves old.engine cells.words ≡ after deepest (alone deepest (bytes_at deepest base r.ended (cells.clock / 2)) row) call) × (answers old.engine cells.words ≡ reply deepest (alone deepest (bytes_at deepest base r.ended (cells.clock / 2)) row) call)
   in_call i row f =
       let w = waits m in
       subst (λ (o : Option Call). StandsIn deepest (Some m.step) o old.engine cells.words (alone deepest (bytes_at deepest base r.ended (cells.clock / 2)) row)) w.doing
       (subst (λ (o : Option Step). StandsIn deepest o old.engine.doing old.engine cells.words (alone deepest (bytes_at deepest base r.ended (cells.clock / 2)) row)) w.waits (held i row f).stands)
 
-  comes_to : old.engine.irrevocable ≡ true → (row : Attempt) → active_of old.thread r.active ≡ Some row
+  comes_to : old.engine.irrevocable ≡ true → (row : Attempt) → active_of old ≡ Some row
       → ComesTo (after deepest (alone deepest (bytes_at deepest base r.ended (cells.clock / 2)) row) call) (reply deepest (alone deepest (bytes_at deepest base r.ended (cells.clock / 2)) row) call) what new cells'.words
   comes_to i row f =
       let w = waits m in
@@ -101,7 +106,7 @@ module _ {P : Type 0} {rules : Rules P} {cells : Cells} {r : Rows} {old : Actor 
       (subst (λ (c : Cells). Got (mid_step m).got (slice_get c.words word)) (sym m.cells_are)
       (got_handed cells old.engine new word value writes m.sound.tied m.step w.lawful (m.sound.tied.settled.irrevocable i).0 g.unfreed (sym w.asks ∙ w.waits) asks))
 
-  pub step_held : HasHeld deepest base cells cells' r old.thread (mid_step m) new call what
+  pub step_held : HasHeld deepest base cells cells' r (active_of old) (mid_step m) new call what
   step_held = record {
     still_open = λ i row f. (held (was i) row f).still_open;
     mode = λ i row f. (held (was i) row f).mode;

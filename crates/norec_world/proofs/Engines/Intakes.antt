@@ -1,7 +1,8 @@
 -- The moment that a step and a call of the player share: the engine has taken in a value or a call, and what it gave is recorded next.
 use Rattle.norec_world.specs.ActionRoom.{HasFirst, IsActing, wanted}
-use Rattle.std.proofs.Common.{◌≡◌, ◌≢◌, ◌⊎◌, None, ◌+◌, ◌*◌, ◌/◌, Bool, true, false, [], refl, ap, subst, ◌∙◌, sym, length, Some, ◌≤◌, inl, inr, arith, ℕ}
-use Rattle.norec_world.proofs.Common.{Actor, Answer, AnswerFits, Answers, Asks, Attempt, BeginsAt, Call, asked, Cells, Core, Ended, Ends, frees, HasRow, IsAnswered, IsAtOnce, IsDone, IsKept, IsNested, IsSettledBy, IsSound, IsTied, IsWithin, Next, Proceeds, Ready, Records, RestsAs, Rows, Rules, Status, StatusIs, Step, Tells, Waits, in_transaction, is_ready, rests, End, ending_of, cases_Bool}
+use Rattle.norec_world.proofs.Tries.Stages.{row_same}
+use Rattle.std.proofs.Common.{◌≡◌, ◌≢◌, ◌⊎◌, None, ◌+◌, ◌*◌, ◌/◌, Bool, true, false, [], refl, ap, subst, ◌∙◌, sym, length, Some, ◌<◌, ◌≤◌, inl, inr, arith, ℕ}
+use Rattle.norec_world.proofs.Common.{Actor, Answer, AnswerFits, Answers, Asks, Attempt, BeginsAt, Call, asked, Cells, Core, Ended, Ends, frees, HasRow, IsAnswered, IsAtOnce, IsDone, IsKept, IsNested, IsSettledBy, IsSound, IsTied, IsWithin, Next, Proceeds, Ready, Records, RestsAs, Rows, Rules, Status, StatusIs, Step, Tells, Waits, active_of, count_of, in_transaction, is_ready, pending_of, rests, End, ending_of, cases_Bool}
 use Rattle.norec_world.specs.Sound.{IsDue, IsInCall, IsWaiting}
 use Rattle.norec_world.proofs.Engines.TiedEngines.{answer_fits}
 
@@ -30,14 +31,15 @@ module _ {P : Type 0} (rules : Rules P) where
     pub words : mid.words ≡ length cells'.words
     pub tied : IsTied cells' a.engine
     pub within : IsWithin a.engine
-    pub kept : IsKept was r a
-    pub first : HasFirst r a
-    pub nested : IsNested rules was a.player
-    pub depth : rules.depth a.player ≡ length mid.blocks
-    pub in_call : IsInCall rules was r a call
-    pub ahead : was ≡ true → a.ahead ≡ wanted mid
-    pub pending : (row : Attempt) → a.pending ≡ Some row → row.calls.room ≡ wanted mid
+    pub kept : IsKept was a
+    pub first : HasFirst a
+    pub nested : IsNested rules was a.run.player
+    pub depth : rules.depth a.run.player ≡ length mid.blocks
+    pub in_call : IsInCall rules was a call
+    pub place : (row : Attempt) → active_of a ≡ Some row → wanted mid < row.calls.room
+    pub pending : (row : Attempt) → pending_of a ≡ Some row → row.calls.room ≡ wanted mid
     pub ready : a.status ≡ Ready
+    pub room : count_of a ≤ r.room
     pub moves : ClockMoves cells cells' mid
     pub empty : was ≡ false → mid.writes ≡ []
     pub asks : a.engine.waits ≡ asked a.engine
@@ -48,34 +50,32 @@ module _ {P : Type 0} (rules : Rules P) where
   -- and the answer is recorded
   pub record HasAnswered (was : Bool) (cells cells' : Cells) (r r1 : Rows) (mid : Core) (a last : Actor P) (call : Call) (answer : Answer) : Type 0 where
     pub taken : HasTaken was cells cells' r mid a call (Answers answer)
-    pub answered : IsAnswered rules was r a call answer
+    pub answered : IsAnswered rules was a call answer
     pub ends : Ends mid answer a.engine
-    pub told : Records rules was r r1 a last call answer
-    pub settled : IsSettledBy rules was r1 a last
+    pub told : Records rules r r1 a last call answer
+    pub settled : IsSettledBy rules was a last
 
   -- what is true of the actor then
   pub record IsNow (cells : Cells) (r : Rows) (a last : Actor P) : Type 0 where
     pub engine : last.engine ≡ a.engine
-    pub kept : IsKept (in_transaction last.engine) r last
-    pub status : StatusIs rules r last last.status
-    pub sound : IsActing r last → IsSound rules cells r last
-    pub thread : last.thread ≡ a.thread
-    pub retries : last.retries ≡ a.retries
+    pub kept : IsKept (in_transaction last.engine) last
+    pub status : StatusIs rules last last.status
+    pub sound : IsActing last → count_of last ≤ r.room → IsSound rules cells r last
+    pub thread : last.run.thread ≡ a.run.thread
+    pub retries : last.run.retries ≡ a.run.retries
 
 -- the call is the same, whatever the engine and the status
-pub in_call_of : {P : Type 0} {rules : Rules P} {was : Bool} {r : Rows} {a : Actor P} {call : Call} (e : Core) (s : Status) → IsInCall rules was r a call → IsInCall rules was r (record a { engine = e; status = s }) call
+pub in_call_of : {P : Type 0} {rules : Rules P} {was : Bool} {a : Actor P} {call : Call} (e : Core) (s : Status) → IsInCall rules was a call → IsInCall rules was (record a { engine = e; status = s }) call
 in_call_of e s i = record {
   asks = i.asks;
   begins = i.begins;
   inside = i.inside;
   props = i.props;
-  room = i.room;
-  ahead = i.ahead;
-  opens = λ row e. (let p = i.opens row e in record { thread = p.thread; nth = p.nth; outcome = p.outcome; room = p.room });
+  opens = λ row e. (let p = i.opens row e in record { thread = p.thread; nth = p.nth; outcome = p.outcome });
 }
 
 module _ {P : Type 0} {rules : Rules P} {was : Bool} {cells cells' : Cells} {r : Rows} {mid : Core} {a : Actor P} {call : Call} where
-  pub answered : {answer : Answer} → HasTaken rules was cells cells' r mid a call (Answers answer) → IsAnswered rules was r a call answer
+  pub answered : {answer : Answer} → HasTaken rules was cells cells' r mid a call (Answers answer) → IsAnswered rules was a call answer
   answered {answer} m =
       let rest = rests mid a.engine answer m.proceeds in
       record {
@@ -97,7 +97,7 @@ module _ {P : Type 0} {rules : Rules P} {was : Bool} {cells cells' : Cells} {r :
   pub half_same : {r1 : Rows} {last : Actor P} {answer : Answer} → HasAnswered rules was cells cells' r r1 mid a last call answer → frees answer ≡ false → cells'.clock / 2 ≡ cells.clock / 2
   half_same m none = m.taken.moves.keeps (unfreed m none)
 
-  pub due : {what : Next} → HasTaken rules was cells cells' r mid a call what → IsDue rules was r a call what
+  pub due : {what : Next} → HasTaken rules was cells cells' r mid a call what → IsDue rules was a call what
   due {what = Asks step} m = m.ready
   due {what = Answers answer} m = answered m
 
@@ -107,11 +107,11 @@ module _ {P : Type 0} {rules : Rules P} {was : Bool} {cells cells' : Cells} {r :
       let g = m.proceeds in
       let opens : was ≡ in_transaction a.engine = sym m.was_is ∙ sym (ap in_transaction g.stays) in
       let k = m.kept in
-      let kept : IsKept (in_transaction a.engine) r (record a { status = Waits call step }) = record { row = subst (λ (b : Bool). HasRow b r a.thread) opens k.row; empty = k.empty; tried = k.tried; tries = k.tries; retries = k.retries } in
-      let status : IsWaiting rules r (record a { status = Waits call step }) call step = record {
-        nested = subst (λ (b : Bool). IsNested rules b a.player) opens m.nested;
+      let kept : IsKept (in_transaction a.engine) (record a { status = Waits call step }) = record { row = row_same (in_transaction a.engine) a (record a { status = Waits call step }) refl refl (subst (λ (b : Bool). HasRow b a) opens k.row); tried = k.tried; tries = k.tries; retries = k.retries } in
+      let status : IsWaiting rules (record a { status = Waits call step }) call step = record {
+        nested = subst (λ (b : Bool). IsNested rules b a.run.player) opens m.nested;
         depth = m.depth ∙ ap (λ (c : Core). length c.blocks) (sym g.stays);
-        in_call = subst (λ (b : Bool). IsInCall rules b r (record a { status = Waits call step }) call) opens (in_call_of a.engine (Waits call step) m.in_call);
+        in_call = subst (λ (b : Bool). IsInCall rules b (record a { status = Waits call step }) call) opens (in_call_of a.engine (Waits call step) m.in_call);
         doing = ap (λ (c : Core). c.doing) g.stays ∙ m.doing;
         waits = ap (λ (c : Core). c.waits) g.stays;
         lawful = g.lawful;
@@ -119,7 +119,7 @@ module _ {P : Type 0} {rules : Rules P} {was : Bool} {cells cells' : Cells} {r :
         asks = m.asks;
         begun = m.begun (λ none. absurd (let both : Some step ≡ None = sym (ap (λ (c : Core). c.waits) g.stays) ∙ none in cc));
       } in
-      record { engine = refl; thread = refl; retries = refl; kept = kept; status = status; sound = λ acts. record { tied = m.tied; kept = kept; acts = acts; status = status } }
+      record { engine = refl; thread = refl; retries = refl; kept = kept; status = status; sound = λ acts place. record { tied = m.tied; kept = kept; acts = acts; status = status; place = place } }
 
   -- the answer is recorded
   pub answered_now : {r1 : Rows} {last : Actor P} {answer : Answer} → HasAnswered rules was cells cells' r r1 mid a last call answer → IsNow rules cells' r1 a last
@@ -129,19 +129,19 @@ module _ {P : Type 0} {rules : Rules P} {was : Bool} {cells cells' : Cells} {r :
     retries = m.settled.retries;
     kept = m.settled.kept;
     status = status_of last.status m.settled.rests;
-    sound = λ acts. record { tied = subst (IsTied cells') (sym m.settled.engine) m.taken.tied; acts = acts; kept = m.settled.kept; status = status_of last.status m.settled.rests };
+    sound = λ acts place. record { tied = subst (IsTied cells') (sym m.settled.engine) m.taken.tied; acts = acts; kept = m.settled.kept; status = status_of last.status m.settled.rests; place = place };
   }
     where
-      status_of : (st : Status) → RestsAs rules st last → StatusIs rules r1 last st
+      status_of : (st : Status) → RestsAs rules st last → StatusIs rules last st
       status_of Ready rest = rest
       status_of (Waits c step) rest = absurd rest
       status_of (Ended end) rest = rest
 
   -- what holds of an actor that waits, and of one whose call is answered, holds once either is recorded
-  pub recorded : {what : Next} {r1 : Rows} {last : Actor P} (Holds : Rows → Actor P → Type 0) → HasTaken rules was cells cells' r mid a call what → IsDone rules was r r1 a last call what → Tells rules was r r1 a last call what
+  pub recorded : {what : Next} {r1 : Rows} {last : Actor P} (Holds : Rows → Actor P → Type 0) → HasTaken rules was cells cells' r mid a call what → IsDone rules was r r1 a last call what → Tells rules r r1 a last call what
       → ((step : Step) → HasTaken rules was cells cells' r mid a call (Asks step) → Holds r (record a { status = Waits call step })) → ((answer : Answer) → what ≡ Answers answer → HasAnswered rules was cells cells' r r1 mid a last call answer → Holds r1 last) → Holds r1 last
   recorded {what = Asks step} {last} Holds m done tells waits ends = subst (λ (x : Rows). Holds x last) (sym done.1) (subst (Holds r) (sym done.0) (waits step m))
   recorded {what = Answers answer} Holds m done tells waits ends = ends answer refl (record { taken = m; answered = answered m; ends = m.proceeds; told = tells; settled = done })
 
-  pub now : {what : Next} {r1 : Rows} {last : Actor P} → HasTaken rules was cells cells' r mid a call what → IsDone rules was r r1 a last call what → Tells rules was r r1 a last call what → IsNow rules cells' r1 a last
+  pub now : {what : Next} {r1 : Rows} {last : Actor P} → HasTaken rules was cells cells' r mid a call what → IsDone rules was r r1 a last call what → Tells rules r r1 a last call what → IsNow rules cells' r1 a last
   now m done tells = recorded (λ x y. IsNow rules cells' x a y) m done tells (λ step t. waits_now t) (λ answer is t. answered_now t)

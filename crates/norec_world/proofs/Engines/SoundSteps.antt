@@ -1,12 +1,15 @@
 -- A step was done, or a call of the player came: its value or the call went to the engine, and what the engine gave may be recorded.
 use Rattle.user_actions.specs.Actions.{total}
-use Rattle.norec_world.specs.ActionRoom.{AsksAs, MayRunOn, NoCancel, wanted}
+use Rattle.norec_world.specs.ActionRoom.{AsksAs, IsBacked, MayRunOn, NoCancel, wanted}
+use Rattle.norec_world.proofs.Tries.Stages.{asked_begun, asked_open, row_same}
+use Rattle.tx_attempts.specs.Kept.{reserved}
+use Rattle.tx_runs.specs.declared.player_run.PlayerRun.{PlayerRun}
 use Rattle.norec_world.proofs.Rooms.ActionRoom.{gave_acting, registers_none}
-use Rattle.norec_world.proofs.Rooms.CallRoom.{promised_same, wanted_came, wanted_same}
+use Rattle.norec_world.proofs.Rooms.CallRoom.{promised_same, reserved_least, wanted_came, wanted_same}
 use Rattle.norec_world.proofs.Rooms.HeldRoom.{same_room}
 use Rattle.norec_world.proofs.Rooms.LaterActions.{first_here}
-use Rattle.std.proofs.Common.{◌≡◌, ◌≢◌, [], nat_lt, inl, ℕ, zero, suc, ◌+◌, ◌*◌, ◌/◌, ◌%◌, ◌<◌, ◌≤◌, ◌==◌, Bool, true, false, if◌then◌else◌, Option, None, Some, refl, sym, true≢false, ap, subst, ◌∙◌, arith, eqb-true, inr, ◌-◌, length, unwrap_or}
-use Rattle.norec_world.proofs.Common.{Actor, AllFit, Answers, Asks, AsksFor, Attempt, Begin, BeginsAt, Call, Cas, Cells, ClocksOn, Core, Ended, Falls, GoesOn, HoldsOn, IsDone, IsLawful, IsNested, IsNoMore, IsReady, IsResumed, IsSettledBy, IsSound, IsTied, Load, Next, Proceeds, Ready, RestsAs, Rows, Rules, Status, StatusIs, Step, Store, Waits, active_of, asked_pending, begins_again, came, cells_after, ending_of, found, handed_is, handed_to, in_transaction, is_inside, is_ready, is_waiting, none_inside, asked, same_Some, rank, rests as rested, steps_left, whole, IsTold, Tells}
+use Rattle.std.proofs.Common.{◌≡◌, ◌≢◌, [], nat_lt, inl, ℕ, zero, suc, ◌+◌, ◌*◌, ◌/◌, ◌%◌, ◌<◌, ◌≤◌, ◌==◌, Bool, true, false, if◌then◌else◌, Option, None, Some, refl, sym, true≢false, ap, subst, ◌∙◌, arith, eqb-true, inr, length, unwrap_or}
+use Rattle.norec_world.proofs.Common.{Actor, AllFit, Answers, Asks, AsksFor, Attempt, Begin, BeginsAt, Call, Cas, Cells, ClocksOn, Core, Ended, Falls, GoesOn, HoldsOn, IsDone, IsLawful, IsNested, IsNoMore, IsReady, IsResumed, IsSettledBy, IsSound, IsTied, Load, Next, Proceeds, Ready, RestsAs, Rows, Rules, Status, StatusIs, Step, Store, Waits, active_of, begins_again, begun_in, count_of, open_in, pending_of, stage_of, told, came, cells_after, ending_of, found, handed_is, handed_to, in_transaction, is_inside, is_ready, is_waiting, none_inside, asked, same_Some, rank, rests as rested, steps_left, whole, Tells}
 use Rattle.norec_core.specs.Keeps.{Keeps}
 use Rattle.norec_core.specs.Core.{irrevocable_room, may_go}
 use Rattle.norec_core.specs.Order.{asked_from, snapshot_from, stage_at, stage_from}
@@ -127,8 +130,8 @@ module _ {P : Type 0} {rules : Rules P} {cells : Cells} {r : Rows} {old : Actor 
   abbrev pub mid_step : Core
   mid_step = handed_to old.engine (Some m.step) (found cells m.step)
 
-  pub waits : IsWaiting rules r old call m.step
-  waits = subst (StatusIs rules r old) m.waiting m.sound.status
+  pub waits : IsWaiting rules old call m.step
+  waits = subst (StatusIs rules old) m.waiting m.sound.status
 
   pub went : Proceeds (handed_to old.engine (Some m.step) (found cells m.step)) what new
   went = subst (λ (o : Option Step). Proceeds (handed_to old.engine o (found cells m.step)) what new) waits.waits m.resumed.proceeds
@@ -169,12 +172,13 @@ module _ {P : Type 0} {rules : Rules P} {cells : Cells} {r : Rows} {old : Actor 
         words = is_mid.words;
         tied = tied cells' mid_step new what is_mid went;
         within = m.resumed.count;
-        kept = record { row = k.row; empty = k.empty; tried = k.tried; tries = k.tries; retries = k.retries };
-        first = first_here r old.thread mid_step new call what (in_transaction old.engine) (ap is_inside same.blocks) k.row (same.doing ∙ waits.doing) went (λ row e. m.sound.acts.all row e ∙ ap (λ (x : _). x.ran) (sym same.actions));
+        kept = record { row = row_same (in_transaction old.engine) old (record old { engine = new; status = status }) refl refl k.row; tried = k.tried; tries = k.tries; retries = k.retries };
+        first = first_here old mid_step new call what (in_transaction old.engine) (ap is_inside same.blocks) k.row (same.doing ∙ waits.doing) went (λ row e. m.sound.acts.all row e ∙ ap (λ (x : _). x.ran) (sym same.actions));
         nested = waits.nested;
         depth = waits.depth ∙ ap length (sym same.blocks);
         in_call = in_call_of new status waits.in_call;
-        ahead = λ o. (subst (AsksAs old) m.waiting m.sound.acts.asks).ahead o ∙ sym same_wants;
+        place = λ row e. (let least = (subst (IsBacked old) m.waiting m.sound.acts.backed row e).least in let same = same_wants in omega arith);
+        room = m.sound.place;
         pending = λ row e. (subst (AsksAs old) m.waiting m.sound.acts.asks).pending row e ∙ sym same_wants;
         ready = ready;
         moves = moves;
@@ -185,19 +189,19 @@ module _ {P : Type 0} {rules : Rules P} {cells : Cells} {r : Rows} {old : Actor 
       }
 
   -- nothing of the actions is lost
-  pub step_acts : (status : Status) → status ≡ Ready → MayRunOn r (record old { engine = new; status = status }) call what
+  pub step_acts : (status : Status) → status ≡ Ready → MayRunOn (record old { engine = new; status = status }) call what
   step_acts status ready =
       let acts = m.sound.acts in
       let plain = subst NoCancel m.waiting acts.status in
       let asks = subst (AsksAs old) m.waiting acts.asks in
       let same_actions : (handed_to old.engine (Some m.step) (found cells m.step)).actions ≡ old.engine.actions = same.actions in
       let inside : in_transaction (handed_to old.engine (Some m.step) (found cells m.step)) ≡ in_transaction old.engine = ap is_inside same.blocks in
-      gave_acting r (record old { engine = new; status = status }) (handed_to old.engine (Some m.step) (found cells m.step)) call (in_transaction old.engine) inside m.sound.kept.row (same.doing ∙ waits.doing)
-      (record { end_room = acts.empty.end_room; cancel_room = acts.empty.cancel_room }) (λ row e. acts.all row e ∙ ap (λ (x : _). x.ran) (sym same_actions))
+      gave_acting (record old { engine = new; status = status }) (handed_to old.engine (Some m.step) (found cells m.step)) call (in_transaction old.engine) inside (row_same (in_transaction old.engine) old (record old { engine = new; status = status }) refl refl m.sound.kept.row) (same.doing ∙ waits.doing)
+      (λ row e. acts.all row e ∙ ap (λ (x : _). x.ran) (sym same_actions))
       (λ row e. (let p = acts.places row e in let n = registers_none call plain.1 in let t = ap total same_actions in omega arith)) (λ row e abort. absurd (let both : false ≡ true = sym plain.0 ∙ abort in cc)) acts.pending
       (same_room old.engine (handed_to old.engine (Some m.step) (found cells m.step)) old (sym same.depth) (sym same.blocks) (sym same.irrevocable) (sym same.doing) (sym same.room) (sym same.actions) acts.room)
-      (λ row e. (let few = acts.backed row e in let n = promised_same (handed_to old.engine (Some m.step) (found cells m.step)) old.engine same.irrevocable same.room in omega arith))
-      (λ o. asks.ahead (sym inside ∙ o) ∙ sym same_wants) (λ row e. asks.pending row e ∙ sym same_wants) (let k = asks.backed in let n = same.room in let l = same_wants in omega arith) m.resumed.settled what went (λ answer is. not_restarted mid_step new answer ((limit_same mid_step new what went).3 ∙ is_mid.restarts) (subst (λ (x : Next). Proceeds mid_step x new) is went)) (λ shut. (let none = (m.sound.tied.settled.closed (sym inside ∙ shut)) in (ap (λ (x : _). x.commits) same_actions ∙ none.2, ap (λ (x : _). x.undos) same_actions ∙ none.3))) (λ step e. plain)
+      (λ row e. (let p = subst (IsBacked old) m.waiting acts.backed row e in let least = p.least in let most = p.most in let w = same_wants in let n = promised_same (handed_to old.engine (Some m.step) (found cells m.step)) old.engine same.irrevocable same.room in record { least = omega arith; most = omega arith }))
+      (λ row e. asks.pending row e ∙ sym same_wants) (let k = asks.backed in let n = same.room in let l = same_wants in omega arith) m.resumed.settled what went (λ answer is. not_restarted mid_step new answer ((limit_same mid_step new what went).3 ∙ is_mid.restarts) (subst (λ (x : Next). Proceeds mid_step x new) is went)) (λ shut. (let none = (m.sound.tied.settled.closed (sym inside ∙ shut)) in (ap (λ (x : _). x.commits) same_actions ∙ none.2, ap (λ (x : _). x.undos) same_actions ∙ none.3))) (λ step e. plain)
 
   -- what becomes of the clock, as the others see it
   pub step_clocks : (last : Core) → last ≡ new → ClocksOn cells old.engine cells' last
@@ -208,20 +212,22 @@ module _ {P : Type 0} {rules : Rules P} {cells : Cells} {r : Rows} {old : Actor 
       (clocks_still cells' mid_step last (ap (λ (c : Core). c.holds) is ∙ (clock_same mid_step new what went).2) (ap (λ (c : Core). c.clock) is ∙ (clock_same mid_step new what went).1) (ap (λ (c : Core). c.max_commits) is ∙ kept.0, ap (λ (c : Core). c.patience) is ∙ kept.1, ap (λ (c : Core). c.depth) is ∙ kept.2, ap (λ (c : Core). c.restarts) is ∙ kept.3))
 
   -- the value came to the engine, and what came of it was taken up
-  pub takes_in : (status : Status) → status ≡ Ready → {rows r' : Rows} {last : Actor P} → last.engine ≡ new → Tells rules (in_transaction old.engine) r rows (record old { engine = new; status = status }) last call what
-      → IsTold last.thread (in_transaction last.engine) rows (last.engine.snapshot / 2) r' → SameActor old last → TakesIn rules cells r old r' last
-  takes_in status ready {rows} {r'} {last} engine tells told same = record {
-    call = call;
-    step = m.step;
-    waits = m.waiting;
-    what = what;
-    resumed = subst (IsResumed old.engine (found cells m.step) what) (sym engine) m.resumed;
-    rows = rows;
-    tells = subst (λ (e : Core). Tells rules (in_transaction old.engine) r rows (record old { engine = e; status = Ready }) last call what) (sym engine)
-        (subst (λ (s : Status). Tells rules (in_transaction old.engine) r rows (record old { engine = new; status = s }) last call what) ready tells);
-    told = subst (λ (n : ℕ). IsTold n (in_transaction last.engine) rows (last.engine.snapshot / 2) r') same.thread told;
-    same = same;
-  }
+  pub takes_in : (status : Status) → status ≡ Ready → {r' : Rows} (recorded last : Actor P) → recorded.engine ≡ new → Tells rules r r' (record old { engine = new; status = status }) recorded call what
+      → last ≡ told recorded → SameActor old last → TakesIn rules cells r old r' last
+  takes_in status ready {r'} recorded last engine tells is_told of_same =
+      let engine_is : last.engine ≡ new = ap (λ (x : Actor P). x.engine) is_told ∙ engine in
+      record {
+        call = call;
+        step = m.step;
+        waits = m.waiting;
+        what = what;
+        resumed = subst (IsResumed old.engine (found cells m.step) what) (sym engine_is) m.resumed;
+        recorded = recorded;
+        tells = subst (λ (e : Core). Tells rules r r' (record old { engine = e; status = Ready }) recorded call what) (sym engine_is)
+            (subst (λ (s : Status). Tells rules r r' (record old { engine = new; status = s }) recorded call what) ready tells);
+        moves = is_told;
+        same = of_same;
+      }
 
   pub limit_is : new.max_commits ≡ old.engine.max_commits
   limit_is = (limit_same mid_step new what went).0 ∙ same.max_commits
@@ -239,7 +245,7 @@ module _ {P : Type 0} {rules : Rules P} {cells : Cells} {r : Rows} {old : Actor 
       record {
         steps = (let fewer : steps_left new < steps_left old.engine = omega arith in fewer);
         less = record {
-          whole_falls = (let e : whole rules (in_transaction old.engine) old.player ≡ whole rules (in_transaction new) old.player = ap (λ (b : Bool). whole rules b old.player) opens in omega arith);
+          whole_falls = (let e : whole rules (in_transaction old.engine) old.run.player ≡ whole rules (in_transaction new) old.run.player = ap (λ (b : Bool). whole rules b old.run.player) opens in omega arith);
           rank_falls = λ n b. (let e : rank rules n (in_transaction old.engine) old ≡ rank rules n (in_transaction new) old = ap (λ (b : Bool). rank rules n b old) opens in omega arith);
         };
       }
@@ -285,25 +291,31 @@ module _ {P : Type 0} {rules : Rules P} {cells : Cells} {r : Rows} {old : Actor 
 pub record IsCalling {P : Type 0} (rules : Rules P) (cells : Cells) (r0 r : Rows) (old a : Actor P) (call : Call) (what : Next) : Type 0 where
   pub sound : IsSound rules cells r0 old
   pub ready : old.status ≡ Ready
-  pub asked : IsAsked rules r old a call what
+  pub asked : IsAsked rules old a call what
   pub asks : AsksOf cells.clock r0 r old a call what
+  pub place : count_of a ≤ r.room
 
 -- between two calls
 pub rests : {P : Type 0} {rules : Rules P} {cells : Cells} {r : Rows} {a : Actor P} → IsSound rules cells r a → a.status ≡ Ready → IsReady rules a
-rests {rules} {r} {a} sound ready = subst (StatusIs rules r a) ready sound.status
+rests {rules} {r} {a} sound ready = subst (StatusIs rules a) ready sound.status
 
 module _ {P : Type 0} {rules : Rules P} {cells : Cells} {r0 r : Rows} {old a : Actor P} {call : Call} {what : Next} (m : IsCalling rules cells r0 r old a call what) where
   -- the engine with the call
   abbrev pub mid : Core
-  mid = came old.engine call (begins_again (in_transaction old.engine) old.again call)
+  mid = came old.engine call (begins_again (in_transaction old.engine) old.run.again call)
 
   -- the attempt that its begin is to open has the room that it asks for
-  pending_wants : (inside : Bool) (c : Call) (row : Attempt) → asked_pending inside cells.clock old c ≡ Some row → row.calls.room ≡ unwrap_or (irrevocable_room old.engine c) 0
-  pending_wants false (Begin props room) row e = (let made = same_Some _ _ e in ap (λ (x : Attempt). x.calls.room) (sym made))
-  pending_wants true c row e = absurd (let z = sym (rests m.sound m.ready).nothing ∙ e in cc)
-  pending_wants false c row e = absurd (let z = sym (rests m.sound m.ready).nothing ∙ e in cc)
+  pending_wants : (row : Attempt) → pending_of a ≡ Some row → row.calls.room ≡ unwrap_or (irrevocable_room old.engine call) 0
+  pending_wants row e = ap (λ (x : Attempt). x.calls.room) (asked_begun cells.clock old call (stage_of old.run.current) row (rests m.sound m.ready).nothing (sym (ap begun_in m.asks.stage) ∙ e)).3
 
-  pub call_taken : HasTaken rules (in_transaction old.engine) cells cells r (came old.engine call (begins_again (in_transaction old.engine) old.again call)) a call what
+  -- its open one is that of before, with room for the call and what it asks for
+  pub asked_row : (row : Attempt) → active_of a ≡ Some row → (was : Attempt) × (active_of old ≡ Some was) × (row ≡ record was { calls = reserved was.calls (unwrap_or (irrevocable_room old.engine call) 0 + 1) })
+  asked_row row e = asked_open cells.clock old call (stage_of old.run.current) row (sym (ap open_in m.asks.stage) ∙ e)
+
+  pub player_same : a.run.player ≡ old.run.player
+  player_same = ap (λ (x : PlayerRun P). x.player) m.asks.run
+
+  pub call_taken : HasTaken rules (in_transaction old.engine) cells cells r (came old.engine call (begins_again (in_transaction old.engine) old.run.again call)) a call what
   call_taken =
       let ready = rests m.sound m.ready in
       record {
@@ -311,46 +323,44 @@ module _ {P : Type 0} {rules : Rules P} {cells : Cells} {r0 r : Rows} {old a : A
         proceeds = m.asks.called.proceeds;
         doing = refl;
         words = m.sound.tied.words;
-        tied = tied cells mid a.engine what (comes cells old.engine a.engine m.sound.tied m.asked.called.settled call (begins_again (in_transaction old.engine) old.again call)) m.asks.called.proceeds;
-        within = m.asked.called.count;
+        tied = tied cells mid a.engine what (comes cells old.engine a.engine m.sound.tied m.asks.called.settled call (begins_again (in_transaction old.engine) old.run.again call)) m.asks.called.proceeds;
+        within = m.asks.called.count;
         kept = m.asked.kept;
-        first = first_here r a.thread mid a.engine call what (in_transaction old.engine) refl m.asked.kept.row refl m.asks.called.proceeds
-            (λ row e. m.sound.acts.all row (sym ((λ i. active_of (m.asks.thread i) r.active) ∙ ap (λ (x : Rows). active_of old.thread x.active) m.asks.rows_are) ∙ e));
-        nested = subst (IsNested rules (in_transaction old.engine)) (sym m.asked.same.player) ready.nested;
-        depth = ap rules.depth m.asked.same.player ∙ ready.depth;
+        first = first_here a mid a.engine call what (in_transaction old.engine) refl m.asked.kept.row refl m.asks.called.proceeds (λ row e. (let was = asked_row row e in ap (λ (x : Attempt). x.ran) was.2 ∙ m.sound.acts.all was.0 was.1));
+        nested = subst (IsNested rules (in_transaction old.engine)) (sym player_same) ready.nested;
+        depth = ap rules.depth player_same ∙ ready.depth;
         in_call = m.asked.in_call;
-        ahead = λ o. m.asks.ahead o ∙ sym (wanted_came old.engine call (begins_again (in_transaction old.engine) old.again call));
-        pending = λ row e. pending_wants (in_transaction old.engine) call row (sym m.asks.pending ∙ e) ∙ sym (wanted_came old.engine call (begins_again (in_transaction old.engine) old.again call));
-        ready = m.asked.same.status ∙ m.ready;
+        place = λ row e.
+            (let was = asked_row row e in
+            let more = reserved_least was.0.calls (unwrap_or (irrevocable_room old.engine call) 0) in
+            let n = ap (λ (x : Attempt). x.calls.room) was.2 in
+            let w = wanted_came old.engine call (begins_again (in_transaction old.engine) old.run.again call) in
+            omega arith);
+        room = m.place;
+        pending = λ row e. pending_wants row e ∙ sym (wanted_came old.engine call (begins_again (in_transaction old.engine) old.run.again call));
+        ready = m.asked.status ∙ m.ready;
         moves = record { frees = λ f. absurd (cc); keeps = λ f. refl };
         empty = λ o. (m.sound.tied.settled.closed o).1;
         asks = m.asks.called.asks;
         begun = λ some shut. (let went_on = asks_step mid a.engine what m.asks.called.proceeds some in
-            begun_call a.engine some m.asks.called.asks old.engine call (begins_again (in_transaction old.engine) old.again call)
+            begun_call a.engine some m.asks.called.asks old.engine call (begins_again (in_transaction old.engine) old.run.again call)
             (sym (ap is_inside went_on.0) ∙ shut) went_on.1 went_on.0 m.asks.called.order);
-        outside = λ o free. (refl, inr m.asked.called.at_once);
+        outside = λ o free. (refl, inr m.asks.called.at_once);
       }
-
-  -- the rows are those that were
-  pub active_same : active_of a.thread r.active ≡ active_of old.thread r0.active
-  active_same = (λ i. active_of (m.asks.thread i) r.active) ∙ ap (λ (x : Rows). active_of old.thread x.active) m.asks.rows_are
-
-  pub ended_same : r.ended ≡ r0.ended
-  ended_same = ap (λ (x : Rows). x.ended) m.asks.rows_are
 
   -- nor does what is left
   pub same_rank : (n : ℕ) → rank rules n (in_transaction old.engine) a ≡ rank rules n (in_transaction old.engine) old
-  same_rank n = λ i. (whole rules (in_transaction old.engine) (m.asked.same.player i) * (m.asked.same.retries i + 1) + (m.asked.same.retries i + 1 - m.asked.same.nth i)) * (n + 1) + rules.calls_left (m.asked.same.player i)
+  same_rank n = λ i. rank rules n (in_transaction old.engine) (record a { run = m.asks.run i })
 
-  module _ {r1 : Rows} {last : Actor P} (s : IsSettledBy rules (in_transaction old.engine) r1 a last) where
+  module _ {last : Actor P} (s : IsSettledBy rules (in_transaction old.engine) a last) where
     -- what comes of an answer is as if the actor had not changed before
     pub call_falls : last.status ≡ Ready → Falls rules (in_transaction old.engine) (in_transaction last.engine) old last
     call_falls e =
         let f = s.falls e in
         record {
-          whole_falls = subst (λ (p : P). whole rules (in_transaction last.engine) last.player ≤ whole rules (in_transaction old.engine) p) m.asked.same.player f.whole_falls;
+          whole_falls = subst (λ (p : P). whole rules (in_transaction last.engine) last.run.player ≤ whole rules (in_transaction old.engine) p) player_same f.whole_falls;
           rank_falls = λ n b. subst (λ (x : ℕ). rank rules n (in_transaction last.engine) last < x) (same_rank n)
-              (f.rank_falls n (subst (λ (p : P). whole rules (in_transaction old.engine) p ≤ n) (sym m.asked.same.player) b));
+              (f.rank_falls n (subst (λ (p : P). whole rules (in_transaction old.engine) p ≤ n) (sym player_same) b));
         }
 
     pub call_less : ending_of last.status ≡ None → IsNoMore rules old last
@@ -362,6 +372,6 @@ module _ {P : Type 0} {rules : Rules P} {cells : Cells} {r0 r : Rows} {old a : A
         of_status (Ended end) is rest e = absurd (cc)
 
 -- the same, where what the engine gave has another name
-pub calling : {P : Type 0} {rules : Rules P} {cells : Cells} {r0 r : Rows} {old a : Actor P} {call : Call} {given what : Next} → IsSound rules cells r0 old → old.status ≡ Ready → given ≡ what → IsAsked rules r old a call given → AsksOf cells.clock r0 r old a call given
+pub calling : {P : Type 0} {rules : Rules P} {cells : Cells} {r0 r : Rows} {old a : Actor P} {call : Call} {given what : Next} → IsSound rules cells r0 old → old.status ≡ Ready → given ≡ what → IsAsked rules old a call given → AsksOf cells.clock r0 r old a call given → count_of a ≤ r.room
     → IsCalling rules cells r0 r old a call what
-calling {rules} {cells} {r0} {r} {old} {a} {call} sound ready is asked asks = record { sound = sound; ready = ready; asked = subst (IsAsked rules r old a call) is asked; asks = subst (AsksOf cells.clock r0 r old a call) is asks }
+calling {rules} {cells} {r0} {r} {old} {a} {call} sound ready is asked asks place = record { sound = sound; ready = ready; asked = subst (IsAsked rules old a call) is asked; asks = subst (AsksOf cells.clock r0 r old a call) is asks; place = place }

@@ -4,12 +4,12 @@ use Rattle.norec_world.proofs.Common.{Actor, ActorGoes, Cells, ClocksOn, Finishe
 use Rattle.norec_world.specs.Moments.{HasStepped}
 use Rattle.norec_world.proofs.Engines.ClockHolders.{clocks_still, clocks_twice}
 use Rattle.norec_world.proofs.Commits.CommitCounts.{commits_after}
-use Rattle.norec_world.proofs.Attempts.Dates.{dated_after}
-use Rattle.norec_world.proofs.Attempts.OthersAttempts.{others_twice}
+use Rattle.norec_world.proofs.Tries.Dates.{dated_after}
+use Rattle.norec_world.proofs.Tries.Stages.{others_twice}
 use Rattle.norec_world.proofs.Runs.Others.{has_read, running_after, world_opaque, world_tied}
 use Rattle.norec_world.proofs.Events.SoundOthers.{actors_after}
 use Rattle.norec_world.proofs.Engines.Intakes.{ready_of}
-use Rattle.norec_world.proofs.Attempts.TryChains.{tries_then}
+use Rattle.norec_world.proofs.Tries.TryChains.{tries_then}
 use Rattle.norec_world.proofs.Events.WorldEvents.{event_goes}
 use Rattle.norec_world.proofs.Events.Worlds.{lawful_at, waiting_there}
 use Rattle.norec_world.proofs.Engines.SoundSteps.{rests}
@@ -47,7 +47,7 @@ module _ {P : Type 0} {rules : Rules P} {cells cells' : Cells} {r r1 r2 : Rows} 
           let same = y.still n in
           subst (λ (z : Rows). Tries cells.clock (prior_of r a) cells'.clock z a2) (sym same.1) (subst (Tries cells.clock (prior_of r a) cells'.clock r1) (sym same.0) x.tries)
 
-      finishes_on : (b : Bool) → is_ready a1.status ≡ b → ending_of a2.status ≡ Some Finished → rules.next_call a2.player ≡ None
+      finishes_on : (b : Bool) → is_ready a1.status ≡ b → ending_of a2.status ≡ Some Finished → rules.next_call a2.run.player ≡ None
       finishes_on true w end = y.finishes w end
       finishes_on false n end = absurd (x.unfinished (ap (λ (z : Actor P). ending_of z.status) (sym (y.still n).0) ∙ end))
 

@@ -8,7 +8,7 @@ module _ {P : Type 0} (rules : Rules P) where
   run_left_is k a w = ap (λ (x : Bool). if x then rank rules k (in_transaction a.engine) a + 1 else 0) w
 
   pub same_less : (a : Actor P) → IsNoMore rules a a
-  same_less a = record { whole_falls = (let o : whole rules (in_transaction a.engine) a.player ≤ whole rules (in_transaction a.engine) a.player = omega arith in o); rank_falls = λ k b. omega arith }
+  same_less a = record { whole_falls = (let o : whole rules (in_transaction a.engine) a.run.player ≤ whole rules (in_transaction a.engine) a.run.player = omega arith in o); rank_falls = λ k b. omega arith }
 
   pub less_less : (a b c : Actor P) → IsNoMore rules a b → IsNoMore rules b c → IsNoMore rules a c
   less_less a b c f g = record {
@@ -34,7 +34,7 @@ module _ {P : Type 0} (rules : Rules P) (a b c : Actor P) (waits : is_waiting a.
   fell : is_waiting b.status ≡ false → is_waiting c.status ≡ true → Falls rules (in_transaction a.engine) (in_transaction b.engine) a b
   fell over w = elim (cases_Bool (is_ready b.status)) [ inl e ↦ falls e | inr e ↦ absurd (let f : is_waiting c.status ≡ false = ap (λ (x : Actor P). is_waiting x.status) (still e) ∙ over in cc) ]
 
-  turn_falls : is_waiting b.status ≡ false → (k : ℕ) → whole rules (in_transaction a.engine) a.player ≤ k → run_left rules k c < run_left rules k a
+  turn_falls : is_waiting b.status ≡ false → (k : ℕ) → whole rules (in_transaction a.engine) a.run.player ≤ k → run_left rules k c < run_left rules k a
   turn_falls over k l =
       let before = run_left_is rules k a waits in
       elim (cases_Bool (is_waiting c.status)) [

@@ -1,20 +1,15 @@
 -- An event of one actor leaves the others sound.
-use Rattle.std.proofs.Common.{◌≡◌, ◌≢◌, ◌⊎◌, inl, inr, ℕ, zero, suc, ◌+◌, ◌%◌, ◌<◌, ◌≤◌, Bool, true, false, List, [], ◌∷◌, ◌++◌, length, length-append, Option, None, Some, slice_get, slice_set, refl, sym, ap, subst, ◌∙◌, arith, eq-eqb, eqb-true, ◌==◌, length-set, if◌then◌else◌}
-use Rattle.norec_world.proofs.Common.{Actor, AllFit, AreActors, AreFrom, AreOpen, AreUnfinished, Attempt, Cells, ChangesOwn, ClocksOn, HasRow, IsSound, IsTied, KeepsOthers, MAX_ACTORS, Rows, Rules, Status, StatusIs, Unfinished, Waits, active_of, both_ways, cases_Bool, cases_eq, cases_lt, count_pending, eqb-false, false_from_ne_true, in_transaction, is_ready, ne_eqb, slice_get-set_same, slice_get_within, none-some, same_Some}
+use Rattle.norec_world.proofs.Tries.ToldTries.{told_kept}
+use Rattle.norec_world.proofs.Rooms.ActionRoom.{told_acting}
+use Rattle.norec_world.proofs.Common.{Waits, Ended, Ready, Attempt}
+use Rattle.norec_world.proofs.Tries.Stages.{others_same, moved_begun, moved_count}
+use Rattle.std.proofs.Common.{◌≡◌, ◌≢◌, ◌⊎◌, inl, inr, ℕ, zero, suc, ◌+◌, ◌%◌, ◌<◌, ◌≤◌, true, false, List, [], ◌∷◌, ◌++◌, length, length-append, Some, slice_get, slice_set, refl, sym, ap, subst, ◌∙◌, arith, eqb-true, ◌==◌, length-set, ◌/◌, is_some}
+use Rattle.norec_world.proofs.Common.{Actor, AllFit, AreActors, Cells, ClocksOn, IsSound, IsTied, KeepsOthers, MAX_ACTORS, Rows, Rules, Stage, both_ways, cases_Bool, cases_lt, count_all, count_in, count_of, eqb-false, false_from_ne_true, is_ready, slice_get-set_same, slice_get_within, stage_of, Status, told, StatusIs}
 use Rattle.itm_types.proofs.Words.{slice_get-set_other}
-use Rattle.tx_attempts.specs.Kept.{Kept}
-use Rattle.norec_world.specs.OthersAttempts.{pending_in}
+use Rattle.tx_runs.specs.Tallies.{begins, outside, within}
 use Rattle.norec_world.proofs.Engines.TiedEngines.{held_even}
 use Rattle.norec_world.specs.Actors.{IsActor}
 pub use Rattle.std.proofs.lemmas.Option.{slice_get_within as within_of}
-
-pub has_row_same : (b : Bool) (r r' : Rows) (thread : ℕ) → active_of thread r'.active ≡ active_of thread r.active → HasRow b r thread → HasRow b r' thread
-has_row_same false r r' thread same h = same ∙ h
-has_row_same true r r' thread same h = (h.0, same ∙ h.1, h.2)
-
-pending_some : (o : Option Attempt) (row : Attempt) (room : ℕ) → o ≡ Some row → count_pending o ≤ room → 0 < room
-pending_some None row room e l = absurd (cc)
-pending_some (Some x) row room e l = omega arith
 
 module _ {P : Type 0} (rules : Rules P) where
   -- another one, where the cells of the clock that it holds did not change
@@ -28,23 +23,25 @@ module _ {P : Type 0} (rules : Rules P) where
     restarts = t.restarts;
   }
 
-  -- over other rows with room for what comes, where its open attempt is no longer
-  pub status_as : (r r' : Rows) (b : Actor P) → ((row : Attempt) → b.pending ≡ Some row → 0 < r.room → 0 < r'.room)
-      → ((row : Attempt) → active_of b.thread r'.active ≡ Some row → (was : Attempt) × (active_of b.thread r.active ≡ Some was) × (row.calls ≡ was.calls))
-      → (s : Status) → StatusIs rules r b s → StatusIs rules r' b s
-  status_as r r' b roomy calls (Waits call step) s =
+  pub sound_still : (cells cells' : Cells) (r r' : Rows) (b : Actor P) → IsSound rules cells r b
+      → AllFit cells'.words → cells.clock ≤ cells'.clock → length cells'.words ≡ length cells.words → (b.engine.holds ≡ true → cells' ≡ cells) → count_of b ≤ r'.room → IsSound rules cells' r' b
+  sound_still cells cells' r r' b s fit late long held room = record { tied = tied_still cells cells' b s.tied fit late long held; kept = s.kept; acts = s.acts; status = s.status; place = room }
+
+  -- one whose open attempt is told where its engine reads
+  told_status : (a : Actor P) (s : Status) → StatusIs rules a s → StatusIs rules (told a) s
+  told_status a Ready s = record { nested = s.nested; depth = s.depth; idle = s.idle; free = s.free; nothing = moved_begun (a.engine.snapshot / 2) a.run.current ∙ s.nothing }
+  told_status a (Waits call step) s =
+      let same = moved_begun (a.engine.snapshot / 2) a.run.current in
       let i = s.in_call in
       record {
         nested = s.nested;
         depth = s.depth;
         in_call = record {
           asks = i.asks;
-          begins = i.begins;
-          inside = i.inside;
-          props = i.props;
-          opens = λ row e. (let p = i.opens row e in record { thread = p.thread; nth = p.nth; outcome = p.outcome; room = roomy row e p.room });
-          room = λ row o e none. (let was = calls row e in let some = i.room was.0 o was.1 (sym (ap (λ (k : Kept). k.room) was.2) ∙ none) in let same = ap (λ (k : Kept). length k.list) was.2 in omega arith);
-          ahead = λ row o e more. (let was = calls row e in let some = i.ahead was.0 o was.1 more in let same = ap (λ (k : Kept). length k.list) was.2 in omega arith);
+          begins = λ x. ap (is_some {T = Attempt}) same ∙ i.begins x;
+          inside = λ x. same ∙ i.inside x;
+          opens = λ row e. (let p = i.opens row (sym same ∙ e) in record { thread = p.thread; nth = p.nth; outcome = p.outcome });
+          props = λ row props room e. i.props row props room (sym same ∙ e);
         };
         doing = s.doing;
         waits = s.waits;
@@ -53,45 +50,47 @@ module _ {P : Type 0} (rules : Rules P) where
         asks = s.asks;
         begun = s.begun;
       }
-  status_as r r' b roomy calls status s = s
+  told_status a (Ended end) s = s
 
-  pub sound_still : (cells cells' : Cells) (r r' : Rows) (b : Actor P) → IsSound rules cells r b
-      → AllFit cells'.words → cells.clock ≤ cells'.clock → length cells'.words ≡ length cells.words → (b.engine.holds ≡ true → cells' ≡ cells)
-      → active_of b.thread r'.active ≡ active_of b.thread r.active → count_pending b.pending ≤ r'.room → IsSound rules cells' r' b
-  sound_still cells cells' r r' b s fit late long held same room =
-      let k = s.kept in
-      record {
-        tied = tied_still cells cells' b s.tied fit late long held;
-        kept = record { row = has_row_same (in_transaction b.engine) r r' b.thread same k.row; empty = k.empty; tried = k.tried; tries = k.tries; retries = k.retries };
-        acts = record { empty = s.acts.empty; all = λ row e. s.acts.all row (sym same ∙ e); places = λ row e. s.acts.places row (sym same ∙ e); pending = s.acts.pending; status = s.acts.status; room = s.acts.room; backed = λ row e. s.acts.backed row (sym same ∙ e); asks = s.acts.asks };
-        status = status_as r r' b (λ row e l. pending_some b.pending row r'.room e room) (λ row e. (row, sym same ∙ e, refl)) b.status s.status;
-      }
+  pub told_sound : {cells : Cells} {r : Rows} {a : Actor P} → IsSound rules cells r a → IsSound rules cells r (told a)
+  told_sound {a = a} s = record {
+    tied = s.tied;
+    kept = told_kept a s.kept;
+    acts = told_acting a s.acts;
+    status = told_status a a.status s.status;
+    place = (let n = moved_count (a.engine.snapshot / 2) a.run.current in let p = s.place in omega arith);
+  }
+
+-- its room and its thread are the same
+pub told_others : {P : Type 0} (a : Actor P) (r : Rows) → KeepsOthers a r (told a) r
+told_others a r = others_same a (told a) r r refl (let n = moved_count (a.engine.snapshot / 2) a.run.current in omega arith) refl (omega arith)
 
 -- ## Sums
 
-pending_one : (o : Option Attempt) → count_pending o ≤ 1
-pending_one None = (let z : 0 ≤ 1 = omega arith in z)
-pending_one (Some x) = (let z : 1 ≤ 1 = omega arith in z)
+count_one : (s : Stage) → count_in s ≤ 1
+count_one outside = (let z : 0 ≤ 1 = omega arith in z)
+count_one (begins row) = (let z : 1 ≤ 1 = omega arith in z)
+count_one (within row) = (let z : 1 ≤ 1 = omega arith in z)
 
-pending_le : {P : Type 0} (actors : List (Actor P)) → pending_in actors ≤ length actors
-pending_le [] = (let z : 0 ≤ 0 = omega arith in z)
-pending_le (a ∷ rest) = (let l = pending_le rest in let m = pending_one a.pending in omega arith)
+count_le : {P : Type 0} (actors : List (Actor P)) → count_all actors ≤ length actors
+count_le [] = (let z : 0 ≤ 0 = omega arith in z)
+count_le (a ∷ rest) = (let l = count_le rest in let m = count_one (stage_of a.run.current) in omega arith)
 
 -- the others' sum, where one is replaced
 replaced_sum : {P : Type 0} (actors : List (Actor P)) (i : ℕ) (got new : Actor P) → slice_get actors i ≡ Some got
-    → (others : ℕ) × (others + count_pending got.pending ≡ pending_in actors) × (others + count_pending new.pending ≡ pending_in (slice_set actors i new)) × (others < length actors)
+    → (others : ℕ) × (others + count_of got ≡ count_all actors) × (others + count_of new ≡ count_all (slice_set actors i new)) × (others < length actors)
 replaced_sum [] i got new e = absurd (cc)
 replaced_sum (a ∷ rest) zero got new e =
     let same : a ≡ got = cc in
-    let p : count_pending a.pending ≡ count_pending got.pending = ap (λ x. count_pending x.pending) same in
-    (pending_in rest, omega arith, omega arith, omega (arith, pending_le rest))
+    let p : count_of a ≡ count_of got = ap count_of same in
+    (count_all rest, omega arith, omega arith, omega (arith, count_le rest))
 replaced_sum (a ∷ rest) (suc i) got new e =
     let those = replaced_sum rest i got new e in
-    (count_pending a.pending + those.0, omega (arith, those.1), omega (arith, those.2), omega (arith, those.3, pending_one a.pending))
+    (count_of a + those.0, omega (arith, those.1), omega (arith, those.2), omega (arith, those.3, count_one (stage_of a.run.current)))
 
 -- one's share of the sum
-pending_share : {P : Type 0} (actors : List (Actor P)) (i : ℕ) (a : Actor P) → slice_get actors i ≡ Some a → count_pending a.pending ≤ pending_in actors
-pending_share actors i a e = (let s = replaced_sum actors i a a e in let l = s.1 in omega arith)
+count_share : {P : Type 0} (actors : List (Actor P)) (i : ℕ) (a : Actor P) → slice_get actors i ≡ Some a → count_of a ≤ count_all actors
+count_share actors i a e = (let s = replaced_sum actors i a a e in let l = s.1 in omega arith)
 
 pub odd_or_even : (n : ℕ) → (n % 2 ≡ 0) ⊎ (n % 2 ≡ 1)
 odd_or_even n = elim (cases_lt (n % 2) 1) [ inl l ↦ inl (omega arith) | inr l ↦ inr (omega arith) ]
@@ -105,9 +104,6 @@ set_place xs i got new here j b e = elim (cases_Bool (i == j)) [
       inl (same, cc))
   | inr h ↦ (let apart : i ≢ j = eqb-false i j h in inr (apart, sym (slice_get-set_other xs i j new apart) ∙ e))
 ]
-
-pub first_found : (x : Attempt) (xs : List Attempt) → active_of x.thread (x ∷ xs) ≡ Some x
-first_found x xs = ap (λ (b : Bool). if b then Some x else active_of x.thread xs) (eq-eqb x.thread x.thread refl)
 
 pub there_is : {A : Type 0} (xs : List A) (i : ℕ) → i < length xs → (x : A) × (slice_get xs i ≡ Some x)
 there_is [] i l = absurd (omega arith)
@@ -148,33 +144,28 @@ module _ {P : Type 0} (cells cells' : Cells) (actors actors' : List (Actor P)) (
     ]
   ]
 
-  module _ (rules : Rules P) (r r' : Rows) (s : AreActors rules cells r actors) (sound : IsSound rules cells' r' new) (done : is_ready new.status ≡ false) (thread : new.thread ≡ i) (own : ChangesOwn i r r')
-      (late : cells.clock ≤ cells'.clock) (long : length cells'.words ≡ length cells.words) (room : pending_in actors' ≤ r'.room) where
+  module _ (rules : Rules P) (r r' : Rows) (s : AreActors rules cells r actors) (sound : IsSound rules cells' r' new) (done : is_ready new.status ≡ false) (thread : new.run.thread ≡ i)
+      (late : cells.clock ≤ cells'.clock) (long : length cells'.words ≡ length cells.words) (room : count_all actors' ≤ r'.room) where
     each_then : (j : ℕ) (b : Actor P) → slice_get actors' j ≡ Some b → IsActor rules cells' r' j b
     each_then j b e = elim (placed j b e) [
       | inl h ↦ subst (IsActor rules cells' r' j) (sym h.1) (record { sound = sound; done = done; thread = thread ∙ h.0 })
       | inr h ↦
           (let was = s.each j b h.1 in
           record {
-            sound = sound_still rules cells cells' r r' b was.sound sound.tied.fit late long (λ holds. (apart j b h.0 h.1 holds).0)
-                (own.others b.thread (λ same. h.0 (sym same ∙ was.thread))) (let share = pending_share actors' j b e in omega arith);
+            sound = sound_still rules cells cells' r r' b was.sound sound.tied.fit late long (λ holds. (apart j b h.0 h.1 holds).0) (let share = count_share actors' j b e in omega arith);
             done = was.done;
             thread = was.thread;
           })
     ]
 
-    actors_then : length actors' ≤ MAX_ACTORS → i < length actors' → length actors ≤ length actors' → (cells'.clock % 2 ≡ 1 → (place : ℕ) × (a : Actor P) × (slice_get actors' place ≡ Some a) × (a.engine.holds ≡ true))
+    actors_then : length actors' ≤ MAX_ACTORS → (cells'.clock % 2 ≡ 1 → (place : ℕ) × (a : Actor P) × (slice_get actors' place ≡ Some a) × (a.engine.holds ≡ true))
         → AreActors rules cells' r' actors'
-    actors_then few within more held = record {
+    actors_then few held = record {
       few = few;
       each = each_then;
       one = one_then s.one;
       held = held;
       room = room;
-      listed = λ other row e. elim (cases_eq other i) [
-        | inl same ↦ omega arith
-        | inr apart ↦ (let l = s.listed other row (sym (own.others other apart) ∙ e) in omega arith)
-      ];
     }
 
 -- ## One event
@@ -216,13 +207,11 @@ module _ {P : Type 0} (rules : Rules P)
   pub actors_after : AreActors rules cells' r' (slice_set actors i new)
   actors_after =
       let mine = (s.each i got here).thread in
-      let own : ChangesOwn i r r' = subst (λ (t : ℕ). ChangesOwn t r r') mine others.own in
       let long = length-set actors i new in
-      let within = slice_get_within actors i got here in
       let w = replaced_sum actors i got new here in
-      let room : pending_in (slice_set actors i new) ≤ r'.room = omega (arith, w.2, others.room w.0 (omega (arith, s.few, w.3)) (omega (arith, s.room, w.1))) in
+      let room : count_all (slice_set actors i new) ≤ r'.room = omega (arith, w.2, others.room w.0 (omega (arith, s.few, w.3)) (omega (arith, s.room, w.1))) in
       actors_then cells cells' actors (slice_set actors i new) i new (set_place actors i got new here) (held_apart cells cells' actors i got new here clocks s.one (odd_held s))
-      rules r r' s sound done (others.thread ∙ mine) own clocks.late clocks.long room (omega (arith, s.few)) (omega arith) (omega arith) (held_after cells cells' actors i got new here clocks s.one (odd_held s) s.held)
+      rules r r' s sound done (others.thread ∙ mine) clocks.late clocks.long room (omega (arith, s.few)) (held_after cells cells' actors i got new here clocks s.one (odd_held s) s.held)
 
 -- ## One actor more
 
@@ -237,65 +226,17 @@ still_there [] ys j b e = absurd (cc)
 still_there (x ∷ xs) ys zero b e = e
 still_there (x ∷ xs) ys (suc j) b e = still_there xs ys j b e
 
-pending_more : {P : Type 0} (actors : List (Actor P)) (new : Actor P) → pending_in (actors ++ new ∷ []) ≡ pending_in actors + count_pending new.pending
-pending_more [] new = (let e : count_pending new.pending + 0 ≡ 0 + count_pending new.pending = omega arith in e)
-pending_more (a ∷ rest) new = (let e = pending_more rest new in omega arith)
+count_more : {P : Type 0} (actors : List (Actor P)) (new : Actor P) → count_all (actors ++ new ∷ []) ≡ count_all actors + count_of new
+count_more [] new = (let e : count_of new + 0 ≡ 0 + count_of new = omega arith in e)
+count_more (a ∷ rest) new = (let e = count_more rest new in omega arith)
 
 module _ {P : Type 0} (rules : Rules P)
     (cells : Cells) (r r' : Rows) (actors : List (Actor P)) (s : AreActors rules cells r actors) (new : Actor P)
-    (sound : IsSound rules cells r' new) (done : is_ready new.status ≡ false) (thread : new.thread ≡ length actors) (fewer : length actors < MAX_ACTORS)
-    (own : ChangesOwn new.thread r r') (roomy : (others : ℕ) → others < MAX_ACTORS → others ≤ r.room → others + count_pending new.pending ≤ r'.room) (free : new.engine.holds ≡ false) where
+    (sound : IsSound rules cells r' new) (done : is_ready new.status ≡ false) (thread : new.run.thread ≡ length actors) (fewer : length actors < MAX_ACTORS)
+    (roomy : (others : ℕ) → others < MAX_ACTORS → others ≤ r.room → others + count_of new ≤ r'.room) (free : new.engine.holds ≡ false) where
   pub actors_joined : AreActors rules cells r' (actors ++ new ∷ [])
   actors_joined =
       let long = length-append actors (new ∷ []) in
-      let mine : ChangesOwn (length actors) r r' = subst (λ (t : ℕ). ChangesOwn t r r') thread own in
-      let room : pending_in (actors ++ new ∷ []) ≤ r'.room = omega (arith, pending_more actors new, roomy (pending_in actors) (omega (arith, pending_le actors)) s.room) in
+      let room : count_all (actors ++ new ∷ []) ≤ r'.room = omega (arith, count_more actors new, roomy (count_all actors) (omega (arith, count_le actors)) s.room) in
       actors_then cells cells actors (actors ++ new ∷ []) (length actors) new (joined_place actors new) (λ j b other e h. (refl, free))
-      rules r r' s sound done thread mine (omega arith) refl room (omega arith) (omega arith) (omega arith) (λ odd. (let h = s.held odd in (h.0, h.1, still_there actors (new ∷ []) h.0 h.1 h.2, h.3)))
-
--- where no actor has an open attempt, nobody has
-pub none_active : {P : Type 0} (rules : Rules P) (cells : Cells) (r : Rows) (actors : List (Actor P))
-    → AreActors rules cells r actors → ((place : ℕ) (a : Actor P) → slice_get actors place ≡ Some a → active_of a.thread r.active ≡ None) → r.active ≡ []
-none_active {P} rules cells r actors s none = by_rows r.active refl
-  where
-    by_rows : (rows : List Attempt) → r.active ≡ rows → r.active ≡ []
-    by_rows [] e = e
-    by_rows (x ∷ xs) e =
-        let some : active_of x.thread r.active ≡ Some x = ap (active_of x.thread) e ∙ first_found x xs in
-        let here = there_is actors x.thread (s.listed x.thread x some) in
-        let mine = (s.each x.thread here.0 here.1).thread in
-        absurd (let n : active_of x.thread r.active ≡ None = ap (λ (t : ℕ). active_of t r.active) (sym mine) ∙ none x.thread here.0 here.1 in let f = sym n ∙ some in cc)
-
--- whether the transaction is open, by whether its attempt is there
-pub row_open : (b : Bool) (r : Rows) (thread : ℕ) (row : Attempt) → HasRow b r thread → active_of thread r.active ≡ Some row → b ≡ true
-row_open true r thread row h some = refl
-row_open false r thread row h some = absurd (none-some row (sym h ∙ some))
-
-pub row_shut : (b : Bool) (r : Rows) (thread : ℕ) → HasRow b r thread → active_of thread r.active ≡ None → b ≡ false
-row_shut true r thread h none = absurd (none-some h.0 (sym none ∙ h.1))
-row_shut false r thread h none = refl
-
--- open attempts have not ended
-pub row_unfinished : (b : Bool) (r : Rows) (thread : ℕ) (row : Attempt) → HasRow b r thread → active_of thread r.active ≡ Some row → row.outcome ≡ Unfinished
-row_unfinished false r thread row h e = absurd (none-some row (sym h ∙ e))
-row_unfinished true r thread row h e = ap (λ (x : Attempt). x.outcome) (same_Some _ _ (sym e ∙ h.1)) ∙ h.2
-
-all_unfinished : (n : ℕ) (xs : List Attempt) → AreFrom n xs → ((t : ℕ) (row : Attempt) → n ≤ t → active_of t xs ≡ Some row → row.outcome ≡ Unfinished) → AreUnfinished xs
-all_unfinished n [] from each = tt
-all_unfinished n (x ∷ xs) from each = (
-  each x.thread x from.0 (first_found x xs),
-  all_unfinished (x.thread + 1) xs from.1 (λ t row l e. each t row (let first = from.0 in omega arith) (passed t l ∙ e)),
-)
-  where
-    passed : (t : ℕ) → x.thread + 1 ≤ t → active_of t (x ∷ xs) ≡ active_of t xs
-    passed t l = ap (λ (b : Bool). if b then Some x else active_of t xs) (ne_eqb x.thread t (λ same. omega arith))
-
-pub are_open : {P : Type 0} (rules : Rules P) (cells : Cells) (r : Rows) (actors : List (Actor P))
-    → AreActors rules cells r actors → AreFrom 0 r.active → AreOpen r.active
-are_open {P} rules cells r actors s from = record {
-  by_actor = from;
-  unfinished = all_unfinished 0 r.active from (λ t row l e.
-      (let here = there_is actors t (s.listed t row e) in
-      let a = s.each t here.0 here.1 in
-      row_unfinished (in_transaction here.0.engine) r here.0.thread row a.sound.kept.row (ap (λ (k : ℕ). active_of k r.active) a.thread ∙ e)));
-}
+      rules r r' s sound done thread (omega arith) refl room (omega arith) (λ odd. (let h = s.held odd in (h.0, h.1, still_there actors (new ∷ []) h.0 h.1 h.2, h.3)))

@@ -228,7 +228,7 @@ module _ {P : Type 0} (rules : Rules P) (actor : ℕ) where
 
   -- what is left of the whole run, once a call is over
   abbrev pub whole_at : World P → ℕ
-  whole_at w = at_place (λ (a : Actor P). whole rules (in_transaction a.engine) a.player) w.actors actor
+  whole_at w = at_place (λ (a : Actor P). whole rules (in_transaction a.engine) a.run.player) w.actors actor
 
   abbrev pub run_left_at : ℕ → World P → ℕ
   run_left_at k w = at_place (run_left rules k) w.actors actor
@@ -236,7 +236,7 @@ module _ {P : Type 0} (rules : Rules P) (actor : ℕ) where
   pub run_falls : (first old new : World P) → length old.actors ≡ length first.actors → length new.actors ≡ length old.actors → IsSome (waits_at old actor) → LeavesNoMore first old → LeavesLess rules actor false old new
       → run_left_at (whole_at first) new < run_left_at (whole_at first) old
   run_falls first old new same long waits f g =
-      let whole_of : Actor P → ℕ = λ (a : Actor P). whole rules (in_transaction a.engine) a.player in
+      let whole_of : Actor P → ℕ = λ (a : Actor P). whole rules (in_transaction a.engine) a.run.player in
       let k : ℕ = whole_at first in
       let y = waits_there old actor waits in
       let within = slice_get_within old.actors actor y.0 y.1 in

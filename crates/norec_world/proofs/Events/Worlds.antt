@@ -11,7 +11,7 @@ within_some f (x ∷ xs) (suc i) h = (let l = within_some f xs i h in omega arit
 
 -- the step that a sound actor waits for is one of the algorithm's
 module _ {P : Type 0} (rules : Rules P) where
-  pub lawful_as : (r : Rows) (a : Actor P) (s : Status) (step : Step) → StatusIs rules r a s → waiting_step s ≡ Some step → IsLawful a.engine step
+  pub lawful_as : (r : Rows) (a : Actor P) (s : Status) (step : Step) → StatusIs rules a s → waiting_step s ≡ Some step → IsLawful a.engine step
   lawful_as r a (Waits call other) step i w = (let same : other ≡ step = cc in subst (IsLawful a.engine) same i.lawful)
   lawful_as r a s step i w = absurd (cc)
 

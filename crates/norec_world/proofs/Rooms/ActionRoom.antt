@@ -1,27 +1,24 @@
 -- What an engine gives for a call leaves room for the actions that have run.
-use Rattle.std.proofs.Common.{unwrap_or, Vec, Global, ◌≡◌, ℕ, ◌+◌, ◌<◌, ◌≤◌, Bool, true, false, true≢false, [], length, is_some, Result, Ok, Err, IfOk, OnErr, Some, None, Option, refl, sym, ap, subst, ◌∙◌, inl, inr, arith, vec_capacity}
+use Rattle.std.proofs.Common.{◌≡◌, ℕ, ◌+◌, ◌/◌, ◌<◌, ◌≤◌, Bool, true, false, true≢false, [], length, is_some, Result, Ok, Err, IfOk, OnErr, Some, None, Option, refl, sym, ap, subst, ◌∙◌, inl, inr, arith}
 use Rattle.itm_types.specs.Calls.{is_abort, registered_by}
 use Rattle.norec_core.specs.Core.{came, irrevocable_room}
 use Rattle.norec_core.specs.Copies.{copy_refusal}
-use Rattle.norec_core.specs.Moves.{IsCalled}
 use Rattle.norec_engine.specs.NextSteps.{next_in, ComesInto}
 use Rattle.norec_core.specs.Order.{asked, asked_from, stage_at}
 use Rattle.norec_core.specs.Proceeds.{IsSettled, MayStarveIn, MayStarveOpen}
 use Rattle.norec_core.specs.Restarts.{IsRestart}
-use Rattle.norec_world.specs.Records.{Asks as AsksOf, asked_pending, begins_again}
-use Rattle.norec_world.proofs.Attempts.ActiveRows.{row_from}
+use Rattle.norec_world.specs.Stages.{cancels_in, ends_in}
+use Rattle.norec_world.proofs.Tries.Stages.{moved_begun, moved_cancels, moved_ends, moved_open, row_open, row_shut}
 use Rattle.itm_types.specs.declared.call.Call.TheVariants.{Abort, Begin, CommitAction, Copy, Fill, Log, LogBytes, Mode, Read, UndoAction, Write}
 use Rattle.itm_types.specs.declared.call.Ran.{Ran}
-use Rattle.tx_attempts.specs.declared.attempt.CallRecord.{CallRecord}
-use Rattle.tx_attempts.specs.Kept.{Kept}
 use Rattle.user_actions.specs.Actions.{total}
 use Rattle.norec_core.specs.declared.answer.Next.{Next}
 use Rattle.norec_core.specs.declared.answer.Next.TheVariants.{Step as Asks, Answer as Answers}
 use Rattle.norec_core.proofs.Replies.ActionCounts.{LeavesActions, registers}
-use Rattle.norec_world.specs.ActionRoom.{AsksAs, HasRoomFor, IsActing, IsEmpty, MayRunOn, NoCancel, StartsEmpty, is_held, promised, wanted}
+use Rattle.norec_world.specs.ActionRoom.{AsksAs, HasPlace, HasRoomFor, IsActing, MayRunOn, NoCancel, PromisesAs, StartsEmpty, is_held, wanted}
 use Rattle.norec_world.proofs.Rooms.CallRoom.{leaves_backed, promised_same, wanted_same}
 use Rattle.norec_world.proofs.Rooms.HeldRoom.{LeavesRoom, leaves_room, same_room}
-use Rattle.norec_world.proofs.Common.{Actor, Answer, AsksFor, Attempt, Call, Core, Ends, HasRow, Proceeds, Ready, Rows, Step, active_of, cases_Bool, in_transaction, is_begin, is_inside, none_inside, rests, with_changed}
+use Rattle.norec_world.proofs.Common.{Actor, Answer, AsksFor, Attempt, Call, Core, Ended, Ends, HasRow, Proceeds, Ready, Status, Step, Waits, active_of, cases_Bool, in_transaction, is_begin, is_inside, none-some, none_inside, pending_of, rests, told}
 use Rattle.norec_world.proofs.Rooms.LaterActions.{first_here}
 use Rattle.norec_world.proofs.Engines.NoRestarts.{not_at_once}
 
@@ -29,40 +26,28 @@ cancels_register_none : (call : Call) → is_abort call ≡ true → registers c
 cancels_register_none (Abort outer) e = refl
 cancels_register_none call e = absurd (cc)
 
-module _ {P : Type 0} (r : Rows) (a : Actor P) (mid : Core) (call : Call) (was : Bool) (o : in_transaction mid ≡ was) (has : HasRow was r a.thread) (doing : mid.doing ≡ Some call)
-    (empty : IsEmpty a) (all : (row : Attempt) → active_of a.thread r.active ≡ Some row → row.ran ≡ mid.actions.ran)
-    (places : (row : Attempt) → active_of a.thread r.active ≡ Some row → total mid.actions + registers call ≤ vec_capacity a.end_room)
-    (cancel : (row : Attempt) → active_of a.thread r.active ≡ Some row → is_abort call ≡ true → total mid.actions ≤ vec_capacity a.cancel_room)
-    (pending : StartsEmpty a) (room : HasRoomFor mid a) (backed : (row : Attempt) → active_of a.thread r.active ≡ Some row → row.calls.room ≤ promised mid) (ahead : in_transaction mid ≡ true → a.ahead ≡ wanted mid)
-    (asks : (row : Attempt) → a.pending ≡ Some row → row.calls.room ≡ wanted mid) (reserved : wanted mid ≤ mid.room) (settled : IsSettled a.engine) where
-  open_as : (b : Bool) → was ≡ b → HasRow b r a.thread → (row : Attempt) → active_of a.thread r.active ≡ Some row → in_transaction mid ≡ true
-  open_as true e h row f = o ∙ e
-  open_as false e none row f = absurd (let both : None ≡ Some row = sym none ∙ f in cc)
-
-  was_open : (row : Attempt) → active_of a.thread r.active ≡ Some row → in_transaction mid ≡ true
-  was_open = open_as was refl has
-
-  shut_as : (b : Bool) → was ≡ b → HasRow b r a.thread → active_of a.thread r.active ≡ None → in_transaction mid ≡ false
-  shut_as false e h none = o ∙ e
-  shut_as true e h none = absurd (let both : None ≡ Some h.0 = sym none ∙ h.1 in cc)
+module _ {P : Type 0} (a : Actor P) (mid : Core) (call : Call) (was : Bool) (o : in_transaction mid ≡ was) (has : HasRow was a) (doing : mid.doing ≡ Some call)
+    (all : (row : Attempt) → active_of a ≡ Some row → row.ran ≡ mid.actions.ran)
+    (places : (row : Attempt) → active_of a ≡ Some row → total mid.actions + registers call ≤ ends_in a.run.current)
+    (cancel : (row : Attempt) → active_of a ≡ Some row → is_abort call ≡ true → total mid.actions ≤ cancels_in a.run.current)
+    (pending : StartsEmpty a) (room : HasRoomFor mid a) (backed : (row : Attempt) → active_of a ≡ Some row → HasPlace mid row)
+    (asks : (row : Attempt) → pending_of a ≡ Some row → row.calls.room ≡ wanted mid) (reserved : wanted mid ≤ mid.room) (settled : IsSettled a.engine) where
+  was_open : (row : Attempt) → active_of a ≡ Some row → in_transaction mid ≡ true
+  was_open row e = o ∙ row_open was a row has e
 
   -- it waits for a step
-  pub waits_acting : (step : Step) → Proceeds mid (Asks step) a.engine → (is_abort call ≡ false) × (is_some (registered_by call) ≡ false) → MayRunOn r a call (Asks step)
+  pub waits_acting : (step : Step) → Proceeds mid (Asks step) a.engine → (is_abort call ≡ false) × (is_some (registered_by call) ≡ false) → MayRunOn a call (Asks step)
   waits_acting step g other =
       let same : a.engine.actions ≡ mid.actions = ap (λ (c : Core). c.actions) g.stays in
+      let n = wanted_on g in
       record {
-        empty = record { end_room = empty.end_room; cancel_room = empty.cancel_room };
         all = λ row e. all row e ∙ ap (λ (x : _). x.ran) (sym same);
         places = λ row e. (let p = places row e in let n = ap total same in omega arith);
         pending = pending;
         status = other;
         room = same_room mid a.engine a (sym (ap (λ (c : Core). c.depth) g.stays)) (sym (ap (λ (c : Core). c.blocks) g.stays)) (sym (ap (λ (c : Core). c.irrevocable) g.stays)) (sym (ap (λ (c : Core). c.doing) g.stays)) (sym (ap (λ (c : Core). c.room) g.stays)) (sym same) room;
-        backed = λ row e. (let few = backed row e in let n = promised_same a.engine mid (ap (λ (c : Core). c.irrevocable) g.stays) (ap (λ (c : Core). c.room) g.stays) in omega arith);
-        asks = record {
-          ahead = λ o. ahead (sym (ap in_transaction g.stays) ∙ o) ∙ sym (wanted_on g);
-          pending = λ row e. asks row e ∙ sym (wanted_on g);
-          backed = (let n = wanted_on g in let k = ap (λ (c : Core). c.room) g.stays in omega arith);
-        };
+        backed = λ row e. (let p = backed row e in let least = p.least in let most = p.most in let m = promised_same a.engine mid (ap (λ (c : Core). c.irrevocable) g.stays) (ap (λ (c : Core). c.room) g.stays) in record { least = omega arith; most = omega arith });
+        asks = record { pending = λ row e. asks row e ∙ sym n; backed = (let k = ap (λ (c : Core). c.room) g.stays in omega arith) };
       }
     where
       wanted_on : AsksFor mid step a.engine → wanted a.engine ≡ wanted mid
@@ -75,7 +60,7 @@ module _ {P : Type 0} (r : Rows) (a : Actor P) (mid : Core) (call : Call) (was :
     left : LeavesRoom mid a.engine
     left = leaves_room mid a.engine call answer doing settled g stays shut
 
-    cancel_place : in_transaction a.engine ≡ true → (row : Attempt) → active_of a.thread r.active ≡ Some row → length row.ran < length a.engine.actions.ran → length a.engine.actions.ran ≤ vec_capacity a.cancel_room
+    cancel_place : in_transaction a.engine ≡ true → (row : Attempt) → active_of a ≡ Some row → length row.ran < length a.engine.actions.ran → length a.engine.actions.ran ≤ cancels_in a.run.current
     cancel_place now row e less = elim (cases_Bool (is_abort call)) [
       | inl abort ↦
           (let c = cancel row e abort in
@@ -88,24 +73,24 @@ module _ {P : Type 0} (r : Rows) (a : Actor P) (mid : Core) (call : Call) (was :
     ]
 
     -- it is answered
-    pub answered_acting : MayRunOn r a call (Answers answer)
+    pub answered_acting : MayRunOn a call (Answers answer)
     answered_acting = record {
-      empty = empty;
-      first = first_here r a.thread mid a.engine call (Answers answer) was o has doing g all;
+      first = first_here a mid a.engine call (Answers answer) was o has doing g all;
       places = λ row e. (let p = places row e in let m = (acts.runs (was_open row e)).most in omega arith);
       cancel_places = cancel_place;
       pending = pending;
-      anew = λ now none. (let x = shut_as was refl has none in acts.begins x (shut x).0 (shut x).1 now);
+      anew = λ now none. (let x = o ∙ row_shut was a has none in acts.begins x (shut x).0 (shut x).1 now);
       room = λ held some. (let less = left.room held some in let both = room (left.held held) less.0 in ((let x = both.0 in let y = less.1 in omega arith), (let x = both.1 in let y = less.1 in omega arith)));
       over = left.over;
       still = λ held row e. all row e ∙ sym (left.ran held (was_open row e));
-      adds = λ now row e entry. (leaves_backed mid a.engine call answer doing reserved settled g stays now).adds row.calls.room a.ahead (backed row e) (ahead (was_open row e));
+      place = λ row e. (let some = (backed row e).least in omega arith);
+      adds = λ now row e. (leaves_backed mid a.engine call answer doing reserved settled g stays now).adds row.calls.room (backed row e).most;
       opens = λ now row e. (leaves_backed mid a.engine call answer doing reserved settled g stays now).opens row.calls.room (asks row e);
     }
 
   -- whatever it gave, but for a block that went back to its begin alone
   pub gave_acting : (what : Next) → Proceeds mid what a.engine → ((answer : Answer) → what ≡ Answers answer → IsRestart answer → ⊥) → (in_transaction mid ≡ false → (mid.actions.commits ≡ []) × (mid.actions.undos ≡ []))
-      → ((step : Step) → what ≡ Asks step → (is_abort call ≡ false) × (is_some (registered_by call) ≡ false)) → MayRunOn r a call what
+      → ((step : Step) → what ≡ Asks step → (is_abort call ≡ false) × (is_some (registered_by call) ≡ false)) → MayRunOn a call what
   gave_acting (Asks step) g stays shut plain = waits_acting step g (plain step refl)
   gave_acting (Answers answer) g stays shut plain = answered_acting answer g (stays answer refl) shut
 
@@ -125,60 +110,46 @@ plain_waits old new call again step stage asks waits = (refl, refl)
 
 -- ## An actor that has no open attempt, and one whose attempt is changed
 
-pub none_acting : {P : Type 0} (r : Rows) (a : Actor P) → active_of a.thread r.active ≡ None → IsEmpty a → StartsEmpty a → NoCancel a.status → is_held a.engine ≡ false → AsksAs a a.status → IsActing r a
-none_acting r a none empty pending status free asks = record {
-  empty = empty;
-  all = λ row e. absurd (let both : None ≡ Some row = sym none ∙ e in cc);
-  places = λ row e. absurd (let both : None ≡ Some row = sym none ∙ e in cc);
+pub none_acting : {P : Type 0} (a : Actor P) → active_of a ≡ None → StartsEmpty a → NoCancel a.status → is_held a.engine ≡ false → AsksAs a a.status → IsActing a
+none_acting a none pending status free asks = record {
+  all = λ row e. absurd (none-some row (sym none ∙ e));
+  places = λ row e. absurd (none-some row (sym none ∙ e));
   pending = pending;
   status = status;
   room = λ held some. absurd (true≢false (sym held ∙ free));
-  backed = λ row e. absurd (let both : None ≡ Some row = sym none ∙ e in cc);
+  backed = λ row e. absurd (none-some row (sym none ∙ e));
   asks = asks;
 }
 
-pub changed_acting : {P : Type 0} (r r' : Rows) (a : Actor P) (f : Attempt → Attempt) → ((x : Attempt) → (f x).thread ≡ x.thread) → ((x : Attempt) → (f x).ran ≡ x.ran) → ((x : Attempt) → (f x).calls ≡ x.calls) → r' ≡ with_changed a.thread f r → IsActing r a → IsActing r' a
-changed_acting r r' a f thread ran calls is acts = record {
-  empty = acts.empty;
-  all = λ row e. (let was = row_from r r' a.thread f thread is row e in ap (λ (x : Attempt). x.ran) was.2 ∙ (ran was.0 ∙ acts.all was.0 was.1));
-  places = λ row e. (let was = row_from r r' a.thread f thread is row e in acts.places was.0 was.1);
-  pending = acts.pending;
-  status = acts.status;
-  room = acts.room;
-  backed = λ row e. (let was = row_from r r' a.thread f thread is row e in let few = acts.backed was.0 was.1 in let n = ap (λ (x : Attempt). x.calls.room) was.2 in let k = ap (λ (k : Kept). k.room) (calls was.0) in omega arith);
-  asks = acts.asks;
+-- what is promised is of the room of the calls alone
+promises_as : (e : Core) (s : Status) (row row' : Attempt) → row'.calls.room ≡ row.calls.room → PromisesAs e s row → PromisesAs e s row'
+promises_as e Ready row row' same p = omega arith
+promises_as e (Waits call step) row row' same p = (let least = p.least in let most = p.most in record { least = omega arith; most = omega arith })
+promises_as e (Ended end) row row' same p = omega arith
+
+asks_as : {P : Type 0} (a a' : Actor P) → pending_of a' ≡ pending_of a → a'.engine ≡ a.engine → (s : Status) → AsksAs a s → AsksAs a' s
+asks_as a a' pending engine Ready x = tt
+asks_as a a' pending engine (Waits call step) x = record {
+  pending = λ row e. x.pending row (sym pending ∙ e) ∙ ap wanted (sym engine);
+  backed = subst (λ (c : Core). wanted c ≤ c.room) (sym engine) x.backed;
 }
+asks_as a a' pending engine (Ended end) x = tt
 
--- ## More room is made
-
-module _ {P : Type 0} (r : Rows) (a : Actor P) (spare : Vec CallRecord Global) (ahead : ℕ) (end_room cancel_room : Vec Ran Global) where
-  abbrev Grown : Actor P
-  Grown = record a { spare = spare; ahead = ahead; end_room = end_room; cancel_room = cancel_room }
-
-  grown : (end_room.items ≡ []) × (cancel_room.items ≡ []) → vec_capacity a.end_room ≤ vec_capacity end_room → vec_capacity a.cancel_room ≤ vec_capacity cancel_room → a.status ≡ Ready → IsActing r a → IsActing r Grown
-  grown empty more more' ready acts = record {
-    empty = record { end_room = empty.0; cancel_room = empty.1 };
-    all = acts.all;
-    places = λ row e. (let p = acts.places row e in omega arith);
-    pending = acts.pending;
-    status = acts.status;
-    room = λ held some. (let both = acts.room held some in ((let x = both.0 in omega arith), (let x = both.1 in omega arith)));
-    backed = acts.backed;
-    asks = subst (AsksAs Grown) (sym ready) tt;
-  }
-
-  pub grown_acting : (a' : Actor P) → a' ≡ Grown → (end_room.items ≡ []) × (cancel_room.items ≡ []) → vec_capacity a.end_room ≤ vec_capacity end_room → vec_capacity a.cancel_room ≤ vec_capacity cancel_room → a.status ≡ Ready → IsActing r a
-      → (r' : Rows) → r' ≡ r → IsActing r' a'
-  grown_acting a' is empty more more' ready acts r' same = subst (λ (s : Rows). IsActing s a') (sym same) (subst (IsActing r) (sym is) (grown empty more more' ready acts))
-
-pub on_err : {A E T : Type 0} (result : Result A E) → T → OnErr result T
-on_err (Ok what) t = tt
-on_err (Err x) t = t
-
--- the call did not come to the engine
-pub unasked_acting : {P E : Type 0} (r : Rows) (a : Actor P) (e : Core) (call : Call) (answer : Answer) (result : Result (Option Step) E) → ComesInto a.engine call false result answer e → IsActing r a → OnErr result (IsActing r (record a { engine = e }))
-unasked_acting r a e call answer (Ok what) still is = tt
-unasked_acting r a e call answer (Err x) still is = subst (λ (c : Core). IsActing r (record a { engine = c })) (sym still.err) is
+-- told where its engine reads
+pub told_acting : {P : Type 0} (a : Actor P) → IsActing a → IsActing (told a)
+told_acting a acts =
+    let at = a.engine.snapshot / 2 in
+    let ends = moved_ends at a.run.current in
+    let cancels = moved_cancels at a.run.current in
+    record {
+      all = λ row e. (let w = moved_open at a.run.current row e in ap (λ (x : Attempt). x.ran) w.2 ∙ acts.all w.0 w.1);
+      places = λ row e. (let w = moved_open at a.run.current row e in let p = acts.places w.0 w.1 in omega arith);
+      pending = λ row e. acts.pending row (sym (moved_begun at a.run.current) ∙ e);
+      status = acts.status;
+      room = λ held some. (let both = acts.room held some in ((let x = both.0 in omega arith), (let x = both.1 in omega arith)));
+      backed = λ row e. (let w = moved_open at a.run.current row e in promises_as a.engine a.status w.0 row (ap (λ (x : Attempt). x.calls.room) w.2) (acts.backed w.0 w.1));
+      asks = asks_as a (told a) (moved_begun at a.run.current) refl a.status acts.asks;
+    }
 
 -- ## A call goes to the engine
 
@@ -188,45 +159,22 @@ gave_plainly mid new old call again what g stage asks step is =
     plain_waits old new call again step stage asks (ap (λ (c : Core). c.waits) h.stays)
 
 -- there is room for what comes of it, which the result tells
-pub called_acting : {P E : Type 0} (answer : Answer) (r : Rows) (a : Actor P) (old : Core) (call : Call) (again was : Bool) (o : in_transaction (came old call again) ≡ was) (has : HasRow was r a.thread) (empty : IsEmpty a)
-    → ((row : Attempt) → active_of a.thread r.active ≡ Some row → row.ran ≡ (came old call again).actions.ran)
-    → ((row : Attempt) → active_of a.thread r.active ≡ Some row → total (came old call again).actions + registers call ≤ vec_capacity a.end_room)
-    → ((row : Attempt) → active_of a.thread r.active ≡ Some row → is_abort call ≡ true → total (came old call again).actions ≤ vec_capacity a.cancel_room)
-    → StartsEmpty a → HasRoomFor (came old call again) a → ((row : Attempt) → active_of a.thread r.active ≡ Some row → row.calls.room ≤ promised (came old call again)) → (in_transaction (came old call again) ≡ true → a.ahead ≡ wanted (came old call again)) → ((row : Attempt) → a.pending ≡ Some row → row.calls.room ≡ wanted (came old call again)) → wanted (came old call again) ≤ (came old call again).room
+pub called_acting : {P E : Type 0} (answer : Answer) (a : Actor P) (old : Core) (call : Call) (again was : Bool) (o : in_transaction (came old call again) ≡ was) (has : HasRow was a)
+    → ((row : Attempt) → active_of a ≡ Some row → row.ran ≡ (came old call again).actions.ran)
+    → ((row : Attempt) → active_of a ≡ Some row → total (came old call again).actions + registers call ≤ ends_in a.run.current)
+    → ((row : Attempt) → active_of a ≡ Some row → is_abort call ≡ true → total (came old call again).actions ≤ cancels_in a.run.current)
+    → StartsEmpty a → HasRoomFor (came old call again) a → ((row : Attempt) → active_of a ≡ Some row → HasPlace (came old call again) row) → ((row : Attempt) → pending_of a ≡ Some row → row.calls.room ≡ wanted (came old call again)) → wanted (came old call again) ≤ (came old call again).room
     → (in_transaction (came old call again) ≡ false → ((came old call again).actions.commits ≡ []) × ((came old call again).actions.undos ≡ []))
-    → (result : Result (Option Step) E) → ComesInto old call again result answer a.engine → IfOk result (λ what. MayRunOn r a call (next_in what answer))
-called_acting answer r a old call again was o has empty all places cancel pending room backed ahead wants reserved shut (Ok what) e =
-    gave_acting r a (came old call again) call was o has refl empty all places cancel pending room backed ahead wants reserved e.settled (next_in what answer) e.proceeds (not_at_once (next_in what answer) e.at_once) shut (gave_plainly (came old call again) a.engine old call again (next_in what answer) e.proceeds e.order e.asks)
-called_acting answer r a old call again was o has empty all places cancel pending room backed ahead wants reserved shut (Err x) e = tt
+    → (result : Result (Option Step) E) → ComesInto old call again result answer a.engine → IfOk result (λ what. MayRunOn a call (next_in what answer))
+called_acting answer a old call again was o has all places cancel pending room backed wants reserved shut (Ok what) e =
+    gave_acting a (came old call again) call was o has refl all places cancel pending room backed wants reserved e.settled (next_in what answer) e.proceeds (not_at_once (next_in what answer) e.at_once) shut (gave_plainly (came old call again) a.engine old call again (next_in what answer) e.proceeds e.order e.asks)
+called_acting answer a old call again was o has all places cancel pending room backed wants reserved shut (Err x) e = tt
 
 -- a place more where the call registers one
 pub places_for : (call : Call) (least room room' : ℕ) → least ≤ room → room ≤ room' → (is_some (registered_by call) ≡ true → least < room') → least + registers call ≤ room'
 places_for (CommitAction action) least room room' l k more = (let m = more refl in omega arith)
 places_for (UndoAction action) least room room' l k more = (let m = more refl in omega arith)
 places_for call least room room' l k more = omega arith
-
--- nothing else has changed
-pub asked_served : {P E : Type 0} (answer : Answer) (clock : ℕ) (r r' : Rows) (old new : Actor P) (call : Call) → begins_again (in_transaction old.engine) old.again call ≡ false
-    → new.pending ≡ asked_pending (in_transaction old.engine) clock old call → new.again ≡ old.again → new.player ≡ old.player → new.nth ≡ old.nth → (in_transaction old.engine ≡ true → new.ahead ≡ unwrap_or (irrevocable_room old.engine call) 0) → new.thread ≡ old.thread → r' ≡ record r { room = r'.room }
-    → (result : Result (Option Step) E) → ComesInto old.engine call false result answer new.engine → IfOk result (λ what. AsksOf clock r r' old new call (next_in what answer))
-asked_served answer clock r r' old new call first pending again player nth ahead thread rows (Ok what) e = record {
-  pending = pending;
-  again = again;
-  player = player;
-  nth = nth;
-  ahead = ahead;
-  thread = thread;
-  rows_are = rows;
-  called = subst (λ (b : Bool). IsCalled old.engine call b (next_in what answer) new.engine) (sym first) e;
-}
-asked_served answer clock r r' old new call first pending again player nth ahead thread rows (Err x) e = tt
-
--- also within a block
-pub asked_inside : {P E : Type 0} (answer : Answer) (clock : ℕ) (r r' : Rows) (old new : Actor P) (call : Call) → in_transaction old.engine ≡ true
-    → new.pending ≡ old.pending → new.again ≡ old.again → new.player ≡ old.player → new.nth ≡ old.nth → (in_transaction old.engine ≡ true → new.ahead ≡ unwrap_or (irrevocable_room old.engine call) 0) → new.thread ≡ old.thread → r' ≡ record r { room = r'.room }
-    → (result : Result (Option Step) E) → ComesInto old.engine call false result answer new.engine → IfOk result (λ what. AsksOf clock r r' old new call (next_in what answer))
-asked_inside answer clock r r' old new call inside pending again player nth ahead thread rows result e =
-    asked_served answer clock r r' old new call (ap (λ (b : Bool). begins_again b old.again call) inside) (pending ∙ sym (ap (λ (b : Bool). asked_pending b clock old call) inside)) again player nth ahead thread rows result e
 
 -- outside one memory is wanted for a begin alone
 starves_open : (c : Core) (call : Call) → c.blocks ≡ [] → MayStarveOpen c call → is_begin call ≡ true

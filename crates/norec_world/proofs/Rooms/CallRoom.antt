@@ -1,5 +1,5 @@
 -- What a call that comes, and its answer, leave of the places that the list of an irrevocable transaction's calls promises.
-use Rattle.std.proofs.Common.{◌≡◌, ℕ, ◌-◌, ◌≤◌, ◌&&◌, not, Bool, true, false, true≢false, nat_lt, if◌then◌else◌, List, length, Option, None, Some, is_some, unwrap_or, refl, sym, ap, subst, ◌∙◌, inl, inr, arith}
+use Rattle.std.proofs.Common.{◌≡◌, ℕ, ◌+◌, ◌-◌, ◌<◌, ◌≤◌, max, ◌&&◌, not, Bool, true, false, true≢false, nat_lt, if◌then◌else◌, List, length, Option, None, Some, is_some, unwrap_or, refl, sym, ap, subst, ◌∙◌, inl, inr, arith}
 use Rattle.std.proofs.lemmas.Bool.{cond-true, ltb-true}
 use Rattle.itm_types.specs.declared.call.Call.TheVariants.{Begin as Begins, CommitAction, Mode}
 use Rattle.itm_types.specs.declared.call.Props.{Props}
@@ -16,7 +16,8 @@ use Rattle.norec_world.specs.ActionRoom.{IsBacked, goes_in, promised, wanted}
 use Rattle.norec_world.specs.LocalWork.{IsShort}
 use Rattle.norec_world.proofs.Engines.HeldCalls.{both_true, no_true, stands_mode, told_under}
 use Rattle.norec_world.proofs.Rooms.HeldRoom.{goes_in_same, goes_no_more, goes_same}
-use Rattle.norec_world.proofs.Common.{Actor, Answer, Attempt, Call, Core, Done, Ends, IsMemory, Replied, Reply, Rows, State, active_of, after, in_transaction, is_open, outside, refusal, reply_cases, rests, stands_for, state_over}
+use Rattle.tx_attempts.specs.Kept.{Kept, reserved}
+use Rattle.norec_world.proofs.Common.{Actor, Answer, Attempt, Call, Core, Done, Ends, IsMemory, Ready, Replied, Reply, State, active_of, after, in_transaction, is_open, outside, refusal, reply_cases, rests, stands_for, state_over}
 
 -- ## A call that makes a transaction irrevocable is answered in one that is
 
@@ -73,17 +74,8 @@ plain_goes mid new call r g settled = by_case (is_some (irrevocable_room mid cal
 
 -- what an answer leaves
 pub record LeavesBacked (mid new : Core) : Type 0 where
-  pub adds : (room ahead : ℕ) → room ≤ promised mid → ahead ≡ wanted mid → (if nat_lt 0 ahead then ahead else room - 1) ≤ promised new
+  pub adds : (room : ℕ) → room ≤ max (promised mid) (wanted mid + 1) → room - 1 ≤ promised new
   pub opens : (room : ℕ) → room ≡ wanted mid → room ≤ promised new
-
-no_room : (room ahead most : ℕ) → room ≤ 0 → ahead ≤ 0 → (if nat_lt 0 ahead then ahead else room - 1) ≤ most
-no_room room ahead most none nothing = grind arith
-
-either_room : (room ahead most : ℕ) → room ≤ 0 → ahead ≤ most → (if nat_lt 0 ahead then ahead else room - 1) ≤ most
-either_room room ahead most none few = grind arith
-
-one_less : (room ahead was most : ℕ) → room ≤ was → ahead ≤ 0 → was - 1 ≤ most → (if nat_lt 0 ahead then ahead else room - 1) ≤ most
-one_less room ahead was most few none less = grind arith
 
 left_least : (c : Core) (call : Call) (r : Replied) → c.room - 1 ≤ room_left c call r
 left_least c (CommitAction action) Done = omega arith
@@ -114,19 +106,19 @@ module _ (mid new : Core) (call : Call) (answer : Answer) (doing : mid.doing ≡
     | inl w ↦
         (let none = promised_none mid w.revocable in
         let nothing = wanted_none mid call doing (plain_goes mid new call r w settled) in
-        record { adds = λ room ahead few more. no_room room ahead (promised new) (omega arith) (omega arith); opens = λ room few. omega arith })
+        record { adds = λ room few. omega arith; opens = λ room few. omega arith })
     | inr (inl w) ↦
         (let none = promised_none mid w.revocable in
         let most = promised_all new (ap (λ (c : Core). c.irrevocable) w.stays) in
         let same : new.room ≡ mid.room = ap (λ (c : Core). c.room) w.stays in
-        record { adds = λ room ahead few more. either_room room ahead (promised new) (omega arith) (omega arith); opens = λ room few. omega arith })
+        record { adds = λ room few. omega arith; opens = λ room few. omega arith })
     | inr (inr w) ↦
         (let was = promised_all mid w.irrevocable in
         let nothing = wanted_none mid call doing (ap (is_some {T = ℕ}) (goes_no_more mid call w.irrevocable)) in
         let most = promised_all new (ap (λ (c : Core). c.irrevocable) w.stays ∙ w.irrevocable) in
         let left : new.room ≡ room_left mid call r = ap (λ (c : Core). c.room) w.stays in
         let least = left_least mid call r in
-        record { adds = λ room ahead few more. one_less room ahead mid.room (promised new) (omega arith) (omega arith) (omega arith); opens = λ room few. omega arith })
+        record { adds = λ room few. omega arith; opens = λ room few. omega arith })
   ]
 
   -- where the transaction is open after it
@@ -168,9 +160,9 @@ starves_used c (CommitAction action) m = m
 starves_used c call m = absurd m
 
 -- no place is promised any more
-pub used_up : {P : Type 0} (r : Rows) (a : Actor P) (call : Call) → IsBacked r a → IsShort r a call → a.engine.irrevocable ≡ true → (row : Attempt) → active_of a.thread r.active ≡ Some row → row.calls.room ≡ 0
-used_up r a call backed short h row e = elim (short row e) [
-  | inl full ↦ full.0
+pub used_up : {P : Type 0} (a : Actor P) (call : Call) → IsBacked a Ready → IsShort a call → a.engine.irrevocable ≡ true → (row : Attempt) → active_of a ≡ Some row → row.calls.room ≡ 0
+used_up a call backed short h row e = elim (short row e) [
+  | inl full ↦ full
   | inr (inl lacks) ↦ (let few = backed row e in let most = promised_all a.engine h in let none = lacks.0 h in omega arith)
   | inr (inr starves) ↦
       (let few = backed row e in
@@ -178,3 +170,12 @@ used_up r a call backed short h row e = elim (short row e) [
       let none = starves_used a.engine call (subst (λ (b : Bool). MayStarveIn b a.engine call) h starves) in
       omega arith)
 ]
+
+-- ## Room is made
+
+-- a place for the call, and so many as it asks for
+pub reserved_least : (k : Kept) (ahead : ℕ) → ahead < (reserved k (ahead + 1)).room
+reserved_least k ahead = grind arith
+
+pub reserved_most : (k : Kept) (ahead most : ℕ) → k.room ≤ most → (reserved k (ahead + 1)).room ≤ max most (ahead + 1)
+reserved_most k ahead most few = grind arith

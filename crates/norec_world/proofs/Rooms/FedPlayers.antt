@@ -1,6 +1,5 @@
 -- What a player that tells its room truly has left to call in an irrevocable transaction, over an answer: no more than its attempt has places for.
-use Rattle.tx_attempts.specs.Kept.{grown}
-use Rattle.std.proofs.Common.{◌≡◌, ℕ, zero, suc, ◌-◌, ◌/◌, ◌<◌, ◌≤◌, ◌&&◌, not, Bool, true, false, true≢false, nat_lt, if◌then◌else◌, List, [], length, replicate, Option, None, Some, IsSome, is_some, unwrap_or, refl, sym, ap, subst, ◌∙◌, inl, inr, arith}
+use Rattle.std.proofs.Common.{◌≡◌, ℕ, zero, suc, ◌-◌, ◌<◌, ◌≤◌, ◌&&◌, not, Bool, true, false, true≢false, nat_lt, if◌then◌else◌, List, [], length, replicate, Option, None, Some, IsSome, unwrap_or, refl, sym, ap, subst, ◌∙◌, inl, inr, arith}
 use Rattle.std.proofs.lemmas.Bool.{lt-ltb}
 use Rattle.std.proofs.lemmas.List.{length-map}
 use Rattle.itm_types.specs.declared.call.Call.TheVariants.{Mode}
@@ -14,12 +13,12 @@ use Rattle.norec_core.proofs.Engines.IrrevocableCalls.{length-over}
 use Rattle.norec_world.specs.ActionRoom.{wanted}
 use Rattle.norec_world.specs.PlayerRooms.{ComesTo, EndsWithin, TellsRoom, going_room}
 use Rattle.tx_player.specs.Replies.{MayReply}
-use Rattle.norec_world.proofs.Attempts.ActiveRows.{opened_here, row_from}
-use Rattle.norec_world.proofs.Rooms.CallRoom.{wanted_as, wanted_none}
-use Rattle.norec_world.proofs.Rooms.HeldRoom.{goes_no_more}
+use Rattle.tx_runs.specs.Tallies.{within}
+use Rattle.norec_world.proofs.Tries.Stages.{busy_player, conflict_player, reply_player, sent_same, stage_open, taken_at, told_active, told_player}
+use Rattle.norec_world.proofs.Rooms.CallRoom.{wanted_as}
 use Rattle.norec_world.proofs.Engines.Intakes.{HasAnswered, HasTaken}
-use Rattle.norec_world.proofs.Attempts.TryEnds.{begun_or_not}
-use Rattle.norec_world.proofs.Common.{Actor, Answer, Asks, Attempt, Begin, Busy, Call, Cells, Code, Commit, Committed, Conflict, Core, Done, Ends, Full, IsMemory, Props, RecordsReply, Refusal, Replied, Reply, Restarted, Rows, Rules, State, Step, Waits, active_of, in_transaction, refusal, reply as machine_reply, reply_cases, same_Some, stands_for}
+use Rattle.norec_world.proofs.Tries.TryEnds.{begun_or_not}
+use Rattle.norec_world.proofs.Common.{Actor, Answer, Asks, Attempt, Begin, Busy, Call, Cells, Code, Commit, Committed, Conflict, Core, Done, Ends, Full, IsMemory, Props, Refusal, Replied, Reply, Restarted, Rows, Rules, State, Step, Waits, active_of, in_transaction, refusal, reply as machine_reply, reply_cases, same_Some, stage_of, stands_for}
 
 -- ## The replies of the plain machine
 
@@ -80,16 +79,9 @@ told_as_asked c (Begin props room) some = told_going props.goes_irrevocable (may
 told_as_asked c (Mode room) some = ap (λ (n : ℕ). Some n) (sym (told_if _ room some))
 told_as_asked c call some = absurd (cc)
 
--- what a list has once a call is added that asked for so much
-all_asked : (room ahead : ℕ) → ahead ≤ (if nat_lt 0 ahead then ahead else room - 1)
-all_asked room ahead = grind arith
-
-one_taken : (room ahead : ℕ) → ahead ≡ 0 → room - 1 ≤ (if nat_lt 0 ahead then ahead else room - 1)
-one_taken room ahead none = grind arith
-
 module _ {P : Type 0} (rules : Rules P) where
   -- more room is enough as well
-  more_within : (n m : ℕ) (p : P) → n ≤ m → EndsWithin rules n p → EndsWithin rules m p
+  pub more_within : (n m : ℕ) (p : P) → n ≤ m → EndsWithin rules n p → EndsWithin rules m p
   more_within zero zero p few e = e
   more_within zero (suc m) p few e = λ some call reply next may. absurd (let none = e call next in omega arith)
   more_within (suc n) zero p few e = absurd (omega arith)
@@ -107,85 +99,70 @@ module _ {P : Type 0} (rules : Rules P) where
 
   -- ## An answer
 
-  -- the player knows the reply
-  player_told : (was now : Bool) (r r1 : Rows) (a last : Actor P) (call : Call) (reply : Replied) → RecordsReply rules was now r r1 a last call reply → last.player ≡ rules.answered a.player reply
-  player_told true true r r1 a last call reply t = t.1
-  player_told true false r r1 a last call reply t = t.1
-  player_told false now r r1 a last call reply t = t.1
-
-  -- or has not moved
+  -- the player has not moved
   comes_still : (p q player : P) (n : ℕ) → ComesTo rules n p player → q ≡ player → (k : ℕ) × ComesTo rules k p q
   comes_still p q player n comes same = (n, subst (ComesTo rules n p) (sym same) comes)
 
   -- how far the player has come, and what it has left
-  pub record HasLeft (p : P) (r : Rows) (a : Actor P) : Type 0 where
+  pub record HasLeft (p : P) (a : Actor P) : Type 0 where
     pub moves : ℕ
-    pub comes : ComesTo rules moves p a.player
-    pub within : a.engine.irrevocable ≡ true → (row : Attempt) → active_of a.thread r.active ≡ Some row → EndsWithin rules row.calls.room a.player
+    pub comes : ComesTo rules moves p a.run.player
+    pub within : a.engine.irrevocable ≡ true → (row : Attempt) → active_of a ≡ Some row → EndsWithin rules row.calls.room a.run.player
 
-module _ {P : Type 0} {rules : Rules P} {was : Bool} {cells cells' : Cells} {r : Rows} {mid : Core} {a : Actor P} {call : Call} (p : P) (tells_room : TellsRoom rules p) (n : ℕ) (comes : ComesTo rules n p a.player)
-    (within : mid.irrevocable ≡ true → (row : Attempt) → active_of a.thread r.active ≡ Some row → EndsWithin rules row.calls.room a.player) (shut : in_transaction mid ≡ false → mid.irrevocable ≡ false) where
+module _ {P : Type 0} {rules : Rules P} {was : Bool} {cells cells' : Cells} {r : Rows} {mid : Core} {a : Actor P} {call : Call} (p : P) (tells_room : TellsRoom rules p) (n : ℕ) (comes : ComesTo rules n p a.run.player)
+    (within_room : mid.irrevocable ≡ true → (row : Attempt) → active_of a ≡ Some row → EndsWithin rules row.calls.room a.run.player) (shut : in_transaction mid ≡ false → mid.irrevocable ≡ false) where
   -- the call waits for a step
-  pub waits_left : (step : Step) → HasTaken rules was cells cells' r mid a call (Asks step) → HasLeft rules p r (record a { status = Waits call step })
-  waits_left step t = record { moves = n; comes = comes; within = λ h. within (sym (ap (λ (c : Core). c.irrevocable) t.proceeds.stays) ∙ h) }
+  pub waits_left : (step : Step) → HasTaken rules was cells cells' r mid a call (Asks step) → HasLeft rules p (record a { status = Waits call step })
+  waits_left step t = record { moves = n; comes = comes; within = λ h. within_room (sym (ap (λ (c : Core). c.irrevocable) t.proceeds.stays) ∙ h) }
 
   module _ {r1 : Rows} {last : Actor P} where
-    reply_may : (reply : Replied) → HasAnswered rules was cells cells' r r1 mid a last call (Reply reply) → MayReply (rules.depth a.player) call reply
+    reply_may : (reply : Replied) → HasAnswered rules was cells cells' r r1 mid a last call (Reply reply) → MayReply (rules.depth a.run.player) call reply
     reply_may reply t = subst (λ (d : ℕ). MayReply d call reply) (sym t.taken.depth) (engine_may mid a.engine call reply t.taken.doing t.taken.tied.settled t.ends)
 
-    comes_on : (answer : Answer) → HasAnswered rules was cells cells' r r1 mid a last call answer → (k : ℕ) × ComesTo rules k p last.player
-    comes_on (Reply reply) t = (suc n, (a.player, comes, inl (call, reply, t.answered.in_call.asks, reply_may reply t, player_told rules was (in_transaction last.engine) r r1 a last call reply t.told)))
-    comes_on (Committed at wrote) t = (suc n, (a.player, comes, inl (call, Done, t.answered.in_call.asks, subst (λ (c : Call). MayReply (rules.depth a.player) c Done) (sym t.answered.fits.2) (λ some. refl), t.told.1)))
+    comes_on : (answer : Answer) → HasAnswered rules was cells cells' r r1 mid a last call answer → (k : ℕ) × ComesTo rules k p last.run.player
+    comes_on (Reply reply) t = (suc n, (a.run.player, comes, inl (call, reply, t.answered.in_call.asks, reply_may reply t, reply_player reply t.told)))
+    comes_on (Committed at wrote) t = (suc n, (a.run.player, comes, inl (call, Done, t.answered.in_call.asks, subst (λ (c : Call). MayReply (rules.depth a.run.player) c Done) (sym t.answered.fits.2) (λ some. refl), told_player t.told.takes)))
     comes_on (Conflict clock word) t = by_was was t
       where
-        by_was : (b : Bool) → HasAnswered rules b cells cells' r r1 mid a last call (Conflict clock word) → (k : ℕ) × ComesTo rules k p last.player
-        by_was true t = (suc n, (a.player, comes, inr (t.answered.nested.deep, t.told.1)))
-        by_was false t = comes_still rules p last.player a.player n comes t.told.1
-    comes_on (Restarted clock word) t = absurd t.told
-    comes_on (Busy clock) t = comes_still rules p last.player a.player n comes t.told.1
-    comes_on (Full at) t = comes_still rules p last.player a.player n comes t.told.2
+        by_was : (b : Bool) → HasAnswered rules b cells cells' r r1 mid a last call (Conflict clock word) → (k : ℕ) × ComesTo rules k p last.run.player
+        by_was true t = (suc n, (a.run.player, comes, inr (t.answered.nested.deep, conflict_player t.told (within t.answered.kept.row.0) (stage_open _ t.answered.kept.row.1))))
+        by_was false t = comes_still rules p last.run.player a.run.player n comes (conflict_player t.told (stage_of a.run.current) refl ∙ sent_same rules (stage_of a.run.current) a.run.player t.answered.kept.row)
+    comes_on (Restarted clock word) t = absurd t.answered.fits
+    comes_on (Busy clock) t = comes_still rules p last.run.player a.run.player n comes (busy_player t.told)
+    comes_on (Full at) t = comes_still rules p last.run.player a.run.player n comes (told_player t.told.takes)
 
     -- as it has just become irrevocable
-    entered_left : (reply : Replied) → HasAnswered rules was cells cells' r r1 mid a last call (Reply reply) → IsSome (irrevocable_room mid call) → (room : ℕ) → wanted mid ≤ room → EndsWithin rules room (rules.answered a.player reply)
+    entered_left : (reply : Replied) → HasAnswered rules was cells cells' r r1 mid a last call (Reply reply) → IsSome (irrevocable_room mid call) → (room : ℕ) → wanted mid ≤ room → EndsWithin rules room (rules.answered a.run.player reply)
     entered_left reply t goes_so room enough =
         let asked : wanted mid ≡ unwrap_or (irrevocable_room mid call) 0 = wanted_as mid call t.taken.doing in
-        more_within rules (unwrap_or (irrevocable_room mid call) 0) room (rules.answered a.player reply) (omega arith)
-        (tells_room n a.player call reply (unwrap_or (irrevocable_room mid call) 0) comes t.answered.in_call.asks (reply_may reply t) (told_as_asked mid call goes_so))
+        more_within rules (unwrap_or (irrevocable_room mid call) 0) room (rules.answered a.run.player reply) (omega arith)
+        (tells_room n a.run.player call reply (unwrap_or (irrevocable_room mid call) 0) comes t.answered.in_call.asks (reply_may reply t) (told_as_asked mid call goes_so))
 
-    within_open : (b : Bool) (reply : Replied) → b ≡ was → HasAnswered rules was cells cells' r r1 mid a last call (Reply reply) → HasAnswered rules b cells cells' r r1 mid a last call (Reply reply) → in_transaction last.engine ≡ true → a.engine.irrevocable ≡ true
-        → (row : Attempt) → active_of last.thread r1.active ≡ Some row → EndsWithin rules row.calls.room (rules.answered a.player reply)
-    within_open true reply same t' t now held row e =
-        let told = subst (λ (o : Bool). RecordsReply rules true o r r1 a last call reply) now t.told in
-        let f : Attempt → Attempt = λ x. record x { calls = grown x.calls (record { call = call; reply = reply }) a.ahead; ran = last.engine.actions.ran } in
-        let old = row_from r r1 a.thread f (λ x. refl) told.0 row (ap (λ (k : ℕ). active_of k r1.active) (sym t.settled.thread) ∙ e) in
-        let room : row.calls.room ≡ (f old.0).calls.room = ap (λ (x : Attempt). x.calls.room) old.2 in
-        let ahead : a.ahead ≡ wanted mid = t.taken.ahead refl in
-        subst (λ (k : ℕ). EndsWithin rules k (rules.answered a.player reply)) (sym room) (elim (reply_cases mid a.engine call reply t.taken.doing t.ends) [
+    within_open : (b : Bool) (reply : Replied) → HasAnswered rules was cells cells' r r1 mid a last call (Reply reply) → HasAnswered rules b cells cells' r r1 mid a last call (Reply reply) → in_transaction last.engine ≡ true → a.engine.irrevocable ≡ true
+        → (row : Attempt) → active_of last ≡ Some row → EndsWithin rules row.calls.room (rules.answered a.run.player reply)
+    within_open true reply t' t now held row e =
+        let old = t.answered.kept.row in
+        let x = taken_at t.told (stage_open _ old.1) now in
+        let room : row.calls.room ≡ old.0.calls.room - 1 = ap (λ (x : Attempt). x.calls.room) (same_Some _ _ (sym e ∙ told_active x)) in
+        let place = t.taken.place old.0 old.1 in
+        subst (λ (k : ℕ). EndsWithin rules k (rules.answered a.run.player reply)) (sym room) (elim (reply_cases mid a.engine call reply t.taken.doing t.ends) [
           | inl w ↦ absurd (true≢false (sym held ∙ (ap (λ (c : Core). c.irrevocable) w.stays ∙ w.revocable)))
-          | inr (inl w) ↦ entered_left reply t' w.goes (f old.0).calls.room (let all = all_asked old.0.calls.room a.ahead in omega arith)
-          | inr (inr w) ↦
-              (let none = wanted_none mid call t.taken.doing (ap (is_some {T = ℕ}) (goes_no_more mid call w.irrevocable)) in
-              more_within rules (old.0.calls.room - 1) (f old.0).calls.room (rules.answered a.player reply) (one_taken old.0.calls.room a.ahead (ahead ∙ none))
-              (less_within rules old.0.calls.room a.player call reply (within w.irrevocable old.0 old.1) t.answered.nested.deep t.answered.in_call.asks (reply_may reply t')))
+          | inr (inl w) ↦ entered_left reply t' w.goes (old.0.calls.room - 1) (omega arith)
+          | inr (inr w) ↦ less_within rules old.0.calls.room a.run.player call reply (within_room w.irrevocable old.0 old.1) t.answered.nested.deep t.answered.in_call.asks (reply_may reply t')
         ])
-    within_open false reply same t' t now held row e = elim (begun_or_not reply t) [
+    within_open false reply t' t now held row e = elim (begun_or_not reply t).either [
       | inl b ↦
-          (let q = t.answered.in_call.opens b.0 b.1 in
-          let opened : Attempt = record b.0 { at = last.engine.snapshot / 2 } in
-          let free : active_of b.0.thread r.active ≡ None = ap (λ (u : ℕ). active_of u r.active) q.thread ∙ t.answered.kept.row in
-          let here : active_of last.thread r1.active ≡ Some opened = ap (λ (u : ℕ). active_of u r1.active) (t.settled.thread ∙ sym q.thread) ∙ (ap (λ (x : Rows). active_of b.0.thread x.active) b.3 ∙ opened_here opened r.active free) in
-          let is : opened ≡ row = same_Some _ _ (sym here ∙ e) in
-          let room : row.calls.room ≡ wanted mid = ap (λ (x : Attempt). x.calls.room) (sym is) ∙ t.taken.pending b.0 b.1 in
+          (let room : row.calls.room ≡ wanted mid = ap (λ (x : Attempt). x.calls.room) (same_Some _ _ (sym e ∙ b.active)) ∙ t.taken.pending b.row b.pending in
           elim (reply_cases mid a.engine call reply t.taken.doing t.ends) [
             | inl w ↦ absurd (true≢false (sym held ∙ (ap (λ (c : Core). c.irrevocable) w.stays ∙ w.revocable)))
             | inr (inl w) ↦ entered_left reply t' w.goes row.calls.room (omega arith)
             | inr (inr w) ↦ absurd (true≢false (sym w.irrevocable ∙ shut t.taken.was_is))
           ])
-      | inr x ↦ absurd (true≢false (sym now ∙ x.0))
+      | inr x ↦ absurd (true≢false (sym now ∙ x.shut))
     ]
 
     -- it is answered
-    pub answered_left : (answer : Answer) → HasAnswered rules was cells cells' r r1 mid a last call answer → HasLeft rules p r1 last
+    pub answered_left : (answer : Answer) → HasAnswered rules was cells cells' r r1 mid a last call answer → HasLeft rules p last
     answered_left answer t =
         let x = comes_on answer t in
         record {
@@ -197,8 +174,8 @@ module _ {P : Type 0} {rules : Rules P} {was : Bool} {cells cells' : Cells} {r :
               by_answer answer t h (s.holder (s.irrevocable h).0).0);
         }
       where
-        by_answer : (answer : Answer) → HasAnswered rules was cells cells' r r1 mid a last call answer → a.engine.irrevocable ≡ true → in_transaction a.engine ≡ true → (row : Attempt) → active_of last.thread r1.active ≡ Some row → EndsWithin rules row.calls.room last.player
+        by_answer : (answer : Answer) → HasAnswered rules was cells cells' r r1 mid a last call answer → a.engine.irrevocable ≡ true → in_transaction a.engine ≡ true → (row : Attempt) → active_of last ≡ Some row → EndsWithin rules row.calls.room last.run.player
         by_answer (Reply reply) t held now row e =
-            subst (EndsWithin rules row.calls.room) (sym (player_told rules was (in_transaction last.engine) r r1 a last call reply t.told)) (within_open was reply refl t t (ap in_transaction t.settled.engine ∙ now) held row e)
-        by_answer (Restarted clock word) t held now row e = absurd t.told
+            subst (EndsWithin rules row.calls.room) (sym (reply_player reply t.told)) (within_open was reply t t (ap in_transaction t.settled.engine ∙ now) held row e)
+        by_answer (Restarted clock word) t held now row e = absurd t.answered.fits
         by_answer answer t held now row e = absurd (true≢false (sym now ∙ t.answered.fits.1))

@@ -1,5 +1,5 @@
 -- What an answer leaves of the room of a transaction that is irrevocable, or becomes so.
-use Rattle.std.proofs.Common.{◌≡◌, ℕ, ◌+◌, ◌<◌, ◌≤◌, ◌||◌, not, Bool, true, false, true≢false, ◌&&◌, ◌⊎◌, nat_lt, length, replicate, vec_capacity, if◌then◌else◌, Option, [], None, Some, IsSome, is_some, unwrap_or, refl, sym, ap, subst, ◌∙◌, inl, inr, arith}
+use Rattle.std.proofs.Common.{◌≡◌, ℕ, ◌+◌, ◌<◌, ◌≤◌, ◌||◌, not, Bool, true, false, true≢false, ◌&&◌, ◌⊎◌, nat_lt, length, replicate, if◌then◌else◌, Option, [], None, Some, IsSome, is_some, unwrap_or, refl, sym, ap, subst, ◌∙◌, inl, inr, arith}
 use Rattle.itm_types.specs.Calls.{is_abort}
 use Rattle.itm_types.specs.declared.call.Call.TheVariants.{Abort, Begin, CommitAction, Mode, UndoAction}
 use Rattle.itm_types.specs.declared.call.Refusal.{Refusal}
@@ -15,6 +15,7 @@ use Rattle.norec_core.specs.Restarts.{IsRestart}
 use Rattle.norec_core.specs.Effects.{actions_after, room_left}
 use Rattle.norec_core.proofs.Replies.ActionCounts.{LeavesActions, registers}
 use Rattle.norec_world.specs.ActionRoom.{HasRoomFor, counted, goes_in, is_held}
+use Rattle.norec_world.specs.Stages.{cancels_in, ends_in}
 use Rattle.norec_world.proofs.Common.{Actor, Answer, Busy, Call, Code, Committed, Conflict, ConflictsIn, Core, Done, Ends, Enters, Full, Refused, Replied, RepliesHeld, Reply, Restarted, State, cases_Bool, in_transaction, refusal, reply_cases, rests, stands_for}
 
 -- ## Whether a transaction is held
@@ -79,11 +80,11 @@ goes_no_more c (Mode room) h = (λ i. if in_transaction c && not (stays_revocabl
 goes_no_more c call h = refl
 
 -- there is room for the call that came: that which was there, or that which was made for it
-pub came_room : {P : Type 0} (c : Core) (call : Call) (again : Bool) (a a' : Actor P) → HasRoomFor c a → vec_capacity a.end_room ≤ vec_capacity a'.end_room → vec_capacity a.cancel_room ≤ vec_capacity a'.cancel_room
-    → (0 < unwrap_or (irrevocable_room c call) 0 → (counted c + unwrap_or (irrevocable_room c call) 0 ≤ vec_capacity a'.end_room) × (counted c + unwrap_or (irrevocable_room c call) 0 ≤ vec_capacity a'.cancel_room)) → HasRoomFor (came c call again) a'
+pub came_room : {P : Type 0} (c : Core) (call : Call) (again : Bool) (a a' : Actor P) → HasRoomFor c a → ends_in a.run.current ≤ ends_in a'.run.current → cancels_in a.run.current ≤ cancels_in a'.run.current
+    → (0 < unwrap_or (irrevocable_room c call) 0 → (counted c + unwrap_or (irrevocable_room c call) 0 ≤ ends_in a'.run.current) × (counted c + unwrap_or (irrevocable_room c call) 0 ≤ cancels_in a'.run.current)) → HasRoomFor (came c call again) a'
 came_room c call again a a' has more more' made held some = by_room (irrevocable_room c call) refl
   where
-    by_room : (o : Option ℕ) → irrevocable_room c call ≡ o → (counted c + unwrap_or (irrevocable_room c call) c.room ≤ vec_capacity a'.end_room) × (counted c + unwrap_or (irrevocable_room c call) c.room ≤ vec_capacity a'.cancel_room)
+    by_room : (o : Option ℕ) → irrevocable_room c call ≡ o → (counted c + unwrap_or (irrevocable_room c call) c.room ≤ ends_in a'.run.current) × (counted c + unwrap_or (irrevocable_room c call) c.room ≤ cancels_in a'.run.current)
     by_room (Some room) is =
         (let given : unwrap_or (irrevocable_room c call) c.room ≡ room = ap (λ (o : Option ℕ). unwrap_or o c.room) is in
         let asked : unwrap_or (irrevocable_room c call) 0 ≡ room = ap (λ (o : Option ℕ). unwrap_or o 0) is in

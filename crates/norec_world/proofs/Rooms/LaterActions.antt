@@ -1,20 +1,20 @@
 -- The actions that have run in an actor's attempt, as its engine goes on.
 use Rattle.user_actions.specs.Actions.{total}
-use Rattle.std.proofs.Common.{◌≡◌, ◌≤◌, length, arith, ℕ, Bool, true, false, if◌then◌else◌, List, ◌++◌, Some, None, refl, sym, ap, ◌∙◌}
+use Rattle.std.proofs.Common.{◌≡◌, ◌≤◌, length, arith, ℕ, Bool, true, false, if◌then◌else◌, List, ◌++◌, Some, refl, sym, ap, ◌∙◌}
 use Rattle.itm_types.specs.declared.call.Ran.{Ran}
 use Rattle.norec_core.specs.declared.answer.Undone.TheVariants.{Done, Held, Nothing}
 use Rattle.norec_core.proofs.Replies.ActionCounts.{given_up_actions, given_up_on, undone_actions}
 use Rattle.norec_core.proofs.Replies.AnsweredEngines.{runs_on}
 use Rattle.tx_attempts.specs.Beginnings.{IsBeginningOf}
-use Rattle.norec_world.proofs.Common.{Attempt, Call, Core, HasRow, Next, Proceeds, Rows, active_of, after_undoing, in_transaction, stands_for, state_over}
+use Rattle.norec_world.proofs.Common.{Actor, Attempt, Call, Core, HasRow, Next, Proceeds, active_of, after_undoing, in_transaction, none-some, stands_for, state_over}
 use Rattle.norec_core.specs.Stands.{state_in}
 use Rattle.itm_model.specs.Machine.{undone}
 
 -- the open attempt that had all of them has the first of those that there are then
-pub first_here : (r : Rows) (thread : ℕ) (mid new : Core) (call : Call) (what : Next) (was : Bool) → in_transaction mid ≡ was → HasRow was r thread → mid.doing ≡ Some call → Proceeds mid what new
-    → ((row : Attempt) → active_of thread r.active ≡ Some row → row.ran ≡ mid.actions.ran) → (row : Attempt) → active_of thread r.active ≡ Some row → IsBeginningOf row.ran new.actions.ran
-first_here r thread mid new call what false o none doing g all row e = absurd (let both : None ≡ Some row = sym none ∙ e in cc)
-first_here r thread mid new call what true o some doing g all row e =
+pub first_here : {P : Type 0} (a : Actor P) (mid new : Core) (call : Call) (what : Next) (was : Bool) → in_transaction mid ≡ was → HasRow was a → mid.doing ≡ Some call → Proceeds mid what new
+    → ((row : Attempt) → active_of a ≡ Some row → row.ran ≡ mid.actions.ran) → (row : Attempt) → active_of a ≡ Some row → IsBeginningOf row.ran new.actions.ran
+first_here a mid new call what false o none doing g all row e = absurd (none-some row (sym none ∙ e))
+first_here a mid new call what true o some doing g all row e =
     let f = runs_on mid new call what doing o g in
     (f.later, ap (λ (ran : List Ran). ran ++ f.later) (all row e) ∙ sym f.ran)
 

@@ -1,7 +1,7 @@
 -- An actor's run between two tries: calls outside a transaction, and begins.
-use Rattle.std.proofs.Common.{◌≡◌, ◌⊎◌, ℕ, suc, ◌/◌, ◌<◌, ◌≤◌, Bool, true, false, List, [], Option, None, Some, refl, sym, true≢false, ap, subst, ◌∙◌, arith, is_some, inl, inr}
+use Rattle.std.proofs.Common.{◌≡◌, ◌⊎◌, ℕ, suc, ◌/◌, ◌<◌, ◌≤◌, Bool, true, false, List, [], ◌++◌, Option, None, Some, refl, sym, true≢false, ap, subst, ◌∙◌, arith, is_some, inl, inr}
 use Rattle.user_actions.specs.Actions.{Actions}
-use Rattle.norec_world.proofs.Common.{Actor, Agrees, Answer, Attempt, Begin, Between, Busy, Call, Cells, Committed, Conflict, ConflictsIn, Core, CountsTry, Enters, Full, IsBeforeTry, IsInTry, IsMemory, IsRun, LeadsTo, Obeys, Props, Ready, Refusal, Replied, Replies, RepliesHeld, Reply, Restarted, Row, Rows, Rules, State, active_of, after, alone, backed, begin_of, begins_at, bytes_at, ending_of, in_transaction, inside_all, is_inside, opened, outside, recoded, refusal, reply, reply_cases, same_Some, stands_for, state_over, state_then, with_opened, words_at, breaks_of}
+use Rattle.norec_world.proofs.Common.{Actor, Agrees, Answer, Attempt, Begin, Between, Busy, Call, Cells, Committed, Conflict, ConflictsIn, Core, Enters, Full, IsBeforeTry, IsInTry, IsMemory, IsRun, LeadsTo, Obeys, Outcome, Props, Ready, Refusal, Replied, Replies, RepliesHeld, Reply, Restarted, Row, Rows, Rules, Stage, State, TakesTo, Tally, active_of, after, alone, append-nil, backed, begin_of, begun_in, begins_at, bytes_at, ending_of, in_transaction, inside_all, is_inside, none-some, open_in, opened, outside, recoded, refusal, reply, reply_cases, same_Some, stage_of, stand_of, stands_for, state_over, state_then, tally_of, words_at, breaks_of}
 use Rattle.itm_model.specs.Machine.{answer, in_arena, or_else, reply_unless, unless}
 use Rattle.itm_types.specs.declared.call.Refusal.TheVariants.{NoIrrevocable}
 use Rattle.norec_core.specs.Core.{may_go}
@@ -10,24 +10,31 @@ use Rattle.norec_core.specs.Effects.{blocks_after}
 use Rattle.tx_attempts.specs.Opacity.{stays_outside}
 use Rattle.itm_types.specs.Access.{size_of}
 use Rattle.itm_types.specs.declared.call.Call.TheVariants.{Load, Save}
-use Rattle.norec_world.specs.Records.{again_after}
-use Rattle.norec_world.proofs.Attempts.ActiveRows.{opened_here}
+use Rattle.tx_attempts.specs.declared.attempt.Outcome.TheVariants as outcomes
+use Rattle.tx_runs.specs.Tallies.{Stand, begins, outside as between_blocks, over_as, sent_back, tried, within}
+use Rattle.norec_world.proofs.Tries.Stages.{is_tried, sent_same}
 use Rattle.norec_world.proofs.Runs.Answers.{now_at, run_same}
 use Rattle.tx_runs.proofs.Begins.{led, opened_arena, same_arena}
 use Rattle.tx_runs.proofs.Tries.{begin_call}
-use Rattle.norec_world.proofs.Attempts.TryEnds.{none_pending, next_try, begun_or_not, plain_reply}
+use Rattle.norec_world.proofs.Tries.TryEnds.{IsBegun, RepliedOutside, begun_or_not, next_try, plain_reply}
 use Rattle.norec_world.proofs.Commits.SeenMemories.{HasSeen, memory_at, same_at}
 use Rattle.norec_world.proofs.Engines.Intakes.{HasAnswered, half_same, still_going}
-use Rattle.norec_world.proofs.Attempts.OpenTries.{begin_leaves, begin_may, held_served, outermost_refusal, stands_outside, try_begins, try_begins_held}
+use Rattle.norec_world.proofs.Tries.OpenTries.{begin_leaves, begin_may, held_served, outermost_refusal, stands_outside, try_begins, try_begins_held}
 use Rattle.norec_world.proofs.Engines.HeldCalls.{stands_arena}
 
 -- a begin that may go is accepted outside a transaction
 pub may_begin : (deepest : ℕ) (arena : List ℕ) (props : Props) (room : ℕ) → 0 < deepest → may_go [] props ≡ true → refusal deepest (outside [] arena) (Begin props room) ≡ None
 may_begin deepest arena props room deep may = outermost_refusal deepest deep (may_go [] props) ∙ ap (λ (b : Bool). or_else (or_else (unless b NoIrrevocable) None) None) may
 
+-- where no attempt was open none is over
+pub none_over : (outcome : Outcome) (stand : Stand) (s : Stage) → open_in s ≡ None → over_as outcome stand s ≡ []
+none_over outcome stand between_blocks none = refl
+none_over outcome stand (begins row) none = refl
+none_over outcome stand (within row) none = absurd (none-some row (sym none))
+
 module _ {P : Type 0} (rules : Rules P) (laws : Obeys rules) where
-  pub led_before : {deepest n : ℕ} {b : Between P} {a : Actor P} → IsBeforeTry rules deepest n b a → begins_at rules deepest b ≡ begin_of rules deepest a.player a.engine.arena
-  led_before {deepest = deepest} {b = b} {a = a} k = led rules laws deepest k.calls b.player b.arena a.player a.engine.arena k.leads
+  pub led_before : {deepest n : ℕ} {b : Between P} {a : Actor P} → IsBeforeTry rules deepest n b a → begins_at rules deepest b ≡ begin_of rules deepest a.run.player a.engine.arena
+  led_before {deepest = deepest} {b = b} {a = a} k = led rules laws deepest k.calls b.player b.arena a.run.player a.engine.arena k.leads
 
 -- such a call is served with no memory
 same_outside : (deepest : ℕ) (writes : List Row) (arena : List ℕ) (actions : Actions) (m : List ℕ) (c : Call)
@@ -63,7 +70,7 @@ served_outside mid new c r m g shut closed mem agrees =
 module _ {P : Type 0} {rules : Rules P} (laws : Obeys rules) {first : Between P} {base : List ℕ} {cells cells' : Cells} {r : Rows} (r1 : Rows) {mid : Core} (a last : Actor P) (call : Call)
     (seen : HasSeen mid.depth base cells cells' r mid a.engine) (run : IsRun rules first mid.depth base (cells.clock / 2) r (record a { engine = mid })) (revocable : mid.irrevocable ≡ false) where
   -- where the actor stands before the answer
-  before : in_transaction mid ≡ false → a.status ≡ Ready → (b : Between P) × (now_at rules first mid.depth base r.ended a.thread ≡ Some b) × IsBeforeTry rules mid.depth (cells.clock / 2) b (record a { engine = mid })
+  before : in_transaction mid ≡ false → a.status ≡ Ready → (b : Between P) × (now_at rules first mid.depth base r.ended a.run.thread ≡ Some b) × IsBeforeTry rules mid.depth (cells.clock / 2) b (record a { engine = mid })
   before outside ready = run.between outside (still_going ready) (still_going ready)
 
   -- ## A reply outside a transaction
@@ -72,8 +79,8 @@ module _ {P : Type 0} {rules : Rules P} (laws : Obeys rules) {first : Between P}
     by_case : Replies mid call reply a.engine ⊎ Enters mid call reply a.engine ⊎ RepliesHeld mid call reply a.engine
     by_case = reply_cases mid a.engine call reply m.taken.doing m.ends
 
-    outside_runs : in_transaction last.engine ≡ false → r1.ended ≡ r.ended → IsRun rules first mid.depth base (cells.clock / 2) r1 last
-    outside_runs closed ended =
+    outside_runs : (x : RepliedOutside rules r r1 a last call reply) → in_transaction last.engine ≡ false → last.run.again ≡ a.run.again → IsRun rules first mid.depth base (cells.clock / 2) r1 last
+    outside_runs x closed again =
         let t = before m.taken.was_is m.answered.status in
         let k = t.2 in
         let shut : in_transaction a.engine ≡ false = ap in_transaction (sym m.settled.engine) ∙ closed in
@@ -81,17 +88,17 @@ module _ {P : Type 0} {rules : Rules P} (laws : Obeys rules) {first : Between P}
         -- its memory is the words as they are: nothing is logged
         let served = served_outside mid a.engine call reply cells'.words g m.taken.was_is shut (sym m.taken.words, m.taken.tied.fit) (subst (Agrees cells'.words) (sym (m.taken.tied.settled.closed shut).0) tt) in
         record {
-          run = run_same rules first mid.depth base (cells.clock / 2) r.ended r1.ended a.thread last.thread ended m.settled.thread run.run;
+          run = run_same rules first mid.depth base (cells.clock / 2) r.ended r1.ended a.run.thread last.run.thread x.ended m.settled.thread run.run;
           inside = λ o. absurd (true≢false (sym o ∙ closed));
           between = λ o gave_up starved. (
             t.0,
-            (λ i. now_at rules first mid.depth base (ended i) (m.settled.thread i)) ∙ t.1,
+            (λ i. now_at rules first mid.depth base (x.ended i) (m.settled.thread i)) ∙ t.1,
             record {
               calls = suc k.calls;
-              leads = (a.player, mid.arena, call, k.leads, m.answered.in_call.asks, served.0, m.told.1 ∙ ap (rules.answered a.player) served.1, ap (λ (c : Core). c.arena) m.settled.engine ∙ served.2);
-              again = m.told.2 ∙ (ap (λ (o : Bool). again_after o a.pending a.again) closed ∙ k.again);
-              tries = (let nth = m.told.3 in let fewer = k.tries in omega arith);
-              pending = λ x e. absurd (let none = sym (none_pending rules r r1 a last false m.settled (m.told.4 ∙ m.answered.status)) ∙ e in cc);
+              leads = (a.run.player, mid.arena, call, k.leads, m.answered.in_call.asks, served.0, x.player ∙ ap (rules.answered a.run.player) served.1, ap (λ (c : Core). c.arena) m.settled.engine ∙ served.2);
+              again = again ∙ k.again;
+              tries = omega (arith, x.nth, k.tries);
+              pending = λ row e. absurd (none-some row (sym x.pending ∙ e));
             },
           );
         }
@@ -110,9 +117,11 @@ module _ {P : Type 0} {rules : Rules P} (laws : Obeys rules) {first : Between P}
     ]
 
     -- an accepted begin
-    begin_runs : (row : Attempt) → a.pending ≡ Some row → (props : Props) (room : ℕ) → call ≡ Begin props room → in_transaction last.engine ≡ true → r1 ≡ with_opened (record row { at = last.engine.snapshot / 2 }) r → IsRun rules first mid.depth base (cells.clock / 2) r1 last
-    begin_runs row pending props room is opened rows =
-        let now : in_transaction a.engine ≡ true = ap in_transaction (sym m.settled.engine) ∙ opened in
+    begin_runs : (x : RepliedOutside rules r r1 a last call reply) → IsBegun rules r r1 a last call reply → (props : Props) (room : ℕ) → call ≡ Begin props room → IsRun rules first mid.depth base (cells.clock / 2) r1 last
+    begin_runs x b props room is =
+        let row = b.row in
+        let pending = b.pending in
+        let now : in_transaction a.engine ≡ true = ap in_transaction (sym m.settled.engine) ∙ b.now in
         let late = seen.opens m.taken.was_is now in
         let half = half_same m refl in
         let k_late : a.engine.snapshot / 2 ≤ cells.clock / 2 = (let reached = m.taken.tied.settled.reached in let late = m.taken.tied.late in omega arith) in
@@ -121,53 +130,53 @@ module _ {P : Type 0} {rules : Rules P} (laws : Obeys rules) {first : Between P}
         let p = k.pending row pending in
         let q = m.answered.in_call.opens row pending in
         let at : ℕ = last.engine.snapshot / 2 in
-        let ended : r1.ended ≡ r.ended = ap (λ (x : Rows). x.ended) rows in
         let props_same : row.props ≡ props = m.answered.in_call.props row props room pending is in
         let tries : t.0.tries < row.nth = (let nth = q.nth in let fewer = k.tries in omega arith) in
         let began : row.began ≤ a.engine.snapshot / 2 = (let early = p.0 in omega arith) in
         let comes = p.4 (subst (λ (x : Props). may_go [] x ≡ true) (sym props_same) (accepted props room is now)) in
-        let try : IsInTry rules mid.depth (words_at mid.depth base r.ended (cells.clock / 2)) t.0 (record row { at = at }) (rules.answered a.player reply) a.engine =
+        let try : IsInTry rules mid.depth (words_at mid.depth base r.ended (cells.clock / 2)) t.0 (record row { at = at }) (rules.answered a.run.player reply) a.engine =
         elim by_case [
           | inl g ↦
-              try_begins rules _ t.0 row a.player mid a.engine props room reply comes p.1 props_same p.2 p.3 tries m.taken.was_is (m.taken.empty refl) p.5 p.6 began revocable
+              try_begins rules _ t.0 row a.run.player mid a.engine props room reply comes p.1 props_same p.2 p.3 tries m.taken.was_is (m.taken.empty refl) p.5 p.6 began revocable
               (subst (λ (c : Call). Replies mid c reply a.engine) is g) (words_at mid.depth base r.ended (a.engine.snapshot / 2)) (memory_at seen (a.engine.snapshot / 2) k_late) (seen.now now) now at
           | inr (inl g) ↦
-              try_begins_held rules _ t.0 row a.player mid a.engine props room reply comes p.1 props_same p.2 p.3 tries m.taken.was_is (m.taken.empty refl) p.5 p.6 began revocable
+              try_begins_held rules _ t.0 row a.run.player mid a.engine props room reply comes p.1 props_same p.2 p.3 tries m.taken.was_is (m.taken.empty refl) p.5 p.6 began revocable
               (subst (λ (c : Call). Enters mid c reply a.engine) is g) now at
           | inr (inr g) ↦ absurd (true≢false (sym g.irrevocable ∙ revocable))
         ] in
-        let free : active_of row.thread r.active ≡ None = ap (λ (u : ℕ). active_of u r.active) q.thread ∙ m.answered.kept.row in
         record {
-          run = run_same rules first mid.depth base (cells.clock / 2) r.ended r1.ended a.thread last.thread ended m.settled.thread run.run;
+          run = run_same rules first mid.depth base (cells.clock / 2) r.ended r1.ended a.run.thread last.run.thread x.ended m.settled.thread run.run;
           inside = λ o. (
             t.0,
             record row { at = at },
-            (λ i. now_at rules first mid.depth base (ended i) (m.settled.thread i)) ∙ t.1,
-            ap (λ (u : ℕ). active_of u r1.active) (m.settled.thread ∙ sym q.thread) ∙ (ap (λ (x : Rows). active_of row.thread x.active) rows ∙ opened_here (record row { at = at }) r.active free),
-            subst (λ (xs : List Attempt). IsInTry rules mid.depth (words_at mid.depth base xs (cells.clock / 2)) t.0 (record row { at = at }) last.player last.engine) (sym ended)
-                (subst (λ (c : Core). IsInTry rules mid.depth (words_at mid.depth base r.ended (cells.clock / 2)) t.0 (record row { at = at }) last.player c) (sym m.settled.engine)
-                (subst (λ (x : P). IsInTry rules mid.depth (words_at mid.depth base r.ended (cells.clock / 2)) t.0 (record row { at = at }) x a.engine) (sym m.told.1) try)),
-            m.told.2 ∙ (λ i. again_after (opened i) (pending i) a.again),
-            q.nth ∙ sym m.told.3,
+            (λ i. now_at rules first mid.depth base (x.ended i) (m.settled.thread i)) ∙ t.1,
+            b.active,
+            subst (λ (xs : List Attempt). IsInTry rules mid.depth (words_at mid.depth base xs (cells.clock / 2)) t.0 (record row { at = at }) last.run.player last.engine) (sym x.ended)
+                (subst (λ (c : Core). IsInTry rules mid.depth (words_at mid.depth base r.ended (cells.clock / 2)) t.0 (record row { at = at }) last.run.player c) (sym m.settled.engine)
+                (subst (λ (p : P). IsInTry rules mid.depth (words_at mid.depth base r.ended (cells.clock / 2)) t.0 (record row { at = at }) p a.engine) (sym x.player) try)),
+            b.again,
+            q.nth ∙ sym x.nth,
           );
-          between = λ o. absurd (true≢false (sym opened ∙ o));
+          between = λ o. absurd (true≢false (sym b.now ∙ o));
         }
 
     -- of no open transaction
     reply_shut : IsRun rules first mid.depth base (cells.clock / 2) r1 last
-    reply_shut = elim (begun_or_not reply m) [
-      | inl b ↦ (let c = begin_call call (sym (m.answered.in_call.begins refl) ∙ ap is_some b.1) in begin_runs b.0 b.1 c.0 c.1 c.2 b.2 b.3)
-      | inr n ↦ outside_runs n.0 (ap (λ (x : Rows). x.ended) n.1)
-    ]
+    reply_shut =
+        let x = begun_or_not reply m in
+        elim x.either [
+          | inl b ↦ (let c = begin_call call (sym (m.answered.in_call.begins refl) ∙ ap is_some b.pending) in begin_runs x b c.0 c.1 c.2)
+          | inr n ↦ outside_runs x n.shut n.again
+        ]
 
     -- an accepted begin that goes irrevocable: the words are the memory of its position
-    pub begin_holds : in_transaction last.engine ≡ true → a.engine.irrevocable ≡ true → (row : Attempt) → active_of last.thread r1.active ≡ Some row
+    pub begin_holds : in_transaction last.engine ≡ true → a.engine.irrevocable ≡ true → (row : Attempt) → active_of last ≡ Some row
         → (stands_for a.engine cells'.words ≡ alone mid.depth (bytes_at mid.depth base r.ended (cells.clock / 2)) row) × (row.ran ≡ a.engine.actions.ran)
     begin_holds now_open irrevocable row found = elim by_case [
       | inl g ↦ absurd (true≢false (sym irrevocable ∙ (ap (λ (c : Core). c.irrevocable) g.stays ∙ g.revocable)))
-      | inr (inl g) ↦ elim (begun_or_not reply m) [
-        | inl b ↦ entered g b.0 b.1 b.3
-        | inr n ↦ absurd (true≢false (sym now_open ∙ n.0))
+      | inr (inl g) ↦ elim (begun_or_not reply m).either [
+        | inl b ↦ entered g b
+        | inr n ↦ absurd (true≢false (sym now_open ∙ n.shut))
       ]
       | inr (inr g) ↦ absurd (true≢false (sym g.irrevocable ∙ revocable))
     ]
@@ -175,16 +184,16 @@ module _ {P : Type 0} {rules : Rules P} (laws : Obeys rules) {first : Between P}
         now : in_transaction a.engine ≡ true
         now = ap in_transaction (sym m.settled.engine) ∙ now_open
 
-        entered : Enters mid call reply a.engine → (row' : Attempt) → a.pending ≡ Some row' → r1 ≡ with_opened (record row' { at = last.engine.snapshot / 2 }) r
+        entered : Enters mid call reply a.engine → IsBegun rules r r1 a last call reply
             → (stands_for a.engine cells'.words ≡ alone mid.depth (bytes_at mid.depth base r.ended (cells.clock / 2)) row) × (row.ran ≡ a.engine.actions.ran)
-        entered g row' pending rows =
+        entered g b =
+            let row' = b.row in
+            let pending = b.pending in
             let c = begin_call call (sym (m.answered.in_call.begins refl) ∙ ap is_some pending) in
             let g' : Enters mid (Begin c.0 c.1) reply a.engine = subst (λ (x : Call). Enters mid x reply a.engine) c.2 g in
             let q = m.answered.in_call.opens row' pending in
             let at : ℕ = last.engine.snapshot / 2 in
-            let free : active_of row'.thread r.active ≡ None = ap (λ (u : ℕ). active_of u r.active) q.thread ∙ m.answered.kept.row in
-            let here : active_of last.thread r1.active ≡ Some (record row' { at = at }) = ap (λ (u : ℕ). active_of u r1.active) (m.settled.thread ∙ sym q.thread) ∙ (ap (λ (x : Rows). active_of row'.thread x.active) rows ∙ opened_here (record row' { at = at }) r.active free) in
-            let same : record row' { at = at } ≡ row = same_Some _ _ (sym here ∙ found) in
+            let same : record row' { at = at } ≡ row = same_Some _ _ (sym b.active ∙ found) in
             let t = before m.taken.was_is m.answered.status in
             let k = t.2 in
             let p = k.pending row' pending in
@@ -199,9 +208,9 @@ module _ {P : Type 0} {rules : Rules P} (laws : Obeys rules) {first : Between P}
             let late = seen.opens m.taken.was_is now in
             let began : row'.began ≤ a.engine.snapshot / 2 = (let early = p.0 in omega arith) in
             let comes = p.4 (subst (λ (x : Props). may_go [] x ≡ true) (sym props_same) (accepted c.0 c.1 c.2 now)) in
-            let served = held_served rules position t.0 row' a.player mid a.engine c.0 c.1 reply comes p.1 props_same p.2 p.3 tries m.taken.was_is (m.taken.empty refl) p.5 p.6 began revocable g' now in
-            let leaves = begin_leaves rules position t.0 row' a.player mid a.engine c.0 c.1 reply comes p.1 props_same p.2 p.3 tries m.taken.was_is (m.taken.empty refl) p.5 p.6 began revocable position served.0 in
-            let try = try_begins_held rules position t.0 row' a.player mid a.engine c.0 c.1 reply comes p.1 props_same p.2 p.3 tries m.taken.was_is (m.taken.empty refl) p.5 p.6 began revocable g' now at in (
+            let served = held_served rules position t.0 row' a.run.player mid a.engine c.0 c.1 reply comes p.1 props_same p.2 p.3 tries m.taken.was_is (m.taken.empty refl) p.5 p.6 began revocable g' now in
+            let leaves = begin_leaves rules position t.0 row' a.run.player mid a.engine c.0 c.1 reply comes p.1 props_same p.2 p.3 tries m.taken.was_is (m.taken.empty refl) p.5 p.6 began revocable position served.0 in
+            let try = try_begins_held rules position t.0 row' a.run.player mid a.engine c.0 c.1 reply comes p.1 props_same p.2 p.3 tries m.taken.was_is (m.taken.empty refl) p.5 p.6 began revocable g' now at in (
               ap (stands_for a.engine) words
                   ∙ (g'.meets position fits nothing
                   ∙ (leaves
@@ -211,24 +220,26 @@ module _ {P : Type 0} {rules : Rules P} (laws : Obeys rules) {first : Between P}
 
   -- ## A begin came to nothing
 
-  nothing_runs : r1.ended ≡ r.ended → last.thread ≡ a.thread → last.player ≡ a.player → last.engine.arena ≡ mid.arena → in_transaction mid ≡ false → in_transaction last.engine ≡ false → a.status ≡ Ready → CountsTry a last → last.pending ≡ None
-      → IsRun rules first mid.depth base (cells.clock / 2) r1 last
-  nothing_runs ended thread player arena outside closed ready counts none =
+  nothing_runs : (t : Tally P) (over : List Attempt) → TakesTo (tried a.run.retries t over) r r1 a last → over ≡ [] → t.player ≡ a.run.player → t.nth ≡ a.run.nth → t.again ≡ a.run.again
+      → last.run.thread ≡ a.run.thread → last.engine.arena ≡ mid.arena → in_transaction mid ≡ false → in_transaction last.engine ≡ false → a.status ≡ Ready → IsRun rules first mid.depth base (cells.clock / 2) r1 last
+  nothing_runs tally over x nothing player nth again thread arena outside closed ready =
       let t = before outside ready in
       let k = t.2 in
+      let d = is_tried tally over a.run.retries x in
+      let ended : r1.ended ≡ r.ended = d.ended ∙ (ap (λ (l : List Attempt). r.ended ++ l) nothing ∙ append-nil r.ended) in
       record {
-        run = run_same rules first mid.depth base (cells.clock / 2) r.ended r1.ended a.thread last.thread ended thread run.run;
+        run = run_same rules first mid.depth base (cells.clock / 2) r.ended r1.ended a.run.thread last.run.thread ended thread run.run;
         inside = λ o. absurd (true≢false (sym o ∙ closed));
         between = λ o gave_up starved. (
           t.0,
           (λ i. now_at rules first mid.depth base (ended i) (thread i)) ∙ t.1,
           record {
             calls = k.calls;
-            leads = subst (λ (q : P). LeadsTo rules mid.depth k.calls t.0.player t.0.arena q last.engine.arena) (sym player)
-                (subst (LeadsTo rules mid.depth k.calls t.0.player t.0.arena a.player) (sym arena) k.leads);
-            again = counts.again ∙ k.again;
-            tries = (let more = (next_try counts ready gave_up).1 in let fewer = k.tries in omega arith);
-            pending = λ x e. absurd (let z = sym none ∙ e in cc);
+            leads = subst (λ (q : P). LeadsTo rules mid.depth k.calls t.0.player t.0.arena q last.engine.arena) (sym (d.player ∙ player))
+                (subst (LeadsTo rules mid.depth k.calls t.0.player t.0.arena a.run.player) (sym arena) k.leads);
+            again = d.again ∙ (again ∙ k.again);
+            tries = omega (arith, (next_try tally over a.run.retries x gave_up).1, nth, k.tries);
+            pending = λ row e. absurd (none-some row (sym (ap begun_in d.stage) ∙ e));
           },
         );
       }
@@ -236,14 +247,17 @@ module _ {P : Type 0} {rules : Rules P} (laws : Obeys rules) {first : Between P}
   pub shut_runs : (answer : Answer) → HasAnswered rules false cells cells' r r1 mid a last call answer → IsRun rules first mid.depth base (cells.clock / 2) r1 last
   shut_runs (Reply reply) m = reply_shut reply m
   shut_runs (Busy clock) m =
-      nothing_runs (ap (λ (x : Rows). x.ended) m.told.0) m.settled.thread m.told.1 (ap (λ (c : Core). c.arena) (m.settled.engine ∙ m.ends.stays)) m.taken.was_is (ap in_transaction m.settled.engine ∙ m.answered.fits.1) m.answered.status m.told.2 m.told.3
+      nothing_runs (tally_of a.run) [] m.told.takes refl refl refl refl m.settled.thread (ap (λ (c : Core). c.arena) (m.settled.engine ∙ m.ends.stays)) m.taken.was_is (ap in_transaction m.settled.engine ∙ m.answered.fits.1) m.answered.status
   shut_runs (Conflict clock word) m =
       let lost : IsLost mid clock word a.engine = subst (λ (b : Bool). ConflictsIn b mid clock word a.engine) m.taken.was_is m.ends in
-      nothing_runs (ap (λ (x : Rows). x.ended) m.told.0) m.settled.thread m.told.1 (ap (λ (c : Core). c.arena) (m.settled.engine ∙ lost.stays)) m.taken.was_is (ap in_transaction m.settled.engine ∙ m.answered.fits.1) m.answered.status m.told.2 m.told.3
+      let s = stage_of a.run.current in
+      nothing_runs (record (tally_of a.run) { player = sent_back rules s a.run.player }) (over_as outcomes.Conflict (stand_of last.engine) s) m.told.takes (none_over outcomes.Conflict (stand_of last.engine) s m.answered.kept.row) (sent_same rules s a.run.player m.answered.kept.row) refl refl
+      m.settled.thread (ap (λ (c : Core). c.arena) (m.settled.engine ∙ lost.stays)) m.taken.was_is (ap in_transaction m.settled.engine ∙ m.answered.fits.1) m.answered.status
   shut_runs (Full at) m = record {
-    run = run_same rules first mid.depth base (cells.clock / 2) r.ended r1.ended a.thread last.thread (ap (λ (x : Rows). x.ended) m.told.0) m.settled.thread run.run;
+    run = run_same rules first mid.depth base (cells.clock / 2) r.ended r1.ended a.run.thread last.run.thread
+        (m.told.takes.ended ∙ (ap (λ (l : List Attempt). r.ended ++ l) (none_over outcomes.Full (stand_of last.engine) (stage_of a.run.current) m.answered.kept.row) ∙ append-nil r.ended)) m.settled.thread run.run;
     inside = λ o. absurd (true≢false (sym o ∙ (ap in_transaction m.settled.engine ∙ m.answered.fits.1)));
-    between = λ o gave_up starved. absurd (gave_up (ap ending_of m.told.1));
+    between = λ o gave_up starved. absurd (gave_up (ap ending_of m.told.takes.status));
   }
-  shut_runs (Restarted clock word) m = absurd m.told
+  shut_runs (Restarted clock word) m = absurd m.answered.fits
   shut_runs (Committed at wrote) m = absurd (let f : false ≡ true = m.answered.fits.0 in cc)

@@ -1,7 +1,7 @@
 -- An actor's run, once its attempt has ended.
-use Rattle.tx_attempts.specs.Kept.{grown, spent}
+use Rattle.tx_attempts.specs.Kept.{spent}
 use Rattle.std.proofs.Common.{◌≡◌, ℕ, ◌/◌, ◌≤◌, Bool, true, false, if◌then◌else◌, List, [], ◌∷◌, ◌++◌, map, Option, Some, refl, sym, true≢false, ap, subst, ◌∙◌, arith, inl, inr}
-use Rattle.norec_world.proofs.Common.{Actor, Agrees, Answers, Attempt, Between, Call, Cells, Code, Commit, Committed, Conflict, ConflictsIn, Core, Done, EndsAs, CallRecord, Full, Next, IsMemory, IsRun, LacksClock, Obeys, Outcome, Replied, Replies, RecordsReply, Reply, Rows, Rules, State, StopsAt, after, after_try, alone, answered_all, backed, begin_code, breaks_of, bytes_at, bytes_of, cases_Bool, ending_of, false_from_ne_true, follows, in_transaction, is_done, is_open, opened, recoded, stands_for, state_then, takes_clock, words_at, words_of}
+use Rattle.norec_world.proofs.Common.{Actor, Agrees, Answers, Attempt, Between, Call, Cells, Code, Commit, Committed, Conflict, ConflictsIn, Core, Done, EndsAs, CallRecord, Full, Next, IsMemory, IsRun, LacksClock, Obeys, Outcome, Replied, Replies, Reply, Rows, Rules, State, Tally, active_of, after, after_try, alone, answered_all, backed, begin_code, breaks_of, bytes_at, begun_in, bytes_of, cases_Bool, ending_as, ending_of, false_from_ne_true, follows, in_transaction, is_done, is_open, none-some, opened, recoded, stands_for, state_then, takes_clock, with_call, words_at, words_of}
 use Rattle.itm_model.specs.Machine.{undone, reply as plainly}
 use Rattle.itm_types.specs.declared.call.Call.TheVariants.{Abort}
 use Rattle.itm_types.specs.declared.call.Ran.{Ran}
@@ -13,18 +13,23 @@ use Rattle.norec_core.specs.Stands.{state_in}
 use Rattle.tx_attempts.specs.Attempts.{ClosedBy}
 use Rattle.tx_attempts.specs.Opacity.{ran_of}
 use Rattle.tx_attempts.specs.declared.attempt.Outcome.TheVariants as outcomes
-use Rattle.norec_world.proofs.Attempts.ActiveRows.{row_is_of}
-use Rattle.norec_world.proofs.Attempts.Cancels.{cancelled, cancels}
+use Rattle.tx_runs.specs.Tallies.{within}
+use Rattle.norec_world.proofs.Tries.Stages.{is_tried, row_is_of, stage_open, stand_at, taken_at, told_again, told_nth, told_pending, told_player}
+use Rattle.norec_world.proofs.Tries.Cancels.{cancelled, cancels}
 use Rattle.norec_world.proofs.Engines.HeldCalls.{CommitsTo, HasHeld, commits_over, stands_actions, stands_arena, stands_mode, wants_taking}
 use Rattle.norec_world.proofs.Runs.Answers.{RunOf, ended_run, now_at, position_bytes, position_fits}
 use Rattle.norec_world.proofs.Commits.SeenMemories.{HasSeen, memory_at, same_at}
 use Rattle.tx_attempts.proofs.AloneCalls.{player_snoc}
 use Rattle.norec_world.proofs.Engines.OpenEngines.{stands_open}
 use Rattle.norec_world.proofs.Engines.Intakes.{HasAnswered}
-use Rattle.norec_world.proofs.Attempts.TryEnds.{none_pending, none_retried, next_try, plain_reply}
+use Rattle.norec_world.proofs.Tries.TryEnds.{next_try, plain_reply}
 use Rattle.tx_runs.proofs.PlainCalls.{commit_reply}
 use Rattle.tx_runs.proofs.Tries.{IsMadeAlone, alone_led, closing_left, lacks_clock, try_closes, try_of_room, try_stops}
-use Rattle.norec_world.proofs.Attempts.TryOutcomes.{made_held, made_so, of_block, stands_led}
+use Rattle.norec_world.proofs.Tries.TryOutcomes.{made_held, made_so, of_block, stands_led}
+
+-- the attempt once it has committed
+abbrev pub committed_row : Bool → ℕ → Core → Call → Attempt → Attempt
+committed_row wrote at e call row = record (ending_as (if wrote then outcomes.Committed else outcomes.ReadOnly) (stand_at false e) (with_call call Done row)) { at = at }
 
 module _ {P : Type 0} {rules : Rules P} (laws : Obeys rules) {first : Between P} {base : List ℕ} {cells cells' : Cells} {r : Rows} (r1 : Rows) {mid : Core} (a last : Actor P) (call : Call)
     (seen : HasSeen mid.depth base cells cells' r mid a.engine) (run : IsRun rules first mid.depth base (cells.clock / 2) r (record a { engine = mid }))
@@ -35,7 +40,7 @@ module _ {P : Type 0} {rules : Rules P} (laws : Obeys rules) {first : Between P}
 
   -- ## By its commit
 
-  module _ (at : ℕ) (wrote : Bool) (m : HasAnswered rules true cells cells' r r1 mid a last call (Committed at wrote)) (held : HasHeld mid.depth base cells cells' r a.thread mid a.engine call (Answers (Committed at wrote))) where
+  module _ (at : ℕ) (wrote : Bool) (m : HasAnswered rules true cells cells' r r1 mid a last call (Committed at wrote)) (held : HasHeld mid.depth base cells cells' r (active_of a) mid a.engine call (Answers (Committed at wrote))) where
     at_most : at ≤ cells.clock / 2
     at_most = (let is = m.ends.at_is in let late = seen.late in omega arith)
 
@@ -44,10 +49,6 @@ module _ {P : Type 0} {rules : Rules P} (laws : Obeys rules) {first : Between P}
 
     agrees : Agrees (words_at mid.depth base r.ended at) mid.log
     agrees = subst (λ (k : ℕ). Agrees (words_at mid.depth base r.ended k) mid.log) (sym m.ends.at_is) (seen.logged inside)
-
-    -- the attempt as it ends
-    abbrev ended_row : Attempt
-    ended_row = record (run.inside inside).1 { calls = spent (grown (run.inside inside).1.calls (record { call = call; reply = Done }) 0); at = at; ran = a.engine.actions.ran; outcome = if wrote then outcomes.Committed else outcomes.ReadOnly }
 
     -- a writer's commit is at the position of the clock
     here_now : wrote ≡ true → at ≡ cells.clock / 2
@@ -116,42 +117,46 @@ module _ {P : Type 0} {rules : Rules P} (laws : Obeys rules) {first : Between P}
     never_full true e = cc
     never_full false e = cc
 
-    pub commit_ended : r1.ended ≡ r.ended ++ record (run.inside inside).1 { calls = spent (grown (run.inside inside).1.calls (record { call = call; reply = Done }) 0); at = at; ran = a.engine.actions.ran; outcome = if wrote then outcomes.Committed else outcomes.ReadOnly } ∷ []
-    commit_ended =
-        ap (λ (x : Rows). x.ended) (m.told.0 (run.inside inside).1 (run.inside inside).3)
-        ∙ ap (λ (x : List Ran). r.ended ++ record (run.inside inside).1 { calls = spent (grown (run.inside inside).1.calls (record { call = call; reply = Done }) 0); at = at; ran = x; outcome = if wrote then outcomes.Committed else outcomes.ReadOnly } ∷ [])
-        (ap (λ (c : Core). c.actions.ran) m.settled.engine)
+    shut_now : in_transaction last.engine ≡ false
+    shut_now = ap in_transaction m.settled.engine ∙ m.answered.fits.1
 
-    commit_left : alone mid.depth (bytes_at mid.depth base r1.ended at) (record (run.inside inside).1 { calls = spent (grown (run.inside inside).1.calls (record { call = call; reply = Done }) 0); at = at; ran = a.engine.actions.ran; outcome = if wrote then outcomes.Committed else outcomes.ReadOnly })
-        ≡ after mid.depth (led (bytes_at mid.depth base r1.ended at)) call
-    commit_left = closing_left laws mid.depth (of_block (run.inside inside).4) (bytes_at mid.depth base r1.ended at) call Done parts.1 m.answered.in_call.asks replied at (if wrote then outcomes.Committed else outcomes.ReadOnly) a.engine.actions.ran
+    pub commit_ended : r1.ended ≡ r.ended ++ committed_row wrote at a.engine call (run.inside inside).1 ∷ []
+    commit_ended =
+        let t = run.inside inside in
+        let here : at ≡ a.engine.snapshot / 2 = m.ends.at_is ∙ ap (λ (c : Core). c.snapshot / 2) (sym m.ends.stays) in
+        (taken_at m.told (stage_open _ t.3) shut_now).ended
+        ∙ (ap (λ (c : Core). r.ended ++ committed_row wrote (c.snapshot / 2) c call t.1 ∷ []) m.settled.engine
+        ∙ ap (λ (n : ℕ). r.ended ++ committed_row wrote n a.engine call t.1 ∷ []) (sym here))
+
+    commit_left : alone mid.depth (bytes_at mid.depth base r1.ended at) (committed_row wrote at a.engine call (run.inside inside).1) ≡ after mid.depth (led (bytes_at mid.depth base r1.ended at)) call
+    commit_left = closing_left laws mid.depth (of_block (run.inside inside).4) (bytes_at mid.depth base r1.ended at) call Done parts.1 m.answered.in_call.asks replied 0 at (if wrote then outcomes.Committed else outcomes.ReadOnly) a.engine.actions.ran
 
     -- what a writer leaves are the words as they are
-    pub commit_memory : wrote ≡ true → (alone mid.depth (bytes_at mid.depth base r1.ended at) (record (run.inside inside).1 { calls = spent (grown (run.inside inside).1.calls (record { call = call; reply = Done }) 0); at = at; ran = a.engine.actions.ran; outcome = if wrote then outcomes.Committed else outcomes.ReadOnly })).memory ≡ bytes_of cells'.words
+    pub commit_memory : wrote ≡ true → (alone mid.depth (bytes_at mid.depth base r1.ended at) (committed_row wrote at a.engine call (run.inside inside).1)).memory ≡ bytes_of cells'.words
     commit_memory w = ap (λ (s : State). s.memory) commit_left ∙ sym (parts.0.memory_is w)
 
     pub commit_runs : IsRun rules first mid.depth base n' r1 last
     commit_runs =
         let t = run.inside inside in
-        let try = try_of_room laws mid.depth n' (bytes_at mid.depth base r1.ended) t.0 t.4.start (record t.1 { calls = grown t.1.calls (record { call = call; reply = Done }) 0; at = at; ran = a.engine.actions.ran; outcome = if wrote then outcomes.Committed else outcomes.ReadOnly }) 0
-        (try_closes laws mid.depth (of_block t.4) (bytes_at mid.depth base r1.ended at) call Done parts.1 m.answered.in_call.asks replied
-        n' (bytes_at mid.depth base r1.ended) at (if wrote then outcomes.Committed else outcomes.ReadOnly) a.engine.actions.ran refl (let e = t.4.began in let is = m.ends.at_is in omega arith) (omega (arith, at_most, later)) (ends_so wrote refl) (by_commit wrote) (ran_so wrote) (never_full wrote)) in
-        let over = ended_run laws r1 a last call seen run n' later still inside ended_row (row_is_of a.thread r.active t.1 t.3) commit_ended m.settled.thread try in
-        let arena : (alone mid.depth (bytes_at mid.depth base r1.ended at) ended_row).arena ≡ last.engine.arena = ap (λ (x : State). x.arena) commit_left ∙ (sym parts.0.arena_is ∙ ap (λ (c : Core). c.arena) (sym m.settled.engine)) in
-        let player : answered_all rules.answered (rules.answered t.4.start.player (begin_code t.0.again)) (map (λ (x : CallRecord). x.reply) (t.1.calls.list ++ record { call = call; reply = Done } ∷ [])) ≡ last.player =
-        player_snoc rules.answered (rules.answered t.4.start.player (begin_code t.0.again)) t.1.calls.list (record { call = call; reply = Done }) ∙ (ap (λ (q : P). rules.answered q Done) (sym t.4.player) ∙ sym m.told.1) in
+        let x = taken_at m.told (stage_open _ t.3) shut_now in
+        let try = try_closes laws mid.depth (of_block t.4) (bytes_at mid.depth base r1.ended at) call Done parts.1 m.answered.in_call.asks replied 0
+        n' (bytes_at mid.depth base r1.ended) at (if wrote then outcomes.Committed else outcomes.ReadOnly) a.engine.actions.ran refl (let e = t.4.began in let is = m.ends.at_is in omega arith) (omega (arith, at_most, later)) (ends_so wrote refl) (by_commit wrote) (ran_so wrote) (never_full wrote) in
+        let over = ended_run laws r1 a last call seen run n' later still inside (committed_row wrote at a.engine call t.1) (row_is_of true a t.1 m.answered.kept.row t.3) commit_ended m.settled.thread try in
+        let arena : (alone mid.depth (bytes_at mid.depth base r1.ended at) (committed_row wrote at a.engine call t.1)).arena ≡ last.engine.arena = ap (λ (x : State). x.arena) commit_left ∙ (sym parts.0.arena_is ∙ ap (λ (c : Core). c.arena) (sym m.settled.engine)) in
+        let player : answered_all rules.answered (rules.answered t.4.start.player (begin_code t.0.again)) (map (λ (x : CallRecord). x.reply) (t.1.calls.list ++ record { call = call; reply = Done } ∷ [])) ≡ last.run.player =
+        player_snoc rules.answered (rules.answered t.4.start.player (begin_code t.0.again)) t.1.calls.list (record { call = call; reply = Done }) ∙ (ap (λ (q : P). rules.answered q Done) (sym t.4.player) ∙ sym (told_player x)) in
         record {
           run = over.0;
-          inside = λ o. absurd (true≢false (sym o ∙ (ap in_transaction m.settled.engine ∙ m.answered.fits.1)));
+          inside = λ o. absurd (true≢false (sym o ∙ shut_now));
           between = λ o gave_up starved. (
-            record { player = last.player; arena = last.engine.arena; again = false; tries = 0 },
+            record { player = last.run.player; arena = last.engine.arena; again = false; tries = 0 },
             over.1 ∙ (follows_commit wrote (rules.answered t.4.start.player (begin_code t.0.again)) _ _ ∙ (λ i. Some (record { player = player i; arena = arena i; again = false; tries = 0 }))),
             record {
               calls = 0;
               leads = (refl, refl);
-              again = m.told.2;
-              tries = (let one = m.told.3 in omega arith);
-              pending = λ x e. absurd (let none = sym (none_pending rules r r1 a last true m.settled (m.told.4 ∙ m.answered.status)) ∙ e in cc);
+              again = told_again x;
+              tries = omega (arith, told_nth x);
+              pending = λ row e. absurd (none-some row (sym (told_pending x) ∙ e));
             },
           );
         }
@@ -162,7 +167,7 @@ module _ {P : Type 0} {rules : Rules P} (laws : Obeys rules) {first : Between P}
 
   -- ## In a cancel
 
-  module _ (reply : Replied) (m : HasAnswered rules true cells cells' r r1 mid a last call (Reply reply)) (shut : in_transaction last.engine ≡ false) (told : RecordsReply rules true false r r1 a last call reply) (newer : a.engine.snapshot / 2 ≤ cells.clock / 2) where
+  module _ (reply : Replied) (m : HasAnswered rules true cells cells' r r1 mid a last call (Reply reply)) (shut : in_transaction last.engine ≡ false) (newer : a.engine.snapshot / 2 ≤ cells.clock / 2) where
     abbrev at_last : ℕ
     at_last = a.engine.snapshot / 2
 
@@ -208,37 +213,35 @@ module _ {P : Type 0} {rules : Rules P} (laws : Obeys rules) {first : Between P}
     pub cancel_runs : IsRun rules first mid.depth base n' r1 last
     cancel_runs =
         let t = run.inside inside in
+        let x = taken_at m.told (stage_open _ t.3) shut in
+        let row : Attempt = ending_as outcomes.Cancelled (stand_at false a.engine) (with_call call reply t.1) in
         let ends = cancelled mid a.engine call reply seen_words cancel_replies closed kept_nothing.1 memory_seen none_logged in
-        let engine : last.engine.snapshot / 2 ≡ at_last = ap (λ (c : Core). c.snapshot / 2) m.settled.engine in
         let up = seen.up inside in
         let early = t.4.began in
-        let try = try_of_room laws mid.depth n' (bytes_at mid.depth base r1.ended) t.0 t.4.start (record t.1 { calls = grown t.1.calls (record { call = call; reply = reply }) 0; at = at_last; ran = a.engine.actions.ran; outcome = outcomes.Cancelled }) 0
-        (try_closes laws mid.depth (of_block t.4) (bytes_at mid.depth base r1.ended at_last) call reply made m.answered.in_call.asks reply_plain
+        let try = try_closes laws mid.depth (of_block t.4) (bytes_at mid.depth base r1.ended at_last) call reply made m.answered.in_call.asks reply_plain 0
         n' (bytes_at mid.depth base r1.ended) at_last outcomes.Cancelled a.engine.actions.ran refl (omega arith) (omega (arith, newer, later))
         (subst (λ (s : State). (is_open (after mid.depth s call) ≡ false) × ((after mid.depth s call).wrote ≡ false)) stands ends)
         (t.1.calls.list, aborts.0, (λ i. t.1.calls.list ++ record { call = aborts.1 i; reply = aborts.2 i } ∷ []))
-        (ap (λ (x : Actions). x.ran) (sym (stands_actions a.engine seen_words)) ∙ ap (λ (s : State). s.actions.ran) state) (λ f. absurd (cc))) in
-        let rows : r1.ended ≡ r.ended ++ record t.1 { calls = spent (grown t.1.calls (record { call = call; reply = reply }) 0); at = at_last; ran = a.engine.actions.ran; outcome = outcomes.Cancelled } ∷ [] =
-        ap (λ (x : Rows). x.ended) (told.0 t.1 t.3) ∙ ap (λ (k : ℕ). r.ended ++ record t.1 { calls = spent (grown t.1.calls (record { call = call; reply = reply }) 0); at = k; ran = last.engine.actions.ran; outcome = outcomes.Cancelled } ∷ []) engine
-        ∙ ap (λ (x : List Ran). r.ended ++ record t.1 { calls = spent (grown t.1.calls (record { call = call; reply = reply }) 0); at = at_last; ran = x; outcome = outcomes.Cancelled } ∷ []) (ap (λ (c : Core). c.actions.ran) m.settled.engine) in
-        let over = ended_run laws r1 a last call seen run n' later still inside _ (row_is_of a.thread r.active t.1 t.3) rows m.settled.thread try in
-        let left = closing_left laws mid.depth (of_block t.4) (bytes_at mid.depth base r1.ended at_last) call reply made m.answered.in_call.asks reply_plain at_last outcomes.Cancelled a.engine.actions.ran in
-        let arena : (alone mid.depth (bytes_at mid.depth base r1.ended at_last) (record t.1 { calls = spent (grown t.1.calls (record { call = call; reply = reply }) 0); at = at_last; ran = a.engine.actions.ran; outcome = outcomes.Cancelled })).arena ≡ last.engine.arena =
+        (ap (λ (x : Actions). x.ran) (sym (stands_actions a.engine seen_words)) ∙ ap (λ (s : State). s.actions.ran) state) (λ f. absurd (cc)) in
+        let rows : r1.ended ≡ r.ended ++ row ∷ [] = x.ended ∙ ap (λ (c : Core). r.ended ++ ending_as outcomes.Cancelled (stand_at false c) (with_call call reply t.1) ∷ []) m.settled.engine in
+        let over = ended_run laws r1 a last call seen run n' later still inside row (row_is_of true a t.1 m.answered.kept.row t.3) rows m.settled.thread try in
+        let left = closing_left laws mid.depth (of_block t.4) (bytes_at mid.depth base r1.ended at_last) call reply made m.answered.in_call.asks reply_plain 0 at_last outcomes.Cancelled a.engine.actions.ran in
+        let arena : (alone mid.depth (bytes_at mid.depth base r1.ended at_last) row).arena ≡ last.engine.arena =
         ap (λ (x : State). x.arena) (left ∙ sym state) ∙ (stands_arena a.engine seen_words ∙ ap (λ (c : Core). c.arena) (sym m.settled.engine)) in
-        let player : answered_all rules.answered (rules.answered t.4.start.player (begin_code t.0.again)) (map (λ (x : CallRecord). x.reply) (t.1.calls.list ++ record { call = call; reply = reply } ∷ [])) ≡ last.player =
-        player_snoc rules.answered (rules.answered t.4.start.player (begin_code t.0.again)) t.1.calls.list (record { call = call; reply = reply }) ∙ (ap (λ (q : P). rules.answered q reply) (sym t.4.player) ∙ sym told.1) in
+        let player : answered_all rules.answered (rules.answered t.4.start.player (begin_code t.0.again)) (map (λ (x : CallRecord). x.reply) (t.1.calls.list ++ record { call = call; reply = reply } ∷ [])) ≡ last.run.player =
+        player_snoc rules.answered (rules.answered t.4.start.player (begin_code t.0.again)) t.1.calls.list (record { call = call; reply = reply }) ∙ (ap (λ (q : P). rules.answered q reply) (sym t.4.player) ∙ sym (told_player x)) in
         record {
           run = over.0;
           inside = λ o. absurd (true≢false (sym o ∙ shut));
           between = λ o gave_up starved. (
-            record { player = last.player; arena = last.engine.arena; again = false; tries = 0 },
+            record { player = last.run.player; arena = last.engine.arena; again = false; tries = 0 },
             over.1 ∙ (λ i. Some (record { player = player i; arena = arena i; again = false; tries = 0 })),
             record {
               calls = 0;
               leads = (refl, refl);
-              again = told.2;
-              tries = (let one = told.3 in omega arith);
-              pending = λ x e. absurd (let none = sym (none_pending rules r r1 a last true m.settled (told.4 ∙ m.answered.status)) ∙ e in cc);
+              again = told_again x;
+              tries = omega (arith, told_nth x);
+              pending = λ row e. absurd (none-some row (sym (told_pending x) ∙ e));
             },
           );
         }
@@ -246,17 +249,15 @@ module _ {P : Type 0} {rules : Rules P} (laws : Obeys rules) {first : Between P}
   -- ## Without one
 
   -- an attempt that ends so is not irrevocable
-  revocable_of : {what : Next} → HasHeld mid.depth base cells cells' r a.thread mid a.engine call what → ((s : State) (reply : Replied) → ComesTo s reply what a.engine cells'.words → ⊥) → mid.irrevocable ≡ false
+  revocable_of : {what : Next} → HasHeld mid.depth base cells cells' r (active_of a) mid a.engine call what → ((s : State) (reply : Replied) → ComesTo s reply what a.engine cells'.words → ⊥) → mid.irrevocable ≡ false
   revocable_of held never = false_from_ne_true mid.irrevocable (λ i. never _ _ (held.comes i (run.inside inside).1 (run.inside inside).3))
 
   -- the memory of its position agrees with its log
-  module _ (k : ℕ) (outcome : Outcome) (ran : List Ran) (undone : is_done outcome ≡ false) (ends : (x : State) → is_open x ≡ true → x.irrevocable ≡ false → EndsAs outcome x) (thread : last.thread ≡ a.thread) (stops : StopsAt a.thread r k outcome ran r1)
+  module _ (k : ℕ) (outcome : Outcome) (ran : List Ran) (undone : is_done outcome ≡ false) (ends : (x : State) → is_open x ≡ true → x.irrevocable ≡ false → EndsAs outcome x) (thread : last.run.thread ≡ a.run.thread) (mine : (run.inside inside).1.thread ≡ a.run.thread)
+      (stops : r1.ended ≡ r.ended ++ record (run.inside inside).1 { calls = spent (run.inside inside).1.calls; at = k; ran = ran; outcome = outcome } ∷ [])
       (older : (run.inside inside).1.began ≤ k) (newer : k ≤ cells.clock / 2) (agrees : Agrees (words_at mid.depth base r.ended k) mid.log) (revocable : mid.irrevocable ≡ false) where
     words_same : words_at mid.depth base r1.ended k ≡ words_at mid.depth base r.ended k
     words_same = ap words_of (still k newer)
-
-    stop_ended : r1.ended ≡ r.ended ++ record (run.inside inside).1 { calls = spent (run.inside inside).1.calls; at = k; ran = ran; outcome = outcome } ∷ []
-    stop_ended = ap (λ (x : Rows). x.ended) (stops (run.inside inside).1 (run.inside inside).3)
 
     memory_now : IsMemory mid.words (words_at mid.depth base r1.ended k)
     memory_now = subst (IsMemory mid.words) (sym words_same) (memory_at seen k newer)
@@ -274,11 +275,11 @@ module _ {P : Type 0} {rules : Rules P} (laws : Obeys rules) {first : Between P}
     stop_made = made_so laws (run.inside inside).4 (bytes_at mid.depth base r1.ended k) (words_at mid.depth base r1.ended k) revocable inside memory_now same_now agrees_now
 
     pub stop_run : ran ≡ ran_of outcome (stands_for mid (words_at mid.depth base r1.ended k)) → (outcome ≡ outcomes.Full → LacksClock rules mid.depth (rules.answered (run.inside inside).4.start.player (begin_code (run.inside inside).0.again)) (run.inside inside).1 (bytes_at mid.depth base r1.ended k))
-        → RunOf rules first mid.depth base n' r1.ended last.thread
-        × (now_at rules first mid.depth base r1.ended last.thread ≡ after_try rules mid.depth (bytes_at mid.depth base r1.ended) (run.inside inside).0 (Some (run.inside inside).4.start) (record (run.inside inside).1 { calls = spent (run.inside inside).1.calls; at = k; ran = ran; outcome = outcome }))
+        → RunOf rules first mid.depth base n' r1.ended last.run.thread
+        × (now_at rules first mid.depth base r1.ended last.run.thread ≡ after_try rules mid.depth (bytes_at mid.depth base r1.ended) (run.inside inside).0 (Some (run.inside inside).4.start) (record (run.inside inside).1 { calls = spent (run.inside inside).1.calls; at = k; ran = ran; outcome = outcome }))
     stop_run ran_is full =
         let t = run.inside inside in
-        ended_run laws r1 a last call seen run n' later still inside (record t.1 { calls = spent t.1.calls; at = k; ran = ran; outcome = outcome }) (row_is_of a.thread r.active t.1 t.3) stop_ended thread
+        ended_run laws r1 a last call seen run n' later still inside (record t.1 { calls = spent t.1.calls; at = k; ran = ran; outcome = outcome }) mine stops thread
         (try_of_room laws mid.depth n' (bytes_at mid.depth base r1.ended) t.0 t.4.start (record t.1 { at = k; ran = ran; outcome = outcome }) 0
         (try_stops laws mid.depth (of_block t.4) n' (bytes_at mid.depth base r1.ended) k outcome ran undone stop_made
         (subst (EndsAs outcome) stop_stands (ends (stands_for mid (words_at mid.depth base r1.ended k)) (stands_open mid (words_at mid.depth base r1.ended k) inside) (stands_mode mid (words_at mid.depth base r1.ended k) ∙ revocable))) older (omega (arith, newer, later)) (ran_is ∙ ap (ran_of outcome) stop_stands) full))
@@ -288,13 +289,19 @@ module _ {P : Type 0} {rules : Rules P} (laws : Obeys rules) {first : Between P}
     stop_left = alone_led laws mid.depth (of_block (run.inside inside).4) (bytes_at mid.depth base r1.ended k) ∙ sym stop_stands
 
   -- in conflict: its player goes back to its begin
-  module _ (clock : ℕ) (word : Option ℕ) (m : HasAnswered rules true cells cells' r r1 mid a last call (Conflict clock word)) (held : HasHeld mid.depth base cells cells' r a.thread mid a.engine call (Answers (Conflict clock word))) where
+  module _ (clock : ℕ) (word : Option ℕ) (m : HasAnswered rules true cells cells' r r1 mid a last call (Conflict clock word)) (held : HasHeld mid.depth base cells cells' r (active_of a) mid a.engine call (Answers (Conflict clock word))) where
     conflicts : Conflicts mid clock word a.engine
     conflicts = subst (λ (b : Bool). ConflictsIn b mid clock word a.engine) inside m.ends
 
     pub conflict_runs : IsRun rules first mid.depth base n' r1 last
     conflict_runs =
         let t = run.inside inside in
+        let shut : in_transaction last.engine ≡ false = ap in_transaction m.settled.engine ∙ m.answered.fits.1 in
+        let tally : Tally P = record { player = rules.restarted a.run.player; nth = a.run.nth; again = a.run.again; stage = within t.1 } in
+        let gone : List Attempt = ending_as outcomes.Conflict (stand_at false last.engine) t.1 ∷ [] in
+        let x = taken_at m.told (stage_open _ t.3) shut in
+        let d = is_tried tally gone a.run.retries x in
+        let mine = row_is_of true a t.1 m.answered.kept.row t.3 in
         let k : ℕ = last.engine.snapshot / 2 in
         let snapshot : last.engine.snapshot ≡ mid.snapshot = ap (λ (c : Core). c.snapshot) (m.settled.engine ∙ conflicts.stays) in
         let early = t.4.began in
@@ -304,49 +311,54 @@ module _ {P : Type 0} {rules : Rules P} (laws : Obeys rules) {first : Between P}
         let words : List ℕ = words_at mid.depth base r1.ended k in
         let undone_is = conflicts.undone words (subst (IsMemory mid.words) (sym (ap words_of (still k (omega arith)))) (memory_at seen k (omega arith))) in
         let ran_is : last.engine.actions.ran ≡ (undone (stands_for mid words)).actions.ran = ap (λ (c : Core). c.actions.ran) m.settled.engine ∙ (ap (λ (x : Actions). x.ran) (sym (stands_actions a.engine words)) ∙ ap (λ (x : State). x.actions.ran) undone_is) in
-        let over = stop_run k outcomes.Conflict last.engine.actions.ran refl (λ x o i. (o, i)) m.settled.thread m.told.0 (omega arith) (omega arith) agrees revocable ran_is (λ f. absurd (cc)) in
-        let state = stop_left k outcomes.Conflict last.engine.actions.ran refl (λ x o i. (o, i)) m.settled.thread m.told.0 (omega arith) (omega arith) agrees revocable in
-        let player : rules.restarted (answered_all rules.answered (rules.answered t.4.start.player (begin_code t.0.again)) (map (λ (x : CallRecord). x.reply) t.1.calls.list)) ≡ last.player = ap rules.restarted (sym t.4.player) ∙ sym m.told.1 in
+        let over = stop_run k outcomes.Conflict last.engine.actions.ran refl (λ x o i. (o, i)) m.settled.thread mine d.ended (omega arith) (omega arith) agrees revocable ran_is (λ f. absurd (cc)) in
+        let state = stop_left k outcomes.Conflict last.engine.actions.ran refl (λ x o i. (o, i)) m.settled.thread mine d.ended (omega arith) (omega arith) agrees revocable in
+        let player : rules.restarted (answered_all rules.answered (rules.answered t.4.start.player (begin_code t.0.again)) (map (λ (x : CallRecord). x.reply) t.1.calls.list)) ≡ last.run.player = ap rules.restarted (sym t.4.player) ∙ sym d.player in
         let left : State = alone mid.depth (bytes_at mid.depth base r1.ended k) (record t.1 { calls = spent t.1.calls; at = k; ran = last.engine.actions.ran; outcome = outcomes.Conflict }) in
         let arena : (undone left).arena ≡ last.engine.arena =
         ap (λ (x : State). (undone x).arena) state
         ∙ (sym (ap (λ (x : State). x.arena) undone_is) ∙ (stands_arena a.engine words ∙ ap (λ (c : Core). c.arena) (sym m.settled.engine))) in
         record {
           run = over.0;
-          inside = λ o. absurd (true≢false (sym o ∙ (ap in_transaction m.settled.engine ∙ m.answered.fits.1)));
+          inside = λ o. absurd (true≢false (sym o ∙ shut));
           between = λ o gave_up starved. (
-            record { player = last.player; arena = last.engine.arena; again = true; tries = t.1.nth },
+            record { player = last.run.player; arena = last.engine.arena; again = true; tries = t.1.nth },
             over.1 ∙ (λ i. Some (record { player = player i; arena = arena i; again = true; tries = t.1.nth })),
             record {
               calls = 0;
               leads = (refl, refl);
-              again = m.told.2.again ∙ t.5;
-              tries = (let more = (next_try m.told.2 m.answered.status gave_up).1 in let same_try = t.6 in omega arith);
-              pending = λ x e. absurd (let none = sym (none_retried rules r r1 a last true m.settled m.told.2 m.answered.status gave_up) ∙ e in cc);
+              again = d.again ∙ t.5;
+              tries = omega (arith, (next_try tally gone a.run.retries x gave_up).1, t.6);
+              pending = λ row e. absurd (none-some row (sym (ap begun_in d.stage) ∙ e));
             },
           );
         }
 
   -- as full: the actor gives up
-  module _ (at : ℕ) (m : HasAnswered rules true cells cells' r r1 mid a last call (Full at)) (held : HasHeld mid.depth base cells cells' r a.thread mid a.engine call (Answers (Full at))) (older : (run.inside inside).1.began ≤ at) (newer : at ≤ cells.clock / 2) where
+  module _ (at : ℕ) (m : HasAnswered rules true cells cells' r r1 mid a last call (Full at)) (held : HasHeld mid.depth base cells cells' r (active_of a) mid a.engine call (Answers (Full at))) (older : (run.inside inside).1.began ≤ at) (newer : at ≤ cells.clock / 2) where
     pub full_runs : IsRun rules first mid.depth base n' r1 last
     full_runs =
         let t = run.inside inside in
+        let shut : in_transaction last.engine ≡ false = ap in_transaction m.settled.engine ∙ m.answered.fits.1 in
+        let x = taken_at m.told (stage_open _ t.3) shut in
+        let here : at ≡ last.engine.snapshot / 2 = m.ends.at_is ∙ ap (λ (c : Core). c.snapshot / 2) (sym m.settled.engine) in
+        let ended = x.ended ∙ ap (λ (n : ℕ). r.ended ++ record (ending_as outcomes.Full (stand_at false last.engine) t.1) { at = n } ∷ []) (sym here) in
+        let mine = row_is_of true a t.1 m.answered.kept.row t.3 in
         let revocable = revocable_of held (λ s reply never. never) in
         let agrees = subst (λ (k : ℕ). Agrees (words_at mid.depth base r.ended k) mid.log) (sym m.ends.at_is) (seen.still inside) in
         let words : List ℕ = words_at mid.depth base r1.ended at in
         let mem : IsMemory mid.words words = subst (IsMemory mid.words) (sym (ap words_of (still at newer))) (memory_at seen at newer) in
-        let stands = stop_stands at outcomes.Full last.engine.actions.ran refl (λ x o i. (o, i)) m.settled.thread m.told.0 older newer agrees revocable in
-        let made = stop_made at outcomes.Full last.engine.actions.ran refl (λ x o i. (o, i)) m.settled.thread m.told.0 older newer agrees revocable in
+        let stands = stop_stands at outcomes.Full last.engine.actions.ran refl (λ x o i. (o, i)) m.settled.thread mine ended older newer agrees revocable in
+        let made = stop_made at outcomes.Full last.engine.actions.ran refl (λ x o i. (o, i)) m.settled.thread mine ended older newer agrees revocable in
         let takes = wants_taking mid words revocable inside call (subst (WantsClock mid) m.taken.doing m.ends.wants) in
         record {
-          run = (stop_run at outcomes.Full last.engine.actions.ran refl (λ x o i. (o, i)) m.settled.thread m.told.0 older newer agrees revocable
+          run = (stop_run at outcomes.Full last.engine.actions.ran refl (λ x o i. (o, i)) m.settled.thread mine ended older newer agrees revocable
               (ap (λ (c : Core). c.actions.ran) m.settled.engine ∙ ran_back words mem)
               (λ f. lacks_clock laws mid.depth (of_block t.4) (bytes_at mid.depth base r1.ended at) call (plainly mid.depth (led (bytes_at mid.depth base r1.ended at)) call) made m.answered.in_call.asks refl
               (ap (λ (s : State). s.irrevocable) (sym stands) ∙ ap (λ (b : Bool). (state_in b mid.writes mid.blocks mid.arena mid.actions words).irrevocable) revocable)
               (ap (λ (s : State). takes_clock (after mid.depth s call)) (sym stands) ∙ takes))).0;
-          inside = λ o. absurd (true≢false (sym o ∙ (ap in_transaction m.settled.engine ∙ m.answered.fits.1)));
-          between = λ o gave_up starved. absurd (gave_up (ap ending_of m.told.1));
+          inside = λ o. absurd (true≢false (sym o ∙ shut));
+          between = λ o gave_up starved. absurd (gave_up (ap ending_of x.status));
         }
       where
         ran_back : (words : List ℕ) → IsMemory mid.words words → a.engine.actions.ran ≡ (undone (stands_for mid words)).actions.ran

@@ -1,32 +1,30 @@
 -- A value or a call was taken in, and what the engine gave is recorded: the actor's run goes on, and the words are still those that the commits left.
-use Rattle.tx_attempts.specs.Kept.{grown, spent}
 use Rattle.std.proofs.Common.{◌≡◌, ℕ, suc, ◌+◌, ◌/◌, ◌≤◌, ◌==◌, Bool, true, false, List, [], ◌∷◌, ◌++◌, Option, None, Some, refl, sym, true≢false, ap, subst, ◌∙◌, arith, eq-eqb, append-nil, inl, inr}
-use Rattle.norec_world.proofs.Common.{Actor, Agrees, Answer, Answers, AreCounted, AreLaid, Asks, Attempt, Between, Busy, Call, Cells, Committed, Conflict, Core, Done, Full, IsDone, IsHeld, IsRun, Loaded, Next, NoMemory, Obeys, RecordsReply, Replied, Reply, Restarted, Rows, Rules, Sees, StandsIn, State, Step, Tells, Waits, active_of, after, alone, backed, bytes_at, committed_at, cond-true, ending_of, frees, in_transaction, is_open, memory_left, opened, reply_cases, rests, same_Some, stands_for, words_at}
-use Rattle.tx_attempts.specs.declared.attempt.Outcome.TheVariants as outcomes
-use Rattle.norec_world.proofs.Attempts.OpenTries.{try_asks}
+use Rattle.norec_world.proofs.Common.{Actor, Agrees, Answer, Answers, AreCounted, AreLaid, Asks, Attempt, Between, Busy, Call, Cells, Committed, Conflict, Core, Full, IsDone, IsHeld, IsRun, Loaded, Next, NoMemory, Obeys, Replied, Reply, Restarted, Rows, Rules, Sees, StandsIn, State, Step, Tells, Waits, active_of, after, alone, backed, bytes_at, committed_at, cond-true, ending_of, frees, in_transaction, is_open, memory_left, opened, reply_cases, rests, same_Some, stands_for, with_call, words_at}
+use Rattle.norec_world.proofs.Tries.OpenTries.{try_asks}
 use Rattle.norec_world.proofs.Commits.LaidWords.{laid_more, laid_on}
 use Rattle.norec_world.proofs.Commits.Memories.{bytes_stay, found_later, none_next}
 use Rattle.norec_world.proofs.Runs.Answers.{before_on, held_position, position_bytes, position_fits, reply_runs}
-use Rattle.norec_world.proofs.Runs.Endings.{cancel_runs, commit_ended, commit_memory, commit_runs, conflict_runs, full_runs}
+use Rattle.norec_world.proofs.Runs.Endings.{cancel_runs, commit_ended, committed_row, commit_memory, commit_runs, conflict_runs, full_runs}
 use Rattle.norec_world.proofs.Engines.HeldCalls.{HasHeld, stands_actions, stands_mode}
 use Rattle.tx_runs.proofs.Tries.{alone_led}
-use Rattle.norec_world.proofs.Attempts.TryOutcomes.{of_block, stands_led}
-use Rattle.norec_world.proofs.Attempts.ActiveRows.{changed_here}
+use Rattle.norec_world.proofs.Tries.TryOutcomes.{of_block, stands_led}
+use Rattle.norec_world.proofs.Tries.Stages.{stage_open, taken_at, told_active}
 use Rattle.tx_runs.proofs.Unbroken.{state_whole}
 use Rattle.norec_world.proofs.Engines.OpenEngines.{stands_open}
 use Rattle.user_actions.specs.Actions.{Actions}
 use Rattle.norec_world.proofs.Runs.Begins.{begin_holds, shut_runs}
 use Rattle.norec_world.proofs.Commits.SeenMemories.{HasSeen}
 use Rattle.norec_world.proofs.Engines.Intakes.{HasAnswered, HasTaken, answered, still_going, clock_grows, half_same, unfreed}
-use Rattle.norec_world.proofs.Attempts.TryEnds.{begun_or_not}
-use Rattle.norec_world.proofs.Attempts.AnswerEndings.{not_starved}
+use Rattle.norec_world.proofs.Tries.TryEnds.{begun_or_not}
+use Rattle.norec_world.proofs.Tries.AnswerEndings.{not_starved}
 
 module _ {P : Type 0} (rules : Rules P) (first : Between P) (deepest : ℕ) (base : List ℕ) where
   -- what is true of the actor then; the words are laid as soon as its attempts are counted
   pub record HasRun (cells : Cells) (r : Rows) (last : Actor P) : Type 0 where
     pub run : IsRun rules first deepest base (cells.clock / 2) r last
     pub sees : Sees (words_at deepest base r.ended) cells last.engine
-    pub held : last.engine.irrevocable ≡ true → (row : Attempt) → active_of last.thread r.active ≡ Some row → IsHeld deepest (bytes_at deepest base r.ended (cells.clock / 2)) cells.words row last.engine
+    pub held : last.engine.irrevocable ≡ true → (row : Attempt) → active_of last ≡ Some row → IsHeld deepest (bytes_at deepest base r.ended (cells.clock / 2)) cells.words row last.engine
     pub laid : AreCounted cells.clock r.ended → AreLaid deepest base cells r
     pub fed : ending_of last.status ≡ Some NoMemory → ⊥
 
@@ -39,7 +37,7 @@ module _ {P : Type 0} {rules : Rules P} (laws : Obeys rules) {first : Between P}
 
   -- ## The call goes on
 
-  waits_on : (step : Step) → HasTaken rules was cells cells' r mid a call (Asks step) → HasHeld mid.depth base cells cells' r a.thread mid a.engine call (Asks step) → HasRun rules first mid.depth base cells' r (record a { status = Waits call step })
+  waits_on : (step : Step) → HasTaken rules was cells cells' r mid a call (Asks step) → HasHeld mid.depth base cells cells' r (active_of a) mid a.engine call (Asks step) → HasRun rules first mid.depth base cells' r (record a { status = Waits call step })
   waits_on step t held =
       let g = t.proceeds in
       let opens : in_transaction a.engine ≡ in_transaction mid = ap in_transaction g.stays in
@@ -80,26 +78,26 @@ module _ {P : Type 0} {rules : Rules P} (laws : Obeys rules) {first : Between P}
     to_now : cells'.clock / 2 ≡ cells.clock / 2 → IsRun rules first mid.depth base (cells.clock / 2) r1 last → IsRun rules first mid.depth base (cells'.clock / 2) r1 last
     to_now half x = subst (λ (k : ℕ). IsRun rules first mid.depth base k r1 last) (sym half) x
 
-    open_runs : (answer : Answer) → HasAnswered rules true cells cells' r r1 mid a last call answer → HasHeld mid.depth base cells cells' r a.thread mid a.engine call (Answers answer) → IsRun rules first mid.depth base (cells'.clock / 2) r1 last
-    open_runs (Reply reply) m held = by_open (in_transaction last.engine) refl m.told
+    open_runs : (answer : Answer) → HasAnswered rules true cells cells' r r1 mid a last call answer → HasHeld mid.depth base cells cells' r (active_of a) mid a.engine call (Answers answer) → IsRun rules first mid.depth base (cells'.clock / 2) r1 last
+    open_runs (Reply reply) m held = by_open (in_transaction last.engine) refl
       where
         half : cells'.clock / 2 ≡ cells.clock / 2
         half = half_same m refl
 
-        by_open : (now : Bool) → in_transaction last.engine ≡ now → RecordsReply rules true now r r1 a last call reply → IsRun rules first mid.depth base (cells'.clock / 2) r1 last
-        by_open true o told = to_now half (reply_runs laws r1 a last call seen run reply m held o told)
-        by_open false o told = cancel_runs laws r1 a last call seen run (cells'.clock / 2) (clock_grows m.taken.moves) (bytes_stay seen.laid more ended) m.taken.was_is reply m o told
+        by_open : (now : Bool) → in_transaction last.engine ≡ now → IsRun rules first mid.depth base (cells'.clock / 2) r1 last
+        by_open true o = to_now half (reply_runs laws r1 a last call seen run reply m held o)
+        by_open false o = cancel_runs laws r1 a last call seen run (cells'.clock / 2) (clock_grows m.taken.moves) (bytes_stay seen.laid more ended) m.taken.was_is reply m o
             (omega (arith, half, m.taken.tied.settled.reached, m.taken.tied.late))
     open_runs (Committed at wrote) m held = commit_runs laws r1 a last call seen run (cells'.clock / 2) (clock_grows m.taken.moves) (bytes_stay seen.laid more ended) m.taken.was_is at wrote m held
     open_runs (Conflict clock word) m held = conflict_runs laws r1 a last call seen run (cells'.clock / 2) (clock_grows m.taken.moves) (bytes_stay seen.laid more ended) m.taken.was_is clock word m held
-    open_runs (Restarted clock word) m held = absurd m.told
+    open_runs (Restarted clock word) m held = absurd m.answered.fits
     open_runs (Busy clock) m held = absurd (let f : true ≡ false = m.answered.fits.0 in cc)
     open_runs (Full at) m held =
         let at_is = m.ends.at_is in
         full_runs laws r1 a last call seen run (cells'.clock / 2) (clock_grows m.taken.moves) (bytes_stay seen.laid more ended) m.taken.was_is at m held
         (omega (arith, (run.inside m.taken.was_is).4.began, seen.up m.taken.was_is)) (omega (arith, m.taken.tied.settled.reached, m.taken.tied.late, clock_grows m.taken.moves, m.taken.moves.keeps m.ends.unfreed))
 
-    runs_on : (b : Bool) (answer : Answer) → HasAnswered rules b cells cells' r r1 mid a last call answer → HasHeld mid.depth base cells cells' r a.thread mid a.engine call (Answers answer) → IsRun rules first mid.depth base (cells'.clock / 2) r1 last
+    runs_on : (b : Bool) (answer : Answer) → HasAnswered rules b cells cells' r r1 mid a last call answer → HasHeld mid.depth base cells cells' r (active_of a) mid a.engine call (Answers answer) → IsRun rules first mid.depth base (cells'.clock / 2) r1 last
     runs_on true answer m held = open_runs answer m held
     runs_on false answer m held = to_now (half_same m (shut_frees answer m)) (shut_runs laws r1 a last call seen run (held.shut m.taken.was_is) answer m)
       where
@@ -109,9 +107,9 @@ module _ {P : Type 0} {rules : Rules P} (laws : Obeys rules) {first : Between P}
 
     -- an answer that leaves the transaction open ends no attempt
     pub open_ended : (b : Bool) (answer : Answer) → HasAnswered rules b cells cells' r r1 mid a last call answer → in_transaction a.engine ≡ true → r1.ended ≡ r.ended
-    open_ended true (Reply reply) m o = ap (λ (x : Rows). x.ended) (subst (λ (now : Bool). RecordsReply rules true now r r1 a last call reply) (ap in_transaction m.settled.engine ∙ o) m.told).0
-    open_ended false (Reply reply) m o = elim (begun_or_not reply m) [ inl b ↦ ap (λ (x : Rows). x.ended) b.3 | inr n ↦ ap (λ (x : Rows). x.ended) n.1 ]
-    open_ended b (Restarted clock word) m o = absurd m.told
+    open_ended true (Reply reply) m o = (taken_at m.told (stage_open _ m.answered.kept.row.1) (ap in_transaction m.settled.engine ∙ o)).ended ∙ append-nil r.ended
+    open_ended false (Reply reply) m o = (begun_or_not reply m).ended
+    open_ended b (Restarted clock word) m o = absurd m.answered.fits
     open_ended b answer m o = absurd (true≢false (sym o ∙ m.answered.fits.1))
 
     sees_on : (answer : Answer) → HasAnswered rules was cells cells' r r1 mid a last call answer → Sees (words_at mid.depth base r1.ended) cells' last.engine
@@ -127,7 +125,7 @@ module _ {P : Type 0} {rules : Rules P} (laws : Obeys rules) {first : Between P}
         })
 
     -- a writer's commit: its row's memory is what its stores have made of the words
-    laid_freed : (at : ℕ) → HasAnswered rules true cells cells' r r1 mid a last call (Committed at true) → HasHeld mid.depth base cells cells' r a.thread mid a.engine call (Answers (Committed at true)) → AreCounted cells'.clock r1.ended → AreLaid mid.depth base cells' r1
+    laid_freed : (at : ℕ) → HasAnswered rules true cells cells' r r1 mid a last call (Committed at true) → HasHeld mid.depth base cells cells' r (active_of a) mid a.engine call (Answers (Committed at true)) → AreCounted cells'.clock r1.ended → AreLaid mid.depth base cells' r1
     laid_freed at m held counted =
         let freed : mid.freed ≡ true = m.ends.freed in
         let x = m.taken.moves.frees freed in
@@ -138,7 +136,7 @@ module _ {P : Type 0} {rules : Rules P} (laws : Obeys rules) {first : Between P}
         let up = clock_grows m.taken.moves in
         let inside = m.taken.was_is in
         let t = run.inside inside in
-        let row : Attempt = record t.1 { calls = spent (grown t.1.calls (record { call = call; reply = Done }) 0); at = at; ran = a.engine.actions.ran; outcome = outcomes.Committed } in
+        let row : Attempt = committed_row true at a.engine call t.1 in
         let rows : r1.ended ≡ r.ended ++ row ∷ [] = commit_ended laws r1 a last call seen run (cells'.clock / 2) up (bytes_stay seen.laid more ended) inside at true m held in
         let left_so = commit_memory laws r1 a last call seen run (cells'.clock / 2) up (bytes_stay seen.laid more ended) inside at true m held refl in
         let found_row : committed_at r1.ended (cells.clock / 2) ≡ Some row =
@@ -150,7 +148,7 @@ module _ {P : Type 0} {rules : Rules P} (laws : Obeys rules) {first : Between P}
         ∙ (ap (memory_left mid.depth (bytes_at mid.depth base r1.ended (cells.clock / 2))) found_row
         ∙ (ap (λ (k : ℕ). (alone mid.depth (bytes_at mid.depth base r1.ended k) row).memory) (sym position) ∙ left_so)))
 
-    laid_answered : (b : Bool) (answer : Answer) → HasAnswered rules b cells cells' r r1 mid a last call answer → HasHeld mid.depth base cells cells' r a.thread mid a.engine call (Answers answer) → AreCounted cells'.clock r1.ended → AreLaid mid.depth base cells' r1
+    laid_answered : (b : Bool) (answer : Answer) → HasAnswered rules b cells cells' r r1 mid a last call answer → HasHeld mid.depth base cells cells' r (active_of a) mid a.engine call (Answers answer) → AreCounted cells'.clock r1.ended → AreLaid mid.depth base cells' r1
     laid_answered true (Committed at true) m held = laid_freed at m held
     laid_answered false (Committed at true) m held = absurd (let f : false ≡ true = m.answered.fits.0 in cc)
     laid_answered b answer m held = laid_still r1 more ended (half_same m refl) (unfreed m refl)
@@ -168,7 +166,7 @@ module _ {P : Type 0} {rules : Rules P} (laws : Obeys rules) {first : Between P}
     }
 
     -- a reply within it, or that of the call that made it so
-    held_stands : (reply : Replied) (m : HasAnswered rules true cells cells' r r1 mid a last call (Reply reply)) → HasHeld mid.depth base cells cells' r a.thread mid a.engine call (Answers (Reply reply)) → a.engine.irrevocable ≡ true
+    held_stands : (reply : Replied) (m : HasAnswered rules true cells cells' r r1 mid a last call (Reply reply)) → HasHeld mid.depth base cells cells' r (active_of a) mid a.engine call (Answers (Reply reply)) → a.engine.irrevocable ≡ true
         → stands_for a.engine cells'.words ≡ after mid.depth (alone mid.depth (bytes_at mid.depth base r.ended (cells.clock / 2)) (run.inside m.taken.was_is).1) call
     held_stands reply m held irrevocable = elim (reply_cases mid a.engine call reply m.taken.doing m.ends) [
       | inl g ↦ absurd (true≢false (sym irrevocable ∙ (ap (λ (c : Core). c.irrevocable) g.stays ∙ g.revocable)))
@@ -188,50 +186,49 @@ module _ {P : Type 0} {rules : Rules P} (laws : Obeys rules) {first : Between P}
     ]
 
     abbrev HeldOn : Type 0
-    HeldOn = last.engine.irrevocable ≡ true → (row : Attempt) → active_of last.thread r1.active ≡ Some row → IsHeld mid.depth (bytes_at mid.depth base r1.ended (cells'.clock / 2)) cells'.words row last.engine
+    HeldOn = last.engine.irrevocable ≡ true → (row : Attempt) → active_of last ≡ Some row → IsHeld mid.depth (bytes_at mid.depth base r1.ended (cells'.clock / 2)) cells'.words row last.engine
 
-    held_on : (b : Bool) (answer : Answer) → HasAnswered rules b cells cells' r r1 mid a last call answer → HasHeld mid.depth base cells cells' r a.thread mid a.engine call (Answers answer) → HeldOn
+    held_on : (b : Bool) (answer : Answer) → HasAnswered rules b cells cells' r r1 mid a last call answer → HasHeld mid.depth base cells cells' r (active_of a) mid a.engine call (Answers answer) → HeldOn
     held_on b answer m held irrevocable row active =
         let now : a.engine.irrevocable ≡ true = ap (λ (c : Core). c.irrevocable) (sym m.settled.engine) ∙ irrevocable in
         let inside : in_transaction a.engine ≡ true = (m.taken.tied.settled.holder (m.taken.tied.settled.irrevocable now).0).0 in
         let idle = (rests mid a.engine answer m.ends).idle in
         subst (λ (c : Core). IsHeld mid.depth (bytes_at mid.depth base r1.ended (cells'.clock / 2)) cells'.words row c) (sym m.settled.engine) (by_answer b answer m held now inside idle)
       where
-        by_answer : (b : Bool) (answer : Answer) → HasAnswered rules b cells cells' r r1 mid a last call answer → HasHeld mid.depth base cells cells' r a.thread mid a.engine call (Answers answer) → a.engine.irrevocable ≡ true → in_transaction a.engine ≡ true → a.engine.waits ≡ None
+        by_answer : (b : Bool) (answer : Answer) → HasAnswered rules b cells cells' r r1 mid a last call answer → HasHeld mid.depth base cells cells' r (active_of a) mid a.engine call (Answers answer) → a.engine.irrevocable ≡ true → in_transaction a.engine ≡ true → a.engine.waits ≡ None
             → IsHeld mid.depth (bytes_at mid.depth base r1.ended (cells'.clock / 2)) cells'.words row a.engine
         by_answer true (Reply reply) m held now inside idle =
             let t = run.inside m.taken.was_is in
             let half = half_same m refl in
-            let told = subst (λ (o : Bool). RecordsReply rules true o r r1 a last call reply) (ap in_transaction m.settled.engine ∙ inside) m.told in
-            let with_call : Attempt → Attempt = λ x. record x { calls = grown x.calls (record { call = call; reply = reply }) a.ahead; ran = last.engine.actions.ran } in
-            let here : active_of last.thread r1.active ≡ Some (with_call t.1) = ap (λ (k : ℕ). active_of k r1.active) m.settled.thread ∙ (ap (λ (x : Rows). active_of a.thread x.active) told.0 ∙ changed_here a.thread with_call r.active t.1 (λ x. refl) t.3) in
-            let same : with_call t.1 ≡ row = same_Some _ _ (sym here ∙ active) in
+            let x = taken_at m.told (stage_open _ t.3) (ap in_transaction m.settled.engine ∙ inside) in
+            let more : Attempt = record (with_call call reply t.1) { ran = last.engine.actions.ran } in
+            let same : more ≡ row = same_Some _ _ (sym (told_active x) ∙ active) in
             let s = held_stands reply m held now in
-            let memory : bytes_at mid.depth base r.ended (cells.clock / 2) ≡ bytes_at mid.depth base r1.ended (cells'.clock / 2) = λ i. bytes_at mid.depth base (sym (ap (λ (x : Rows). x.ended) told.0) i) (sym half i) in
+            let memory : bytes_at mid.depth base r.ended (cells.clock / 2) ≡ bytes_at mid.depth base r1.ended (cells'.clock / 2) = λ i. bytes_at mid.depth base (sym (open_ended true (Reply reply) m inside) i) (sym half i) in
             subst (λ (x : Attempt). IsHeld mid.depth (bytes_at mid.depth base r1.ended (cells'.clock / 2)) cells'.words x a.engine) same
-            (subst (λ (bytes : List ℕ). IsHeld mid.depth bytes cells'.words (with_call t.1) a.engine) memory
-            (stands_held (bytes_at mid.depth base r.ended (cells.clock / 2)) (with_call t.1) inside now (s ∙ sym (state_whole mid.depth t.1.restarts (opened (bytes_at mid.depth base r.ended (cells.clock / 2)) t.1.arena t.1.props) t.1.calls.list (record { call = call; reply = reply }) t.4.restarts))
+            (subst (λ (bytes : List ℕ). IsHeld mid.depth bytes cells'.words more a.engine) memory
+            (stands_held (bytes_at mid.depth base r.ended (cells.clock / 2)) more inside now (s ∙ sym (state_whole mid.depth t.1.restarts (opened (bytes_at mid.depth base r.ended (cells.clock / 2)) t.1.arena t.1.props) t.1.calls.list (record { call = call; reply = reply }) t.4.restarts))
             (ap (λ (c : Core). c.actions.ran) m.settled.engine) idle))
         by_answer false (Reply reply) m held now inside idle =
             let half = half_same m refl in
             let s = begin_holds laws r1 a last call seen run (held.shut m.taken.was_is) reply m (ap in_transaction m.settled.engine ∙ inside) now row active in
             let memory : bytes_at mid.depth base r.ended (cells.clock / 2) ≡ bytes_at mid.depth base r1.ended (cells'.clock / 2) = λ i. bytes_at mid.depth base (sym (open_ended false (Reply reply) m inside) i) (sym half i) in
             subst (λ (bytes : List ℕ). IsHeld mid.depth bytes cells'.words row a.engine) memory (stands_held (bytes_at mid.depth base r.ended (cells.clock / 2)) row inside now s.0 s.1 idle)
-        by_answer b (Restarted clock word) m held now inside idle = absurd m.told
+        by_answer b (Restarted clock word) m held now inside idle = absurd m.answered.fits
         by_answer b answer m held now inside idle = absurd (true≢false (sym inside ∙ m.answered.fits.1))
 
-    answers_on : (answer : Answer) → HasAnswered rules was cells cells' r r1 mid a last call answer → HasHeld mid.depth base cells cells' r a.thread mid a.engine call (Answers answer) → HasRun rules first mid.depth base cells' r1 last
+    answers_on : (answer : Answer) → HasAnswered rules was cells cells' r r1 mid a last call answer → HasHeld mid.depth base cells cells' r (active_of a) mid a.engine call (Answers answer) → HasRun rules first mid.depth base cells' r1 last
     answers_on answer m held = record {
       run = runs_on was answer m held;
       sees = sees_on answer m;
       held = held_on was answer m held;
       laid = laid_answered was answer m held;
-      fed = not_starved rules r r1 a last call was m.taken.ready answer m.told;
+      fed = not_starved rules r r1 a last call answer m.told;
     }
 
     -- ## Either
 
-    pub runs_recorded : (what : Next) → HasTaken rules was cells cells' r mid a call what → HasHeld mid.depth base cells cells' r a.thread mid a.engine call what → IsDone rules was r r1 a last call what → Tells rules was r r1 a last call what → HasRun rules first mid.depth base cells' r1 last
+    pub runs_recorded : (what : Next) → HasTaken rules was cells cells' r mid a call what → HasHeld mid.depth base cells cells' r (active_of a) mid a.engine call what → IsDone rules was r r1 a last call what → Tells rules r r1 a last call what → HasRun rules first mid.depth base cells' r1 last
     runs_recorded (Asks step) t held done tells =
         subst (λ (x : Rows). HasRun rules first mid.depth base cells' x last) (sym done.1) (subst (HasRun rules first mid.depth base cells' r) (sym done.0) (waits_on step t held))
     runs_recorded (Answers answer) t held done tells = answers_on answer (record { taken = t; answered = answered t; ends = t.proceeds; told = tells; settled = done }) held

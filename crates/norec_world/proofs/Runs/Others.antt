@@ -1,35 +1,39 @@
 -- The actors' runs: one's event leaves the others', and together they are the headline.
-use Rattle.std.proofs.Common.{◌≡◌, ◌≢◌, inl, inr, ℕ, ◌/◌, ◌%◌, ◌≤◌, Bool, true, false, List, [], ◌∷◌, ◌++◌, length, length-set, replicate, None, Some, slice_get, slice_set, refl, sym, ap, subst, ◌∙◌, arith, nat_lt}
-use Rattle.norec_world.proofs.Common.{Actor, Agrees, AllFit, AreActors, AreLaid, AreOfActors, AreOpaque, AreOpen, AreRunning, AreTied, Attempt, Between, Cells, ChangesOwn, ClocksOn, Core, Got, HasRead, HasRow, IsHeld, IsMemory, IsRunOf, IsTied, IsTryAt, IsWorld, KeepsOthers, Obeys, Ready, Rows, Rules, RunsFrom, StandsIn, State, World, active_of, alone, append-nil, attempts_of, backed, observed, begins_at, bytes_at, bytes_of, cases_Bool, count_at, count_committed, first_of, in_transaction, is_open, le-ltb, of_thread, one_where, opened, opening, run_after, same_Some, state_then, words_at, words_of, write_at, slice_get_within, breaks_of}
+use Rattle.std.proofs.Common.{◌≡◌, ◌≢◌, inl, inr, ℕ, ◌/◌, ◌%◌, ◌≤◌, Bool, true, false, List, [], ◌∷◌, ◌++◌, length, length-set, replicate, Option, Some, ◌+◌, ◌<◌, slice_get, slice_set, refl, sym, ap, subst, ◌∙◌, arith, nat_lt}
+use Rattle.norec_world.proofs.Common.{Actor, Agrees, AllFit, AllOf, AreActors, AreLaid, AreOfActors, AreOpaque, AreRunning, AreTied, Attempt, Between, Cells, ClocksOn, Core, Got, HasRead, HasRow, IsHeld, IsMemory, IsRunOf, IsTied, IsTryAt, IsWorld, KeepsOthers, Obeys, Ready, Rows, Rules, RunsFrom, StandsIn, State, World, active_of, alone, append-nil, attempts_of, backed, begins_at, begun_in, breaks_of, bytes_at, bytes_of, cases_Bool, count_at, count_committed, first_of, in_transaction, is_open, le-ltb, none-some, observed, of_thread, one_where, open_in, opened, opening, run_after, same_Some, slice_get_within, stage_of, state_then, words_at, words_of, write_at}
 use Rattle.tx_attempts.specs.declared.attempt.Outcome.TheVariants as outcomes
 use Rattle.itm_types.proofs.WordLists.{words_of-bytes_of}
 use Rattle.norec_world.specs.Runs.{StillRuns}
 use Rattle.norec_world.specs.Dates.{AreDated}
 use Rattle.tx_runs.specs.Unbroken.{AreUnbroken}
-use Rattle.norec_world.proofs.Attempts.Dates.{all_dated, all_unbroken}
-use Rattle.norec_world.proofs.Events.SoundOthers.{set_place, there_is, are_open, held_apart, odd_held, row_unfinished, row_open}
-use Rattle.norec_world.proofs.Attempts.OpenTries.{try_moved}
+use Rattle.norec_world.proofs.Tries.Dates.{all_dated, all_unbroken}
+use Rattle.norec_world.proofs.Events.SoundOthers.{set_place, there_is, held_apart, odd_held}
+use Rattle.norec_world.proofs.Tries.Stages.{row_open, row_unfinished}
+use Rattle.tx_runs.specs.declared.player_run.Current.{Current}
+use Rattle.tx_runs.specs.declared.player_run.Current.TheVariants.{Outside}
+use Rattle.norec_world.specs.Stages.{opens, with_open}
+use Rattle.norec_world.proofs.Tries.OpenTries.{try_moved}
 use Rattle.tx_runs.proofs.Tries.{IsMadeAlone, alone_led, try_stops}
-use Rattle.norec_world.proofs.Attempts.TryOutcomes.{made_held, made_so, of_block, stands_led}
+use Rattle.norec_world.proofs.Tries.TryOutcomes.{made_held, made_so, of_block, stands_led}
 use Rattle.norec_world.proofs.Engines.HeldCalls.{stands_actions, stands_mode}
 use Rattle.itm_types.proofs.Words.{length-bytes_of}
 use Rattle.user_actions.specs.Actions.{Actions}
 use Rattle.norec_world.proofs.Commits.CommitCounts.{counted_both}
 use Rattle.norec_world.proofs.Commits.Memories.{bytes_still, bytes_stay}
 use Rattle.tx_runs.proofs.RunLists.{of_thread_more, run_still, run_more}
-use Rattle.norec_world.proofs.Attempts.ThreadAttempts.{of_actors_active, of_actors_all, of_actors_both, of_thread_none, open_none, open_one}
+use Rattle.norec_world.proofs.Tries.ThreadAttempts.{are_open, of_actors_all, of_actors_both, of_actors_each, of_thread_none, opens_each, opens_of, row_there, stand_there}
 
 module _ {P : Type 0} (rules : Rules P) (laws : Obeys rules) where
   -- ## Another one's event
 
-  pub other_runs : (first : Between P) (deepest : ℕ) (base : List ℕ) (cells cells' : Cells) (r r' : Rows) (thread : ℕ) (b : Actor P) → AreLaid deepest base cells r → IsTied cells b.engine → ChangesOwn thread r r' → (b.thread ≡ thread → ⊥)
+  pub other_runs : (first : Between P) (deepest : ℕ) (base : List ℕ) (cells cells' : Cells) (r r' : Rows) (thread : ℕ) (b : Actor P) → AreLaid deepest base cells r → IsTied cells b.engine → (more : List Attempt) → r'.ended ≡ r.ended ++ more → AllOf thread more → (b.run.thread ≡ thread → ⊥)
       → cells.clock ≤ cells'.clock → (b.engine.holds ≡ true → cells' ≡ cells) → RunsFrom rules first deepest base cells r b → RunsFrom rules first deepest base cells' r' b
-  other_runs first deepest base cells cells' r r' thread b laid tied own apart later held x =
+  other_runs first deepest base cells cells' r r' thread b laid tied more ended mine apart later held x =
       record {
         depth = x.depth;
         runs = record {
           run = subst (IsRunOf rules deepest (cells'.clock / 2) (bytes_at deepest base r'.ended) (Some first)) (sym rows) on.0;
-          inside = λ o. (let t = x.runs.inside o in (t.0, t.1, now ∙ t.2, own.others b.thread apart ∙ t.3, try_moved laws (words_at deepest base r'.ended (cells'.clock / 2)) (λ i. ap words_of (memory_held i)) t.4, t.5, t.6));
+          inside = λ o. (let t = x.runs.inside o in (t.0, t.1, now ∙ t.2, t.3, try_moved laws (words_at deepest base r'.ended (cells'.clock / 2)) (λ i. ap words_of (memory_held i)) t.4, t.5, t.6));
           between = λ o gave_up starved.
               (let t = x.runs.between o gave_up starved in let k = t.2 in (
                 t.0,
@@ -41,22 +45,22 @@ module _ {P : Type 0} (rules : Rules P) (laws : Obeys rules) where
           loaded = record {
             fresh = λ even same f.
                 (let clock : cells'.clock ≡ cells.clock = (let late = tied.late in omega arith) in
-                let words : words_at deepest base r'.ended (cells'.clock / 2) ≡ words_at deepest base r.ended (cells.clock / 2) = ap (λ (k : ℕ). words_at deepest base r'.ended (k / 2)) clock ∙ ap words_of (bytes_stay laid own.more own.ended (cells.clock / 2) (let l : cells.clock / 2 ≤ cells.clock / 2 = omega arith in l)) in
+                let words : words_at deepest base r'.ended (cells'.clock / 2) ≡ words_at deepest base r.ended (cells.clock / 2) = ap (λ (k : ℕ). words_at deepest base r'.ended (k / 2)) clock ∙ ap words_of (bytes_stay laid more ended (cells.clock / 2) (let l : cells.clock / 2 ≤ cells.clock / 2 = omega arith in l)) in
                 subst (λ (m : List ℕ). Agrees m b.engine.fresh) (sym words) (s.loaded.fresh (ap (λ (k : ℕ). k % 2) (sym clock) ∙ even) (same ∙ clock) f));
             held = λ h revocable.
                 (let is = held h in
-                ap (λ (c : Cells). c.words) is ∙ (s.loaded.held h revocable ∙ (ap (λ (m : List ℕ). backed b.engine m) (ap words_of (sym (bytes_stay laid own.more own.ended (cells.clock / 2) (let l : cells.clock / 2 ≤ cells.clock / 2 = omega arith in l))))
+                ap (λ (c : Cells). c.words) is ∙ (s.loaded.held h revocable ∙ (ap (λ (m : List ℕ). backed b.engine m) (ap words_of (sym (bytes_stay laid more ended (cells.clock / 2) (let l : cells.clock / 2 ≤ cells.clock / 2 = omega arith in l))))
                 ∙ ap (λ (c : Cells). backed b.engine (words_at deepest base r'.ended (c.clock / 2))) (sym is))));
             got = λ h revocable. subst (λ (c : Cells). Got b.engine.got (slice_get c.words (write_at b.engine.writes b.engine.done).word)) (sym (held h)) (s.loaded.got h revocable);
           };
-          logged = λ o. subst (λ (m : List ℕ). Agrees m b.engine.log) (sym (ap words_of (bytes_stay laid own.more own.ended (b.engine.snapshot / 2) (let reached = tied.settled.reached in let late = tied.late in omega arith)))) (s.logged o);
+          logged = λ o. subst (λ (m : List ℕ). Agrees m b.engine.log) (sym (ap words_of (bytes_stay laid more ended (b.engine.snapshot / 2) (let reached = tied.settled.reached in let late = tied.late in omega arith)))) (s.logged o);
         });
         held = λ i row f.
             subst (λ (bytes : List ℕ). IsHeld deepest bytes cells'.words row b.engine) (sym (memory_held i))
-            (subst (λ (c : Cells). IsHeld deepest (bytes_at deepest base r.ended (cells.clock / 2)) c.words row b.engine) (sym (held (holds_it i))) (x.held i row (sym (own.others b.thread apart) ∙ f)));
+            (subst (λ (c : Cells). IsHeld deepest (bytes_at deepest base r.ended (cells.clock / 2)) c.words row b.engine) (sym (held (holds_it i))) (x.held i row f));
         starved = x.starved;
-        reads = λ o row e. x.reads o row (sym (own.others b.thread apart) ∙ e);
-        fed = λ true_room. (let f = x.fed true_room in record { moves = f.moves; comes = f.comes; within = λ h row e. f.within h row (sym (own.others b.thread apart) ∙ e); fed = f.fed });
+        reads = x.reads;
+        fed = x.fed;
       }
     where
       -- an irrevocable one holds the clock
@@ -64,32 +68,36 @@ module _ {P : Type 0} (rules : Rules P) (laws : Obeys rules) where
       holds_it i = (tied.settled.irrevocable i).0
 
       memory_held : b.engine.irrevocable ≡ true → bytes_at deepest base r'.ended (cells'.clock / 2) ≡ bytes_at deepest base r.ended (cells.clock / 2)
-      memory_held i = ap (λ (c : Cells). bytes_at deepest base r'.ended (c.clock / 2)) (held (holds_it i)) ∙ bytes_stay laid own.more own.ended (cells.clock / 2) (let l : cells.clock / 2 ≤ cells.clock / 2 = omega arith in l)
+      memory_held i = ap (λ (c : Cells). bytes_at deepest base r'.ended (c.clock / 2)) (held (holds_it i)) ∙ bytes_stay laid more ended (cells.clock / 2) (let l : cells.clock / 2 ≤ cells.clock / 2 = omega arith in l)
 
-      rows : of_thread b.thread r'.ended ≡ of_thread b.thread r.ended
+      rows : of_thread b.run.thread r'.ended ≡ of_thread b.run.thread r.ended
       rows =
-          ap (of_thread b.thread) own.ended ∙ (of_thread_more b.thread r.ended own.more
-          ∙ (ap (λ (l : List Attempt). of_thread b.thread r.ended ++ l) (of_thread_none b.thread thread own.more own.mine (λ e. apart (sym e))) ∙ append-nil (of_thread b.thread r.ended)))
+          ap (of_thread b.run.thread) ended ∙ (of_thread_more b.run.thread r.ended more
+          ∙ (ap (λ (l : List Attempt). of_thread b.run.thread r.ended ++ l) (of_thread_none b.run.thread thread more mine (λ e. apart (sym e))) ∙ append-nil (of_thread b.run.thread r.ended)))
 
-      on : IsRunOf rules deepest (cells'.clock / 2) (bytes_at deepest base r'.ended) (Some first) (of_thread b.thread r.ended)
-          × (run_after rules deepest (bytes_at deepest base r'.ended) (Some first) (of_thread b.thread r.ended) ≡ run_after rules deepest (bytes_at deepest base r.ended) (Some first) (of_thread b.thread r.ended))
-      on = run_still rules deepest (cells.clock / 2) (cells'.clock / 2) (bytes_at deepest base r.ended) (bytes_at deepest base r'.ended) (omega (arith, later)) (bytes_stay laid own.more own.ended) (Some first) (of_thread b.thread r.ended) x.runs.run
+      on : IsRunOf rules deepest (cells'.clock / 2) (bytes_at deepest base r'.ended) (Some first) (of_thread b.run.thread r.ended)
+          × (run_after rules deepest (bytes_at deepest base r'.ended) (Some first) (of_thread b.run.thread r.ended) ≡ run_after rules deepest (bytes_at deepest base r.ended) (Some first) (of_thread b.run.thread r.ended))
+      on = run_still rules deepest (cells.clock / 2) (cells'.clock / 2) (bytes_at deepest base r.ended) (bytes_at deepest base r'.ended) (omega (arith, later)) (bytes_stay laid more ended) (Some first) (of_thread b.run.thread r.ended) x.runs.run
 
-      now : run_after rules deepest (bytes_at deepest base r'.ended) (Some first) (of_thread b.thread r'.ended) ≡ run_after rules deepest (bytes_at deepest base r.ended) (Some first) (of_thread b.thread r.ended)
+      now : run_after rules deepest (bytes_at deepest base r'.ended) (Some first) (of_thread b.run.thread r'.ended) ≡ run_after rules deepest (bytes_at deepest base r.ended) (Some first) (of_thread b.run.thread r.ended)
       now = ap (run_after rules deepest (bytes_at deepest base r'.ended) (Some first)) rows ∙ on.1
 
   -- ## The headline
 
-  module _ (w : World P) (sound : AreActors rules w.cells w.attempts w.actors) (open_rows : AreOpen w.attempts.active) (long : length w.actors ≡ length w.opening)
+  module _ (w : World P) (sound : AreActors rules w.cells w.attempts w.actors) (long : length w.actors ≡ length w.opening)
       (running : AreRunning rules w) where
     shown_still : (k : ℕ) → k ≤ w.cells.clock / 2 → bytes_at w.depth w.base (attempts_of w) k ≡ bytes_at w.depth w.base w.attempts.ended k
-    shown_still k l = bytes_still w.depth w.base w.cells.clock w.attempts.ended running.laid.counted w.attempts.active k l
+    shown_still k l = bytes_still w.depth w.base w.cells.clock w.attempts.ended running.laid.counted (opens w.actors) k l
 
-    -- of an open attempt: its calls are made alone on the memory of its position, and its actions are those of the state that they lead to
-    open_parts : (place : ℕ) (p : P) (a : Actor P) (e : slice_get w.opening place ≡ Some p) (f : slice_get w.actors place ≡ Some a) (o : in_transaction a.engine ≡ true)
-        → let t = (running.each place p a e f).runs.inside o in let k : ℕ = a.engine.snapshot / 2 in
-        IsMadeAlone rules w.depth t.0 t.4.start t.1 (bytes_at w.depth w.base (attempts_of w) k) × (a.engine.actions.ran ≡ (state_then w.depth (breaks_of t.1.restarts) (opened (bytes_at w.depth w.base (attempts_of w) k) t.4.start.arena t.4.start.props) t.1.calls.list).actions.ran)
-        × ((state_then w.depth (breaks_of t.1.restarts) (opened (bytes_at w.depth w.base (attempts_of w) k) t.4.start.arena t.4.start.props) t.1.calls.list).irrevocable ≡ a.engine.irrevocable)
+    -- of an open attempt: its calls are made alone on the memory of its position, and its actions and its mode are those of the state that they lead to
+    abbrev Parts : (p : P) (a : Actor P) → RunsFrom rules (first_of p w.arena) w.depth w.base w.cells w.attempts a → in_transaction a.engine ≡ true → Type 0
+    Parts p a x o =
+        let t = x.runs.inside o in
+        let memory : List ℕ = bytes_at w.depth w.base (attempts_of w) (a.engine.snapshot / 2) in
+        let state : State = state_then w.depth (breaks_of t.1.restarts) (opened memory t.4.start.arena t.4.start.props) t.1.calls.list in
+        IsMadeAlone rules w.depth t.0 t.4.start t.1 memory × (a.engine.actions.ran ≡ state.actions.ran) × (state.irrevocable ≡ a.engine.irrevocable)
+
+    open_parts : (place : ℕ) (p : P) (a : Actor P) (e : slice_get w.opening place ≡ Some p) (f : slice_get w.actors place ≡ Some a) (o : in_transaction a.engine ≡ true) → Parts p a (running.each place p a e f) o
     open_parts place p a e f o = elim (cases_Bool a.engine.irrevocable) [ inl i ↦ held_so i | inr r ↦ open_so r ]
       where
         x : RunsFrom rules (first_of p w.arena) w.depth w.base w.cells w.attempts a
@@ -113,9 +121,7 @@ module _ {P : Type 0} (rules : Rules P) (laws : Obeys rules) where
         agrees : Agrees (words_at w.depth w.base (attempts_of w) (a.engine.snapshot / 2)) a.engine.log
         agrees = subst (λ (m : List ℕ). Agrees m a.engine.log) (sym words) (x.sees.logged o)
 
-        open_so : a.engine.irrevocable ≡ false → IsMadeAlone rules w.depth (x.runs.inside o).0 (x.runs.inside o).4.start (x.runs.inside o).1 (bytes_at w.depth w.base (attempts_of w) (a.engine.snapshot / 2))
-            × (a.engine.actions.ran ≡ (state_then w.depth (breaks_of (x.runs.inside o).1.restarts) (opened (bytes_at w.depth w.base (attempts_of w) (a.engine.snapshot / 2)) (x.runs.inside o).4.start.arena (x.runs.inside o).4.start.props) (x.runs.inside o).1.calls.list).actions.ran)
-            × ((state_then w.depth (breaks_of (x.runs.inside o).1.restarts) (opened (bytes_at w.depth w.base (attempts_of w) (a.engine.snapshot / 2)) (x.runs.inside o).4.start.arena (x.runs.inside o).4.start.props) (x.runs.inside o).1.calls.list).irrevocable ≡ a.engine.irrevocable)
+        open_so : a.engine.irrevocable ≡ false → Parts p a x o
         open_so r =
             let m : List ℕ = words_at w.depth w.base (attempts_of w) (a.engine.snapshot / 2) in
             let stands = stands_led laws (x.runs.inside o).4 (bytes_at w.depth w.base (attempts_of w) (a.engine.snapshot / 2)) m r o memory same agrees in (
@@ -124,9 +130,7 @@ module _ {P : Type 0} (rules : Rules P) (laws : Obeys rules) where
               ap (λ (y : State). y.irrevocable) (sym stands) ∙ stands_mode a.engine m,
             )
 
-        held_so : a.engine.irrevocable ≡ true → IsMadeAlone rules w.depth (x.runs.inside o).0 (x.runs.inside o).4.start (x.runs.inside o).1 (bytes_at w.depth w.base (attempts_of w) (a.engine.snapshot / 2))
-            × (a.engine.actions.ran ≡ (state_then w.depth (breaks_of (x.runs.inside o).1.restarts) (opened (bytes_at w.depth w.base (attempts_of w) (a.engine.snapshot / 2)) (x.runs.inside o).4.start.arena (x.runs.inside o).4.start.props) (x.runs.inside o).1.calls.list).actions.ran)
-            × ((state_then w.depth (breaks_of (x.runs.inside o).1.restarts) (opened (bytes_at w.depth w.base (attempts_of w) (a.engine.snapshot / 2)) (x.runs.inside o).4.start.arena (x.runs.inside o).4.start.props) (x.runs.inside o).1.calls.list).irrevocable ≡ a.engine.irrevocable)
+        held_so : a.engine.irrevocable ≡ true → Parts p a x o
         held_so i =
             let t = x.runs.inside o in
             let h = x.held i t.1 t.3 in
@@ -145,8 +149,10 @@ module _ {P : Type 0} (rules : Rules P) (laws : Obeys rules) where
     of_actor place p a e f =
         let x = running.each place p a e f in
         let s = sound.each place a f in
+        let own_rows : of_thread a.run.thread (attempts_of w) ≡ of_thread a.run.thread w.attempts.ended ++ with_open (active_of a) [] =
+        of_thread_more a.run.thread w.attempts.ended (opens w.actors) ∙ ap (λ (l : List Attempt). of_thread a.run.thread w.attempts.ended ++ l) (opens_of 0 place a.run.thread w.actors a (stand_there sound) f (s.thread ∙ (let z : place ≡ 0 + place = omega arith in z))) in
         let on = run_still rules w.depth (w.cells.clock / 2) (w.cells.clock / 2) (bytes_at w.depth w.base w.attempts.ended) (bytes_at w.depth w.base (attempts_of w)) (let l : w.cells.clock / 2 ≤ w.cells.clock / 2 = omega arith in l) shown_still
-        (Some (first_of p w.arena)) (of_thread a.thread w.attempts.ended) x.runs.run in
+        (Some (first_of p w.arena)) (of_thread a.run.thread w.attempts.ended) x.runs.run in
         subst (λ (t : ℕ). IsRunOf rules w.depth (w.cells.clock / 2) (bytes_at w.depth w.base (attempts_of w)) (Some (first_of p w.arena)) (of_thread t (attempts_of w))) s.thread
         (elim (cases_Bool (in_transaction a.engine)) [
           | inl o ↦
@@ -155,8 +161,8 @@ module _ {P : Type 0} (rules : Rules P) (laws : Obeys rules) where
               let k : ℕ = a.engine.snapshot / 2 in
               let k_late : k ≤ w.cells.clock / 2 = (let reached = tied.settled.reached in let late = tied.late in omega arith) in
               let row : Attempt = t.1 in
-              let unfinished : row.outcome ≡ outcomes.Unfinished = row_unfinished (in_transaction a.engine) w.attempts a.thread row s.sound.kept.row t.3 in
-              let at : row.at ≡ k = x.reads o row t.3 in
+              let unfinished : row.outcome ≡ outcomes.Unfinished = row_unfinished (in_transaction a.engine) a row s.sound.kept.row t.3 in
+              let at : row.at ≡ k = x.reads row t.3 in
               let early = t.4.began in
               let parts = open_parts place p a e f o in
               let try = try_stops laws w.depth (of_block t.4) (w.cells.clock / 2) (bytes_at w.depth w.base (attempts_of w)) k outcomes.Unfinished a.engine.actions.ran refl parts.0 parts.0.still_open early k_late parts.1 (λ f. absurd (cc)) in
@@ -164,14 +170,14 @@ module _ {P : Type 0} (rules : Rules P) (laws : Obeys rules) where
               let here : IsTryAt rules w.depth (w.cells.clock / 2) (bytes_at w.depth w.base (attempts_of w)) t.0 (begins_at rules w.depth t.0) row =
               subst (λ (y : _). IsTryAt rules w.depth (w.cells.clock / 2) (bytes_at w.depth w.base (attempts_of w)) t.0 y row) (sym t.4.begins)
               (subst (IsTryAt rules w.depth (w.cells.clock / 2) (bytes_at w.depth w.base (attempts_of w)) t.0 (Some t.4.start)) as_it_is try) in
-              let more = run_more rules w.depth (w.cells.clock / 2) (bytes_at w.depth w.base (attempts_of w)) (Some (first_of p w.arena)) (of_thread a.thread w.attempts.ended) t.0 row on.0 (on.1 ∙ t.2) here in
-              let rows : of_thread a.thread (attempts_of w) ≡ of_thread a.thread w.attempts.ended ++ row ∷ [] =
-              of_thread_more a.thread w.attempts.ended w.attempts.active ∙ ap (λ (l : List Attempt). of_thread a.thread w.attempts.ended ++ l) (open_one 0 a.thread w.attempts.active row open_rows.by_actor t.3) in
+              let more = run_more rules w.depth (w.cells.clock / 2) (bytes_at w.depth w.base (attempts_of w)) (Some (first_of p w.arena)) (of_thread a.run.thread w.attempts.ended) t.0 row on.0 (on.1 ∙ t.2) here in
+              let rows : of_thread a.run.thread (attempts_of w) ≡ of_thread a.run.thread w.attempts.ended ++ row ∷ [] =
+              own_rows ∙ ap (λ (o : Option Attempt). of_thread a.run.thread w.attempts.ended ++ with_open o []) t.3 in
               subst (IsRunOf rules w.depth (w.cells.clock / 2) (bytes_at w.depth w.base (attempts_of w)) (Some (first_of p w.arena))) (sym rows) more.0)
           | inr shut ↦
-              (let none : HasRow false w.attempts a.thread = subst (λ (b : Bool). HasRow b w.attempts a.thread) shut s.sound.kept.row in
-              let rows : of_thread a.thread (attempts_of w) ≡ of_thread a.thread w.attempts.ended =
-              of_thread_more a.thread w.attempts.ended w.attempts.active ∙ (ap (λ (l : List Attempt). of_thread a.thread w.attempts.ended ++ l) (open_none 0 a.thread w.attempts.active open_rows.by_actor none) ∙ append-nil (of_thread a.thread w.attempts.ended)) in
+              (let none : HasRow false a = subst (λ (b : Bool). HasRow b a) shut s.sound.kept.row in
+              let rows : of_thread a.run.thread (attempts_of w) ≡ of_thread a.run.thread w.attempts.ended =
+              own_rows ∙ (ap (λ (o : Option Attempt). of_thread a.run.thread w.attempts.ended ++ with_open o []) none ∙ append-nil (of_thread a.run.thread w.attempts.ended)) in
               subst (IsRunOf rules w.depth (w.cells.clock / 2) (bytes_at w.depth w.base (attempts_of w)) (Some (first_of p w.arena))) (sym rows) on.0)
         ])
 
@@ -179,22 +185,21 @@ module _ {P : Type 0} (rules : Rules P) (laws : Obeys rules) where
     player_at place a e = there_is w.opening place (omega (arith, long, slice_get_within w.actors place a e))
 
     -- an open attempt's player alone is irrevocable where its engine is
-    mode_of : (place : ℕ) (a : Actor P) (row : Attempt) → slice_get w.actors place ≡ Some a → active_of place w.attempts.active ≡ Some row
+    mode_of : (place : ℕ) (a : Actor P) (row : Attempt) → slice_get w.actors place ≡ Some a → active_of a ≡ Some row
         → (alone w.depth (bytes_at w.depth w.base (attempts_of w) row.at) row).irrevocable ≡ a.engine.irrevocable
     mode_of place a row e some =
         let here = player_at place a e in
         let own = sound.each place a e in
-        let mine : active_of a.thread w.attempts.active ≡ Some row = ap (λ (t : ℕ). active_of t w.attempts.active) own.thread ∙ some in
-        let o = row_open (in_transaction a.engine) w.attempts a.thread row own.sound.kept.row mine in
+        let o = row_open (in_transaction a.engine) a row own.sound.kept.row some in
         let x = running.each place here.0 a here.1 e in
         let t = x.runs.inside o in
-        let same : t.1 ≡ row = same_Some _ _ (sym t.3 ∙ mine) in
-        ap (λ (j : ℕ). (alone w.depth (bytes_at w.depth w.base (attempts_of w) j) row).irrevocable) (x.reads o row mine)
+        let same : t.1 ≡ row = same_Some _ _ (sym t.3 ∙ some) in
+        ap (λ (j : ℕ). (alone w.depth (bytes_at w.depth w.base (attempts_of w) j) row).irrevocable) (x.reads row some)
         ∙ (ap (λ (y : Attempt). (alone w.depth (bytes_at w.depth w.base (attempts_of w) (a.engine.snapshot / 2)) y).irrevocable) (sym same)
         ∙ (ap (λ (y : State). y.irrevocable) (alone_led laws w.depth (of_block t.4) (bytes_at w.depth w.base (attempts_of w) (a.engine.snapshot / 2))) ∙ (open_parts place here.0 a here.1 e o).2))
 
     -- who holds the clock has an open attempt, at the last position
-    held_row : (place : ℕ) (a : Actor P) → slice_get w.actors place ≡ Some a → a.engine.holds ≡ true → (row : Attempt) × (active_of place w.attempts.active ≡ Some row) × (row.at ≡ w.cells.clock / 2)
+    held_row : (place : ℕ) (a : Actor P) → slice_get w.actors place ≡ Some a → a.engine.holds ≡ true → (row : Attempt) × (active_of a ≡ Some row) × (row.at ≡ w.cells.clock / 2)
     held_row place a e h =
         let here = player_at place a e in
         let own = sound.each place a e in
@@ -203,13 +208,14 @@ module _ {P : Type 0} (rules : Rules P) (laws : Obeys rules) where
         let x = running.each place here.0 a here.1 e in
         let t = x.runs.inside holder.0 in
         let half : a.engine.snapshot / 2 ≡ w.cells.clock / 2 = omega (arith, tied.holder h, holder.1, tied.settled.even) in
-        (t.1, ap (λ (k : ℕ). active_of k w.attempts.active) (sym own.thread) ∙ t.3, x.reads holder.0 t.1 t.3 ∙ half)
+        (t.1, t.3, x.reads t.1 t.3 ∙ half)
 
     pub are_opaque : AreDated w.retries [] (attempts_of w) → AreUnbroken (attempts_of w) → AreOpaque rules (observed w)
     are_opaque dated unbroken = record {
       runs = λ place p e. (let here = there_is w.actors place (omega (arith, long, slice_get_within w.opening place p e)) in of_actor place p here.0 e here.1);
-      threads = subst (λ (n : ℕ). AreOfActors n (attempts_of w)) long (of_actors_both (length w.actors) w.attempts.ended w.attempts.active running.threads (of_actors_active (length w.actors) w.attempts.active sound.listed));
-      counted = counted_both w.cells.clock w.attempts.ended w.attempts.active open_rows.unfinished running.laid.counted;
+      threads = subst (λ (n : ℕ). AreOfActors n (attempts_of w)) long (of_actors_both (length w.actors) w.attempts.ended (opens w.actors) running.threads
+          (of_actors_each (length w.actors) (opens w.actors) (opens_each (λ (row : Attempt). row.thread < length w.actors) w.actors (λ place a row e here. omega (arith, row_there sound place a row e here, slice_get_within w.actors place a e)))));
+      counted = counted_both w.cells.clock w.attempts.ended (opens w.actors) (are_open sound).unfinished running.laid.counted;
       dated = dated;
       unbroken = unbroken;
       size = omega (arith, length-bytes_of w.cells.words, length-bytes_of (words_of w.base), (running.laid.memories.fits 0 (omega arith)).0, ap (length {A = ℕ}) (running.laid.memories.same 0 (omega arith)));
@@ -222,46 +228,39 @@ module _ {P : Type 0} (rules : Rules P) (laws : Obeys rules) where
     are_tied = record {
       players = λ place p a e f. (running.each place p a e f).runs;
       reads = λ place a row e some.
-          (let here = there_is w.opening place (omega (arith, long, slice_get_within w.actors place a e)) in
-          let own = sound.each place a e in
-          let mine : active_of a.thread w.attempts.active ≡ Some row = ap (λ (t : ℕ). active_of t w.attempts.active) own.thread ∙ some in
-          (running.each place here.0 a here.1 e).reads (row_open (in_transaction a.engine) w.attempts a.thread row own.sound.kept.row mine) row mine);
+          (let here = player_at place a e in
+          (running.each place here.0 a here.1 e).reads row some);
       each = long;
       threads = λ place a e. (sound.each place a e).thread;
-      rows = λ place a e. subst (HasRow (in_transaction a.engine) w.attempts) (sound.each place a e).thread (sound.each place a e).sound.kept.row;
-      open_rows = open_rows;
+      rows = λ place a e. (sound.each place a e).sound.kept.row;
+      open_rows = are_open sound;
       modes = mode_of;
       irrevocable = λ place a e i. ((sound.each place a e).sound.tied.settled.irrevocable i).0;
       holder = held_row;
       held = λ place a e h r.
-          (let l = slice_get_within w.actors place a e in
-          let top : w.cells.clock / 2 ≤ w.cells.clock / 2 = omega arith in
-          let here = there_is w.opening place (omega (arith, long)) in
+          (let top : w.cells.clock / 2 ≤ w.cells.clock / 2 = omega arith in
+          let here = player_at place a e in
           (running.each place here.0 a here.1 e).sees.loaded.held h r ∙ ap (λ (m : List ℕ). backed a.engine (words_of m)) (sym (shown_still (w.cells.clock / 2) top)));
-      rooms = λ place a row e some.
-          (let one = sound.each place a e in
-          one.sound.acts.backed row (ap (λ (t : ℕ). active_of t w.attempts.active) one.thread ∙ some));
+      rooms = λ place a row e some. (sound.each place a e).sound.acts.backed row some;
       fed = λ place p a e f true_room. ((running.each place p a e f).fed true_room).fed;
       stored = λ place a row e some i.
-          (let l = slice_get_within w.actors place a e in
-          let top : w.cells.clock / 2 ≤ w.cells.clock / 2 = omega arith in
-          let here = there_is w.opening place (omega (arith, long)) in
-          let mine : active_of a.thread w.attempts.active ≡ Some row = ap (λ (t : ℕ). active_of t w.attempts.active) (sound.each place a e).thread ∙ some in
-          subst (λ (bytes : List ℕ). StandsIn w.depth a.engine.waits a.engine.doing a.engine w.cells.words (alone w.depth bytes row)) (sym (shown_still (w.cells.clock / 2) top)) ((running.each place here.0 a here.1 e).held i row mine).stands);
+          (let top : w.cells.clock / 2 ≤ w.cells.clock / 2 = omega arith in
+          let here = player_at place a e in
+          subst (λ (bytes : List ℕ). StandsIn w.depth a.engine.waits a.engine.doing a.engine w.cells.words (alone w.depth bytes row)) (sym (shown_still (w.cells.clock / 2) top)) ((running.each place here.0 a here.1 e).held i row some).stands);
     }
 
   pub world_opaque : (w : World P) → IsWorld rules w → AreOpaque rules (observed w)
-  world_opaque w kept = are_opaque w kept.actors (are_open rules w.cells w.attempts w.actors kept.actors kept.running.ordered) kept.long kept.running (all_dated w kept.actors kept.running.ordered kept.dated) (all_unbroken w kept.actors kept.running.ordered kept.dated)
+  world_opaque w kept = are_opaque w kept.actors kept.long kept.running (all_dated w kept.actors kept.dated) (all_unbroken w kept.dated)
 
   pub world_tied : (w : World P) → IsWorld rules w → AreTied rules w
-  world_tied w kept = are_tied w kept.actors (are_open rules w.cells w.attempts w.actors kept.actors kept.running.ordered) kept.long kept.running
+  world_tied w kept = are_tied w kept.actors kept.long kept.running
 
   -- ## An actor's work in a world
 
   module _ (w : World P) (kept : IsWorld rules w)
       (i : ℕ) (got new : Actor P) (here : slice_get w.actors i ≡ Some got) (cells' : Cells) (r' : Rows) (events : ℕ) (others : KeepsOthers got w.attempts new r') (clocks : ClocksOn w.cells got.engine cells' new.engine)
       (runs : StillRuns rules w.cells w.attempts got cells' r' new) where
-    mine : got.thread ≡ i
+    mine : got.run.thread ≡ i
     mine = (kept.actors.each i got here).thread
 
     player : (p : P) × (slice_get w.opening i ≡ Some p)
@@ -284,9 +283,8 @@ module _ {P : Type 0} (rules : Rules P) (laws : Obeys rules) where
     pub running_after : AreRunning rules (record w { cells = cells'; actors = slice_set w.actors i new; attempts = r'; events = events })
     running_after = record {
       laid = went.0;
-      ordered = others.own.ordered kept.running.ordered;
-      threads = subst (λ (n : ℕ). AreOfActors n r'.ended) (sym (length-set w.actors i new)) (subst (AreOfActors (length w.actors)) (sym others.own.ended)
-          (of_actors_both (length w.actors) w.attempts.ended others.own.more kept.running.threads (of_actors_all (length w.actors) got.thread others.own.more (let l = slice_get_within w.actors i got here in let t = mine in omega arith) others.own.mine)));
+      threads = subst (λ (n : ℕ). AreOfActors n r'.ended) (sym (length-set w.actors i new)) (subst (AreOfActors (length w.actors)) (sym others.ended)
+          (of_actors_both (length w.actors) w.attempts.ended others.more kept.running.threads (of_actors_all (length w.actors) got.run.thread others.more (let l = slice_get_within w.actors i got here in let t = mine in omega arith) others.mine)));
       each = each_after;
     }
       where
@@ -298,33 +296,33 @@ module _ {P : Type 0} (rules : Rules P) (laws : Obeys rules) where
               (subst (λ (q : P). RunsFrom rules (first_of q w.arena) w.depth w.base cells' r' new) same_player went.1))
           | inr h ↦
               (let b = kept.actors.each place a h.1 in
-              other_runs (first_of p w.arena) w.depth w.base w.cells cells' w.attempts r' got.thread a kept.running.laid b.sound.tied others.own
+              other_runs (first_of p w.arena) w.depth w.base w.cells cells' w.attempts r' got.run.thread a kept.running.laid b.sound.tied others.more others.ended others.mine
               (λ same. h.0 (sym mine ∙ (sym same ∙ b.thread))) clocks.late (others_held place a h.0 h.1) (kept.running.each place p a e h.1))
         ]
 
   -- ## Beginnings
 
   -- an actor that has made no call
-  pub fresh_runs : (cells : Cells) (r : Rows) (a : Actor P) (deepest : ℕ) (base : List ℕ) (size patience max_commits : ℕ) → a.engine ≡ opening (length cells.words) (replicate size 0) patience max_commits deepest 0 → r.ended ≡ [] → a.nth ≡ 1 → a.again ≡ false → a.pending ≡ None → a.status ≡ Ready
-      → RunsFrom rules (first_of a.player size) deepest base cells r a
+  pub fresh_runs : (cells : Cells) (r : Rows) (a : Actor P) (deepest : ℕ) (base : List ℕ) (size patience max_commits : ℕ) → a.engine ≡ opening (length cells.words) (replicate size 0) patience max_commits deepest 0 → r.ended ≡ [] → a.run.nth ≡ 1 → a.run.again ≡ false → a.run.current ≡ Outside → a.status ≡ Ready
+      → RunsFrom rules (first_of a.run.player size) deepest base cells r a
   fresh_runs cells r a deepest base size patience max_commits is none first anew nothing ready =
       let shut : in_transaction a.engine ≡ false = ap in_transaction is in
       let free : a.engine.holds ≡ false = ap (λ (c : Core). c.holds) is in
-      let rows : of_thread a.thread r.ended ≡ [] = ap (of_thread a.thread) none in
+      let rows : of_thread a.run.thread r.ended ≡ [] = ap (of_thread a.run.thread) none in
       record {
         depth = ap (λ (c : Core). c.depth) is;
         runs = record {
-          run = subst (IsRunOf rules deepest (cells.clock / 2) (bytes_at deepest base r.ended) (Some (first_of a.player size))) (sym rows) tt;
+          run = subst (IsRunOf rules deepest (cells.clock / 2) (bytes_at deepest base r.ended) (Some (first_of a.run.player size))) (sym rows) tt;
           inside = λ o. absurd (let z = sym o ∙ shut in cc);
           between = λ o gave_up starved. (
-            first_of a.player size,
-            ap (run_after rules deepest (bytes_at deepest base r.ended) (Some (first_of a.player size))) rows,
+            first_of a.run.player size,
+            ap (run_after rules deepest (bytes_at deepest base r.ended) (Some (first_of a.run.player size))) rows,
             record {
               calls = 0;
               leads = (refl, ap (λ (c : Core). c.arena) is);
               again = anew;
               tries = (let one = first in omega arith);
-              pending = λ row e. absurd (let z = sym nothing ∙ e in cc);
+              pending = λ row e. absurd (none-some row (sym (ap (λ (c : Current). begun_in (stage_of c)) nothing) ∙ e));
             },
           );
         };
@@ -338,7 +336,7 @@ module _ {P : Type 0} (rules : Rules P) (laws : Obeys rules) where
         };
         held = λ i. absurd (let z = sym i ∙ ap (λ (c : Core). c.irrevocable) is in cc);
         starved = λ e r. shut;
-        reads = λ o. absurd (let z = sym o ∙ shut in cc);
+        reads = λ row e. absurd (none-some row (sym (ap (λ (c : Current). open_in (stage_of c)) nothing) ∙ e));
         fed = λ true_room. (let revocable = ap (λ (c : Core). c.irrevocable) is in record { moves = 0; comes = refl; within = λ h. absurd (let z = sym h ∙ revocable in cc); fed = λ e. revocable });
       }
 

@@ -1,8 +1,10 @@
 //! Two threads in an order that a gate makes: only threads that run side by side come to it.
 
 use crate::tests::gates::{Held, InTurns};
-use crate::tests::texts::expect_run;
+use crate::tests::texts::{expect_run, report_of};
+use std::process::Abort;
 use std::test::Fail;
+use tx_host::Report;
 use tx_runs::End;
 use tx_worker::Quiet;
 
@@ -83,6 +85,25 @@ fn a_commit_before_a_commit(rt: HostRuntime) -> Result<(), Fail> {
     let gate = InTurns::new(&held);
     let ends = [End::Finished; 2];
     expect_run(&rt, TWO_COUNTERS, &gate, &Quiet, TRIED_AGAIN, &ends)
+}
+
+/// So many writers had committed as each attempt began, as far as its thread knew.
+fn expect_begun(rt: &impl Abort, report: &Report, begun: &[u64]) {
+    let attempts = report.history.attempts.as_slice();
+    assert_eq!(rt; attempts.len(), begun.len());
+    for (attempt, began) in attempts.iter().zip(begun) {
+        assert_eq!(rt; attempt.began, *began);
+    }
+}
+
+/// A thread whose commit came second knows of the other one as it tries again.
+#[test]
+fn a_conflict_is_known(rt: HostRuntime) -> Result<(), Fail> {
+    let held = [Held::new(1, 0, 2), Held::new(0, 3, 3)];
+    let gate = InTurns::new(&held);
+    let report = report_of(&rt, TWO_COUNTERS, &gate, &Quiet)?;
+    expect_begun(&rt, &report, &[0, 1, 0]);
+    Ok(())
 }
 
 const WRITER_AND_READER: &str = ".memory 16

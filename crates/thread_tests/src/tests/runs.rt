@@ -48,6 +48,35 @@ fn four_count(rt: HostRuntime) -> Result<(), Fail> {
     Ok(())
 }
 
+/// How many of the threads gave up.
+fn gave_up(report: &Report) -> usize {
+    let ends = report.ends.as_slice();
+    ends.iter().filter(|end| **end == End::GaveUp).count()
+}
+
+const LIMITED: &str = ".memory 8
+.patience 1000
+.retries 10000
+.commits 2
+.thread 3
+set r1 1
+_ITM_beginTransaction r0 -
+_ITM_RU8 r2 0
+add r2 r2 r1
+_ITM_WU8 0 r2
+_ITM_commitTransaction
+";
+
+/// Of three threads two commit, whatever the order of their steps, and the third one gives up.
+#[test]
+fn two_commits_are_the_limit(rt: HostRuntime) -> Result<(), Fail> {
+    let report = report_of(&rt, LIMITED, &Open, &Quiet)?;
+    expect_left(&rt, &report, 4, &[2, 0, 0, 0, 0, 0, 0, 0]);
+    assert_eq!(rt; committed(&report), 2);
+    assert_eq!(rt; gave_up(&report), 1);
+    Ok(())
+}
+
 const CANCELLED: &str = ".memory 8
 .thread
 _ITM_beginTransaction r0 -

@@ -8,7 +8,7 @@ use Rattle.shared_words.specs.Views.{times}
 use Rattle.tx_attempts.specs.declared.attempt.Attempt.{Attempt}
 use Rattle.tx_attempts.specs.Attempts.{alone, committed_at, is_at, is_committed, memory_after, memory_left}
 use Rattle.tx_attempts.specs.Counts.{count_at, count_committed, one_where}
-use Rattle.tx_worker.specs.Positions.{AreLeft, bytes_at, positions}
+use Rattle.tx_worker.specs.Positions.{AreFew, AreLeft, bytes_at, positions}
 
 -- ## How many
 
@@ -36,11 +36,28 @@ committed_count (x ∷ xs) = by_outcome (is_committed x.outcome) (committed_coun
     by_outcome true more = omega arith
     by_outcome false more = omega arith
 
--- ## What they left
+-- ## Below which limit
 
 both_true : (a b : Bool) → (a && b) ≡ true → (a ≡ true) × (b ≡ true)
 both_true true b e = (refl, e)
 both_true false b e = absurd (cc)
+
+pub few_both : (most : ℕ) (xs ys : List Attempt) → AreFew most xs → AreFew most ys → AreFew most (xs ++ ys)
+few_both most [] ys l m = m
+few_both most (x ∷ xs) ys l m = (l.0, few_both most xs ys l.1 m)
+
+-- the position of one that committed is below the limit
+pub below_limit : (most k : ℕ) (xs : List Attempt) → AreFew most xs → 0 < count_at k xs → k < most
+below_limit most k [] few c = absurd (omega arith)
+below_limit most k (x ∷ xs) few c = elim (cases_Bool (is_at k x)) [
+  | inl e ↦
+      (let is = both_true (is_committed x.outcome) (x.at == k) e in
+      let at : x.at ≡ k = eqb-true x.at k is.1 in
+      subst (λ (n : ℕ). n < most) at (few.0 is.0))
+  | inr e ↦ below_limit most k xs few.1 (let f = simp e at c in omega arith)
+]
+
+-- ## What they left
 
 pub left_both : (deepest : ℕ) (v : View) (xs ys : List Attempt) → AreLeft deepest v xs → AreLeft deepest v ys → AreLeft deepest v (xs ++ ys)
 left_both deepest v [] ys l m = m

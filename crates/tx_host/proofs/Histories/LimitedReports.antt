@@ -1,5 +1,5 @@
 -- The history of a run on threads is within the limits of a run, where its program is.
-use Rattle.std.proofs.Common.{◌≡◌, ℕ, zero, suc, ◌+◌, ◌<◌, ◌≤◌, All, List, [], ◌∷◌, length, Some, slice_get, refl, sym, subst, arith}
+use Rattle.std.proofs.Common.{◌≡◌, ℕ, zero, suc, ◌+◌, ◌<◌, ◌≤◌, Bool, All, List, [], ◌∷◌, length, Some, slice_get, refl, sym, subst, arith}
 use Rattle.std.proofs.lemmas.List.{length-replicate}
 use Rattle.std.proofs.lemmas.List.Elements.{All-nil, All-cons, All-head, All-tail, All-append}
 use Rattle.itm_types.specs.declared.limits.TheConstants.{MAX_ARENA, MAX_RETRIES}
@@ -53,7 +53,7 @@ limited_each version thread tries k t n l (x ∷ xs) own all none =
     })
     (limited_each version thread tries k t n l xs own.2 (All-tail (IsOwn HasArenaWidth k) x xs all) none.1)
 
-module _ (p : Listing) (r : Report) (ran : Ran p r) (limits : IsLimitedListing p) where
+module _ (p : Listing) (shuts : Bool) (r : Report) (ran : Ran shuts p r) (limits : IsLimitedListing p) where
   limited_thread : (thread : ℕ) → thread < length (threads_of p) → All (IsLimited (version_of p)) (of_thread thread r.history.attempts)
   limited_thread thread l =
       let code = there_is (threads_of p) thread l in

@@ -5,11 +5,12 @@ use Rattle.norec_core.specs.Core.{Core, in_transaction, opening}
 use Rattle.shared_words.specs.declared.view.View.{View}
 use Rattle.shared_words.specs.declared.words.Words.{Words}
 use Rattle.shared_words.specs.declared.pass.Pass.{Pass}
-use Rattle.shared_words.specs.Passes.{view_of}
+use Rattle.shared_words.specs.Passes.{Owns, view_of}
 use Rattle.shared_words.specs.Views.{cut_left, cut_right}
 use Rattle.script_program.specs.Listing.{Listing}
 use Rattle.script_vm.specs.Threads.{Thread, depth_of, opening as script_opening}
 use Rattle.itm_runtime.specs.Standing.{Standing}
+use Rattle.itm_runtime.specs.Ties.{Stands}
 use Rattle.tx_host.specs.declared.start.Ready.{Ready}
 use Rattle.tx_host.specs.declared.start.WorksOn.{WorksOn}
 use Rattle.tx_host.specs.Starts.{IsFor, IsFresh, IsReady, code_of}
@@ -36,12 +37,14 @@ is_fresh s v theirs p number t player same cut pass words arena size limits engi
     }
 
 -- who starts a worker on what is ready has its promise
-pub is_for : (words : Words) (base : List ℕ) (p : Listing) (n retries : ℕ) (r : Ready) (w : WorksOn) → IsReady words base p n r → retries ≡ p.limits.retries
+pub is_for : {G : Type 0} (words : Words) (base : List ℕ) (p : Listing) (n retries : ℕ) (r : Ready) (w : WorksOn G) → IsReady words base p n r → retries ≡ p.limits.retries
     → (w.words.now ≡ words) × (w.start.value ≡ r.thread) × (w.player.value ≡ r.player) × (w.number ≡ r.number) × (w.retries ≡ retries) → IsFor words base p n w
 is_for words base p n retries r w is few told = record {
   words_are = told.0;
   number_is = told.3 ∙ is.number_is;
   retries_are = told.4 ∙ few;
+  own = subst (λ (t : Standing). Owns words t.pass) (sym told.1) is.own;
+  stands = subst (λ (t : Standing). Stands (view_of t.pass) t.engine) (sym told.1) is.stands;
   fresh = subst (λ (q : Standing × Thread). IsFresh p base n q.0 q.1) (λ i. (sym told.1 i, sym told.2 i)) is.fresh;
 }
 

@@ -1,5 +1,5 @@
 -- What a worker did, as a later view has it.
-use Rattle.std.proofs.Common.{◌≡◌, ⊎_elim, inl, inr, ℕ, ◌+◌, ◌/◌, Bool, false, true≢false, List, [], ◌∷◌, ◌++◌, length, Option, None, Some, Result, Ok, Err, IfOk, sym, ap, subst, ◌∙◌}
+use Rattle.std.proofs.Common.{◌≡◌, ⊎_elim, inl, inr, ℕ, ◌+◌, ◌/◌, Bool, false, true≢false, List, [], ◌∷◌, ◌++◌, length, Option, None, Some, Result, Ok, Err, IfOk, refl, sym, ap, subst, ◌∙◌}
 use Rattle.norec_core.specs.Core.{Core}
 use Rattle.shared_words.specs.declared.pass.Pass.{Pass}
 use Rattle.shared_words.specs.declared.view.View.{View}
@@ -18,15 +18,17 @@ use Rattle.tx_runs.specs.declared.ending.End.{End}
 use Rattle.tx_runs.specs.declared.ending.End.TheVariants.{Finished, GaveUp, NoMemory}
 use Rattle.tx_runs.specs.Runs.{begins_at}
 use Rattle.tx_worker.specs.declared.worked.Worked.{Worked}
-use Rattle.tx_worker.specs.Positions.{AreLeft, AreOwn, AreSince, bytes_at, positions}
+use Rattle.tx_worker.specs.Positions.{AreFew, AreLeft, AreOwn, AreSince, bytes_at, positions}
 use Rattle.tx_worker.specs.Progress.{Course}
-use Rattle.tx_worker.specs.Works.{AreHeld, EndsAs, IsBack, IsFinished, Works, course_of, is_held, view_left}
+use Rattle.tx_worker.specs.Works.{AreHeld, EndsAs, IsBack, IsFinished, IsRow, Works, course_of, is_held, view_left}
 use Rattle.tx_worker.proofs.Runs.LaterCommits.{IsLater, all_left_in, bytes_in, seen_in}
 use Rattle.tx_host.specs.declared.join.Done.{Done}
 use Rattle.tx_host.specs.declared.start.WorksOn.{WorksOn}
 use Rattle.tx_host.specs.Courses.{EndsBy, IsCourse, first_of}
 use Rattle.tx_host.specs.Joins.{Did}
+use Rattle.tx_host.specs.Rows.{WasRun}
 use Rattle.tx_host.specs.Starts.{IsFor, code_of}
+use Rattle.tx_host.proofs.Rows.{ends_where}
 use Rattle.tx_host.proofs.Passes.Courses.{at_most, course_still}
 
 -- ## A later view
@@ -39,10 +41,12 @@ held_later deepest v w later (Some b) (x ∷ xs) run h = (
   held_later deepest v w later (after_try thread_rules deepest (bytes_at v) b (begins_at thread_rules deepest b) x) xs run.1 h.1,
 )
 
-pub did_later : (p : Listing) (v w : View) → IsLater v w → (k : ℕ) (d : Done) → Did p v k d → Did p w k d
-did_later p v w later k d did = record {
+pub did_later : (words : Words) (p : Listing) (shuts : Bool) (v w : View) → IsLater v w → (k : ℕ) (d : Done) → Did words p shuts v k d → Did words p shuts w k d
+did_later words p shuts v w later k d did = record {
   course = course_still p (length v.seen) (length w.seen) (bytes_at v) (bytes_at w) (seen_in v w later) (bytes_in v w later) k (code_of p k) d.end d.attempts did.course;
+  row = subst (λ (base : List ℕ). WasRun words p base shuts k d.end d.attempts) (sym later.base) did.row;
   left = all_left_in p.limits.depth v w later d.attempts did.left;
+  few = did.few;
   held = held_later p.limits.depth v w later (Some (first_of p (code_of p k))) d.attempts did.course.run did.held;
 }
 
@@ -63,15 +67,15 @@ joined_left v w (Err t) free j = absurd (true≢false free)
 
 -- ## A worker that keeps its promise
 
-module _ (words : Words) (base : List ℕ) (p : Listing) (n : ℕ) (w : WorksOn) (r : Worked) (is : IsFor words base p n w) (kept : (shuts : Bool) × Works thread_rules w.words.now w.start.value w.player.value w.number w.retries shuts r) where
+module _ {G : Type 0} (words : Words) (base : List ℕ) (p : Listing) (n : ℕ) (shuts : Bool) (w : WorksOn G) (r : Worked) (is : IsFor words base p n w) (kept : Works thread_rules w.words.now w.start.value w.player.value w.number w.retries shuts r) where
   abbrev left_view : View
   left_view = view_left r.pass
 
   abbrev course : Course Thread
   course = course_of w.start.value w.player.value w.number w.retries
 
-  done : IsFinished thread_rules w.words.now course w.start.value.engine.max_commits kept.0 r
-  done = kept.1.finished
+  done : IsFinished thread_rules w.words.now course w.start.value.engine.max_commits shuts r
+  done = kept.finished
 
   depth_is : course.depth ≡ p.limits.depth
   depth_is = ap (λ (e : Core). e.depth) is.fresh.engine_is
@@ -89,9 +93,9 @@ module _ (words : Words) (base : List ℕ) (p : Listing) (n : ℕ) (w : WorksOn)
   its_mine = done.mine ∙ ap (λ (l : List ℕ). l ++ positions r.attempts) is.fresh.mine
 
   known_is : course.known ≡ 0
-  known_is = ap (λ (e : Core). e.snapshot / 2) is.fresh.engine_is
+  known_is = ap (λ (e : Core). e.clock / 2) is.fresh.engine_is
 
-  ends_by : (end : End) → EndsAs thread_rules course w.start.value.engine.max_commits kept.0 end left_view r.attempts → EndsBy course.depth (bytes_at left_view) course.first end r.attempts
+  ends_by : (end : End) → EndsAs thread_rules course w.start.value.engine.max_commits shuts end left_view r.attempts → EndsBy course.depth (bytes_at left_view) course.first end r.attempts
   ends_by Finished e = ⊎_elim
       (λ o. inl (record { between = o.between; now_is = o.now_is; none = o.none }))
       (λ o. inr (record {
@@ -121,10 +125,29 @@ module _ (words : Words) (base : List ℕ) (p : Listing) (n : ℕ) (w : WorksOn)
   pub its_back : IsBack words r.pass
   its_back = subst (λ (q : Words). IsBack q r.pass) is.words_are done.back
 
+  row_is : IsRow thread_rules words w.start.value w.player.value n p.limits.retries shuts r
+  row_is = subst (λ (q : Words × ℕ × ℕ). IsRow thread_rules q.0 w.start.value w.player.value q.1 q.2 shuts r) (λ i. (is.words_are i, is.number_is i, is.retries_are i)) kept.row
+
+  was_run : WasRun words p base shuts n r.end r.attempts
+  was_run = record {
+    start = w.start.value;
+    player = w.player.value;
+    own = is.own;
+    stands = is.stands;
+    fresh = is.fresh;
+    worked = r;
+    row = row_is;
+    end_is = refl;
+    attempts_are = refl;
+    why = ends_where words n p.limits.retries shuts r.end row_is.account row_is.standing row_is.left row_is.thread row_is.stops;
+  }
+
   -- where its pass came back
-  pub did_its : is_held r.pass ≡ false → Did p left_view n (record { attempts = r.attempts; end = r.end })
+  pub did_its : is_held r.pass ≡ false → Did words p shuts left_view n (record { attempts = r.attempts; end = r.end })
   did_its free = record {
     course = course_is;
+    row = subst (λ (b : List ℕ). WasRun words p b shuts n r.end r.attempts) (sym its_base) was_run;
     left = subst (λ (deepest : ℕ). AreLeft deepest left_view r.attempts) depth_is done.runs.left;
+    few = subst (λ (most : ℕ). AreFew most r.attempts) (ap (λ (e : Core). e.max_commits) is.fresh.engine_is) done.few;
     held = subst (λ (q : ℕ × Bool). AreHeld q.0 left_view q.1 r.attempts) (λ i. (depth_is i, free i)) done.held;
   }

@@ -21,6 +21,7 @@ use Rattle.shared_words.specs.Views.{held}
 use Rattle.itm_runtime.specs.Served.{IsUndone, Meets, Served, Start, Went, came_over, left_over, memory_in, mine_after}
 use Rattle.itm_runtime.specs.Ties.{Stands}
 use Rattle.tx_attempts.specs.Opacity.{begin_code}
+use Rattle.tx_attempts.specs.declared.attempt.Attempt.{Attempt}
 use Rattle.tx_player.specs.Depth.{depth_after}
 use Rattle.tx_player.specs.Rules.{Obeys, Rules}
 use Rattle.tx_runs.proofs.Begins.{begin_here, led}
@@ -30,9 +31,11 @@ use Rattle.tx_runs.specs.Runs.{LeadsTo}
 use Rattle.tx_worker.proofs.Runs.LaterCommits.{run_later}
 use Rattle.tx_worker.proofs.Begins.OutsideCalls.{answered_outside, left_outside, nested_outside, opened_one, revocable_outside, shut_state, stands_outside}
 use Rattle.tx_worker.proofs.Machines.PlainStates.{stands_actions, stands_arena, stands_blocks, stands_open}
-use Rattle.tx_worker.specs.Positions.{known_after, positions}
+use Rattle.tx_worker.specs.Positions.{positions}
 use Rattle.tx_worker.specs.Progress.{Course, HasRun, IsOutside, IsRunning, IsTry, MayReadIn, stood}
-use Rattle.tx_worker.specs.Tallies.{Tally, begun, tried}
+use Rattle.tx_runs.specs.Tallies.{begun, within}
+use Rattle.tx_worker.specs.Accounts.{Account}
+use Rattle.tx_worker.proofs.Shapes.{tried}
 
 -- ## The plain machine
 
@@ -125,7 +128,7 @@ module _ (s : Start) (v : View) (e : Core) (before : Stands s.view s.engine) (ou
 
 -- ## The run goes on
 
-module _ {P : Type 0} {rules : Rules P} (laws : Obeys rules) (c : Course P) (s : Start) (t : Tally P) (v : View) (e : Core)
+module _ {P : Type 0} {rules : Rules P} (laws : Obeys rules) (c : Course P) (s : Start) (t : Account P) (v : View) (e : Core)
     (running : IsRunning rules c s.view s.engine t) (before : Stands s.view s.engine) (asks : rules.next_call t.player ≡ Some s.call) (outside : in_transaction s.engine ≡ false) where
   was : IsOutside rules c s.view s.engine t
   was = running.outside outside
@@ -136,8 +139,8 @@ module _ {P : Type 0} {rules : Rules P} (laws : Obeys rules) (c : Course P) (s :
 
   -- ## It came to nothing, and is tried again
 
-  tries_again : Went s.view v → v.mine ≡ s.view.mine → in_transaction e ≡ false → s.view.looks < v.looks → IsUndone s e → e.depth ≡ s.engine.depth → t.nth ≤ c.retries → IsRunning rules c v e (tried t t.player t.ended)
-  tries_again went mine shut looks undone_so same few =
+  tries_again : Went s.view v → s.engine.clock ≤ e.clock → v.mine ≡ s.view.mine → in_transaction e ≡ false → s.view.looks < v.looks → IsUndone s e → e.depth ≡ s.engine.depth → t.nth ≤ c.retries → IsRunning rules c v e (tried t t.player t.ended)
+  tries_again went rises mine shut looks undone_so same few =
       let nested = nested_outside running outside in
       let later = run_later rules c s.view v went t.ended running.has_run in
       let k = was.before in
@@ -152,7 +155,8 @@ module _ {P : Type 0} {rules : Rules P} (laws : Obeys rules) (c : Course P) (s :
         inside = λ now. absurd (true≢false (sym now ∙ shut));
         outside = λ now. record {
           between = was.between;
-          none = refl;
+          stage_is = refl;
+          known = (let k = was.known in omega arith);
           now_is = later.1 ∙ was.now_is;
           before = record {
             calls = k.calls;
@@ -165,10 +169,10 @@ module _ {P : Type 0} {rules : Rules P} (laws : Obeys rules) (c : Course P) (s :
       }
 
   pub lost : (clock : ℕ) (word : Option ℕ) → Served s (Conflict clock word) v e → t.nth ≤ c.retries → IsRunning rules c v e (tried t t.player t.ended)
-  lost clock word served few = tries_again served.went served.mine served.tells.closes.closed served.tells.looks served.tells.undone served.limits.2 few
+  lost clock word served few = tries_again served.went served.rises served.mine served.tells.closes.closed served.tells.looks served.tells.undone served.limits.2 few
 
   pub busy : (clock : ℕ) → Served s (Busy clock) v e → t.nth ≤ c.retries → IsRunning rules c v e (tried t t.player t.ended)
-  busy clock served few = tries_again served.went served.mine served.tells.closes.closed served.tells.looks served.tells.undone served.limits.2 few
+  busy clock served few = tries_again served.went served.rises served.mine served.tells.closes.closed served.tells.looks served.tells.undone served.limits.2 few
 
   -- ## It is accepted
 
@@ -179,8 +183,12 @@ module _ {P : Type 0} {rules : Rules P} (laws : Obeys rules) (c : Course P) (s :
     accepted : refusal c.depth (no_block [] s.engine.arena) (Begin props room) ≡ None
     accepted = subst (λ (deepest : ℕ). refusal deepest (no_block [] s.engine.arena) (Begin props room) ≡ None) running.deepest (entered s v e before outside props room is r served now).accepted
 
-    tries_block : IsTry rules c.depth was.between (begun c.number (known_after c.known t.ended) props s.engine.arena t) (rules.answered t.player r) v e
-    tries_block = record {
+    -- the attempt, with room for so many calls
+    abbrev row : ℕ → Attempt
+    row ahead = record (begun c.number t.nth (s.engine.clock / 2) props s.engine.arena ahead) { at = e.snapshot / 2 }
+
+    tries_block : (ahead : ℕ) → IsTry rules c.depth was.between (row ahead) (rules.answered t.player r) v e
+    tries_block ahead = record {
       of_block = record {
         start = record { player = t.player; arena = s.engine.arena; props = props };
         begins = led rules laws c.depth was.before.calls was.between.player was.between.arena t.player s.engine.arena was.before.leads
@@ -190,14 +198,14 @@ module _ {P : Type 0} {rules : Rules P} (laws : Obeys rules) (c : Course P) (s :
         tries = was.before.tries;
         player = ap (rules.answered t.player) told;
       };
-      began = omega (arith, running.has_run.known, (served.opens outside now).seen);
+      began = (let known = before.known in let seen = (served.opens outside now).seen in omega arith);
       restarts = refl;
       ran = sym (ap (λ (a : Actions). a.ran) (begins_actions s v e before outside props room is r served now));
       each = λ m may. (tt, begins_over s v e before outside props room is r served now m may);
     }
 
-    pub opens : IsRunning rules c v e (record t { player = rules.answered t.player r; open_one = Some (begun c.number (known_after c.known t.ended) props s.engine.arena t); again = true })
-    opens =
+    pub opens : (ahead : ℕ) → IsRunning rules c v e (record t { player = rules.answered t.player r; again = true; stage = within (record (begun c.number t.nth (s.engine.clock / 2) props s.engine.arena ahead) { at = e.snapshot / 2 }) })
+    opens ahead =
         let nested = nested_outside running outside in
         let later = run_later rules c s.view v served.went t.ended running.has_run in
         let deep : depth_after (rules.depth t.player) s.call r ≡ 1 = (λ i. depth_after (nested.deep i) (is i) (told i)) in
@@ -212,14 +220,14 @@ module _ {P : Type 0} {rules : Rules P} (laws : Obeys rules) (c : Course P) (s :
           deepest = served.limits.2 ∙ running.deepest;
           inside = λ o. record {
             between = was.between;
-            row = begun c.number (known_after c.known t.ended) props s.engine.arena t;
-            open_is = refl;
+            row = row ahead;
+            stage_is = refl;
             now_is = later.1 ∙ was.now_is;
-            try = tries_block;
+            try = tries_block ahead;
             again = refl;
             nth = refl;
             thread = refl;
-            began = refl;
+            known = was.known;
             looked = omega (arith, was.looked, (served.opens outside now).looks);
           };
           outside = λ shut. absurd (true≢false (sym now ∙ shut));

@@ -32,7 +32,7 @@ use Rattle.tx_runs.specs.Nesting.{IsNested}
 use Rattle.tx_worker.proofs.Runs.LaterCommits.{run_later}
 use Rattle.tx_worker.proofs.Machines.PlainStates.{stands_arena, stands_open, stands_shut}
 use Rattle.tx_worker.specs.Progress.{Course, IsRunning}
-use Rattle.tx_worker.specs.Tallies.{Tally}
+use Rattle.tx_worker.specs.Accounts.{Account}
 
 -- ## The plain machine
 
@@ -179,10 +179,10 @@ module _ (s : Start) (v : View) (e : Core) (before : Stands s.view s.engine) (ou
 -- ## The run goes on
 
 -- the player has no block open either
-pub nested_outside : {P : Type 0} {rules : Rules P} {c : Course P} {v : View} {e : Core} {t : Tally P} → IsRunning rules c v e t → in_transaction e ≡ false → IsNested rules false t.player
+pub nested_outside : {P : Type 0} {rules : Rules P} {c : Course P} {v : View} {e : Core} {t : Account P} → IsRunning rules c v e t → in_transaction e ≡ false → IsNested rules false t.player
 nested_outside {rules = rules} {t = t} running shut = subst (λ (b : Bool). IsNested rules b t.player) shut running.nested
 
-module _ {P : Type 0} {rules : Rules P} (laws : Obeys rules) (c : Course P) (s : Start) (t : Tally P) (v : View) (e : Core)
+module _ {P : Type 0} {rules : Rules P} (laws : Obeys rules) (c : Course P) (s : Start) (t : Account P) (v : View) (e : Core)
     (running : IsRunning rules c s.view s.engine t) (before : Stands s.view s.engine) (asks : rules.next_call t.player ≡ Some s.call) (outside : in_transaction s.engine ≡ false) where
   -- after a reply that leaves none open: the call began no block, or was refused
   pub passes : (r : Replied) → Served s (Reply r) v e → in_transaction e ≡ false → IsRunning rules c v e (record t { player = rules.answered t.player r })
@@ -206,7 +206,8 @@ module _ {P : Type 0} {rules : Rules P} (laws : Obeys rules) (c : Course P) (s :
         inside = λ now. absurd (true≢false (sym now ∙ shut));
         outside = λ now. record {
           between = was.between;
-          none = was.none;
+          stage_is = was.stage_is;
+          known = (let k = was.known in let up = served.rises in omega arith);
           now_is = later.1 ∙ was.now_is;
           before = record {
             calls = suc was.before.calls;

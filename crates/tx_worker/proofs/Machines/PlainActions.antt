@@ -1,5 +1,5 @@
 -- Over a call of an open transaction no action that has run is lost, and there are no more actions in all than before, but for one that is registered.
-use Rattle.std.proofs.Common.{◌≡◌, ℕ, Bool, true, false, if◌then◌else◌, List, [], ◌∷◌, ◌++◌, drop, take, Option, None, Some, refl, sym, ap, subst, ◌∙◌, arith, append-nil, append_assoc, length-append}
+use Rattle.std.proofs.Common.{◌≡◌, ℕ, Bool, true, false, if◌then◌else◌, nat_lt, List, [], ◌∷◌, ◌++◌, length, drop, take, Option, None, Some, refl, sym, ap, subst, ◌∙◌, arith, append-nil, append_assoc, length-append}
 use Rattle.std.proofs.lemmas.List.{take-append-drop}
 use Rattle.itm_types.specs.declared.call.Action.{Action}
 use Rattle.itm_types.specs.declared.call.Call.{Call}
@@ -8,12 +8,14 @@ use Rattle.itm_types.specs.declared.call.ActionKind.TheVariants as kinds
 use Rattle.itm_types.specs.declared.call.Props.{Props}
 use Rattle.itm_types.specs.declared.call.Ran.{Ran}
 use Rattle.itm_types.specs.declared.call.Refusal.{Refusal}
+use Rattle.itm_types.specs.declared.call.Reply.{Reply as Replied}
+use Rattle.itm_types.specs.Calls.{is_abort}
 use Rattle.itm_types.specs.declared.row.LogRow.{LogRow}
 use Rattle.itm_types.specs.Memory.{Agrees}
 use Rattle.itm_types.specs.declared.copy.CopyPair.{CopyPair}
 use Rattle.itm_types.specs.declared.copy.CopyPair.TheVariants.{In, Out, Within}
 use Rattle.user_actions.specs.Actions.{Actions, registered}
-use Rattle.itm_model.specs.Machine.{after, after_unless, back, back_from, closed_actions, effect, entered, irrevocable_from, is_open, made_irrevocable, opened, pushed, refusal, rolled_back, source_bytes, target_written, undone, undone_from, with_undo}
+use Rattle.itm_model.specs.Machine.{after, after_unless, back, back_from, closed_actions, closed_in, effect, entered, irrevocable_from, is_open, made_irrevocable, opened, pushed, refusal, rolled_back, source_bytes, target_written, undone, undone_from, with_undo}
 use Rattle.itm_model.specs.State.{Block, Saved, State}
 use Rattle.nest_frames.specs.Nest.{Frame, reads_of}
 use Rattle.norec_core.proofs.Accesses.Logs.{agrees_less}
@@ -118,6 +120,48 @@ plain_runs deepest s c o = by_refusal (refusal deepest s c)
     by_refusal None = effect_runs s c o
     by_refusal (Some why) = still (registers c) s.actions
 
+-- ## Calls that run none
+
+mode_ran : (s : State) → (irrevocable_from s).actions.ran ≡ s.actions.ran
+mode_ran s = by_mode s.irrevocable
+  where
+    by_mode : (b : Bool) → (if b then s else made_irrevocable s).actions.ran ≡ s.actions.ran
+    by_mode true = refl
+    by_mode false = refl
+
+entered_ran : (s : State) (props : Props) → (entered s props).actions.ran ≡ s.actions.ran
+entered_ran s props = by_props props.goes_irrevocable
+  where
+    by_props : (b : Bool) → (if b then irrevocable_from (pushed s props) else pushed s props).actions.ran ≡ s.actions.ran
+    by_props true = mode_ran (pushed s props)
+    by_props false = refl
+
+-- a commit that leaves a block open
+closed_ran : (blocks : List Block) (a : Actions) → nat_lt 0 (length (closed_in blocks)) ≡ true → (closed_actions blocks a).ran ≡ a.ran
+closed_ran [] a o = refl
+closed_ran (b ∷ []) a o = absurd (cc)
+closed_ran (b ∷ p ∷ bs) a o = refl
+
+effect_ran : (s : State) (c : Call) → is_open s ≡ true → is_abort c ≡ false → is_open (effect s c) ≡ true → (effect s c).actions.ran ≡ s.actions.ran
+effect_ran s (Begin props room) o not_abort o' = subst (λ (b : Bool). (if b then entered s props else opened s.memory s.arena props).actions.ran ≡ s.actions.ran) (sym o) (entered_ran s props)
+effect_ran s Commit o not_abort o' = closed_ran s.blocks s.actions o'
+effect_ran s (Abort outer) o not_abort o' = absurd (cc)
+effect_ran s (Mode room) o not_abort o' = mode_ran s
+effect_ran s (Copy k) o not_abort o' = ap (λ (a : Actions). a.ran) (copy_same s k.pair k.to (source_bytes s k.pair k.from k.size))
+effect_ran s (UndoAction action) o not_abort o' = by_mode s.irrevocable
+  where
+    by_mode : (b : Bool) → (if b then s else record s { actions = registered kinds.Undo action s.actions }).actions.ran ≡ s.actions.ran
+    by_mode true = refl
+    by_mode false = refl
+effect_ran s c o not_abort o' = refl
+
+pub plain_ran : (deepest : ℕ) (s : State) (c : Call) → is_open s ≡ true → is_abort c ≡ false → is_open (after deepest s c) ≡ true → (after deepest s c).actions.ran ≡ s.actions.ran
+plain_ran deepest s c o not_abort o' = by_refusal (refusal deepest s c) o'
+  where
+    by_refusal : (why : Option Refusal) → is_open (after_unless why s (effect s c)) ≡ true → (after_unless why s (effect s c)).actions.ran ≡ s.actions.ran
+    by_refusal None o' = effect_ran s c o not_abort o'
+    by_refusal (Some why) o' = refl
+
 -- the innermost block is rolled back, and begins again
 again_runs : (blocks : List Frame) (s : State) → RunsOn 0 s.actions (begun_again blocks (back s)).actions
 again_runs [] s = back_runs s s.blocks
@@ -156,6 +200,16 @@ module _ (s : Start) (v : View) (e : Core) (before : Stands s.view s.engine) (in
       (subst (RunsOn 0 s.engine.actions) (sym is) (subst (λ (a : Actions). RunsOn 0 a (begun_again s.engine.blocks (back (stands_for s.engine some.0))).actions) (stands_actions s.engine some.0) (again_runs s.engine.blocks (stands_for s.engine some.0))))
   served_runs {a = Busy clock} served = rolled served.tells.undone
   served_runs {a = Full at} served = rolled served.tells.undone
+
+  -- none runs where the transaction stays open, but by a cancel
+  pub served_ran : (r : Replied) → Served s (Reply r) v e → is_abort s.call ≡ false → in_transaction e ≡ true → e.actions.ran ≡ s.engine.actions.ran
+  served_ran r served not_abort now =
+      let from : State = stands_for s.engine (came_over s v e) in
+      let is = served.tells.here.state in
+      ap (λ (a : Actions). a.ran) (sym (stands_actions e (left_over v e)))
+      ∙ (ap (λ (x : State). x.actions.ran) is
+      ∙ (plain_ran s.engine.depth from s.call (stands_open s.engine (came_over s v e) inside) not_abort (ap is_open (sym is) ∙ stands_open e (left_over v e) now)
+      ∙ ap (λ (a : Actions). a.ran) (stands_actions s.engine (came_over s v e))))
 
 -- what is given up is not irrevocable, so it held no clock
 pub given_up_runs : (s : Start) (e : Core) → Stands s.view s.engine → s.engine.irrevocable ≡ false → e ≡ after_undoing s.engine → RunsOn 0 s.engine.actions e.actions

@@ -77,7 +77,7 @@ left_more : (deepest : ℕ) (v : View) (xs : List Attempt) (a : Attempt) → Are
 left_more deepest v [] a l h = (h, tt)
 left_more deepest v (x ∷ xs) a l h = (l.0, left_more deepest v xs a l.1 h)
 
-since_more : (known : ℕ) (xs : List Attempt) (a : Attempt) → AreSince known xs → a.began ≡ known_after known xs → AreSince known (xs ++ a ∷ [])
+since_more : (known : ℕ) (xs : List Attempt) (a : Attempt) → AreSince known xs → known_after known xs ≤ a.began → AreSince known (xs ++ a ∷ [])
 since_more known [] a s e = (e, tt)
 since_more known (x ∷ xs) a s e = (s.0, since_more (known_by x) xs a s.1 e)
 
@@ -114,7 +114,7 @@ module _ {P : Type 0} (rules : Rules P) (c : Course P) where
 
   -- with one attempt more
   pub run_with : (v : View) (xs : List Attempt) (b : Between P) (a : Attempt) → HasRun rules c v xs → now_at rules c v xs ≡ Some b → IsTryAt rules c.depth (length v.seen) (bytes_at v) b (begins_at rules c.depth b) a
-      → (is_committed a.outcome ≡ true → IsLeft c.depth v a) → a.began ≡ known_after c.known xs → known_by a ≤ length v.seen → a.thread ≡ c.number → a.nth ≤ c.retries + 1 → a.restarts ≡ []
+      → (is_committed a.outcome ≡ true → IsLeft c.depth v a) → known_after c.known xs ≤ a.began → known_by a ≤ length v.seen → a.thread ≡ c.number → a.nth ≤ c.retries + 1 → a.restarts ≡ []
       → HasRun rules c v (xs ++ a ∷ []) × (now_at rules c v (xs ++ a ∷ []) ≡ after_try rules c.depth (bytes_at v) b (begins_at rules c.depth b) a)
   run_with v xs b a h now try left began known thread nth none =
       let more = run_more rules c.depth (length v.seen) (bytes_at v) (Some c.first) xs b a h.run now try in (

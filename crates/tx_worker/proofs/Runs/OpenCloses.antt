@@ -20,11 +20,12 @@ use Rattle.tx_player.specs.Depth.{depth_after}
 use Rattle.tx_player.specs.Rules.{Obeys, Rules}
 use Rattle.tx_runs.proofs.Tries.{IsMadeAlone, closing_left, try_closes}
 use Rattle.tx_runs.specs.Outcomes.{is_done}
-use Rattle.tx_worker.proofs.Runs.LaterCommits.{positions_more}
+use Rattle.tx_worker.proofs.Runs.LaterCommits.{known_more, positions_more}
 use Rattle.tx_worker.proofs.Runs.OpenRuns.{depth_now, led, made_open, nested_now, run_ended, stood_led}
 use Rattle.tx_worker.specs.Positions.{bytes_at, positions}
 use Rattle.tx_worker.specs.Progress.{Course, HasRun, IsRunning, MayRead, now_at, stood}
-use Rattle.tx_worker.specs.Tallies.{Tally, closed, ending_as, with_call}
+use Rattle.tx_worker.specs.Accounts.{Account}
+use Rattle.tx_worker.proofs.Shapes.{closed, ended_at, row_with}
 
 -- ## An outcome with which a block is over
 
@@ -44,7 +45,7 @@ follows_done rules deepest outcomes.ReadOnly p a s e = refl
 follows_done rules deepest outcomes.Cancelled p a s e = refl
 follows_done rules deepest outcome p a s e = absurd (true≢false (sym e))
 
-module _ {P : Type 0} {rules : Rules P} (laws : Obeys rules) (c : Course P) (s : Start) (t : Tally P) (v : View) (e : Core) (running : IsRunning rules c s.view s.engine t) (went : Went s.view v)
+module _ {P : Type 0} {rules : Rules P} (laws : Obeys rules) (c : Course P) (s : Start) (t : Account P) (v : View) (e : Core) (running : IsRunning rules c s.view s.engine t) (went : Went s.view v)
     (asks : rules.next_call t.player ≡ Some s.call) (inside : in_transaction s.engine ≡ true) (r : Replied) (read : MayRead s.view s.engine (memory_of v (e.snapshot / 2)))
     (replied : r ≡ reply c.depth (stands_for s.engine (stood s.engine.irrevocable s.view (memory_of v (e.snapshot / 2)))) s.call) where
   -- the plain state that the call leaves
@@ -65,10 +66,11 @@ module _ {P : Type 0} {rules : Rules P} (laws : Obeys rules) (c : Course P) (s :
     pub mine : v.mine ≡ s.view.mine ++ (if is_committed outcome then e.snapshot / 2 ∷ [] else [])
     pub depth : length e.blocks ≡ depth_after (length s.engine.blocks) s.call r
     pub deepest : e.depth ≡ s.engine.depth
+    pub clock : (if is_committed outcome then suc (e.snapshot / 2) else e.snapshot / 2) ≤ e.clock / 2
 
   module _ (outcome : Outcome) (closes : Closes outcome) where
     abbrev final : Attempt
-    final = ending_as outcome (e.snapshot / 2) e.actions.ran (with_call s.call r e.actions.ran (running.inside inside).row)
+    final = ended_at outcome (e.snapshot / 2) e.actions.ran (row_with 0 s.call r e.actions.ran (running.inside inside).row)
 
     stands_led : stands_for s.engine (stood s.engine.irrevocable s.view (memory_of v (e.snapshot / 2))) ≡ led laws c t s.view v s.engine running inside went (bytes_at v (e.snapshot / 2))
     stands_led = stood_led laws c t s.view v s.engine running inside went (memory_of v (e.snapshot / 2)) read
@@ -83,13 +85,13 @@ module _ {P : Type 0} {rules : Rules P} (laws : Obeys rules) (c : Course P) (s :
     last_led = ap (λ (x : State). after c.depth x s.call) stands_led
 
     left_last : alone c.depth (bytes_at v (e.snapshot / 2)) final ≡ last
-    left_last = closing_left laws c.depth (running.inside inside).try.of_block (bytes_at v (e.snapshot / 2)) s.call r made asks replied_led (e.snapshot / 2) outcome e.actions.ran ∙ sym last_led
+    left_last = closing_left laws c.depth (running.inside inside).try.of_block (bytes_at v (e.snapshot / 2)) s.call r made asks replied_led 0 (e.snapshot / 2) outcome e.actions.ran ∙ sym last_led
 
     is_try : IsTryAt rules c.depth (length v.seen) (bytes_at v) (running.inside inside).between (Some (running.inside inside).try.of_block.start) final
     is_try =
         let began = (running.inside inside).try.began in
         let older = closes.older in
-        try_closes laws c.depth (running.inside inside).try.of_block (bytes_at v (e.snapshot / 2)) s.call r made asks replied_led (length v.seen) (bytes_at v) (e.snapshot / 2) outcome e.actions.ran refl (omega arith) closes.newer
+        try_closes laws c.depth (running.inside inside).try.of_block (bytes_at v (e.snapshot / 2)) s.call r made asks replied_led 0 (length v.seen) (bytes_at v) (e.snapshot / 2) outcome e.actions.ran refl (omega arith) closes.newer
         (subst (EndsAs outcome) last_led closes.ends) closes.by
         (ap (λ (x : Actions). x.ran) closes.actions ∙ (sym (ran_done outcome last closes.done) ∙ ap (ran_of outcome) last_led)) (never_full outcome closes.done)
 
@@ -113,7 +115,7 @@ module _ {P : Type 0} {rules : Rules P} (laws : Obeys rules) (c : Course P) (s :
         run_closed.1 ∙ (follows_done rules c.depth outcome first final (alone c.depth (bytes_at v (e.snapshot / 2)) final) closes.done
         ∙ (λ i. Some (record { player = player i; arena = arena i; again = false; tries = 0 })))
 
-    pub closes_running : IsRunning rules c v e (closed t (rules.answered t.player r) (ending_as outcome (e.snapshot / 2) e.actions.ran (with_call s.call r e.actions.ran (running.inside inside).row)))
+    pub closes_running : IsRunning rules c v e (closed t (rules.answered t.player r) (ended_at outcome (e.snapshot / 2) e.actions.ran (row_with 0 s.call r e.actions.ran (running.inside inside).row)))
     closes_running =
         let own : List ℕ = if is_committed outcome then e.snapshot / 2 ∷ [] else [] in
         record {
@@ -127,8 +129,9 @@ module _ {P : Type 0} {rules : Rules P} (laws : Obeys rules) (c : Course P) (s :
           inside = λ o. absurd (true≢false (sym o ∙ closes.shut));
           outside = λ o. record {
             between = record { player = rules.answered t.player r; arena = e.arena; again = false; tries = 0 };
-            none = refl;
+            stage_is = refl;
             now_is = now_closed;
+            known = (let k = known_more c.known t.ended final in let l = closes.clock in omega arith);
             before = record { calls = 0; leads = (refl, refl); again = refl; tries = omega arith };
             looked = (let looks = run_closed.0.went.looks in omega arith);
           };

@@ -22,7 +22,7 @@ use Rattle.tx_player.specs.Depth.{depth_after}
 use Rattle.tx_player.specs.Rules.{Obeys, Rules}
 use Rattle.tx_runs.proofs.Players.{plays}
 use Rattle.tx_attempts.specs.Restarts.{breaks_of}
-use Rattle.tx_runs.proofs.Tries.{IsMadeAlone, alone_led, try_stops}
+use Rattle.tx_runs.proofs.Tries.{IsMadeAlone, alone_led, try_of_room, try_stops}
 use Rattle.tx_runs.proofs.Unbroken.{none_again}
 use Rattle.tx_runs.specs.Nesting.{IsDeep, IsNested}
 use Rattle.tx_runs.specs.Outcomes.{is_done}
@@ -31,7 +31,8 @@ use Rattle.tx_worker.proofs.Runs.LaterCommits.{positions_more, run_later, run_wi
 use Rattle.tx_worker.proofs.Machines.PlainStates.{stands_open}
 use Rattle.tx_worker.specs.Positions.{IsLeft, bytes_at, known_by, positions}
 use Rattle.tx_worker.specs.Progress.{Course, HasRun, IsRunning, MayRead, now_at, stood}
-use Rattle.tx_worker.specs.Tallies.{Tally, ending_as}
+use Rattle.tx_worker.specs.Accounts.{Account}
+use Rattle.tx_worker.proofs.Shapes.{ended_at}
 
 -- ## The player after a reply
 
@@ -65,7 +66,7 @@ positions_same xs a e = positions_more xs a ∙ (ap (λ (b : Bool). positions xs
 
 -- ## The open attempt
 
-module _ {P : Type 0} {rules : Rules P} (laws : Obeys rules) (c : Course P) (t : Tally P) (u v : View) (e : Core) (running : IsRunning rules c u e t) (inside : in_transaction e ≡ true) (went : Went u v) where
+module _ {P : Type 0} {rules : Rules P} (laws : Obeys rules) (c : Course P) (t : Account P) (u v : View) (e : Core) (running : IsRunning rules c u e t) (inside : in_transaction e ≡ true) (went : Went u v) where
   -- what its calls led to
   abbrev pub led : List ℕ → State
   led memory = state_then c.depth (breaks_of (running.inside inside).row.restarts) (opened memory (running.inside inside).try.of_block.start.arena (running.inside inside).try.of_block.start.props) (running.inside inside).row.calls.list
@@ -95,27 +96,27 @@ module _ {P : Type 0} {rules : Rules P} (laws : Obeys rules) (c : Course P) (t :
       let tries = running.tries in
       let same = h.nth in
       let here : IsTryAt rules c.depth (length v.seen) (bytes_at v) h.between (begins_at rules c.depth h.between) a = subst (λ (o : _). IsTryAt rules c.depth (length v.seen) (bytes_at v) h.between o a) (sym h.try.of_block.begins) try in
-      let more = run_with rules c v t.ended h.between a now.0 (now.1 ∙ h.now_is) here left (began ∙ h.began) known (thread ∙ h.thread) (omega arith) (restarts ∙ h.try.restarts) in
+      let more = run_with rules c v t.ended h.between a now.0 (now.1 ∙ h.now_is) here left (let k = h.known in let same = began in omega arith) known (thread ∙ h.thread) (omega arith) (restarts ∙ h.try.restarts) in
       (more.0, more.1 ∙ ap (λ (o : _). after_try rules c.depth (bytes_at v) h.between o a) h.try.of_block.begins)
 
   -- ## Without a commit
 
   module _ (k : ℕ) (outcome : Outcome) (ran : List Ran) (undone : is_done outcome ≡ false) (read : MayRead u e (memory_of v k)) where
     abbrev pub told_at : Attempt
-    told_at = ending_as outcome k ran (running.inside inside).row
+    told_at = ended_at outcome k ran (running.inside inside).row
 
     pub stop_ended : EndsAs outcome (stands_for e (stood e.irrevocable u (memory_of v k))) → ran ≡ ran_of outcome (stands_for e (stood e.irrevocable u (memory_of v k)))
         → (running.inside inside).row.began ≤ k → k ≤ length v.seen
         → (outcome ≡ outcomes.Full → LacksClock rules c.depth (rules.answered (running.inside inside).try.of_block.start.player (begin_code (running.inside inside).between.again)) (running.inside inside).row (bytes_at v k))
-        → HasRun rules c v (t.ended ++ ending_as outcome k ran (running.inside inside).row ∷ [])
-        × (now_at rules c v (t.ended ++ ending_as outcome k ran (running.inside inside).row ∷ []) ≡ after_try rules c.depth (bytes_at v) (running.inside inside).between (Some (running.inside inside).try.of_block.start) (ending_as outcome k ran (running.inside inside).row))
+        → HasRun rules c v (t.ended ++ ended_at outcome k ran (running.inside inside).row ∷ [])
+        × (now_at rules c v (t.ended ++ ended_at outcome k ran (running.inside inside).row ∷ []) ≡ after_try rules c.depth (bytes_at v) (running.inside inside).between (Some (running.inside inside).try.of_block.start) (ended_at outcome k ran (running.inside inside).row))
     stop_ended ends ran_is older newer full =
         let h = running.inside inside in
         let none = not_committed outcome undone in
         let stands = stood_led (memory_of v k) read in
-        run_ended (ending_as outcome k ran h.row)
-        (try_stops laws c.depth h.try.of_block (length v.seen) (bytes_at v) k outcome ran undone (made_open (memory_of v k) read) (subst (EndsAs outcome) stands ends) older newer (ran_is ∙ ap (ran_of outcome) stands) full)
+        run_ended (ended_at outcome k ran h.row)
+        (try_of_room laws c.depth (length v.seen) (bytes_at v) h.between h.try.of_block.start (record h.row { at = k; ran = ran; outcome = outcome }) 0 (try_stops laws c.depth h.try.of_block (length v.seen) (bytes_at v) k outcome ran undone (made_open (memory_of v k) read) (subst (EndsAs outcome) stands ends) older newer (ran_is ∙ ap (ran_of outcome) stands) full))
         (λ committed. absurd (true≢false (sym committed ∙ none))) (subst (λ (b : Bool). (if b then suc k else k) ≤ length v.seen) (sym none) newer) refl refl refl refl
 
-    pub stop_mine : v.mine ≡ u.mine → v.mine ≡ c.view.mine ++ positions (t.ended ++ ending_as outcome k ran (running.inside inside).row ∷ [])
-    stop_mine same = same ∙ (running.mine ∙ ap (λ (ps : List ℕ). c.view.mine ++ ps) (sym (positions_same t.ended (ending_as outcome k ran (running.inside inside).row) (not_committed outcome undone))))
+    pub stop_mine : v.mine ≡ u.mine → v.mine ≡ c.view.mine ++ positions (t.ended ++ ended_at outcome k ran (running.inside inside).row ∷ [])
+    stop_mine same = same ∙ (running.mine ∙ ap (λ (ps : List ℕ). c.view.mine ++ ps) (sym (positions_same t.ended (ended_at outcome k ran (running.inside inside).row) (not_committed outcome undone))))

@@ -31,7 +31,8 @@ use Rattle.tx_worker.proofs.Runs.EarlierReads.{came_stood, depth_told, met_here,
 use Rattle.tx_worker.proofs.Machines.PlainStates.{stands_actions, stands_arena, stands_blocks, stands_open, stands_shut}
 use Rattle.tx_worker.specs.Positions.{bytes_at}
 use Rattle.tx_worker.specs.Progress.{Course, IsRunning, IsTry, MayRead, stood}
-use Rattle.tx_worker.specs.Tallies.{Tally, closed, ending_as, went_on, with_call}
+use Rattle.tx_worker.specs.Accounts.{Account}
+use Rattle.tx_worker.proofs.Shapes.{closed, ended_at, goes_on, row_with}
 
 -- the commit of the outermost block ends its transaction
 pub commit_closes : (deepest : ℕ) (s : State) → length s.blocks ≡ 1 → is_open (after deepest s Commit) ≡ false
@@ -42,13 +43,13 @@ commit_closes deepest s one = by_blocks s.blocks one
     by_blocks (b ∷ []) one = refl
     by_blocks (b ∷ p ∷ bs) one = absurd (omega (arith, one))
 
-module _ {P : Type 0} {rules : Rules P} (laws : Obeys rules) (c : Course P) (s : Start) (t : Tally P) (v : View) (e : Core) (running : IsRunning rules c s.view s.engine t) (before : Stands s.view s.engine) (stands : Stands v e)
+module _ {P : Type 0} {rules : Rules P} (laws : Obeys rules) (c : Course P) (s : Start) (t : Account P) (v : View) (e : Core) (running : IsRunning rules c s.view s.engine t) (before : Stands s.view s.engine) (stands : Stands v e)
     (asks : rules.next_call t.player ≡ Some s.call) (first_time : s.again ≡ false) (inside : in_transaction s.engine ≡ true) where
   -- ## It goes on
 
   module _ (r : Replied) (served : Served s (Reply r) v e) where
-    try_goes_on : in_transaction e ≡ true → IsTry rules c.depth (running.inside inside).between (with_call s.call r e.actions.ran (running.inside inside).row) (rules.answered t.player r) v e
-    try_goes_on o =
+    try_goes_on : (room : ℕ) → in_transaction e ≡ true → IsTry rules c.depth (running.inside inside).between (row_with room s.call r e.actions.ran (running.inside inside).row) (rules.answered t.player r) v e
+    try_goes_on room o =
         let h = running.inside inside in
         let try = h.try in
         let grows = served.grows inside o (λ r. r) in
@@ -78,8 +79,8 @@ module _ {P : Type 0} {rules : Rules P} (laws : Obeys rules) (c : Course P) (s :
     depth_is : length e.blocks ≡ depth_after (length s.engine.blocks) s.call r
     depth_is = depth_told s v e before stands inside r first_time _ _ (met_here s v e before stands inside r served)
 
-    pub stays : in_transaction e ≡ true → IsRunning rules c v e (went_on t (rules.answered t.player r) (with_call s.call r e.actions.ran (running.inside inside).row))
-    stays o =
+    pub stays : (room : ℕ) → in_transaction e ≡ true → IsRunning rules c v e (goes_on t (rules.answered t.player r) (row_with room s.call r e.actions.ran (running.inside inside).row))
+    stays room o =
         let h = running.inside inside in
         let later = run_later rules c s.view v served.went t.ended running.has_run in
         record {
@@ -92,14 +93,14 @@ module _ {P : Type 0} {rules : Rules P} (laws : Obeys rules) (c : Course P) (s :
           deepest = served.limits.2 ∙ running.deepest;
           inside = λ o. record {
             between = h.between;
-            row = with_call s.call r e.actions.ran h.row;
-            open_is = refl;
+            row = row_with room s.call r e.actions.ran h.row;
+            stage_is = refl;
             now_is = later.1 ∙ h.now_is;
-            try = try_goes_on o;
+            try = try_goes_on room o;
             again = h.again;
             nth = h.nth;
             thread = h.thread;
-            began = h.began;
+            known = h.known;
             looked = (let looked = h.looked in let looks = served.went.looks in omega arith);
           };
           outside = λ shut. absurd (true≢false (sym o ∙ shut));
@@ -143,7 +144,7 @@ module _ {P : Type 0} {rules : Rules P} (laws : Obeys rules) (c : Course P) (s :
       not_wrote : (stands_for e left).wrote ≡ false
       not_wrote = λ i. (state_in (shut_revocable e stands.settled shut i) ((stands.settled.closed shut).1 i) e.blocks e.arena e.actions left).wrote
 
-      pub cancels : IsRunning rules c v e (closed t (rules.answered t.player r) (ending_as outcomes.Cancelled (e.snapshot / 2) e.actions.ran (with_call s.call r e.actions.ran (running.inside inside).row)))
+      pub cancels : IsRunning rules c v e (closed t (rules.answered t.player r) (ended_at outcomes.Cancelled (e.snapshot / 2) e.actions.ran (row_with 0 s.call r e.actions.ran (running.inside inside).row)))
       cancels =
           let calls = (running.inside inside).row.calls.list in
           let same = at_once.1 in
@@ -162,6 +163,7 @@ module _ {P : Type 0} {rules : Rules P} (laws : Obeys rules) (c : Course P) (s :
             mine = served.mine ∙ sym (append-nil s.view.mine);
             depth = depth_is;
             deepest = served.limits.2;
+            clock = (let up = stands.settled.reached in omega arith);
           })
 
   -- ## It commits
@@ -210,6 +212,7 @@ module _ {P : Type 0} {rules : Rules P} (laws : Obeys rules) (c : Course P) (s :
           mine = served.mine ∙ (λ i. mine_if (is i) s.view.mine (at_is i));
           depth = depth_over;
           deepest = served.limits.2;
+          clock = (let up = served.tells.clock is in omega arith);
         }
     by_wrote false is =
         let calls = (running.inside inside).row.calls.list in
@@ -228,7 +231,8 @@ module _ {P : Type 0} {rules : Rules P} (laws : Obeys rules) (c : Course P) (s :
           mine = served.mine ∙ (ap (λ (w : Bool). mine_if w s.view.mine at) is ∙ sym (append-nil s.view.mine));
           depth = depth_over;
           deepest = served.limits.2;
+          clock = (let up = stands.settled.reached in omega arith);
         }
 
-    pub commits : IsRunning rules c v e (closed t (rules.answered t.player Done) (ending_as (if wrote then outcomes.Committed else outcomes.ReadOnly) (e.snapshot / 2) e.actions.ran (with_call s.call Done e.actions.ran (running.inside inside).row)))
+    pub commits : IsRunning rules c v e (closed t (rules.answered t.player Done) (ended_at (if wrote then outcomes.Committed else outcomes.ReadOnly) (e.snapshot / 2) e.actions.ran (row_with 0 s.call Done e.actions.ran (running.inside inside).row)))
     commits = closes_running laws c s t v e running served.went asks inside Done commit_read done_plain (if wrote then outcomes.Committed else outcomes.ReadOnly) (by_wrote wrote refl)

@@ -27,10 +27,12 @@ use Rattle.tx_runs.specs.Nesting.{IsNested}
 use Rattle.tx_worker.proofs.Machines.ClockCalls.{wants_revocable, wants_taking}
 use Rattle.tx_worker.proofs.Runs.OpenRuns.{alone_stood, led, made_open, stood_led, stop_ended, stop_mine}
 use Rattle.tx_worker.proofs.Runs.EarlierReads.{position_read}
+use Rattle.tx_worker.proofs.Runs.LaterCommits.{known_more}
 use Rattle.tx_worker.proofs.Machines.PlainStates.{may_here, stands_actions, stands_arena, stands_mode, stands_open}
 use Rattle.tx_worker.specs.Positions.{bytes_at, positions}
 use Rattle.tx_worker.specs.Progress.{Course, HasRun, IsRunning, MayRead, now_at, stood}
-use Rattle.tx_worker.specs.Tallies.{Tally, ending_as, tried}
+use Rattle.tx_worker.specs.Accounts.{Account}
+use Rattle.tx_worker.proofs.Shapes.{ended_at, tried}
 
 -- ## The actions that have run
 
@@ -46,7 +48,7 @@ still_went v = record { base = refl; share = refl; grows = ([], sym (append-nil 
 
 -- ## By an answer
 
-module _ {P : Type 0} {rules : Rules P} (laws : Obeys rules) (c : Course P) (s : Start) (t : Tally P) (v : View) (e : Core) (running : IsRunning rules c s.view s.engine t) (before : Stands s.view s.engine) (stands : Stands v e)
+module _ {P : Type 0} {rules : Rules P} (laws : Obeys rules) (c : Course P) (s : Start) (t : Account P) (v : View) (e : Core) (running : IsRunning rules c s.view s.engine t) (before : Stands s.view s.engine) (stands : Stands v e)
     (asks : rules.next_call t.player ≡ Some s.call) (inside : in_transaction s.engine ≡ true) where
   abbrev position : List ℕ
   position = memory_of v (e.snapshot / 2)
@@ -69,9 +71,9 @@ module _ {P : Type 0} {rules : Rules P} (laws : Obeys rules) (c : Course P) (s :
     conflict_read : MayRead s.view s.engine (memory_of v (e.snapshot / 2))
     conflict_read = position_read s v e before stands inside (Conflict clock word) served (served.tells.closes.agrees inside)
 
-    conflict_ended : HasRun rules c v (t.ended ++ ending_as outcomes.Conflict (e.snapshot / 2) e.actions.ran (running.inside inside).row ∷ [])
-        × (now_at rules c v (t.ended ++ ending_as outcomes.Conflict (e.snapshot / 2) e.actions.ran (running.inside inside).row ∷ [])
-        ≡ after_try rules c.depth (bytes_at v) (running.inside inside).between (Some (running.inside inside).try.of_block.start) (ending_as outcomes.Conflict (e.snapshot / 2) e.actions.ran (running.inside inside).row))
+    conflict_ended : HasRun rules c v (t.ended ++ ended_at outcomes.Conflict (e.snapshot / 2) e.actions.ran (running.inside inside).row ∷ [])
+        × (now_at rules c v (t.ended ++ ended_at outcomes.Conflict (e.snapshot / 2) e.actions.ran (running.inside inside).row ∷ [])
+        ≡ after_try rules c.depth (bytes_at v) (running.inside inside).between (Some (running.inside inside).try.of_block.start) (ended_at outcomes.Conflict (e.snapshot / 2) e.actions.ran (running.inside inside).row))
     conflict_ended =
         let m : List ℕ = stood s.engine.irrevocable s.view position in
         let late = served.tells.closes.late inside in
@@ -79,21 +81,21 @@ module _ {P : Type 0} {rules : Rules P} (laws : Obeys rules) (c : Course P) (s :
         stop_ended laws c t s.view v s.engine running inside served.went (e.snapshot / 2) outcomes.Conflict e.actions.ran refl conflict_read
         (stands_open s.engine m inside, stands_mode s.engine m ∙ served.tells.revocable) (ran_undone (Conflict clock word) served served.tells.revocable served.tells.undone) (omega arith) served.tells.closes.seen (λ f. absurd (cc))
 
-    conflict_mine : v.mine ≡ c.view.mine ++ positions (t.ended ++ ending_as outcomes.Conflict (e.snapshot / 2) e.actions.ran (running.inside inside).row ∷ [])
+    conflict_mine : v.mine ≡ c.view.mine ++ positions (t.ended ++ ended_at outcomes.Conflict (e.snapshot / 2) e.actions.ran (running.inside inside).row ∷ [])
     conflict_mine = stop_mine laws c t s.view v s.engine running inside served.went (e.snapshot / 2) outcomes.Conflict e.actions.ran refl conflict_read served.mine
 
-    pub conflict_run : HasRun rules c v (t.ended ++ ending_as outcomes.Conflict (e.snapshot / 2) e.actions.ran (running.inside inside).row ∷ [])
-        × (v.mine ≡ c.view.mine ++ positions (t.ended ++ ending_as outcomes.Conflict (e.snapshot / 2) e.actions.ran (running.inside inside).row ∷ []))
+    pub conflict_run : HasRun rules c v (t.ended ++ ended_at outcomes.Conflict (e.snapshot / 2) e.actions.ran (running.inside inside).row ∷ [])
+        × (v.mine ≡ c.view.mine ++ positions (t.ended ++ ended_at outcomes.Conflict (e.snapshot / 2) e.actions.ran (running.inside inside).row ∷ []))
     conflict_run = (conflict_ended.0, conflict_mine)
 
     -- its player goes back to its begin, and the next try is to come
-    pub conflicts : t.nth ≤ c.retries → IsRunning rules c v e (tried t (rules.restarted t.player) (t.ended ++ ending_as outcomes.Conflict (e.snapshot / 2) e.actions.ran (running.inside inside).row ∷ []))
+    pub conflicts : t.nth ≤ c.retries → IsRunning rules c v e (tried t (rules.restarted t.player) (t.ended ++ ended_at outcomes.Conflict (e.snapshot / 2) e.actions.ran (running.inside inside).row ∷ []))
     conflicts may =
         let h = running.inside inside in
         let shut = served.tells.closes.closed in
         let begun : rules.depth (rules.restarted t.player) ≡ 0 = running.nested.begun inside in
         let player : rules.restarted (answered_all rules.answered (rules.answered h.try.of_block.start.player (begin_code h.between.again)) (map (λ (x : CallRecord). x.reply) h.row.calls.list)) ≡ rules.restarted t.player = ap rules.restarted (sym h.try.of_block.player) in
-        let left : State = alone c.depth (bytes_at v (e.snapshot / 2)) (ending_as outcomes.Conflict (e.snapshot / 2) e.actions.ran h.row) in
+        let left : State = alone c.depth (bytes_at v (e.snapshot / 2)) (ended_at outcomes.Conflict (e.snapshot / 2) e.actions.ran h.row) in
         let arena : (undone left).arena ≡ e.arena =
         ap (λ (x : State). (undone x).arena) (alone_stood laws c t s.view v s.engine running inside served.went position conflict_read)
         ∙ (ap (λ (x : State). x.arena) (sym (state_undone (Conflict clock word) served served.tells.revocable served.tells.undone)) ∙ stands_arena e position) in
@@ -108,7 +110,8 @@ module _ {P : Type 0} {rules : Rules P} (laws : Obeys rules) (c : Course P) (s :
           inside = λ o. absurd (true≢false (sym o ∙ shut));
           outside = λ o. record {
             between = record { player = rules.restarted t.player; arena = e.arena; again = true; tries = h.row.nth };
-            none = refl;
+            stage_is = refl;
+            known = (let k = known_more c.known t.ended (ended_at outcomes.Conflict (e.snapshot / 2) e.actions.ran h.row) in let up = stands.settled.reached in omega arith);
             now_is = conflict_ended.1 ∙ (λ i. Some (record { player = player i; arena = arena i; again = true; tries = h.row.nth }));
             before = record { calls = 0; leads = (refl, refl); again = h.again; tries = (let same = h.nth in omega arith) };
             looked = (let looked = h.looked in let looks = served.tells.looks in omega arith);
@@ -135,8 +138,8 @@ module _ {P : Type 0} {rules : Rules P} (laws : Obeys rules) (c : Course P) (s :
         (ap (λ (x : State). x.irrevocable) (sym stands_led) ∙ (stands_mode s.engine m ∙ full_revocable))
         ((λ i. takes_clock (after (sym running.deepest i) (sym stands_led i) s.call)) ∙ wants_taking s.engine m full_revocable inside s.call served.tells.wants)
 
-    pub full_run : HasRun rules c v (t.ended ++ ending_as outcomes.Full (e.snapshot / 2) e.actions.ran (running.inside inside).row ∷ [])
-        × (v.mine ≡ c.view.mine ++ positions (t.ended ++ ending_as outcomes.Full (e.snapshot / 2) e.actions.ran (running.inside inside).row ∷ []))
+    pub full_run : HasRun rules c v (t.ended ++ ended_at outcomes.Full (e.snapshot / 2) e.actions.ran (running.inside inside).row ∷ [])
+        × (v.mine ≡ c.view.mine ++ positions (t.ended ++ ended_at outcomes.Full (e.snapshot / 2) e.actions.ran (running.inside inside).row ∷ []))
         × (s.engine.max_commits ≤ length v.seen)
     full_run =
         let m : List ℕ = stood s.engine.irrevocable s.view position in
@@ -153,11 +156,11 @@ module _ {P : Type 0} {rules : Rules P} (laws : Obeys rules) (c : Course P) (s :
 
 -- ## With no call
 
-module _ {P : Type 0} {rules : Rules P} (laws : Obeys rules) (c : Course P) (s : Start) (t : Tally P) (running : IsRunning rules c s.view s.engine t) (before : Stands s.view s.engine) (inside : in_transaction s.engine ≡ true) where
+module _ {P : Type 0} {rules : Rules P} (laws : Obeys rules) (c : Course P) (s : Start) (t : Account P) (running : IsRunning rules c s.view s.engine t) (before : Stands s.view s.engine) (inside : in_transaction s.engine ≡ true) where
   -- it is given up for want of memory
   pub starved_run : (v : View) (e : Core) → s.engine.irrevocable ≡ false → e ≡ after_undoing s.engine → v ≡ s.view
-      → HasRun rules c v (t.ended ++ ending_as outcomes.NoMemory (e.snapshot / 2) e.actions.ran (running.inside inside).row ∷ [])
-      × (v.mine ≡ c.view.mine ++ positions (t.ended ++ ending_as outcomes.NoMemory (e.snapshot / 2) e.actions.ran (running.inside inside).row ∷ []))
+      → HasRun rules c v (t.ended ++ ended_at outcomes.NoMemory (e.snapshot / 2) e.actions.ran (running.inside inside).row ∷ [])
+      × (v.mine ≡ c.view.mine ++ positions (t.ended ++ ended_at outcomes.NoMemory (e.snapshot / 2) e.actions.ran (running.inside inside).row ∷ []))
   starved_run v e revocable is same =
       let free : s.engine.holds ≡ false = before.mode ∙ revocable in
       let snapshot : e.snapshot ≡ s.engine.snapshot = ap (λ (x : Core). x.snapshot) is ∙ ap (λ (h : Bool). (if h then s.engine else record (rolled_back s.engine) { stage = Idle; tries = 0 }).snapshot) free in
@@ -173,8 +176,8 @@ module _ {P : Type 0} {rules : Rules P} (laws : Obeys rules) (c : Course P) (s :
       )
 
   -- the thread stops, and it is told as it stands
-  pub unfinished_run : HasRun rules c s.view (t.ended ++ record (running.inside inside).row { at = s.engine.snapshot / 2; outcome = outcomes.Unfinished } ∷ [])
-      × (s.view.mine ≡ c.view.mine ++ positions (t.ended ++ record (running.inside inside).row { at = s.engine.snapshot / 2; outcome = outcomes.Unfinished } ∷ []))
+  pub unfinished_run : HasRun rules c s.view (t.ended ++ ended_at outcomes.Unfinished (s.engine.snapshot / 2) (running.inside inside).row.ran (running.inside inside).row ∷ [])
+      × (s.view.mine ≡ c.view.mine ++ positions (t.ended ++ ended_at outcomes.Unfinished (s.engine.snapshot / 2) (running.inside inside).row.ran (running.inside inside).row ∷ []))
   unfinished_run =
       let h = running.inside inside in
       let m : List ℕ = stood s.engine.irrevocable s.view (memory_of s.view (s.engine.snapshot / 2)) in

@@ -3,7 +3,9 @@ use Rattle.std.proofs.Common.{◌≡◌, [], ◌∷◌, refl}
 use Rattle.std.proofs.lemmas.List.Elements.{All-cons, All-head, All-nil}
 use Rattle.norec_world.specs.declared.actor.Actor.{Actor}
 use Rattle.norec_world.specs.declared.actor.Status.TheVariants.{Ended}
-use Rattle.norec_world.specs.Rows.{Rows}
+use Rattle.tx_runs.specs.OpenAttempts.{Open}
+use Rattle.tx_runs.specs.declared.player_run.Current.{Current}
+use Rattle.tx_runs.specs.declared.player_run.Current.TheVariants.{Outside, Within}
 use Rattle.norec_world.specs.World.{World, ending_at}
 use Rattle.std.specs.Prelude.{Some, true}
 use Rattle.tx_attempts.specs.declared.attempt.Attempt.{Attempt}
@@ -11,15 +13,15 @@ use Rattle.tx_attempts.specs.declared.attempt.Outcome.TheVariants.{NoMemory, Unf
 use Rattle.tx_runs.specs.declared.ending.End.TheVariants as ends
 use Rattle.world_laws.specs.Starved.{IsFed, LeavesNoneOpen}
 
-module _ {P : Type 0} (w : World P) (a : Actor P) (row : Attempt) where
-  abbrev with_rows : Rows → World P
-  with_rows rows = record w { actors = record a { status = Ended ends.NoMemory } ∷ []; attempts = rows }
+module _ {P : Type 0} (w : World P) (a : Actor P) (o : Open) (row : Attempt) where
+  abbrev starved : Current → Actor P
+  starved current = record a { run = record a.run { current = current }; status = Ended ends.NoMemory }
 
   abbrev over : World P
-  over = with_rows (record { ended = record row { thread = 0; outcome = NoMemory } ∷ []; active = []; room = 0 })
+  over = record w { actors = starved Outside ∷ []; attempts = record { ended = record row { thread = 0; outcome = NoMemory } ∷ []; room = 0 } }
 
   abbrev on_its_way : World P
-  on_its_way = with_rows (record { ended = []; active = record row { thread = 0; outcome = Unfinished } ∷ []; room = 0 })
+  on_its_way = record w { actors = starved (Within (record o { row = record row { thread = 0; outcome = Unfinished } })) ∷ []; attempts = record { ended = []; room = 0 } }
 
   over_leaves_none : LeavesNoneOpen over
   over_leaves_none =
@@ -33,4 +35,4 @@ module _ {P : Type 0} (w : World P) (a : Actor P) (row : Attempt) where
 
   -- nor is it fed where it is irrevocable
   irrevocable_unfed : a.engine.irrevocable ≡ true → IsFed on_its_way → ⊥
-  irrevocable_unfed irrevocable fed = absurd (let revocable = fed 0 (record a { status = Ended ends.NoMemory }) refl refl in cc)
+  irrevocable_unfed irrevocable fed = absurd (let revocable = fed 0 (starved (Within (record o { row = record row { thread = 0; outcome = Unfinished } }))) refl refl in cc)

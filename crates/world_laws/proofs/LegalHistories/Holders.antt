@@ -1,6 +1,7 @@
 -- Who holds the clock, as a history counts it.
-use Rattle.std.proofs.Common.{inl, inr, ◌≡◌, ℕ, ◌+◌, ◌<◌, ◌≤◌, ◌==◌, Bool, true, false, true≢false, ◌&&◌, All, List, [], ◌∷◌, ◌++◌, None, Some, refl, sym, ap, ◌∙◌, arith, eqb-true}
+use Rattle.std.proofs.Common.{inl, inr, ◌≡◌, ℕ, zero, suc, ◌+◌, ◌<◌, ◌≤◌, Bool, true, false, true≢false, ◌&&◌, All, List, [], ◌∷◌, ◌++◌, Option, None, Some, slice_get, refl, sym, ap, ◌∙◌, arith}
 use Rattle.std.proofs.lemmas.Bool.{cases_Bool}
+use Rattle.std.proofs.lemmas.Option.{same_Some}
 use Rattle.std.proofs.lemmas.List.Elements.{All-nil, All-cons, All-head, All-tail}
 use Rattle.tx_attempts.specs.declared.attempt.Attempt.{Attempt}
 use Rattle.tx_attempts.specs.declared.attempt.Outcome.{Outcome}
@@ -10,9 +11,14 @@ use Rattle.tx_attempts.specs.Counts.{one_where}
 use Rattle.tx_history.specs.declared.history.History.{History}
 use Rattle.tx_history.specs.Versions.{depth_of}
 use Rattle.tx_history.specs.Legal.{count_holding, is_holding, is_unfinished, memory_at}
-use Rattle.norec_world.specs.Rows.{AreEnded, AreFrom, AreUnfinished, active_of}
-use Rattle.norec_world.proofs.Attempts.ActiveRows.{past_all}
-use Rattle.norec_world.proofs.Events.SoundOthers.{first_found}
+use Rattle.norec_world.specs.declared.actor.Actor.{Actor}
+use Rattle.norec_world.specs.Rows.{AreEnded, AreFrom}
+use Rattle.norec_world.specs.Stages.{active_of, opens, with_open}
+use Rattle.norec_world.specs.Tied.{AreTied}
+use Rattle.norec_world.specs.World.{World}
+use Rattle.norec_world.proofs.Tries.Stages.{row_is_of}
+use Rattle.norec_core.specs.Core.{in_transaction}
+use Rattle.tx_player.specs.Rules.{Rules}
 
 -- ## Counts of two lists
 
@@ -87,25 +93,26 @@ module _ (h : History) where
 
 -- ## Places
 
--- each open attempt is its thread's
-pub each_open : (Q : Attempt → Type 0) (n : ℕ) (xs : List Attempt) → AreFrom n xs → ((row : Attempt) → active_of row.thread xs ≡ Some row → Q row) → All Q xs
-each_open Q n [] from each = All-nil Q
-each_open Q n (x ∷ xs) from each = All-cons Q x xs (each x (first_found x xs)) (each_open Q (x.thread + 1) xs from.1 later)
-  where
-    later : (row : Attempt) → active_of row.thread xs ≡ Some row → Q row
-    later row e = elim (cases_Bool (x.thread == row.thread)) [
-      | inl same ↦ absurd (let none = past_all row.thread (x.thread + 1) xs (omega (arith, eqb-true x.thread row.thread same)) from.1 in let f : None ≡ Some row = sym none ∙ e in cc)
-      | inr apart ↦ each row (simp apart e)
-    ]
+module _ {P : Type 0} where
+  -- it is of the actor that it is the open attempt of
+  pub placed_there : {rules : Rules P} {w : World P} → AreTied rules w → (place : ℕ) (a : Actor P) (row : Attempt) → slice_get w.actors place ≡ Some a → active_of a ≡ Some row → row.thread ≡ place
+  placed_there tied place a row here some = row_is_of (in_transaction a.engine) a row (tied.rows place a here) some ∙ tied.threads place a here
 
--- it stands among them
-pub stands_among : (thread : ℕ) (xs : List Attempt) (row : Attempt) → active_of thread xs ≡ Some row → (before rest : List Attempt) × (xs ≡ before ++ row ∷ rest)
-stands_among thread [] row e = absurd (cc)
-stands_among thread (x ∷ xs) row e = elim (cases_Bool (x.thread == thread)) [
-  | inl here ↦ (let f = simp here at e in let same : x ≡ row = cc in ([], xs, λ i. same i ∷ xs))
-  | inr apart ↦ (let r = stands_among thread xs row (simp apart at e) in (x ∷ r.0, r.1, λ i. x ∷ r.2 i))
-]
+  -- each open attempt is that of an actor
+  pub each_open : (Q : Attempt → Type 0) (xs : List (Actor P)) → ((place : ℕ) (a : Actor P) (row : Attempt) → slice_get xs place ≡ Some a → active_of a ≡ Some row → Q row) → All Q (opens xs)
+  each_open Q [] each = All-nil Q
+  each_open Q (x ∷ xs) each = first (active_of x) (each zero x) (each_open Q xs (λ place. each (suc place)))
+    where
+      first : (o : Option Attempt) → ((row : Attempt) → slice_get (x ∷ xs) zero ≡ Some x → o ≡ Some row → Q row) → All Q (opens xs) → All Q (with_open o (opens xs))
+      first None here rest = rest
+      first (Some row) here rest = All-cons Q row (opens xs) (here row refl refl) rest
 
-pub is_unfinished_there : (before rest : List Attempt) (row : Attempt) → AreUnfinished (before ++ row ∷ rest) → row.outcome ≡ Unfinished
-is_unfinished_there [] rest row u = u.0
-is_unfinished_there (x ∷ before) rest row u = is_unfinished_there before rest row u.1
+  -- it stands among them
+  pub stands_among : (xs : List (Actor P)) (place : ℕ) (a : Actor P) (row : Attempt) → slice_get xs place ≡ Some a → active_of a ≡ Some row → (before rest : List Attempt) × (opens xs ≡ before ++ row ∷ rest)
+  stands_among [] place a row here e = absurd (cc)
+  stands_among (x ∷ xs) zero a row here e = ([], opens xs, ap (λ (o : Option Attempt). with_open o (opens xs)) (ap (λ (y : Actor P). active_of y) (same_Some _ _ here) ∙ e))
+  stands_among (x ∷ xs) (suc place) a row here e = behind (active_of x) (stands_among xs place a row here e)
+    where
+      behind : (o : Option Attempt) → (before rest : List Attempt) × (opens xs ≡ before ++ row ∷ rest) → (before rest : List Attempt) × (with_open o (opens xs) ≡ before ++ row ∷ rest)
+      behind None there = there
+      behind (Some y) there = (y ∷ there.0, there.1, ap (λ (l : List Attempt). y ∷ l) there.2)

@@ -1,60 +1,56 @@
 -- The open attempt of an actor that found no memory is irrevocable; so there is none where no such attempt is.
-use Rattle.std.proofs.Common.{inl, inr, ◌≡◌, ℕ, Bool, true, false, All, List, [], ◌∷◌, nat_lt, Option, None, Some, slice_get, slice_set, Result, refl, sym, ap, subst, ◌∙◌}
+use Rattle.std.proofs.Common.{inl, inr, ◌≡◌, ℕ, Bool, true, false, All, List, [], ◌∷◌, nat_lt, None, Some, slice_get, slice_set, Result, sym, ap, subst, ◌∙◌}
 use Rattle.std.proofs.lemmas.List.Elements.{All-append, All-cons, All-nil}
 use Rattle.tx_attempts.specs.declared.attempt.Attempt.{Attempt}
 use Rattle.tx_attempts.specs.declared.attempt.Outcome.{Outcome}
 use Rattle.tx_attempts.specs.declared.attempt.Outcome.TheVariants as outcomes
 use Rattle.tx_player.specs.Rules.{Rules}
-use Rattle.tx_runs.specs.declared.ending.End.{End}
 use Rattle.tx_runs.specs.declared.ending.End.TheVariants.{NoMemory}
 use Rattle.norec_world.specs.declared.actor.Actor.{Actor}
 use Rattle.norec_world.specs.declared.fault.WorldFault.{WorldFault}
 use Rattle.norec_world.specs.Rows.{AreEnded}
 use Rattle.norec_world.specs.Starts.{IsNew}
 use Rattle.norec_world.specs.World.{is_event}
-use Rattle.norec_world.proofs.Common.{AreTied, Goes, GoesOnAfter, IsEvent, Leads, Prior, Rows, Tries, TriesAgain, World, active_of, begins, between, both_ways, cases_Bool, ending_at, ending_of, none-some, option_and_then, outrun, over, runs, shut_out, slice_get-set_same, slice_get_within, turned_away}
+use Rattle.norec_world.proofs.Common.{Goes, GoesOnAfter, IsEvent, Leads, Prior, Rows, Tries, TriesAgain, World, active_of, begins, between, both_ways, cases_Bool, ending_at, ending_of, none-some, option_and_then, outrun, over, runs, shut_out, turned_away}
 use Rattle.norec_world.proofs.Events.SoundOthers.{set_place}
 use Rattle.norec_world.proofs.Events.Worlds.{waits_there}
+use Rattle.norec_world.specs.Stages.{opens}
 use Rattle.world_laws.specs.Starved.{FedLeaveNoneOpen, IsFed}
-use Rattle.world_laws.proofs.LegalHistories.Holders.{each_open}
+use Rattle.world_laws.proofs.LegalHistories.Holders.{each_open, placed_there}
 
 -- ## One actor
 
 module _ {P : Type 0} where
   -- if it found no memory, its open attempt is irrevocable
-  abbrev StaysHeld : Rows → Actor P → Type 0
-  StaysHeld r a = ending_of a.status ≡ Some NoMemory → (row : Attempt) → active_of a.thread r.active ≡ Some row → a.engine.irrevocable ≡ true
+  abbrev StaysHeld : Actor P → Type 0
+  StaysHeld a = ending_of a.status ≡ Some NoMemory → (row : Attempt) → active_of a ≡ Some row → a.engine.irrevocable ≡ true
 
-  none_held : (r : Rows) (a : Actor P) → active_of a.thread r.active ≡ None → StaysHeld r a
-  none_held r a none e row unclosed = absurd (none-some row (sym none ∙ unclosed))
+  none_held : (a : Actor P) → active_of a ≡ None → StaysHeld a
+  none_held a none e row unclosed = absurd (none-some row (sym none ∙ unclosed))
 
-  again_held : (last : Bool) (clock nth : ℕ) (r : Rows) (a : Actor P) → TriesAgain last clock nth r a → StaysHeld r a
-  again_held true clock nth r a t = none_held r a t.none
-  again_held false clock nth r a t = none_held r a t.none
+  again_held : (last : Bool) (clock nth : ℕ) (a : Actor P) → TriesAgain last clock nth a → StaysHeld a
+  again_held true clock nth a t = none_held a t.none
+  again_held false clock nth a t = none_held a t.none
 
-  after_held : (o : Outcome) (clock : ℕ) (p : Prior) (r : Rows) (a : Actor P) → GoesOnAfter o clock p r a → StaysHeld r a
-  after_held outcomes.Committed clock p r a g = none_held r a g.none
-  after_held outcomes.ReadOnly clock p r a g = none_held r a g.none
-  after_held outcomes.Cancelled clock p r a g = none_held r a g.none
-  after_held outcomes.Conflict clock p r a g = again_held (nat_lt p.retries p.nth) clock p.nth r a g
-  after_held outcomes.Full clock p r a g = none_held r a g.none
-  after_held outcomes.NoMemory clock p r a g = none_held r a g.none
-  after_held outcomes.Unfinished clock p r a g = absurd g
+  after_held : (o : Outcome) (clock : ℕ) (p : Prior) (a : Actor P) → GoesOnAfter o clock p a → StaysHeld a
+  after_held outcomes.Committed clock p a g = none_held a g.none
+  after_held outcomes.ReadOnly clock p a g = none_held a g.none
+  after_held outcomes.Cancelled clock p a g = none_held a g.none
+  after_held outcomes.Conflict clock p a g = again_held (nat_lt p.retries p.nth) clock p.nth a g
+  after_held outcomes.Full clock p a g = none_held a g.none
+  after_held outcomes.NoMemory clock p a g = none_held a g.none
+  after_held outcomes.Unfinished clock p a g = absurd g
 
-  tries_held : (clock : ℕ) (p : Prior) (clock' : ℕ) (r : Rows) (a : Actor P) → Tries clock p clock' r a → StaysHeld r a
-  tries_held clock p clock' r a (between t) = none_held r a t.between.none
-  tries_held clock p clock' r a (begins t) = none_held r a t.still
+  tries_held : (clock : ℕ) (p : Prior) (clock' : ℕ) (r : Rows) (a : Actor P) → Tries clock p clock' r a → StaysHeld a
+  tries_held clock p clock' r a (between t) = none_held a t.between.none
+  tries_held clock p clock' r a (begins t) = none_held a t.still
   tries_held clock p clock' r a (runs t) = λ e row unclosed. t.fed e
-  tries_held clock p clock' r a (over t) = after_held t.row'.outcome clock' p r a t.after
-  tries_held clock p clock' r a (turned_away t) = again_held (nat_lt p.retries p.nth) clock' p.nth r a t.after
-  tries_held clock p clock' r a (outrun t) = again_held (nat_lt p.retries p.nth) clock' p.nth r a t.after
-  tries_held clock p clock' r a (shut_out t) = none_held r a t.after.none
+  tries_held clock p clock' r a (over t) = after_held t.row'.outcome clock' p a t.after
+  tries_held clock p clock' r a (turned_away t) = again_held (nat_lt p.retries p.nth) clock' p.nth a t.after
+  tries_held clock p clock' r a (outrun t) = again_held (nat_lt p.retries p.nth) clock' p.nth a t.after
+  tries_held clock p clock' r a (shut_out t) = none_held a t.after.none
 
 -- ## All of a world's
-
-found_end : {P : Type 0} (o : Option (Actor P)) (end : End) → option_and_then (λ (a : Actor P). ending_of a.status) o ≡ Some end → (a : Actor P) × (o ≡ Some a) × (ending_of a.status ≡ Some end)
-found_end None end e = absurd (cc)
-found_end (Some a) end e = (a, refl, e)
 
 all_ended : (Q : Attempt → Type 0) (xs : List Attempt) → AreEnded xs → ((row : Attempt) → (row.outcome ≡ outcomes.Unfinished → ⊥) → Q row) → All Q xs
 all_ended Q [] e each = All-nil Q
@@ -62,27 +58,18 @@ all_ended Q (x ∷ xs) e each = All-cons Q x xs (each x e.0) (all_ended Q xs e.1
 
 module _ {P : Type 0} (rules : Rules P) where
   abbrev StayHeld : World P → Type 0
-  StayHeld w = (place : ℕ) (a : Actor P) → slice_get w.actors place ≡ Some a → StaysHeld w.attempts a
+  StayHeld w = (place : ℕ) (a : Actor P) → slice_get w.actors place ≡ Some a → StaysHeld a
 
   held_first : (w : World P) → IsNew rules w → StayHeld w
-  held_first w new place a here = none_held w.attempts a (new.first place a here).between.none
+  held_first w new place a here = none_held a (new.first place a here).between.none
 
   -- over an event
-  module _ (w new : World P) (held : StayHeld w) (tied : AreTied rules new) (i : ℕ) (got next : Actor P) (here : slice_get w.actors i ≡ Some got) (actors : new.actors ≡ slice_set w.actors i next)
+  module _ (w new : World P) (held : StayHeld w) (i : ℕ) (got next : Actor P) (here : slice_get w.actors i ≡ Some got) (actors : new.actors ≡ slice_set w.actors i next)
       (event : IsEvent rules w.cells w.attempts got new.cells new.attempts next) where
-    placed : slice_get new.actors i ≡ Some next
-    placed = ap (λ (l : List (Actor P)). slice_get l i) actors ∙ slice_get-set_same w.actors i next (slice_get_within w.actors i got here)
-
-    mine : got.thread ≡ i
-    mine = sym event.others.thread ∙ tied.threads i next placed
-
     held_over : StayHeld new
     held_over place a there = elim (set_place w.actors i got next here place a (ap (λ (l : List (Actor P)). slice_get l place) (sym actors) ∙ there)) [
-      | inl x ↦ subst (StaysHeld new.attempts) (sym x.1) (tries_held w.cells.clock _ new.cells.clock new.attempts next event.tries)
-      | inr x ↦
-          λ e row unclosed.
-          (let apart : a.thread ≡ got.thread → ⊥ = λ same. x.0 (sym mine ∙ (sym same ∙ tied.threads place a there)) in
-          held place a x.1 e row (sym (event.others.own.others a.thread apart) ∙ unclosed))
+      | inl x ↦ subst StaysHeld (sym x.1) (tries_held w.cells.clock _ new.cells.clock new.attempts next event.tries)
+      | inr x ↦ held place a x.1
     ]
 
   held_goes : (i : ℕ) (w new : World P) (result : Result (Unit {0}) WorldFault) → StayHeld w → Goes rules i w result new → StayHeld new
@@ -90,7 +77,7 @@ module _ {P : Type 0} (rules : Rules P) where
     | inl done ↦
         (let there = waits_there w i (goes.event.0 done) in
         let went = goes.event_of there.0 there.1 done in
-        held_over w new held goes.tied i there.0 went.0 there.1 went.1 went.2)
+        held_over w new held i there.0 went.0 there.1 went.1 went.2)
     | inr none ↦ subst StayHeld (sym (goes.unchanged none)) held
   ]
 
@@ -103,15 +90,15 @@ module _ {P : Type 0} (rules : Rules P) where
   -- ## At the end
 
   -- who found none has no open attempt, where the world is fed
-  pub starved_shut : (schedule : List ℕ) (results : List (Result (Unit {0}) WorldFault)) (first w : World P) → IsNew rules first → Leads rules first schedule results w → AreTied rules w → IsFed w
-      → (place : ℕ) (row : Attempt) → active_of place w.attempts.active ≡ Some row → ending_at w place ≡ Some NoMemory → ⊥
-  starved_shut schedule results first w new leads tied fed place row unclosed starved =
-      let a = found_end (slice_get w.actors place) NoMemory starved in
-      let mine : active_of a.0.thread w.attempts.active ≡ Some row = ap (λ (t : ℕ). active_of t w.attempts.active) (tied.threads place a.0 a.1) ∙ unclosed in
-      both_ways a.0.engine.irrevocable (fed place a.0 a.1 a.2) (held_led schedule results first w (held_first first new) leads place a.0 a.1 a.2 row mine)
+  pub starved_shut : (schedule : List ℕ) (results : List (Result (Unit {0}) WorldFault)) (first w : World P) → IsNew rules first → Leads rules first schedule results w → IsFed w
+      → (place : ℕ) (a : Actor P) (row : Attempt) → slice_get w.actors place ≡ Some a → active_of a ≡ Some row → ending_at w place ≡ Some NoMemory → ⊥
+  starved_shut schedule results first w new leads fed place a row here some starved =
+      let ended : ending_of a.status ≡ Some NoMemory = sym (ap (option_and_then (λ (x : Actor P). ending_of x.status)) here) ∙ starved in
+      both_ways a.engine.irrevocable (fed place a here ended) (held_led schedule results first w (held_first first new) leads place a here ended row some)
 
   pub fed_leave_none_open : FedLeaveNoneOpen rules
   fed_leave_none_open schedule results first w new leads commits tied fed =
       let Q : Attempt → Type 0 = λ row. ending_at w row.thread ≡ Some NoMemory → row.outcome ≡ outcomes.Unfinished → ⊥ in
-      All-append Q w.attempts.ended w.attempts.active (all_ended Q w.attempts.ended commits.ended (λ row over starved. over))
-      (each_open Q 0 w.attempts.active tied.open_rows.by_actor (λ row unclosed starved unfinished. starved_shut schedule results first w new leads tied fed row.thread row unclosed starved))
+      All-append Q w.attempts.ended (opens w.actors) (all_ended Q w.attempts.ended commits.ended (λ row over starved. over))
+      (each_open Q w.actors (λ place a row here some starved unfinished.
+      starved_shut schedule results first w new leads fed place a row here some (ap (ending_at w) (sym (placed_there tied place a row here some)) ∙ starved)))

@@ -1,8 +1,11 @@
 -- Two worlds that are the same still are after equal schedules, and after one actor has run to its end.
-use Rattle.std.proofs.Common.{◌≡◌, ℕ, zero, suc, ◌+◌, ◌<◌, cond, IsTrue, List, [], ◌∷◌, ◌++◌, count_by, Option, None, Some, Result, Err, IsSome, inl, inr, refl, sym, ap, subst, ◌∙◌, arith}
+use Rattle.std.proofs.Common.{◌≡◌, ℕ, zero, suc, ◌+◌, ◌<◌, cond, IsTrue, List, [], ◌∷◌, ◌++◌, count_by, length, slice_get, Option, None, Some, Result, Err, IsSome, inl, inr, refl, sym, ap, subst, ◌∙◌, arith}
 use Rattle.std.proofs.lemmas.Bool.{cases_lt}
 use Rattle.std.proofs.lemmas.List.Sums.{sum_by-append}
-use Rattle.norec_world.proofs.Common.{Cells, Goes, Rules, World, bytes_of, ending_at, event_result, waits_at}
+use Rattle.norec_world.proofs.Common.{Cells, Goes, Rules, World, bytes_of, ending_at, event_result, open_in, waits_at}
+use Rattle.norec_world.specs.declared.actor.Actor.{Actor}
+use Rattle.norec_world.specs.Stages.{opens, with_open}
+use Rattle.world_laws.specs.Alike.{AreAlike}
 use Rattle.tx_runs.specs.declared.ending.End.{End}
 use Rattle.tx_runs.specs.declared.ending.End.TheVariants.{Finished, GaveUp, NoMemory}
 use Rattle.norec_world.specs.declared.fault.WorldFault.{WorldFault}
@@ -13,9 +16,19 @@ use Rattle.world_laws.specs.SameWorlds.{SameWorld, ShowSame}
 use Rattle.norec_world.proofs.Events.WorldEvents.{waits_not_ended}
 use Rattle.world_laws.proofs.Likeness.Worlds.{waits_same, ending_same, goes_alike}
 
+-- as many actors, each of them alike, have the same open attempts
+opens_same : {P : Type 0} (xs ys : List (Actor P)) → length xs ≡ length ys → ((place : ℕ) (a b : Actor P) → slice_get xs place ≡ Some a → slice_get ys place ≡ Some b → AreAlike a b) → opens xs ≡ opens ys
+opens_same [] [] long each = refl
+opens_same [] (y ∷ ys) long each = absurd (omega arith)
+opens_same (x ∷ xs) [] long each = absurd (omega arith)
+opens_same (x ∷ xs) (y ∷ ys) long each =
+    let rest = opens_same xs ys (omega arith) (λ place a b e d. each (suc place) a b e d) in
+    let first = each zero x y refl refl in
+    λ i. with_open (open_in (first.tally i).stage) (rest i)
+
 pub shows_same : {P : Type 0} (v w : World P) → SameWorld v w → ShowSame v w
 shows_same v w s = record {
-  attempts = λ i. s.rows.ended i ++ s.rows.active i;
+  attempts = λ i. s.ended i ++ opens_same v.actors w.actors s.count s.actors i;
   bytes = ap (λ (c : Cells). bytes_of c.words) s.cells;
   clock = ap (λ (c : Cells). c.clock) s.cells;
   events = s.events;

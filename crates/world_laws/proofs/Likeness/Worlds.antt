@@ -1,17 +1,17 @@
 -- Of two worlds that are the same, one event of the same actor makes two that are the same.
 use Rattle.std.proofs.Common.{◌≡◌, ◌⊎◌, ℕ, Bool, true, false, IsTrue, List, Option, None, Some, Result, Ok, Err, IsSome, slice_get, slice_set, inl, inr, refl, sym, ap, subst, ◌∙◌, arith}
-use Rattle.norec_world.proofs.Common.{Cells, Goes, IsEvent, Rows, Rules, SameOpening, Step, World, active_of, cells_after, counted, ending_at, ending_of, option_and_then, slice_get-set_same, event_result, waiting_step, waits_at}
+use Rattle.norec_world.proofs.Common.{Cells, Goes, IsEvent, Rules, SameOpening, Step, World, cells_after, counted, ending_at, ending_of, option_and_then, slice_get-set_same, event_result, is_waiting, waiting_step, waits_at}
 use Rattle.norec_world.specs.declared.actor.Actor.{Actor}
 use Rattle.norec_world.specs.declared.actor.Status.{Status}
-use Rattle.world_laws.specs.Alike.{AreAlike, HasAttempt}
+use Rattle.world_laws.specs.Alike.{AreAlike}
 use Rattle.norec_world.specs.declared.fault.WorldFault.{WorldFault}
 use Rattle.norec_world.specs.declared.fault.WorldFault.TheVariants as faults
 use Rattle.norec_world.specs.World.{is_event}
 use Rattle.world_laws.specs.SameWorlds.{SameWorld}
 use Rattle.norec_world.proofs.Events.SoundOthers.{set_place, there_is}
 use Rattle.std.proofs.lemmas.Option.{slice_get_within as within_of}
-use Rattle.norec_world.proofs.Events.Worlds.{within_some}
-use Rattle.world_laws.proofs.Likeness.Work.{IsFed, GoAlike, event_alike}
+use Rattle.norec_world.proofs.Events.Worlds.{waits_there}
+use Rattle.world_laws.proofs.Likeness.Work.{IsFed, event_alike}
 
 is_none : {A : Type 0} (xs : List A) (i : ℕ) → (slice_get xs i ≡ None) ⊎ ((x : A) × (slice_get xs i ≡ Some x))
 is_none {A} xs i = of_got (slice_get xs i) refl
@@ -50,14 +50,6 @@ module _ {P : Type 0} (v w : World P) (s : SameWorld v w) (actor : ℕ) where
 some_of : {A : Type 0} (o : Option A) → IsSome o → (x : A) × (o ≡ Some x)
 some_of None e = absurd (cc)
 some_of (Some x) e = (x, refl)
-
--- who waits stands at the place
-waits_there : {P : Type 0} (w : World P) (actor : ℕ) → IsSome (waits_at w actor) → (a : Actor P) × (slice_get w.actors actor ≡ Some a)
-waits_there {P} w actor e = there_is w.actors actor (within_some (λ (a : Actor P). waiting_step a.status) w.actors actor e)
-
--- another actor's attempt stays
-held_still : {P : Type 0} (r r' : Rows) (a : Actor P) → active_of a.thread r'.active ≡ active_of a.thread r.active → HasAttempt r a → HasAttempt r' a
-held_still r r' a same h = record { inside = λ o. (let x = h.inside o in (x.0, same ∙ x.1)); begins = h.begins }
 
 -- both keep their beginning
 opening_same : {P : Type 0} (v w v' w' : World P) → SameOpening v w → SameOpening v v' → SameOpening w w' → SameOpening v' w'
@@ -99,10 +91,10 @@ module _ {P : Type 0} (rules : Rules P) (actor : ℕ) (v w : World P) (s : SameW
     taken' : IsTrue (is_event result')
     taken' = g.event.1 waits'
 
-    here : (a : Actor P) × (slice_get v.actors actor ≡ Some a)
+    here : (a : Actor P) × (slice_get v.actors actor ≡ Some a) × (is_waiting a.status ≡ true)
     here = waits_there v actor waits
 
-    here' : (a : Actor P) × (slice_get w.actors actor ≡ Some a)
+    here' : (a : Actor P) × (slice_get w.actors actor ≡ Some a) × (is_waiting a.status ≡ true)
     here' = waits_there w actor waits'
 
     step : (x : Step) × (waits_at v actor ≡ Some x)
@@ -129,18 +121,14 @@ module _ {P : Type 0} (rules : Rules P) (actor : ℕ) (v w : World P) (s : SameW
         let b' : Actor P = y.0 in
         let there : slice_get v'.actors actor ≡ Some a' = set_here v v' here.0 a' here.1 x.1 in
         let there' : slice_get w'.actors actor ≡ Some b' = set_here w w' here'.0 b' here'.1 y.1 in
-        let other = on_same_cells here'.0 b' y.2 in
-        let go : GoAlike v'.attempts w'.attempts a' b' = event_alike rules v.cells v'.cells v.attempts w.attempts v'.attempts w'.attempts here.0 here'.0 a' b' s.rows (s.actors actor here.0 here'.0 here.1 here'.1) (s.held actor here.0 here.1)
-        x.2 other x.3 y.3 (not_starved v' result a' there (f.answer taken) fed) (not_starved w' result' b' there' (g.answer taken') fed') in
-        let tells : result ≡ result' = f.answer taken ∙ (ap event_result (ending_is v' a' there ∙ (ap ending_of go.alike.status ∙ sym (ending_is w' b' there'))) ∙ sym (g.answer taken')) in
-        let mine : here.0.thread ≡ actor = s.places actor here.0 here.1 in
-        let thread : a'.thread ≡ actor = x.2.others.thread ∙ mine in (
-          tells,
+        let go = event_alike rules v.cells v'.cells v.attempts w.attempts v'.attempts w'.attempts here.0 here'.0 a' b' (s.actors actor here.0 here'.0 here.1 here'.1) x.2 (on_same_cells here'.0 b' y.2) x.3 y.3
+        (not_starved v' result a' there (f.answer taken) fed) (not_starved w' result' b' there' (g.answer taken') fed') in (
+          f.answer taken ∙ (ap event_result (ending_is v' a' there ∙ (ap ending_of go.alike.status ∙ sym (ending_is w' b' there'))) ∙ sym (g.answer taken')),
           record {
             opening = opening_same v w v' w' s.opening f.opening g.opening;
             cells = cells_same;
             events = f.counts taken ∙ (ap (λ (n : ℕ). counted n 1) s.events ∙ sym (g.counts taken'));
-            rows = go.rows;
+            ended = go.ended s.ended;
             count = f.actors ∙ (s.count ∙ sym g.actors);
             actors = λ place a b e d. elim (set_place v.actors actor here.0 a' here.1 place a (sym (ap (λ (xs : List (Actor P)). slice_get xs place) x.1) ∙ e)) [
               | inl k ↦
@@ -151,16 +139,6 @@ module _ {P : Type 0} (rules : Rules P) (actor : ℕ) (v w : World P) (s : SameW
                 | inl l ↦ absurd (k.0 l.0)
                 | inr l ↦ s.actors place a b k.1 l.1
               ]
-            ];
-            places = λ place a e. elim (set_place v.actors actor here.0 a' here.1 place a (sym (ap (λ (xs : List (Actor P)). slice_get xs place) x.1) ∙ e)) [
-              | inl k ↦ ap (λ (z : Actor P). z.thread) k.1 ∙ (thread ∙ k.0)
-              | inr k ↦ s.places place a k.1
-            ];
-            held = λ place a e. elim (set_place v.actors actor here.0 a' here.1 place a (sym (ap (λ (xs : List (Actor P)). slice_get xs place) x.1) ∙ e)) [
-              | inl k ↦ subst (HasAttempt v'.attempts) (sym k.1) go.held
-              | inr k ↦
-                  (let apart : a.thread ≡ here.0.thread → ⊥ = λ z. k.0 (sym mine ∙ (sym z ∙ s.places place a k.1)) in
-                  held_still v.attempts v'.attempts a (x.2.others.own.others a.thread apart) (s.held place a k.1))
             ];
           },
         )

@@ -1,6 +1,6 @@
 -- An actor that has its world to itself goes on so over an event.
 use Rattle.std.proofs.Common.{◌≡◌, inl, inr, ℕ, ◌+◌, ◌/◌, ◌%◌, ◌≤◌, true, false, nat_lt, if◌then◌else◌, List, [], ◌∷◌, ◌++◌, Option, None, Some, refl, sym, ap, subst, ◌∙◌, arith, eq-eqb}
-use Rattle.norec_world.proofs.Common.{AreOfActors, Attempt, Beginning, Between, Continues, EndsAt, GoesOnAfter, IsBetween, IsRunOf, Outcome, Props, Rows, Rules, Tries, active_of, after_try, begin_of, begins, begins_at, between, bytes_at, current_of, ending_of, is_committed, is_done, of_thread, outrun, over, prior_of, run_after, runs, shut_out, turned_away, same_Some}
+use Rattle.norec_world.proofs.Common.{AreOfActors, Attempt, Beginning, Between, Continues, EndsAt, GoesOnAfter, IsBetween, IsRunOf, Outcome, Props, Rows, Rules, Tries, active_of, after_try, begin_of, begins, begins_at, between, bytes_at, current_of, ending_of, is_committed, is_done, of_thread, outrun, over, pending_of, prior_of, run_after, runs, shut_out, turned_away, same_Some}
 use Rattle.norec_world.specs.declared.actor.Actor.{Actor}
 use Rattle.norec_world.specs.declared.actor.Status.TheVariants.{Ended}
 use Rattle.tx_runs.specs.declared.ending.End.{End}
@@ -8,7 +8,7 @@ use Rattle.tx_runs.specs.declared.ending.End.TheVariants.{Finished, GaveUp, NoMe
 use Rattle.world_laws.specs.Sole.{AreSole, EndsWith, IsFirstTry, IsOnWay, IsSole, StandsSole}
 use Rattle.world_laws.specs.Solo.{one_if}
 use Rattle.tx_attempts.specs.declared.attempt.Outcome.TheVariants as outcomes
-use Rattle.norec_world.proofs.Attempts.ToldTries.{none_again}
+use Rattle.norec_world.proofs.Tries.ToldTries.{none_again}
 use Rattle.norec_world.specs.Tries.{EndsIt}
 use Rattle.norec_core.specs.Core.{may_go}
 use Rattle.world_laws.specs.Sole.{IsIdle, IsKeptOut}
@@ -42,7 +42,7 @@ module _ {P : Type 0} (rules : Rules P) (deepest n : ℕ) (memory : ℕ → List
 
 module _ {P : Type 0} (rules : Rules P) (max_commits : ℕ) (deepest : ℕ) (base : List ℕ) (begin : Between P) where
   -- on its way, it goes on or has finished
-  stands_on : {n : ℕ} {past : List Attempt} {r : Rows} {a : Actor P} → IsOnWay rules max_commits deepest base begin past n r a → (ending_of a.status ≡ Some Finished → (rules.next_call a.player ≡ None) × IsIdle a.engine)
+  stands_on : {n : ℕ} {past : List Attempt} {r : Rows} {a : Actor P} → IsOnWay rules max_commits deepest base begin past n r a → (ending_of a.status ≡ Some Finished → (rules.next_call a.run.player ≡ None) × IsIdle a.engine)
       → (ending_of a.status ≡ Some GaveUp → ⊥) → (ending_of a.status ≡ Some NoMemory → StandsSole rules max_commits deepest base begin (Some NoMemory) past n r a) → StandsSole rules max_commits deepest base begin (ending_of a.status) past n r a
   stands_on {n} {past} {r} {a} way finishes goes_on starved = by_ending (ending_of a.status) refl
     where
@@ -53,21 +53,21 @@ module _ {P : Type 0} (rules : Rules P) (max_commits : ℕ) (deepest : ℕ) (bas
       by_ending (Some NoMemory) e = starved e
 
   -- between two tries, its attempts so far have ended by their commits
-  pub stands_between : (clock : ℕ) (past : List Attempt) (r : Rows) (a : Actor P) → a.thread ≡ 0 → r.ended ≡ past → IsBetween clock 1 r a → (ending_of a.status ≡ Some Finished → (rules.next_call a.player ≡ None) × IsIdle a.engine)
+  pub stands_between : (clock : ℕ) (past : List Attempt) (r : Rows) (a : Actor P) → a.run.thread ≡ 0 → r.ended ≡ past → IsBetween clock 1 a → (ending_of a.status ≡ Some Finished → (rules.next_call a.run.player ≡ None) × IsIdle a.engine)
       → StandsSole rules max_commits deepest base begin (ending_of a.status) past (clock / 2) r a
   stands_between clock past r a mine ended b finishes =
       stands_on (record {
         ended = ended;
         nth = b.tries;
         current = λ row e.
-            (let is = b.opens row (ap (λ (o : Option Attempt). current_of o a.pending) (sym b.none) ∙ e) in
+            (let is = b.opens row (ap (λ (o : Option Attempt). current_of o (pending_of a)) (sym b.none) ∙ e) in
             record { thread = ap (λ (x : Attempt). x.thread) is ∙ mine; nth = ap (λ (x : Attempt). x.nth) is; began = ap (λ (x : Attempt). x.began) is });
       }) finishes b.goes_on (λ e. inl (b.none, inl ended))
 
   -- a block that is to begin goes on where its attempts have led
   pub record IsToBegin (r : Rows) (a : Actor P) (row : Attempt) : Type 0 where
     pub before : Between P
-    pub led : run_after rules deepest (bytes_at deepest base r.ended) (Some begin) (of_thread a.thread r.ended) ≡ Some before
+    pub led : run_after rules deepest (bytes_at deepest base r.ended) (Some begin) (of_thread a.run.thread r.ended) ≡ Some before
     pub start : Beginning P
     pub begins : begins_at rules deepest before ≡ Some start
     pub props : start.props ≡ row.props
@@ -75,10 +75,10 @@ module _ {P : Type 0} (rules : Rules P) (max_commits : ℕ) (deepest : ℕ) (bas
   continued : (n : ℕ) (row row' : Attempt) → Continues row row' → IsFirstTry n row → IsFirstTry n row'
   continued n row row' c f = record { thread = c.thread ∙ f.thread; nth = c.nth ∙ f.nth; began = c.began ∙ f.began }
 
-  module _ (clock clock' : ℕ) (r r' : Rows) (a a' : Actor P) (going : ending_of a.status ≡ None) (old : IsSole rules max_commits deepest base begin clock r a) (here : a.thread ≡ 0) (mine : a'.thread ≡ 0) (limit : a.engine.max_commits ≡ max_commits)
-      (free : active_of a.thread r.active ≡ None → a.engine.holds ≡ false) (to_begin : (row : Attempt) → active_of a.thread r.active ≡ None → a.pending ≡ Some row → may_go [] row.props ≡ true → IsToBegin r a row)
+  module _ (clock clock' : ℕ) (r r' : Rows) (a a' : Actor P) (going : ending_of a.status ≡ None) (old : IsSole rules max_commits deepest base begin clock r a) (here : a.run.thread ≡ 0) (mine : a'.run.thread ≡ 0) (limit : a.engine.max_commits ≡ max_commits)
+      (free : active_of a ≡ None → a.engine.holds ≡ false) (to_begin : (row : Attempt) → active_of a ≡ None → pending_of a ≡ Some row → may_go [] row.props ≡ true → IsToBegin r a row)
       (seen : a'.engine.holds ≡ false → a'.engine.clock ≡ clock')
-      (shut : active_of a'.thread r'.active ≡ None → clock' % 2 ≡ 0) (early : (row : Attempt) → r'.ended ≡ r.ended ++ row ∷ [] → row.began ≤ row.at) (finishes : ending_of a'.status ≡ Some Finished → (rules.next_call a'.player ≡ None) × IsIdle a'.engine) where
+      (shut : active_of a' ≡ None → clock' % 2 ≡ 0) (early : (row : Attempt) → r'.ended ≡ r.ended ++ row ∷ [] → row.began ≤ row.at) (finishes : ending_of a'.status ≡ Some Finished → (rules.next_call a'.run.player ≡ None) × IsIdle a'.engine) where
     way : IsOnWay rules max_commits deepest base begin old.past (clock / 2) r a
     way = subst (λ (o : Option End). StandsSole rules max_commits deepest base begin o old.past (clock / 2) r a) going old.stands
 
@@ -93,7 +93,7 @@ module _ {P : Type 0} (rules : Rules P) (max_commits : ℕ) (deepest : ℕ) (bas
     stands_so end is s = subst (λ (x : Option End). StandsSole rules max_commits deepest base begin x old.past (clock' / 2) r' a') (sym (ap ending_of is)) s
 
     -- its next block goes irrevocable, and has not begun
-    is_kept_out : (row : Attempt) → active_of a.thread r.active ≡ None → a.pending ≡ Some row → r'.ended ≡ r.ended → row.props.goes_irrevocable ≡ true → may_go [] row.props ≡ true → IsKeptOut rules max_commits deepest base begin old.past r' a'
+    is_kept_out : (row : Attempt) → active_of a ≡ None → pending_of a ≡ Some row → r'.ended ≡ r.ended → row.props.goes_irrevocable ≡ true → may_go [] row.props ≡ true → IsKeptOut rules max_commits deepest base begin old.past r' a'
     is_kept_out row none was same goes may =
         let k = to_begin row none was may in
         record {
@@ -116,7 +116,7 @@ module _ {P : Type 0} (rules : Rules P) (max_commits : ℕ) (deepest : ℕ) (bas
       ended : r'.ended ≡ old.past ++ t.row' ∷ []
       ended = t.ended ∙ ap (λ (l : List Attempt). l ++ t.row' ∷ []) way.ended
 
-      by_commit : is_done t.row'.outcome ≡ true → t.row'.at ≡ clock / 2 → clock / 2 + one_if (is_committed t.row'.outcome) ≡ clock' / 2 → IsBetween clock' 1 r' a' → IsSole rules max_commits deepest base begin clock' r' a'
+      by_commit : is_done t.row'.outcome ≡ true → t.row'.at ≡ clock / 2 → clock / 2 + one_if (is_committed t.row'.outcome) ≡ clock' / 2 → IsBetween clock' 1 a' → IsSole rules max_commits deepest base begin clock' r' a'
       by_commit d at n b = record {
         past = old.past ++ t.row' ∷ [];
         commit = subst (AreSole 0 (old.past ++ t.row' ∷ [])) n (sole_more 0 (clock / 2) old.past t.row' old.commit first at d t.spent);
@@ -127,14 +127,14 @@ module _ {P : Type 0} (rules : Rules P) (max_commits : ℕ) (deepest : ℕ) (bas
       last : (outcome : Outcome) → t.row'.outcome ≡ outcome → clock' / 2 ≡ clock / 2 → EndsWith old.past (clock' / 2) outcome r'
       last outcome o half = record { row = t.row'; ended = ended; first = now t.row' half first; outcome_is = o; spent = t.spent }
 
-      by_outcome : (o : Outcome) → t.row'.outcome ≡ o → EndsAt a.engine.max_commits clock clock' t.row'.at o → GoesOnAfter o clock' (prior_of r a) r' a' → IsSole rules max_commits deepest base begin clock' r' a'
+      by_outcome : (o : Outcome) → t.row'.outcome ≡ o → EndsAt a.engine.max_commits clock clock' t.row'.at o → GoesOnAfter o clock' (prior_of r a) a' → IsSole rules max_commits deepest base begin clock' r' a'
       by_outcome outcomes.Committed o at g =
           by_commit (ap is_done o) (omega (arith, at.0, at.1)) (omega (arith, at.0, at.1, ap (λ (x : Outcome). one_if (is_committed x)) o)) g
       by_outcome outcomes.ReadOnly o at g =
           by_commit (ap is_done o) (omega (arith, at.0, at.1, later)) (omega (arith, at.0, at.1, ap (λ (x : Outcome). one_if (is_committed x)) o)) g
       by_outcome outcomes.Cancelled o at g =
           by_commit (ap is_done o) (omega (arith, at.0, at.1, later)) (omega (arith, at.0, at.1, ap (λ (x : Outcome). one_if (is_committed x)) o)) g
-      by_outcome outcomes.Conflict o at g = absurd (omega (arith, at.0, at.1, later, shut (none_again clock' a.nth r' a' (nat_lt a.retries a.nth) g)))
+      by_outcome outcomes.Conflict o at g = absurd (omega (arith, at.0, at.1, later, shut (none_again clock' a.run.nth a' (nat_lt a.run.retries a.run.nth) g)))
       by_outcome outcomes.Full o at g =
           goes_on at.0 (stands_so GaveUp g.status (g.none, (omega (arith, at.0, at.1, at.2)), inr (last outcomes.Full o at.0)))
       by_outcome outcomes.NoMemory o at g =
@@ -143,26 +143,26 @@ module _ {P : Type 0} (rules : Rules P) (max_commits : ℕ) (deepest : ℕ) (bas
 
     pub sole_after : Tries clock (prior_of r a) clock' r' a' → IsSole rules max_commits deepest base begin clock' r' a'
     sole_after (between t) =
-        goes_on t.half (stands_between clock' old.past r' a' mine (t.ended ∙ way.ended) (subst (λ (n : ℕ). IsBetween clock' n r' a') way.nth t.between) finishes)
+        goes_on t.half (stands_between clock' old.past r' a' mine (t.ended ∙ way.ended) (subst (λ (n : ℕ). IsBetween clock' n a') way.nth t.between) finishes)
     sole_after (begins t) =
         goes_on t.half (subst (λ (o : Option End). StandsSole rules max_commits deepest base begin o old.past (clock' / 2) r' a') (sym t.on) (record {
           ended = t.ended ∙ way.ended;
           nth = t.tries ∙ way.nth;
           current = λ row e.
-              (let same : t.row ≡ row = (let z : Some t.row ≡ Some row = sym t.now ∙ (ap (λ (o : Option Attempt). current_of o a'.pending) (sym t.still) ∙ e) in cc) in
-              subst (IsFirstTry (clock' / 2)) same (now t.row t.half (way.current t.row (ap (λ (o : Option Attempt). current_of o a.pending) t.none ∙ t.was))));
+              (let same : t.row ≡ row = (let z : Some t.row ≡ Some row = sym t.now ∙ (ap (λ (o : Option Attempt). current_of o (pending_of a')) (sym t.still) ∙ e) in cc) in
+              subst (IsFirstTry (clock' / 2)) same (now t.row t.half (way.current t.row (ap (λ (o : Option Attempt). current_of o (pending_of a)) t.none ∙ t.was))));
         }))
     sole_after (runs t) =
         let on : IsOnWay rules max_commits deepest base begin old.past (clock' / 2) r' a' = record {
           ended = t.ended ∙ way.ended;
           nth = t.tries ∙ way.nth;
           current = λ row e.
-              (let same : t.row' ≡ row = same_Some _ _ (ap (λ (o : Option Attempt). current_of o a'.pending) (sym t.now) ∙ e) in
+              (let same : t.row' ≡ row = same_Some _ _ (ap (λ (o : Option Attempt). current_of o (pending_of a')) (sym t.now) ∙ e) in
               subst (IsFirstTry (clock' / 2)) same (now t.row' t.half (continued (clock / 2) t.row t.row' t.continues (way.current t.row t.was))));
         } in
         goes_on t.half (stands_on on finishes t.goes_on (λ e. inr (t.fed e, on)))
     sole_after (over t) = by_outcome t t.row'.outcome refl t.at t.after
-    sole_after (turned_away t) = absurd (let even = shut (none_again clock' a.nth r' a' (nat_lt a.retries a.nth) t.after) in let odd = t.odd in omega arith)
+    sole_after (turned_away t) = absurd (let even = shut (none_again clock' a.run.nth a' (nat_lt a.run.retries a.run.nth) t.after) in let odd = t.odd in omega arith)
     sole_after (outrun t) = absurd (let last = old.seen (free t.none) in let moved = t.moved in omega arith)
     sole_after (shut_out t) =
         goes_on (ap (λ (n : ℕ). n / 2) t.same) (stands_so GaveUp t.after.status (t.after.none, (let full = t.full in let same = t.same in omega arith), inl (is_kept_out t.row t.none t.was t.ended t.goes t.may)))

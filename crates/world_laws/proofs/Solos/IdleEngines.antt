@@ -1,6 +1,6 @@
 -- An engine between two calls.
 use Rattle.std.proofs.Common.{◌≡◌, ℕ, zero, suc, Bool, true, false, Some, refl, sym, ap, subst, ◌∙◌, if◌then◌else◌}
-use Rattle.norec_world.proofs.Common.{Acts, Answer, Answers, Asks, Call, Cells, Core, Ends, HasStarted, IsEvent, Next, Proceeds, Rows, Rules, Tells, after_undoing, ending_of, in_transaction, is_waiting, rests}
+use Rattle.norec_world.proofs.Common.{Acts, Answer, Answers, Asks, Call, Cells, Core, Ends, HasStarted, IsEvent, Next, Proceeds, Rows, Rules, Tells, after_undoing, ending_of, is_waiting, rests}
 use Rattle.norec_world.specs.declared.actor.Actor.{Actor}
 use Rattle.norec_world.specs.declared.actor.Status.{Status}
 use Rattle.norec_world.specs.declared.actor.Status.TheVariants.{Ready, Waits}
@@ -30,12 +30,12 @@ waits_so a s is w n = (let both = sym n ∙ (ap is_waiting is ∙ w) in absurd (
 
 module _ {P : Type 0} (rules : Rules P) where
   -- the call waits for a step, or is answered
-  idle_told : (was : Bool) (r r' : Rows) (old new : Actor P) (call : Call) (what : Next) (mid engine : Core) → Tells rules was r r' old new call what → Proceeds mid what engine → is_waiting new.status ≡ false → IsIdle engine
-  idle_told was r r' old new call (Asks step) mid engine t g n = absurd (waits_so new (Waits call step) (ap (λ (a : Actor P). a.status) t.0) refl n)
-  idle_told was r r' old new call (Answers answer) mid engine t g n = idle_answered mid engine answer g
+  idle_told : (r r' : Rows) (old new : Actor P) (call : Call) (what : Next) (mid engine : Core) → Tells rules r r' old new call what → Proceeds mid what engine → is_waiting new.status ≡ false → IsIdle engine
+  idle_told r r' old new call (Asks step) mid engine t g n = absurd (waits_so new (Waits call step) (ap (λ (a : Actor P). a.status) t.0) refl n)
+  idle_told r r' old new call (Answers answer) mid engine t g n = idle_answered mid engine answer g
 
   idle_acts : (clock : ℕ) (r : Rows) (a : Actor P) (r' : Rows) (a' : Actor P) → IsIdle a.engine → Acts rules clock r a r' a' → is_waiting a'.status ≡ false → IsIdle a'.engine
-  idle_acts clock r a r' a' i (calls c) n = subst IsIdle (sym c.engine) (idle_told (in_transaction a.engine) c.rows r' c.asked a' c.call c.what _ c.asked.engine c.tells c.asks.called.proceeds n)
+  idle_acts clock r a r' a' i (calls c) n = subst IsIdle (sym c.engine) (idle_told c.rows r' c.asked a' c.call c.what _ c.asked.engine c.tells c.asks.called.proceeds n)
   idle_acts clock r a r' a' i (finishes f) n = subst IsIdle (sym (ap (λ (x : Actor P). x.engine) f.actor)) i
   idle_acts clock r a r' a' i (starves s) n = subst IsIdle (sym s.engine) (idle_undone a.engine i)
 
@@ -44,7 +44,7 @@ module _ {P : Type 0} (rules : Rules P) where
   idle_works clock (suc k) r a r' a' i w n = idle_acts clock w.0 w.1 r' a' (idle_works clock k r a w.0 w.1 i w.2 (ap is_waiting w.3)) w.4 n
 
   idle_took : (cells : Cells) (r : Rows) (a : Actor P) (r' : Rows) (a' : Actor P) → TakesIn rules cells r a r' a' → is_waiting a'.status ≡ false → IsIdle a'.engine
-  idle_took cells r a r' a' t n = idle_told (in_transaction a.engine) r t.rows (record a { engine = a'.engine; status = Ready }) a' t.call t.what _ a'.engine t.tells t.resumed.proceeds n
+  idle_took cells r a r' a' t n = idle_told r r' (record a { engine = a'.engine; status = Ready }) t.recorded t.call t.what _ a'.engine t.tells t.resumed.proceeds (ap (λ (x : Actor P). is_waiting x.status) (sym t.moves) ∙ n)
 
   -- after an event, unless the actor waits
   pub idle_event : {cells : Cells} {r : Rows} {a : Actor P} {cells' : Cells} {r' : Rows} {a' : Actor P} → IsEvent rules cells r a cells' r' a' → is_waiting a'.status ≡ false → IsIdle a'.engine

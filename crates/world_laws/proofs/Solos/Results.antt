@@ -2,7 +2,7 @@
 use Rattle.std.proofs.Common.{◌≡◌, ◌⊎◌, inl, inr, ℕ, zero, suc, ◌+◌, ◌/◌, ◌%◌, ◌≤◌, Bool, true, false, ◌&&◌, ◌==◌, nat_le, if◌then◌else◌, List, [], ◌∷◌, ◌++◌, length, map, replicate, Option, None, Some, slice_get, refl, sym, ap, subst, ◌∙◌, arith, append-nil, le-leb}
 use Rattle.std.proofs.lemmas.List.{map-append}
 use Rattle.std.proofs.lemmas.Bool.{and_left, and_right, lt-leb}
-use Rattle.norec_world.proofs.Common.{AreOfActors, AreOpaque, AreTied, AreUnfinished, Attempt, Between, Call, EndsAs, IsAlone, IsBeforeTry, IsRunOf, Obeys, Outcome, Row, Rules, StandsIn, State, Step, World, active_of, after, alone, answers, attempts_of, begin_code, begin_of, begin_within, both_ways, bytes_at, committed_at, cond-false, cond-true, current_of, ending_at, ending_of, observed, first_of, in_transaction, is_open, of_thread, opened, option_and_then, pair_of, player_then, reply, run_after, same_Some, stands_for, state_then, takes_clock, CommitsInOrder, HasRow, is_committed}
+use Rattle.norec_world.proofs.Common.{AreOfActors, AreOpaque, AreTied, Attempt, Between, Call, EndsAs, IsAlone, IsBeforeTry, IsRunOf, Obeys, Outcome, Row, Rules, StandsIn, State, Step, World, active_of, after, alone, answers, attempts_of, begin_code, begin_of, begin_within, both_ways, bytes_at, committed_at, cond-false, cond-true, current_of, ending_at, ending_of, observed, first_of, in_transaction, is_open, of_thread, opened, option_and_then, pair_of, pending_of, player_then, reply, run_after, same_Some, stands_for, state_then, takes_clock, CommitsInOrder, HasRow, is_committed}
 use Rattle.itm_model.specs.Runs.{gets_through, unbroken}
 use Rattle.norec_world.specs.declared.actor.Actor.{Actor}
 use Rattle.tx_runs.specs.declared.ending.End.{End}
@@ -21,12 +21,13 @@ use Rattle.tx_attempts.proofs.AloneCalls.{begins_alone, breaks_after, gets_none}
 use Rattle.world_laws.proofs.Solos.Players.{full_block, kept_out, open_block, no_block}
 use Rattle.norec_world.proofs.Commits.Memories.{bytes_still}
 use Rattle.tx_runs.proofs.RunLists.{run_still}
-use Rattle.norec_world.proofs.Attempts.ThreadAttempts.{open_none, open_one}
+use Rattle.norec_world.proofs.Tries.Stages.{row_open, row_shut, row_unfinished}
+use Rattle.norec_world.specs.Stages.{opens, with_open}
 use Rattle.world_laws.proofs.Solos.Events.{of_actors_first, of_thread_all}
 use Rattle.world_laws.proofs.Solos.Worlds.{even_free, even_shut}
 use Rattle.world_laws.proofs.Solos.Worlds.{HasSole}
 use Rattle.world_laws.proofs.Solos.Runs.{Arrives, IsNext, between, arrives, is_next, same_state, same_answers, same_row, made_alone}
-use Rattle.norec_world.proofs.Events.SoundOthers.{odd_or_even, row_open, row_shut}
+use Rattle.norec_world.proofs.Events.SoundOthers.{odd_or_even}
 use Rattle.world_laws.specs.Sole.{IsIdle, IsKeptOut}
 use Rattle.world_laws.specs.Solo.{left_open}
 use Rattle.norec_core.specs.Stands.{state_in}
@@ -38,10 +39,6 @@ one_of : {A : Type 0} (xs : List A) → length xs ≡ 1 → (x : A) × (xs ≡ x
 one_of [] e = absurd (omega arith)
 one_of (x ∷ []) e = (x, refl)
 one_of (x ∷ y ∷ ys) e = absurd (omega arith)
-
-of_actors_parts : (n : ℕ) (xs ys : List Attempt) → AreOfActors n (xs ++ ys) → AreOfActors n ys
-of_actors_parts n [] ys f = f
-of_actors_parts n (x ∷ xs) ys f = of_actors_parts n xs ys f.1
 
 mode_in : (b : Bool) (writes : List Row) (blocks : List Frame) (arena : List ℕ) (actions : Actions) (m : List ℕ) → (state_in b writes blocks arena actions m).irrevocable ≡ b
 mode_in true writes blocks arena actions m = refl
@@ -69,23 +66,20 @@ module _ {P : Type 0} (rules : Rules P) (laws : Obeys rules) (w : World P) (comm
 
   -- ## Its open attempt
 
-  own : a.thread ≡ 0
+  own : a.run.thread ≡ 0
   own = tied.threads 0 a here
 
-  row_kept : HasRow (in_transaction a.engine) w.attempts a.thread
-  row_kept = subst (HasRow (in_transaction a.engine) w.attempts) (sym own) (tied.rows 0 a here)
+  row_kept : HasRow (in_transaction a.engine) a
+  row_kept = tied.rows 0 a here
 
-  open_rows : of_thread 0 w.attempts.active ≡ w.attempts.active
-  open_rows = of_thread_all w.attempts.active (of_actors_parts 1 w.attempts.ended w.attempts.active all_mine)
+  open_are : opens w.actors ≡ with_open (active_of a) []
+  open_are = ap (λ (l : List (Actor P)). opens l) actors
 
-  active_none : active_of a.thread w.attempts.active ≡ None → w.attempts.active ≡ []
-  active_none e = sym open_rows ∙ open_none 0 0 w.attempts.active tied.open_rows.by_actor (ap (λ (t : ℕ). active_of t w.attempts.active) (sym own) ∙ e)
+  active_none : active_of a ≡ None → opens w.actors ≡ []
+  active_none e = open_are ∙ ap (λ (o : Option Attempt). with_open o []) e
 
-  active_one : (row : Attempt) → active_of a.thread w.attempts.active ≡ Some row → w.attempts.active ≡ row ∷ []
-  active_one row e = sym open_rows ∙ open_one 0 0 w.attempts.active row tied.open_rows.by_actor (ap (λ (t : ℕ). active_of t w.attempts.active) (sym own) ∙ e)
-
-  unfinished : (row : Attempt) → w.attempts.active ≡ row ∷ [] → row.outcome ≡ outcomes.Unfinished
-  unfinished row e = (subst AreUnfinished e tied.open_rows.unfinished).0
+  active_one : (row : Attempt) → active_of a ≡ Some row → opens w.actors ≡ row ∷ []
+  active_one row e = open_are ∙ ap (λ (o : Option Attempt). with_open o []) e
 
   -- ## The player's blocks that are over
 
@@ -127,17 +121,17 @@ module _ {P : Type 0} (rules : Rules P) (laws : Obeys rules) (w : World P) (comm
   rests_even tail x end last is z = stops tail x end x.before.memory false last is (left_by tail x z) (ap (λ (n : ℕ). n == 1) z)
 
   abbrev place_now : Option (Between P)
-  place_now = run_after rules w.depth (bytes_at w.depth w.base w.attempts.ended) (Some (first_of p w.arena)) (of_thread a.thread w.attempts.ended)
+  place_now = run_after rules w.depth (bytes_at w.depth w.base w.attempts.ended) (Some (first_of p w.arena)) (of_thread a.run.thread w.attempts.ended)
 
   -- what its attempts have led to is where its player stands
   led : (tail : List Attempt) (x : Arrived tail) → w.attempts.ended ≡ sole.past
       → place_now ≡ Some (between x.before)
   led tail x ended =
       let run = tied.players 0 p a player_here here in
-      let rows : of_thread a.thread w.attempts.ended ≡ sole.past =
-      ap (λ (t : ℕ). of_thread t w.attempts.ended) own ∙ (of_thread_all w.attempts.ended (of_actors_first 1 w.attempts.ended w.attempts.active all_mine) ∙ ended) in
+      let rows : of_thread a.run.thread w.attempts.ended ≡ sole.past =
+      ap (λ (t : ℕ). of_thread t w.attempts.ended) own ∙ (of_thread_all w.attempts.ended (of_actors_first 1 w.attempts.ended _ all_mine) ∙ ended) in
       let still = run_still rules w.depth (w.cells.clock / 2) (w.cells.clock / 2) (bytes_at w.depth w.base w.attempts.ended) (bytes_at w.depth w.base (attempts_of w)) (omega arith)
-      (λ k l. bytes_still w.depth w.base w.cells.clock w.attempts.ended commits.counted w.attempts.active k l) (Some (first_of p w.arena)) (of_thread a.thread w.attempts.ended) run.run in
+      (λ k l. bytes_still w.depth w.base w.cells.clock w.attempts.ended commits.counted _ k l) (Some (first_of p w.arena)) (of_thread a.run.thread w.attempts.ended) run.run in
       sym still.1 ∙ (ap (run_after rules w.depth (bytes_at w.depth w.base (attempts_of w)) (Some (first_of p w.arena))) rows ∙ x.led)
 
   -- the clock is odd where its engine is irrevocable
@@ -213,25 +207,22 @@ module _ {P : Type 0} (rules : Rules P) (laws : Obeys rules) (w : World P) (comm
         ∙ ap (λ (r : Attempt). with_first r (stopped rules w.depth w.max_commits 0 x.before GaveUp)) (row_told outcomes.Full (sym o))) is z
 
     -- its engine, and the plain state after its calls
-    module _ (some : active_of a.thread w.attempts.active ≡ Some row) where
+    module _ (some : active_of a ≡ Some row) where
       in_own : in_transaction a.engine ≡ true
-      in_own = row_open (in_transaction a.engine) w.attempts a.thread row row_kept some
-
-      placed : active_of 0 w.attempts.active ≡ Some row
-      placed = ap (λ (t : ℕ). active_of t w.attempts.active) (sym own) ∙ some
+      in_own = row_open (in_transaction a.engine) a row row_kept some
 
       read_at : row.at ≡ a.engine.snapshot / 2
-      read_at = tied.reads 0 a row here placed
+      read_at = tied.reads 0 a row here some
 
       -- it is not irrevocable where its engine is not
       revocable_here : a.engine.irrevocable ≡ false → (state_then w.depth unbroken from row.calls.list).irrevocable ≡ false
-      revocable_here e = ap (λ (s : State). s.irrevocable) (sym state_here) ∙ (tied.modes 0 a row here placed ∙ e)
+      revocable_here e = ap (λ (s : State). s.irrevocable) (sym state_here) ∙ (tied.modes 0 a row here some ∙ e)
 
       -- and where it is, it is what the words hold
       held_here : IsIdle a.engine → a.engine.irrevocable ≡ true → stands_for a.engine w.cells.words ≡ state_then w.depth unbroken from row.calls.list
       held_here idle e =
           let n : w.cells.clock / 2 ≡ row.at = sym (at_here ∙ x.commits) in
-          subst (λ (o : Option Step). StandsIn w.depth o a.engine.doing a.engine w.cells.words (alone w.depth (bytes_at w.depth w.base (attempts_of w) (w.cells.clock / 2)) row)) idle.0 (tied.stored 0 a row here placed e)
+          subst (λ (o : Option Step). StandsIn w.depth o a.engine.doing a.engine w.cells.words (alone w.depth (bytes_at w.depth w.base (attempts_of w) (w.cells.clock / 2)) row)) idle.0 (tied.stored 0 a row here some e)
           ∙ (ap (λ (k : ℕ). alone w.depth (bytes_at w.depth w.base (attempts_of w) k) row) n ∙ state_here)
 
       -- fewer have committed than may
@@ -256,9 +247,9 @@ module _ {P : Type 0} (rules : Rules P) (laws : Obeys rules) (w : World P) (comm
               rests_open o none (and_left t.irrevocable (nat_le w.max_commits x.before.commits) mode) (left_by (row ∷ []) x even ∙ sym (cond-false t.irrevocable t.memory x.before.memory mode)) (ap (λ (n : ℕ). n == 1) even ∙ sym mode)
 
     -- its player stands where its calls have led it
-    stands_so : w.attempts.ended ≡ sole.past → active_of a.thread w.attempts.active ≡ Some row → a.player ≡ player_then rules.answered begun row.calls.list
+    stands_so : w.attempts.ended ≡ sole.past → active_of a ≡ Some row → a.run.player ≡ player_then rules.answered begun row.calls.list
     stands_so ended some =
-        let t = (tied.players 0 p a player_here here).inside (row_open (in_transaction a.engine) w.attempts a.thread row row_kept some) in
+        let t = (tied.players 0 p a player_here here).inside (row_open (in_transaction a.engine) a row row_kept some) in
         let place : t.0 ≡ between x.before = same_Some _ _ (sym t.2 ∙ led (row ∷ []) x ended) in
         let start : t.4.start ≡ y.start = same_Some _ _ (sym t.4.begins ∙ (ap (λ (b : Between P). begin_of rules w.depth b.player b.arena) place ∙ y.comes)) in
         let same : t.1 ≡ row = same_Some _ _ (sym t.3 ∙ some) in
@@ -266,54 +257,54 @@ module _ {P : Type 0} (rules : Rules P) (laws : Obeys rules) (w : World P) (comm
 
   -- ## By how it stands
 
-  none_comes : (b : Between P) (x : Arrived []) → IsBeforeTry rules w.depth (w.cells.clock / 2) b a → place_now ≡ Some b → w.attempts.ended ≡ sole.past → rules.next_call a.player ≡ None → begin_of rules w.depth x.before.player x.before.arena ≡ None
+  none_comes : (b : Between P) (x : Arrived []) → IsBeforeTry rules w.depth (w.cells.clock / 2) b a → place_now ≡ Some b → w.attempts.ended ≡ sole.past → rules.next_call a.run.player ≡ None → begin_of rules w.depth x.before.player x.before.arena ≡ None
   none_comes b x t led_to ended none =
       ap (λ (b : Between P). begin_of rules w.depth b.player b.arena) (sym (same_Some _ _ (sym led_to ∙ led [] x ended)))
-      ∙ (led_before rules laws t ∙ (ap (begin_within rules w.depth (rules.calls_left a.player) a.player a.engine.arena) none ∙ no_call (rules.calls_left a.player) a.engine.arena))
+      ∙ (led_before rules laws t ∙ (ap (begin_within rules w.depth (rules.calls_left a.run.player) a.run.player a.engine.arena) none ∙ no_call (rules.calls_left a.run.player) a.engine.arena))
     where
-      no_call : (k : ℕ) (arena : List ℕ) → begin_within rules w.depth k a.player arena None ≡ None
+      no_call : (k : ℕ) (arena : List ℕ) → begin_within rules w.depth k a.run.player arena None ≡ None
       no_call zero arena = refl
       no_call (suc k) arena = refl
 
   -- between two blocks its player makes no more calls
-  rests : (x : Arrived []) → attempts_of w ≡ sole.past ++ [] → w.attempts.ended ≡ sole.past → ending_of a.status ≡ Some Finished → active_of a.thread w.attempts.active ≡ None → rules.next_call a.player ≡ None → w.cells.clock % 2 ≡ 0 → All Finished
+  rests : (x : Arrived []) → attempts_of w ≡ sole.past ++ [] → w.attempts.ended ≡ sole.past → ending_of a.status ≡ Some Finished → active_of a ≡ None → rules.next_call a.run.player ≡ None → w.cells.clock % 2 ≡ 0 → All Finished
   rests x is ended finished shut none z =
-      let t = (tied.players 0 p a player_here here).between (row_shut (in_transaction a.engine) w.attempts a.thread row_kept shut) (λ e. absurd (let both = sym finished ∙ e in cc)) (λ e. absurd (let both = sym finished ∙ e in cc)) in
+      let t = (tied.players 0 p a player_here here).between (row_shut (in_transaction a.engine) a row_kept shut) (λ e. absurd (let both = sym finished ∙ e in cc)) (λ e. absurd (let both = sym finished ∙ e in cc)) in
       rests_even [] x Finished (no_block rules laws w.depth w.max_commits 0 x.before (none_comes t.0 x t.2 t.1 ended none)) is z
 
   module _ (ended : w.attempts.ended ≡ sole.past) where
-    is_none : active_of a.thread w.attempts.active ≡ None → attempts_of w ≡ sole.past ++ []
+    is_none : active_of a ≡ None → attempts_of w ≡ sole.past ++ []
     is_none e = λ i. ended i ++ active_none e i
 
-    is_some_row : (row : Attempt) → active_of a.thread w.attempts.active ≡ Some row → attempts_of w ≡ sole.past ++ row ∷ []
+    is_some_row : (row : Attempt) → active_of a ≡ Some row → attempts_of w ≡ sole.past ++ row ∷ []
     is_some_row row e = λ i. ended i ++ active_one row e i
 
-    nothing_open : (outcome : Outcome) → active_of a.thread w.attempts.active ≡ None → (memory : List ℕ) × So (w.cells.clock / 2) memory outcome × (w.cells.clock % 2 ≡ 0 → memory_of w ≡ memory)
+    nothing_open : (outcome : Outcome) → active_of a ≡ None → (memory : List ℕ) × So (w.cells.clock / 2) memory outcome × (w.cells.clock % 2 ≡ 0 → memory_of w ≡ memory)
     nothing_open outcome e = (let x = arrived [] (is_none e) in (x.before.memory, so_far [] x outcome (inl (is_none e ∙ append-nil sole.past)), left_by [] x))
 
   some_over : (outcome : Outcome) (row : Attempt) (is : attempts_of w ≡ sole.past ++ row ∷ []) → IsFirstTry (w.cells.clock / 2) row → row.outcome ≡ outcome → ((outcome ≡ outcomes.Unfinished → ⊥) → row.calls.room ≡ 0) → (memory : List ℕ) × So (w.cells.clock / 2) memory outcome × (w.cells.clock % 2 ≡ 0 → memory_of w ≡ memory)
   some_over outcome row is first o spent = (let x = arrived (row ∷ []) is in (x.before.memory, so_far (row ∷ []) x outcome (inr (begun_so row is first x outcome o spent)), left_by (row ∷ []) x))
 
   going : IsOnWay rules w.max_commits w.depth w.base (first_of p w.arena) sole.past (w.cells.clock / 2) w.attempts a → DoneBy rules w p None
-  going s = by_open (active_of a.thread w.attempts.active) refl
+  going s = by_open (active_of a) refl
     where
-      by_open : (o : Option Attempt) → active_of a.thread w.attempts.active ≡ o → DoneBy rules w p None
+      by_open : (o : Option Attempt) → active_of a ≡ o → DoneBy rules w p None
       by_open None e = nothing_open s.ended outcomes.Unfinished e
-      by_open (Some row) e = some_over outcomes.Unfinished row (is_some_row s.ended row e) (s.current row (ap (λ (o : Option Attempt). current_of o a.pending) e)) (unfinished row (active_one row e)) (λ u. absurd (u refl))
+      by_open (Some row) e = some_over outcomes.Unfinished row (is_some_row s.ended row e) (s.current row (ap (λ (o : Option Attempt). current_of o (pending_of a)) e)) (row_unfinished (in_transaction a.engine) a row row_kept e) (λ u. absurd (u refl))
 
-  finished : IsOnWay rules w.max_commits w.depth w.base (first_of p w.arena) sole.past (w.cells.clock / 2) w.attempts a → ending_of a.status ≡ Some Finished → rules.next_call a.player ≡ None → IsIdle a.engine → All Finished
-  finished s end none idle = by_open (active_of a.thread w.attempts.active) refl
+  finished : IsOnWay rules w.max_commits w.depth w.base (first_of p w.arena) sole.past (w.cells.clock / 2) w.attempts a → ending_of a.status ≡ Some Finished → rules.next_call a.run.player ≡ None → IsIdle a.engine → All Finished
+  finished s end none idle = by_open (active_of a) refl
     where
-      by_open : (o : Option Attempt) → active_of a.thread w.attempts.active ≡ o → All Finished
+      by_open : (o : Option Attempt) → active_of a ≡ o → All Finished
       by_open None e = rests (arrived [] (is_none s.ended e)) (is_none s.ended e) s.ended end e none (even_shut rules w tied commits one a here e)
       by_open (Some row) e =
           let is = is_some_row s.ended row e in
-          let first = s.current row (ap (λ (o : Option Attempt). current_of o a.pending) e) in
+          let first = s.current row (ap (λ (o : Option Attempt). current_of o (pending_of a)) e) in
           let x = arrived (row ∷ []) is in
-          rests_idle row is first x e idle (unfinished row (active_one row e)) (ap rules.next_call (sym (stands_so row is first x s.ended e)) ∙ none)
+          rests_idle row is first x e idle (row_unfinished (in_transaction a.engine) a row row_kept e) (ap rules.next_call (sym (stands_so row is first x s.ended e)) ∙ none)
 
   -- its next block goes irrevocable, where as many have committed as may
-  kept_away : IsKeptOut rules w.max_commits w.depth w.base (first_of p w.arena) sole.past w.attempts a → active_of a.thread w.attempts.active ≡ None → w.max_commits ≤ w.cells.clock / 2 → w.cells.clock % 2 ≡ 0 → All GaveUp
+  kept_away : IsKeptOut rules w.max_commits w.depth w.base (first_of p w.arena) sole.past w.attempts a → active_of a ≡ None → w.max_commits ≤ w.cells.clock / 2 → w.cells.clock % 2 ≡ 0 → All GaveUp
   kept_away k shut full z =
       let is = is_none k.ended shut in
       let x = arrived [] is in
@@ -322,7 +313,7 @@ module _ {P : Type 0} (rules : Rules P) (laws : Obeys rules) (w : World P) (comm
       rests_even [] x GaveUp
       (kept_out rules laws w.depth w.max_commits 0 x.before k.start (ap (λ (b : Between P). begin_of rules w.depth b.player b.arena) (sym place) ∙ k.begins) k.goes (le-leb w.max_commits x.before.commits (omega arith))) is z
 
-  last_is : (outcome : Outcome) → active_of a.thread w.attempts.active ≡ None → (l : EndsWith sole.past (w.cells.clock / 2) outcome w.attempts) → attempts_of w ≡ sole.past ++ l.row ∷ []
+  last_is : (outcome : Outcome) → active_of a ≡ None → (l : EndsWith sole.past (w.cells.clock / 2) outcome w.attempts) → attempts_of w ≡ sole.past ++ l.row ∷ []
   last_is outcome none l = (λ i. l.ended i ++ active_none none i) ∙ append-nil (sole.past ++ l.row ∷ [])
 
   starved : w.cells.clock % 2 ≡ 0 → (memory : List ℕ) × So (w.cells.clock / 2) memory outcomes.NoMemory × (w.cells.clock % 2 ≡ 0 → memory_of w ≡ memory) → DoneBy rules w p (Some NoMemory)

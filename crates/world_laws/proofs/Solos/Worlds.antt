@@ -1,13 +1,15 @@
 -- A world that one player has to itself, from its beginning on.
 use Rattle.std.proofs.Common.{Result, ◌<◌, ◌≡◌, inl, inr, ℕ, ◌/◌, ◌%◌, true, false, List, [], ◌∷◌, ◌++◌, None, Some, slice_get, slice_set, length, refl, sym, ap, subst, ◌∙◌, arith}
-use Rattle.norec_world.proofs.Common.{AreOfActors, Attempt, CommitsInOrder, IsEvent, IsRunOf, Rules, World, active_of, bytes_at, ending_of, false_from_ne_true, first_of, of_thread, slice_get-set_same, slice_get_within, same_Some, both_ways, in_transaction, AreTied, AreOpaque, SameOpening, Goes, HasRow, observed, attempts_of, is_waiting, cases_Bool, none-some}
+use Rattle.norec_world.proofs.Common.{AreOfActors, Attempt, CommitsInOrder, IsEvent, IsRunOf, Rules, World, active_of, bytes_at, ending_of, false_from_ne_true, first_of, of_thread, slice_get-set_same, slice_get_within, same_Some, both_ways, in_transaction, AreTied, AreOpaque, SameOpening, Goes, observed, attempts_of, is_waiting, pending_of, cases_Bool, none-some}
 use Rattle.norec_world.specs.declared.actor.Actor.{Actor}
 use Rattle.tx_runs.specs.declared.ending.End.TheVariants.{Finished}
 use Rattle.norec_world.specs.declared.fault.WorldFault.{WorldFault}
 use Rattle.world_laws.specs.Sole.{IsSole}
-use Rattle.norec_world.proofs.Events.SoundOthers.{odd_or_even, row_shut}
+use Rattle.norec_world.proofs.Events.SoundOthers.{odd_or_even}
+use Rattle.norec_world.proofs.Tries.Stages.{row_shut}
 use Rattle.norec_core.specs.Core.{may_go}
 use Rattle.world_laws.specs.Sole.{IsIdle}
+use Rattle.world_laws.proofs.Likeness.Starts.{none_first}
 use Rattle.world_laws.proofs.Solos.IdleEngines.{ended_still, idle_event, idle_started}
 use Rattle.world_laws.proofs.Solos.Events.{IsToBegin, last_early, of_actors_first, of_thread_all, sole_after, stands_between}
 use Rattle.norec_world.proofs.Events.Worlds.{waiting_going, waits_there}
@@ -29,11 +31,11 @@ even_free {P} w c one a here free = elim (odd_or_even w.cells.clock) [
 
 module _ {P : Type 0} (rules : Rules P) where
   -- without an open attempt it does not hold it
-  shut_free : (w : World P) → AreTied rules w → (a : Actor P) → slice_get w.actors 0 ≡ Some a → active_of a.thread w.attempts.active ≡ None → a.engine.holds ≡ false
+  shut_free : (w : World P) → AreTied rules w → (a : Actor P) → slice_get w.actors 0 ≡ Some a → active_of a ≡ None → a.engine.holds ≡ false
   shut_free w tied a here none =
-      false_from_ne_true a.engine.holds (λ h. none-some (tied.holder 0 a here h).0 (sym none ∙ (ap (λ (t : ℕ). active_of t w.attempts.active) (tied.threads 0 a here) ∙ (tied.holder 0 a here h).1)))
+      false_from_ne_true a.engine.holds (λ h. none-some (tied.holder 0 a here h).0 (sym none ∙ (tied.holder 0 a here h).1))
 
-  pub even_shut : (w : World P) → AreTied rules w → CommitsInOrder w → length w.actors ≡ 1 → (a : Actor P) → slice_get w.actors 0 ≡ Some a → active_of a.thread w.attempts.active ≡ None → w.cells.clock % 2 ≡ 0
+  pub even_shut : (w : World P) → AreTied rules w → CommitsInOrder w → length w.actors ≡ 1 → (a : Actor P) → slice_get w.actors 0 ≡ Some a → active_of a ≡ None → w.cells.clock % 2 ≡ 0
   even_shut w tied c one a here none = even_free w c one a here (shut_free w tied a here none)
 
 -- ## A world
@@ -42,29 +44,24 @@ module _ {P : Type 0} (rules : Rules P) where
   abbrev pub HasSole : World P → Type 0
   HasSole w = (p : P) (a : Actor P) → slice_get w.opening 0 ≡ Some p → slice_get w.actors 0 ≡ Some a → IsSole rules w.max_commits w.depth w.base (first_of p w.arena) w.cells.clock w.attempts a
 
-  none_first : (xs ys : List Attempt) → xs ++ ys ≡ [] → xs ≡ []
-  none_first [] ys e = refl
-  none_first (x ∷ xs) ys e = absurd (cc)
-
   -- one that has just begun
   pub sole_first : (w : World P) → IsNew rules w → HasSole w
   sole_first w new p a player here =
       let starts = new.starts 0 p a player here in
       let first = new.first 0 a here in
-      let finishes : ending_of a.status ≡ Some Finished → (rules.next_call a.player ≡ None) × IsIdle a.engine = λ end. (starts.finishes end, idle_started rules starts (refl, refl) (ended_still a.status Finished end)) in
+      let finishes : ending_of a.status ≡ Some Finished → (rules.next_call a.run.player ≡ None) × IsIdle a.engine = λ end. (starts.finishes end, idle_started rules starts (refl, refl) (ended_still a.status Finished end)) in
       record {
         past = [];
         commit = ap (λ (n : ℕ). n / 2) (sym new.clock);
-        stands = stands_between rules w.max_commits w.depth w.base (first_of p w.arena) w.cells.clock [] w.attempts a starts.thread (none_first w.attempts.ended w.attempts.active new.none) first.between finishes;
+        stands = stands_between rules w.max_commits w.depth w.base (first_of p w.arena) w.cells.clock [] w.attempts a starts.thread (none_first w.attempts.ended _ new.none) first.between finishes;
         seen = λ f. first.seen;
       }
 
   -- its player's next block, where no attempt is open
-  to_begin_of : (w : World P) → AreTied rules w → (p : P) (a : Actor P) → slice_get w.opening 0 ≡ Some p → slice_get w.actors 0 ≡ Some a → ending_of a.status ≡ None → (row : Attempt) → active_of a.thread w.attempts.active ≡ None → a.pending ≡ Some row → may_go [] row.props ≡ true
+  to_begin_of : (w : World P) → AreTied rules w → (p : P) (a : Actor P) → slice_get w.opening 0 ≡ Some p → slice_get w.actors 0 ≡ Some a → ending_of a.status ≡ None → (row : Attempt) → active_of a ≡ None → pending_of a ≡ Some row → may_go [] row.props ≡ true
       → IsToBegin rules w.max_commits w.depth w.base (first_of p w.arena) w.attempts a row
   to_begin_of w tied p a player here going row none was may =
-      let kept = subst (HasRow (in_transaction a.engine) w.attempts) (sym (tied.threads 0 a here)) (tied.rows 0 a here) in
-      let shut = row_shut (in_transaction a.engine) w.attempts a.thread kept none in
+      let shut = row_shut (in_transaction a.engine) a (tied.rows 0 a here) none in
       let t = (tied.players 0 p a player here).between shut (λ e. absurd (let both = sym going ∙ e in cc)) (λ e. absurd (let both = sym going ∙ e in cc)) in
       record { before = t.0; led = t.1; start = _; begins = (t.2.pending row was).4 may; props = refl }
 
@@ -89,7 +86,7 @@ module _ {P : Type 0} (rules : Rules P) where
     still_one = tied'.each ∙ (ap (λ (l : List P). length l) same.opening ∙ one)
 
     all_mine : AreOfActors 1 new.attempts.ended
-    all_mine = of_actors_first 1 new.attempts.ended new.attempts.active (subst (λ (n : ℕ). AreOfActors n (attempts_of new)) (ap (λ (l : List P). length l) same.opening ∙ one) opaque'.threads)
+    all_mine = of_actors_first 1 new.attempts.ended _ (subst (λ (n : ℕ). AreOfActors n (attempts_of new)) (ap (λ (l : List P). length l) same.opening ∙ one) opaque'.threads)
 
     sole_over : (p : P) → slice_get w.opening 0 ≡ Some p → IsSole rules w.max_commits w.depth w.base (first_of p w.arena) new.cells.clock new.attempts next
     sole_over p player =
@@ -102,7 +99,7 @@ module _ {P : Type 0} (rules : Rules P) where
         (even_shut rules new tied' commits' still_one next placed)
         (λ row ended.
         (let run = (tied'.players 0 p next player' placed).run in
-        let rows : of_thread next.thread new.attempts.ended ≡ w.attempts.ended ++ row ∷ [] = ap (λ (t : ℕ). of_thread t new.attempts.ended) mine ∙ (of_thread_all new.attempts.ended all_mine ∙ ended) in
+        let rows : of_thread next.run.thread new.attempts.ended ≡ w.attempts.ended ++ row ∷ [] = ap (λ (t : ℕ). of_thread t new.attempts.ended) mine ∙ (of_thread_all new.attempts.ended all_mine ∙ ended) in
         last_early rules new.depth (new.cells.clock / 2) (bytes_at new.depth new.base new.attempts.ended) (Some (first_of p new.arena)) w.attempts.ended row
         (subst (IsRunOf rules new.depth (new.cells.clock / 2) (bytes_at new.depth new.base new.attempts.ended) (Some (first_of p new.arena))) rows run)))
         (λ e. (event.finishes e, idle_event rules event (ended_still next.status Finished e))) event.tries

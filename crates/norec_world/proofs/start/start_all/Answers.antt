@@ -1,8 +1,9 @@
-use Rattle.std.proofs.Common.{rules, ◌≡◌, ◌≢◌, ◌+◌, ◌<◌, ◌≤◌, ℕ, zero, suc, Option, None, Some, [], ◌∷◌, ◌++◌, inl, inr, slice_get, drop, replicate, List, length, length-append, ap, sym, subst, refl, ◌∙◌, arith}
-use Rattle.norec_world.proofs.Common.{same_Some, Actor, AreActors, Attempt, ChangesOwn, HasStarted, IsFirst, MAX_ACTORS, RunsFrom, bytes_of, count_pending, ending_in, first_of, opening, slice_index_or}
+use Rattle.norec_world.specs.Rows.{rows_in}
+use Rattle.std.proofs.Common.{rules, ◌≡◌, ◌≢◌, ◌+◌, ◌<◌, ◌≤◌, ℕ, zero, suc, Some, [], ◌∷◌, ◌++◌, inl, inr, slice_get, drop, replicate, List, length, length-append, ap, sym, subst, refl, ◌∙◌, arith}
+use Rattle.norec_world.proofs.Common.{same_Some, Actor, AreActors, HasStarted, IsFirst, MAX_ACTORS, RunsFrom, bytes_of, ending_in, first_of, opening, slice_index_or, append-nil}
 use Rattle.norec_world.proofs.Runs.Others.{other_runs, laid_first}
-use Rattle.norec_world.proofs.Attempts.TryChains.{fed_joined, first_still}
-use Rattle.norec_world.proofs.Events.SoundOthers.{actors_joined, joined_place, none_active}
+use Rattle.norec_world.proofs.Tries.TryChains.{fed_joined}
+use Rattle.norec_world.proofs.Events.SoundOthers.{actors_joined, joined_place}
 use Rattle.norec_world.proofs.start.start_all.Goals as goal
 
 -- the next one of a list
@@ -11,14 +12,6 @@ drop_head [] zero x ys e = absurd (cc)
 drop_head [] (suc k) x ys e = absurd (cc)
 drop_head (y ∷ xs) zero x ys e = ((let same : y ≡ x = cc in ap (λ (z : _). Some z) same), (let same : xs ≡ ys = cc in same))
 drop_head (y ∷ xs) (suc k) x ys e = drop_head xs k x ys e
-
-unlisted : (o : Option Attempt) → ((row : Attempt) → o ≡ Some row → ⊥) → o ≡ None
-unlisted None never = refl
-unlisted (Some row) never = absurd (never row refl)
-
--- no one has an attempt who is not there yet
-pub start-requires-clause-none : goal.start-requires-clause-none
-start-requires-clause-none g c = unlisted _ (λ row e. (let i = c.loop-player.invariant in let l = i.sound.listed _ row e in let few = i.few in let t = c.len-thread.ensures in omega arith))
 
 pub loop-player-preserved : goal.loop-player-preserved
 loop-player-preserved g c =
@@ -32,38 +25,34 @@ loop-player-preserved g c =
     let count = i.count in
     let fewer : length before < MAX_ACTORS = omega (arith, i.few) in
     let numbered = c.in_ok-actor.ensures.thread in
-    let thread : actor.thread ≡ length before = omega (arith, c.len-thread.ensures) in
+    let thread : actor.run.thread ≡ length before = omega (arith, c.len-thread.ensures) in
     let o = c.in_ok-actor.ensures.others in
     let here = drop_head c.into_iter-player-iterator.result.rest.items (length before) c.in-Some.player c.next.new.self.rest.items (sym i.rest ∙ steps) in
     let placed = λ (place : ℕ) (a : Actor g.row.P.Denot) (e : slice_get c.push.new.self.items place ≡ Some a). joined_place before actor place a (ap (λ (xs : List (Actor g.row.P.Denot)). slice_get xs place) (sym items) ∙ e) in
     let same_player : (place : ℕ) (p : g.row.P.Denot) → length before ≡ place → slice_get c.into_iter-player-iterator.result.rest.items place ≡ Some p → c.in-Some.player ≡ p =
     λ place p last e. same_Some _ _ (sym here.0 ∙ (ap (slice_get c.into_iter-player-iterator.result.rest.items) last ∙ e)) in
-    let other = λ (place : ℕ) (a : Actor g.row.P.Denot) (apart : length before ≢ place) (e : slice_get before place ≡ Some a) (same : a.thread ≡ actor.thread). apart (sym thread ∙ (sym same ∙ (i.sound.each place a e).thread)) in
-    let own : ChangesOwn actor.thread c.loop-player.recorded c.start.new.recorded = subst (λ (n : ℕ). ChangesOwn n c.loop-player.recorded c.start.new.recorded) (sym o.3.thread) o.3.own in
+    let other = λ (place : ℕ) (a : Actor g.row.P.Denot) (apart : length before ≢ place) (e : slice_get before place ≡ Some a) (same : a.run.thread ≡ actor.run.thread). apart (sym thread ∙ (sym same ∙ (i.sound.each place a e).thread)) in
+    let ended : c.start.new.ended.items ≡ c.loop-player.ended.items = c.in_ok-actor.ensures.ended in
     record {
       count = omega arith;
       few = i.few;
       outside = λ k d l. subst (λ (xs : List g.row.P.Denot). g.P.Player.depth (slice_index_or xs (suc k) d) ≡ 0) steps (i.outside (suc k) d (omega arith));
-      sound = subst (AreActors g.P.Player c.args.memory.now c.start.new.recorded) (sym items)
-          (actors_joined g.P.Player c.args.memory.now c.loop-player.recorded c.start.new.recorded before i.sound actor
-          c.in_ok-actor.ensures.sound c.in_ok-actor.ensures.done thread fewer own
-          (λ k less l. o.3.room k less (let none : count_pending o.0.pending ≡ 0 = ap count_pending o.2 in omega arith)) c.in_ok-actor.ensures.free);
-      ended = c.in_ok-actor.ensures.ended ∙ i.ended;
+      sound = subst (AreActors g.P.Player c.args.memory.now (rows_in c.start.new.ended)) (sym items)
+          (actors_joined g.P.Player c.args.memory.now (rows_in c.loop-player.ended) (rows_in c.start.new.ended) before i.sound actor c.in_ok-actor.ensures.sound c.in_ok-actor.ensures.done thread fewer o c.in_ok-actor.ensures.free);
+      ended = ended ∙ i.ended;
       tries = λ place a e. elim (placed place a e) [
-        | inl h ↦ subst (IsFirst c.args.memory.now.clock c.args.terms.limits.patience c.args.terms.limits.max_commits c.args.terms.limits.retries c.args.terms.limits.depth c.start.new.recorded) (sym h.1) c.in_ok-actor.ensures.first
-        | inr h ↦
-            first_still c.args.memory.now.clock c.args.terms.limits.patience c.args.terms.limits.max_commits c.args.terms.limits.retries c.args.terms.limits.depth c.loop-player.recorded c.start.new.recorded a
-            (own.others a.thread (other place a h.0 h.1)) (i.tries place a h.1)
+        | inl h ↦ subst (IsFirst c.args.memory.now.clock c.args.terms.limits.patience c.args.terms.limits.max_commits c.args.terms.limits.retries c.args.terms.limits.depth) (sym h.1) c.in_ok-actor.ensures.first
+        | inr h ↦ i.tries place a h.1
       ];
       rest = sym here.1 ∙ ap (λ (k : ℕ). drop k c.into_iter-player-iterator.result.rest.items) (let e : suc (length before) ≡ length c.push.new.self.items = omega arith in e);
       runs = λ place p a e f. elim (placed place a f) [
         | inl h ↦
-            subst (λ (x : Actor g.row.P.Denot). RunsFrom g.P.Player (first_of p c.args.terms.arena) c.args.terms.limits.depth (bytes_of c.args.memory.now.words) c.args.memory.now c.start.new.recorded x) (sym h.1)
-            (subst (λ (q : g.row.P.Denot). RunsFrom g.P.Player (first_of q c.args.terms.arena) c.args.terms.limits.depth (bytes_of c.args.memory.now.words) c.args.memory.now c.start.new.recorded actor) (same_player place p h.0 e)
+            subst (λ (x : Actor g.row.P.Denot). RunsFrom g.P.Player (first_of p c.args.terms.arena) c.args.terms.limits.depth (bytes_of c.args.memory.now.words) c.args.memory.now (rows_in c.start.new.ended) x) (sym h.1)
+            (subst (λ (q : g.row.P.Denot). RunsFrom g.P.Player (first_of q c.args.terms.arena) c.args.terms.limits.depth (bytes_of c.args.memory.now.words) c.args.memory.now (rows_in c.start.new.ended) actor) (same_player place p h.0 e)
             (c.in_ok-actor.ensures.runs i.ended))
         | inr h ↦
             other_runs g.P.Player g.met.P.Player.laws (first_of p c.args.terms.arena) c.args.terms.limits.depth (bytes_of c.args.memory.now.words) c.args.memory.now c.args.memory.now
-            c.loop-player.recorded c.start.new.recorded actor.thread a (laid_first c.args.terms.limits.depth (bytes_of c.args.memory.now.words) c.args.memory.now c.loop-player.recorded refl c.requires.fit c.requires.clock i.ended) (i.sound.each place a h.1).sound.tied own
+            (rows_in c.loop-player.ended) (rows_in c.start.new.ended) actor.run.thread a (laid_first c.args.terms.limits.depth (bytes_of c.args.memory.now.words) c.args.memory.now (rows_in c.loop-player.ended) refl c.requires.fit c.requires.clock i.ended) (i.sound.each place a h.1).sound.tied [] (ended ∙ sym (append-nil c.loop-player.ended.items)) tt
             (other place a h.0 h.1) (let z : c.args.memory.now.clock ≤ c.args.memory.now.clock = omega arith in z) (λ x. refl) (i.runs place p a e h.1)
       ];
       starts = λ place p a e f. elim (placed place a f) [
@@ -78,12 +67,8 @@ loop-player-preserved g c =
       fed = λ place e. fed_joined before actor i.fed c.in_ok-actor.ensures.fed place (ap (λ (xs : List (Actor g.row.P.Denot)). ending_in xs place) (sym items) ∙ e);
     }
 
-pub returns-clause-none : goal.returns-clause-none
-returns-clause-none g c = (
-  c.loop-player.invariant.ended,
-  none_active g.P.Player c.args.memory.now c.loop-player.recorded c.loop-player.actors.items c.loop-player.invariant.sound
-      (λ place a e. (c.loop-player.invariant.tries place a e).between.none),
-)
+pub returns-clause-none_open : goal.returns-clause-none_open
+returns-clause-none_open g c place a e = (c.loop-player.invariant.tries place a e).between.none
 
 pub returns-clause-runs : goal.returns-clause-runs
 returns-clause-runs g c place p a e f =

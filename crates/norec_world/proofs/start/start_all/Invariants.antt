@@ -1,3 +1,4 @@
+use Rattle.norec_world.specs.Rows.{rows_in}
 use Rattle.std.proofs.Common.{◌≡◌, ℕ, ◌+◌, ◌≤◌, [], length, slice_get, drop, replicate, All, Some}
 use Rattle.norec_world.proofs.Common.{Actor, AreActors, HasStarted, IsFirst, MAX_ACTORS, NoMemory, RunsFrom, bytes_of, ending_in, first_of, opening}
 use Rattle.norec_world.proofs.start.start_all.Given as goal
@@ -7,12 +8,12 @@ invariant-loop-player g l = record {
   count : length l.actors.items + length l.player-iterator.rest.items ≡ length l.initial.player-iterator.rest.items;
   few : length l.initial.player-iterator.rest.items ≤ MAX_ACTORS;
   outside : All (λ p. g.P.Player.depth p ≡ 0) l.player-iterator.rest.items;
-  sound : AreActors g.P.Player l.memory l.recorded l.actors.items;
-  ended : l.recorded.ended ≡ [];
-  tries : (place : ℕ) (a : Actor g.row.P.Denot) → slice_get l.actors.items place ≡ Some a → IsFirst l.memory.clock l.terms.limits.patience l.terms.limits.max_commits l.terms.limits.retries l.terms.limits.depth l.recorded a;
+  sound : AreActors g.P.Player l.memory (rows_in l.ended) l.actors.items;
+  ended : l.ended.items ≡ [];
+  tries : (place : ℕ) (a : Actor g.row.P.Denot) → slice_get l.actors.items place ≡ Some a → IsFirst l.memory.clock l.terms.limits.patience l.terms.limits.max_commits l.terms.limits.retries l.terms.limits.depth a;
   rest : l.player-iterator.rest.items ≡ drop (length l.actors.items) l.initial.player-iterator.rest.items;
   runs : (place : ℕ) (p : g.row.P.Denot) (a : Actor g.row.P.Denot) → slice_get l.initial.player-iterator.rest.items place ≡ Some p → slice_get l.actors.items place ≡ Some a
-      → RunsFrom g.P.Player (first_of p l.terms.arena) l.terms.limits.depth (bytes_of l.memory.words) l.memory l.recorded a;
+      → RunsFrom g.P.Player (first_of p l.terms.arena) l.terms.limits.depth (bytes_of l.memory.words) l.memory (rows_in l.ended) a;
   starts : (place : ℕ) (p : g.row.P.Denot) (a : Actor g.row.P.Denot) → slice_get l.initial.player-iterator.rest.items place ≡ Some p → slice_get l.actors.items place ≡ Some a
       → HasStarted g.P.Player l.memory.clock (opening (length l.memory.words) (replicate l.terms.arena 0) l.terms.limits.patience l.terms.limits.max_commits l.terms.limits.depth 0) l.terms.limits.retries place p a;
   fed : (place : ℕ) → ending_in l.actors.items place ≡ Some NoMemory → ⊥;

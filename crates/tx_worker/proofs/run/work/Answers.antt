@@ -1,32 +1,63 @@
-use Rattle.std.proofs.Common.{ap, refl, ◌∙◌, arith, ◌/◌, ℕ}
-use Rattle.tx_worker.specs.Workers.{bounds_of}
+use Rattle.std.proofs.Common.{◌≤◌, ℕ, suc, None, refl, sym, ap, subst, ◌∙◌, arith}
+use Rattle.norec_core.specs.Core.{in_transaction}
+use Rattle.tx_runs.specs.declared.player_run.PlayerRun.{PlayerRun}
+use Rattle.tx_worker.specs.declared.worker.Worker.{Worker}
+use Rattle.tx_worker.specs.Accounts.{account_of}
+use Rattle.tx_worker.specs.Calls.{IsMade, StopsAs}
+use Rattle.tx_runs.specs.Nesting.{whole}
+use Rattle.tx_worker.specs.Workers.{Bounds, bounds_of}
 use Rattle.tx_worker.specs.Works.{course_of}
-use Rattle.tx_worker.proofs.Workers.NewWorkers.{begins_bound, begins_works}
+use Rattle.tx_worker.proofs.Laws.Begins.{begins_bound, begins_works}
+use Rattle.tx_worker.proofs.Laws.Ends.{finished}
 use Rattle.tx_worker.proofs.run.work.Goals as goal
 
 pub loop-end-init : goal.loop-end-init
 loop-end-init g c =
     let r = c.requires in
+    let first = begins_works g.P.Player c.args.words.now c.args.thread c.args.player c.args.number c.args.retries r.own r.stands r.outside r.depth r.whole r.few c.new-2.result c.new-2.ensures.items
+    (record { run = c.new.result; thread = c.args.thread; ended = c.new-2.result; calls = 0 }) (ap (λ (run : PlayerRun g.row.P.Denot). record { run = run; thread = c.args.thread; ended = c.new-2.result; calls = 0 }) c.new.ensures) in
     record {
-      works = begins_works g.P.Player c.args.words.now c.args.thread c.args.player c.args.number c.args.retries r.own r.stands r.outside r.depth r.whole r.few c.new.result c.new.ensures.items (c.snapshot-known.result / 2) (ap (λ (n : ℕ). n / 2) c.snapshot-known.ensures.value);
-      bound = begins_bound g.P.Player c.args.words.now c.args.thread c.args.player c.args.number c.args.retries r.own r.stands r.outside r.depth r.whole r.few;
-      retries = refl;
+      works = first.0;
+      made = (0, (first.1, refl));
+      bound =
+          (subst (λ (run : PlayerRun g.row.P.Denot). whole g.P.Player (in_transaction c.args.thread.engine) run.player ≤ g.P.Player.calls_left c.args.player) (sym c.new.ensures)
+          (begins_bound g.P.Player c.args.words.now c.args.thread c.args.player c.args.number c.args.retries r.own r.stands r.outside r.depth r.whole r.few));
+      number = ap (λ (run : PlayerRun g.row.P.Denot). run.thread) c.new.ensures;
+      retries = ap (λ (run : PlayerRun g.row.P.Denot). run.retries) c.new.ensures;
     }
 
-pub finish-requires : goal.finish-requires
-finish-requires g c =
-    let course = course_of c.args.thread c.args.player c.args.number c.args.retries in
-    let bounds = bounds_of c.args.thread.engine in
-    (c.args.words.now, course, bounds, g.G.Gate.shuts, c.in-Some.ensures course bounds c.loop-end.invariant.works)
+pub finish-requires-clause-may_stop : goal.finish-requires-clause-may_stop
+finish-requires-clause-may_stop g c = (c.in-Some.ensures (course_of c.args.thread c.args.player c.args.number c.args.retries) (bounds_of c.args.thread.engine) c.loop-end.invariant.works).may_stop
+
+pub finish-requires-clause-may_tell : goal.finish-requires-clause-may_tell
+finish-requires-clause-may_tell g c = (c.in-Some.ensures (course_of c.args.thread c.args.player c.args.number c.args.retries) (bounds_of c.args.thread.engine) c.loop-end.invariant.works).may_tell
 
 pub returns-in-Some : goal.returns-in-Some
 returns-in-Some g c =
     let course = course_of c.args.thread c.args.player c.args.number c.args.retries in
     let bounds = bounds_of c.args.thread.engine in
-    let over = c.in-Some.ensures course bounds c.loop-end.invariant.works in
+    let old = c.loop-end.invariant in
+    let w : Worker g.row.P.Denot = c.loop-end.worker in
+    let x = c.in-Some.ensures course bounds old.works in
+    let e = c.finish.ensures in
+    let stops : StopsAs c.args.words.now g.P.Player c.args.number c.args.retries g.G.Gate.shuts c.finish.result.end (account_of w) w.thread x.left c.call_next.new.self.thread =
+    subst (λ (y : ℕ × ℕ). StopsAs c.args.words.now g.P.Player y.0 y.1 g.G.Gate.shuts c.finish.result.end (account_of w) w.thread x.left c.call_next.new.self.thread) (λ i. (old.number i, old.retries i))
+    (subst (λ (end : _). StopsAs c.args.words.now g.P.Player w.run.thread w.run.retries g.G.Gate.shuts end (account_of w) w.thread x.left c.call_next.new.self.thread) (sym e.end) x.stops) in
     record {
-      number_is = c.finish.ensures.number ∙ over.same.number;
-      finished = c.finish.ensures.finished c.args.words.now course bounds g.G.Gate.shuts over;
+      number_is = e.number ∙ x.same.number;
+      row = record {
+        calls = old.made.0;
+        account = account_of w;
+        standing = w.thread;
+        made = old.made.1;
+        left = x.left;
+        thread = c.call_next.new.self.thread;
+        stops = stops;
+        attempts = e.attempts ∙ x.told_is;
+        pass = e.pass;
+      };
+      finished = finished g.met.P.Player.laws c.args.words.now course c.args.thread.engine.max_commits g.G.Gate.shuts (account_of w) w.thread old.works.running old.works.same.stands old.works.same.whole old.works.same.over (ap (λ (b : Bounds). b.max_commits) old.works.same.bounds)
+          c.args.number c.args.retries refl refl c.finish.result x.left c.call_next.new.self.thread stops x.over x.below x.same.own x.same.stands e.pass (e.attempts ∙ x.told_is);
     }
 
 pub loop-end-preserved : goal.loop-end-preserved
@@ -35,8 +66,20 @@ loop-end-preserved g c =
     let old = c.loop-end.invariant in
     let bound = old.bound in
     let falls = t.falls.whole_falls in
+    let w : Worker g.row.P.Denot = c.loop-end.worker in
+    let new : Worker g.row.P.Denot = c.call_next.new.self in
     record {
       works = t.works (course_of c.args.thread c.args.player c.args.number c.args.retries) (bounds_of c.args.thread.engine) old.works;
+      made = (
+        suc old.made.0,
+        (
+          account_of w,
+          w.thread,
+          old.made.1,
+          subst (λ (y : ℕ × ℕ). IsMade c.args.words.now g.P.Player y.0 y.1 (account_of w) w.thread None (account_of new) new.thread) (λ i. (old.number i, old.retries i)) t.made,
+        ),
+      );
       bound = omega arith;
+      number = t.thread ∙ old.number;
       retries = t.retries ∙ old.retries;
     }

@@ -1,6 +1,8 @@
-use Rattle.std.proofs.Common.{◌≡◌, ◌≤◌}
+use Rattle.std.proofs.Common.{◌≡◌, ◌≤◌, ℕ}
 use Rattle.norec_core.specs.Core.{in_transaction}
 use Rattle.tx_runs.specs.Nesting.{whole}
+use Rattle.tx_worker.specs.Accounts.{account_of, first_account}
+use Rattle.tx_worker.specs.Calls.{HasMade}
 use Rattle.tx_worker.specs.Falls.{rank}
 use Rattle.tx_worker.specs.Workers.{IsWorking, bounds_of}
 use Rattle.tx_worker.specs.Works.{course_of}
@@ -9,9 +11,11 @@ use Rattle.tx_worker.proofs.run.work.Given as goal
 abbrev pub invariant-loop-end : goal.invariant-loop-end
 invariant-loop-end g l = record {
   works : IsWorking g.P.Player l.words (course_of l.fn.thread l.fn.player l.fn.number l.fn.retries) (bounds_of l.fn.thread.engine) l.worker;
-  bound : whole g.P.Player (in_transaction l.worker.thread.engine) l.worker.player ≤ g.P.Player.calls_left l.fn.player;
-  retries : l.worker.retries ≡ l.fn.retries;
+  made : (calls : ℕ) × HasMade l.words g.P.Player l.fn.number l.fn.retries calls (first_account l.fn.player) l.fn.thread (account_of l.worker) l.worker.thread;
+  bound : whole g.P.Player (in_transaction l.worker.thread.engine) l.worker.run.player ≤ g.P.Player.calls_left l.fn.player;
+  number : l.worker.run.thread ≡ l.fn.number;
+  retries : l.worker.run.retries ≡ l.fn.retries;
 }
 
 abbrev pub decreases-loop-end : goal.decreases-loop-end
-decreases-loop-end g l = rank g.P.Player l.fn.retries (g.P.Player.calls_left l.fn.player) (in_transaction l.worker.thread.engine) l.worker.nth l.worker.player
+decreases-loop-end g l = rank g.P.Player l.fn.retries (g.P.Player.calls_left l.fn.player) (in_transaction l.worker.thread.engine) l.worker.run.nth l.worker.run.player

@@ -1,11 +1,17 @@
+use Rattle.tx_runs.specs.Tallies.{begins, outside, within}
+use Rattle.norec_world.specs.Records.{stand_of}
+use Rattle.norec_world.specs.Stages.{with_room}
+use Rattle.tx_runs.specs.Tallies.{Stand, over_as}
+use Rattle.tx_runs.specs.declared.player_run.PlayerRun.{PlayerRun}
 use Rattle.norec_core.specs.Proceeds.{IsSettled}
 use Rattle.norec_engine.specs.NextSteps.{next_in}
-use Rattle.norec_world.specs.ActionRoom.{MayRunOn}
+use Rattle.norec_world.specs.ActionRoom.{MayRunOn, IsBacked}
 use Rattle.norec_world.proofs.Rooms.CallRoom.{used_up}
-use Rattle.std.proofs.Common.{◌≡◌, ◌/◌, ℕ, true, Option, None, Some, refl, sym, ap, subst, ◌∙◌}
-use Rattle.norec_world.proofs.Common.{Answer, Answers, Asks, Core, IsTied, Rows, Starves, StatusIs, Step, StopsAt, Waits, after_undoing, in_transaction}
+use Rattle.std.proofs.Common.{◌≡◌, ℕ, true, Option, None, Some, refl, sym, ap, subst, ◌∙◌, ◌++◌}
+use Rattle.norec_world.proofs.Common.{Answer, Answers, Asks, Core, IsTied, Starves, StatusIs, Step, Waits, after_undoing, in_transaction, Actor, Outcome, Stage, tally_of, stage_of}
 use Rattle.tx_attempts.specs.declared.attempt.Outcome.TheVariants as outcomes
-use Rattle.norec_world.proofs.Attempts.OthersAttempts.{others_twice}
+use Rattle.norec_world.proofs.Tries.Stages.{others_place, others_twice}
+use Rattle.norec_world.specs.Rows.{rows_in}
 use Rattle.norec_world.proofs.Engines.SoundSteps.{call_falls, call_taken, calling, rests}
 use Rattle.norec_world.proofs.Engines.TiedEngines.{idle_still}
 use Rattle.norec_world.proofs.Engines.Intakes.{due}
@@ -22,13 +28,20 @@ as_answer a e = ap (λ (n : Option Step). next_in n a) e
 is_open : {e : Core} → IsSettled e → e.irrevocable ≡ true → in_transaction e ≡ true
 is_open s h = (s.holder (s.irrevocable h).0).0
 
+-- the room that it had is no matter where an attempt is over
+over_room : (outcome : Outcome) (s : Stand) (room : ℕ) (stage : Stage) → over_as outcome s (with_room room stage) ≡ over_as outcome s stage
+over_room outcome s room outside = refl
+over_room outcome s room (begins row) = refl
+over_room outcome s room (within row) = refl
+
 pub settle-requires : goal.settle-requires
 settle-requires g c = record {
   answered = (
     in_transaction c.args.self.now.engine,
-    due (call_taken (calling c.requires.sound c.requires.ready (as_answer c.ask.new.answer c.in-Ok-None.field-0-is) c.in-Ok-None.ensures.asked c.in-Ok-None.ensures.told)),
+    due (call_taken (calling c.requires.sound c.requires.ready (as_answer c.ask.new.answer c.in-Ok-None.field-0-is) c.in-Ok-None.ensures.asked c.in-Ok-None.ensures.told c.ask.ensures.place)),
   );
-  acts = subst (MayRunOn c.ask.new.recorded c.ask.new.self c.in-Some.call) (as_answer c.ask.new.answer c.in-Ok-None.field-0-is) c.in-Ok-None.ensures.acts;
+  place = c.ask.ensures.place;
+  acts = subst (MayRunOn c.ask.new.self c.in-Some.call) (as_answer c.ask.new.answer c.in-Ok-None.field-0-is) c.in-Ok-None.ensures.acts;
 }
 
 pub returns-in_default-clause-worked : goal.returns-in_default-clause-worked
@@ -36,47 +49,68 @@ returns-in_default-clause-worked g c = finish_worked g.met.P.Player.laws c.requi
 
 pub returns-in-Ok-Some-clause-worked : goal.returns-in-Ok-Some-clause-worked
 returns-in-Ok-Some-clause-worked g c =
-    let m = calling c.requires.sound c.requires.ready (as_step c.ask.new.answer c.in-Ok-Some.field-0-is) c.in-Ok-Some.ensures.asked c.in-Ok-Some.ensures.told in
-    call_worked g.met.P.Player.laws m c.ask.new.recorded (record c.ask.new.self { status = Waits c.in-Some.call c.in-Ok-Some.step }) (refl, refl) (refl, refl) (sym c.next.ensures ∙ c.in-Some.is) (let o = c.ask.ensures.others in record { thread = o.thread; own = o.own; room = o.room }) (subst (MayRunOn c.ask.new.recorded c.ask.new.self c.in-Some.call) (as_step c.ask.new.answer c.in-Ok-Some.field-0-is) c.in-Ok-Some.ensures.acts)
+    let m = calling c.requires.sound c.requires.ready (as_step c.ask.new.answer c.in-Ok-Some.field-0-is) c.in-Ok-Some.ensures.asked c.in-Ok-Some.ensures.told c.ask.ensures.place in
+    call_worked g.met.P.Player.laws m (rows_in c.ask.new.ended) (record c.ask.new.self { status = Waits c.in-Some.call c.in-Ok-Some.step }) (refl, refl) (refl, refl) (sym c.next.ensures ∙ c.in-Some.is) (let o = c.ask.ensures.others in record { thread = o.thread; more = o.more; ended = o.ended; mine = o.mine; room = o.room }) (subst (MayRunOn c.ask.new.self c.in-Some.call) (as_step c.ask.new.answer c.in-Ok-Some.field-0-is) c.in-Ok-Some.ensures.acts)
 
 pub returns-in-Ok-None-clause-worked : goal.returns-in-Ok-None-clause-worked
 returns-in-Ok-None-clause-worked g c =
-    let m = calling c.requires.sound c.requires.ready (as_answer c.ask.new.answer c.in-Ok-None.field-0-is) c.in-Ok-None.ensures.asked c.in-Ok-None.ensures.told in
+    let m = calling c.requires.sound c.requires.ready (as_answer c.ask.new.answer c.in-Ok-None.field-0-is) c.in-Ok-None.ensures.asked c.in-Ok-None.ensures.told c.ask.ensures.place in
     let was = in_transaction c.args.self.now.engine in
     let d = due (call_taken m) in
-    call_worked g.met.P.Player.laws m c.settle.new.recorded c.settle.new.self ((c.settle.ensures.recorded was d).done) ((c.settle.ensures.recorded was d).tells) (sym c.next.ensures ∙ c.in-Some.is)
-    (others_twice c.args.self.now c.ask.new.self c.settle.new.self c.args.recorded.now c.ask.new.recorded c.settle.new.recorded c.ask.ensures.others ((c.settle.ensures.recorded was d).others)) c.settle.ensures.acts
+    call_worked g.met.P.Player.laws m (rows_in c.settle.new.ended) c.settle.new.self ((c.settle.ensures.recorded was d).done) ((c.settle.ensures.recorded was d).tells) (sym c.next.ensures ∙ c.in-Some.is)
+    (others_twice c.args.self.now c.ask.new.self c.settle.new.self (rows_in c.args.ended.now) (rows_in c.ask.new.ended) (rows_in c.settle.new.ended) c.ask.ensures.others ((c.settle.ensures.recorded was d).others)) c.settle.ensures.acts
 
 pub returns-in-Ok-None-clause-falls : goal.returns-in-Ok-None-clause-falls
 returns-in-Ok-None-clause-falls g c =
-    let m = calling c.requires.sound c.requires.ready (as_answer c.ask.new.answer c.in-Ok-None.field-0-is) c.in-Ok-None.ensures.asked c.in-Ok-None.ensures.told in
+    let m = calling c.requires.sound c.requires.ready (as_answer c.ask.new.answer c.in-Ok-None.field-0-is) c.in-Ok-None.ensures.asked c.in-Ok-None.ensures.told c.ask.ensures.place in
     call_falls m (c.settle.ensures.recorded (in_transaction c.args.self.now.engine) (due (call_taken m))).done
 
 pub returns-in-Err-clause-worked : goal.returns-in-Err-clause-worked
 returns-in-Err-clause-worked g c =
+    let a = c.args.self.now in
+    let x = c.ask.new.self in
+    let last = c.starve.new.self in
     let u = c.in-Err.ensures.unasked in
-    let roomy : c.ask.new.recorded ≡ record c.args.recorded.now { room = c.ask.new.recorded.room } = c.ask.ensures.rows in
+    let rows = rows_in c.ask.new.ended in
+    let r1 = rows_in c.starve.new.ended in
     let starved = c.starve.ensures in
-    let s : Starves g.P.Player c.args.recorded.now c.args.self.now c.starve.new.recorded c.starve.new.self = record {
+    let engine = ap (λ (y : Actor g.row.P.Denot). y.engine) u.actor in
+    let run = ap (λ (y : Actor g.row.P.Denot). y.run) u.actor in
+    let irrevocable = ap (λ (e : Core). e.irrevocable) engine in
+    let left : last.engine ≡ after_undoing a.engine = starved.engine ∙ ap after_undoing engine in
+    let others = others_twice a x last (rows_in c.args.ended.now) rows r1 c.ask.ensures.others starved.others in
+    let s : Starves g.P.Player (rows_in c.args.ended.now) a r1 last = record {
       call = c.in-Some.call;
       next_is = sym c.next.ensures ∙ c.in-Some.is;
       grows = c.in-Err.ensures.grows;
       short = c.in-Err.ensures.short;
-      used = λ h. used_up c.args.recorded.now c.args.self.now c.in-Some.call c.requires.sound.acts.backed (c.in-Err.ensures.short (is_open c.requires.sound.tied.settled h)) h;
+      used = λ h. used_up a c.in-Some.call (subst (IsBacked a) c.requires.ready c.requires.sound.acts.backed) (c.in-Err.ensures.short (is_open c.requires.sound.tied.settled h)) h;
       status = starved.status;
-      player = starved.player ∙ u.same.player;
-      same = record { thread = starved.thread ∙ u.same.thread; retries = starved.same.1 ∙ u.same.retries; nothing = λ e. absurd (let z = sym starved.status ∙ e in cc) };
-      counts = (starved.same.0 ∙ u.same.nth, starved.again ∙ u.again, starved.pending ∙ u.pending);
-      engine = starved.engine ∙ ap after_undoing u.engine;
-      room = c.ask.new.recorded.room;
-      stops = λ o revocable. (let o' : in_transaction c.ask.new.self.engine ≡ true = ap in_transaction u.engine ∙ o in
-          subst (λ (e : Core). StopsAt c.args.self.now.thread (record c.args.recorded.now { room = c.ask.new.recorded.room }) (e.snapshot / 2) outcomes.NoMemory c.starve.new.self.engine.actions.ran c.starve.new.recorded) u.engine
-          (subst (λ (x : Rows). StopsAt c.args.self.now.thread x (c.ask.new.self.engine.snapshot / 2) outcomes.NoMemory c.starve.new.self.engine.actions.ran c.starve.new.recorded) roomy
-          (subst (λ (n : ℕ). StopsAt n c.ask.new.recorded (c.ask.new.self.engine.snapshot / 2) outcomes.NoMemory c.starve.new.self.engine.actions.ran c.starve.new.recorded) u.same.thread (starved.row o' (ap (λ (e : Core). e.irrevocable) u.engine ∙ revocable)))));
-      stays = λ o. starved.none (ap in_transaction u.engine ∙ o) ∙ roomy;
-      held = λ i. (starved.held (ap (λ (e : Core). e.irrevocable) u.engine ∙ i)).0 ∙ roomy;
+      same = record { thread = starved.same.0 ∙ ap (λ (y : PlayerRun g.row.P.Denot). y.thread) run; retries = starved.same.1 ∙ ap (λ (y : PlayerRun g.row.P.Denot). y.retries) run; nothing = λ e. absurd (let z = sym starved.status ∙ e in cc) };
+      engine = left;
+      stops = λ revocable.
+          (let t = starved.stops (irrevocable ∙ revocable) in
+          record {
+            tally = t.tally ∙ (λ i. record (tally_of (run i)) { stage = outside });
+            ended = t.ended ∙ (λ i. c.ask.ensures.ended i ++ (ap (over_as outcomes.NoMemory (stand_of last.engine)) u.stage.1 ∙ over_room outcomes.NoMemory (stand_of last.engine) u.stage.0 (stage_of a.run.current)) i);
+            status = t.status;
+          });
+      held = λ i.
+          (let h = starved.held (irrevocable ∙ i) in
+          let same = ap (λ (y : Actor g.row.P.Denot). y.run) h.1 in
+          record {
+            ended = h.0 ∙ c.ask.ensures.ended;
+            run = same ∙ (run ∙ ap (λ (y : PlayerRun g.row.P.Denot). record a.run { current = y.current }) (sym same));
+            room = u.stage.0;
+            stage = ap (λ (y : PlayerRun g.row.P.Denot). stage_of y.current) same ∙ u.stage.1;
+          });
     } in
-    starve_worked g.met.P.Player.laws c.requires.sound c.requires.ready c.starve.new.recorded c.starve.new.self
-    (record { tied = starved.tied c.args.memory.now (subst (IsTied c.args.memory.now) (sym u.engine) c.requires.sound.tied); kept = starved.kept; acts = starved.acts; status = subst (StatusIs g.P.Player c.starve.new.recorded c.starve.new.self) (sym starved.status) (idle_still c.args.self.now.engine c.starve.new.self.engine s.engine (rests c.requires.sound c.requires.ready).idle) })
-    s (others_twice c.args.self.now c.ask.new.self c.starve.new.self c.args.recorded.now c.ask.new.recorded c.starve.new.recorded c.ask.ensures.others starved.others) (λ revocable. starved.closed (ap (λ (e : Core). e.irrevocable) u.engine ∙ revocable))
-    (starved.holds ∙ ap (λ (e : Core). e.holds) u.engine) (starved.limit.0 ∙ ap (λ (e : Core). e.max_commits) u.engine, starved.limit.1 ∙ ap (λ (e : Core). e.patience) u.engine, starved.limit.2 ∙ ap (λ (e : Core). e.depth) u.engine, starved.limit.3 ∙ ap (λ (e : Core). e.restarts) u.engine)
+    starve_worked g.met.P.Player.laws c.requires.sound c.requires.ready r1 last
+    (record {
+      tied = starved.tied c.args.memory.now (subst (IsTied c.args.memory.now) (sym engine) c.requires.sound.tied);
+      kept = starved.kept;
+      acts = starved.acts;
+      status = subst (StatusIs g.P.Player last) (sym starved.status) (idle_still a.engine last.engine left (rests c.requires.sound c.requires.ready).idle);
+      place = others_place others c.requires.sound.place;
+    })
+    s others

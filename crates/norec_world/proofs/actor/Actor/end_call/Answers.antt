@@ -1,3 +1,4 @@
+use Rattle.norec_world.specs.Rows.{rows_in}
 use Rattle.std.proofs.Common.{◌≡◌, sym, subst, ◌∙◌}
 use Rattle.norec_world.proofs.Common.{Answers, Call, Ready, Status, Waits}
 use Rattle.norec_world.specs.Sound.{WritesDown}
@@ -8,5 +9,5 @@ returns-in-Waits-clause-recorded g c call step is =
     let a = c.args.self.now in
     let both : Waits call step ≡ Waits c.in-Waits.call c.in-Waits.step = sym is ∙ sym c.in-Waits.ensures.value in
     let same : call ≡ c.in-Waits.call = cc in
-    subst (λ (x : Call). WritesDown g.P.Player c.args.recorded.now (record a { status = Ready }) x (Answers c.args.answer) c.settle.new.recorded c.settle.new.self) (sym same)
-    (subst (λ (s : Status). WritesDown g.P.Player c.args.recorded.now (record a { status = s }) c.in-Waits.call (Answers c.args.answer) c.settle.new.recorded c.settle.new.self) c.replace.ensures.after c.settle.ensures.recorded)
+    subst (λ (x : Call). WritesDown g.P.Player (rows_in c.args.ended.now) (record a { status = Ready }) x (Answers c.args.answer) (rows_in c.settle.new.ended) c.settle.new.self) (sym same)
+    (subst (λ (s : Status). WritesDown g.P.Player (rows_in c.args.ended.now) (record a { status = s }) c.in-Waits.call (Answers c.args.answer) (rows_in c.settle.new.ended) c.settle.new.self) c.replace.ensures.after c.settle.ensures.recorded)

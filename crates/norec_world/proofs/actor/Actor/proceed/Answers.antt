@@ -1,3 +1,4 @@
+use Rattle.norec_world.specs.Rows.{rows_in}
 use Rattle.std.proofs.Common.{◌≡◌, None, Option, ap, sym, subst}
 use Rattle.norec_engine.specs.NextSteps.{next_in}
 use Rattle.norec_world.proofs.Common.{Answer, Answers, Next, Ready, Step}
@@ -10,5 +11,5 @@ answers {answer = answer} none = ap (λ (n : Option Step). next_in n answer) non
 
 pub returns-in-None-clause-recorded : goal.returns-in-None-clause-recorded
 returns-in-None-clause-recorded g c call step is =
-    subst (λ (x : Next). WritesDown g.P.Player c.args.recorded.now (record c.args.self.now { status = Ready }) call x c.end_call.new.recorded c.end_call.new.self) (sym (answers c.in-None.is))
+    subst (λ (x : Next). WritesDown g.P.Player (rows_in c.args.ended.now) (record c.args.self.now { status = Ready }) call x (rows_in c.end_call.new.ended) c.end_call.new.self) (sym (answers c.in-None.is))
     (c.end_call.ensures.recorded call step is)

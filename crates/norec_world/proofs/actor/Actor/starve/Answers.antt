@@ -1,26 +1,37 @@
-use Rattle.std.proofs.Common.{◌≡◌, ◌++◌, ◌/◌, List, length, sym, ap, subst, ◌∙◌, arith, rules}
+use Rattle.std.proofs.Common.{◌≡◌, ◌∙◌, ◌++◌, ◌/◌, List, Vec, refl, sym, ap, subst, arith, true, ℕ, vec_capacity, false}
+use Rattle.std.specs.declared.alloc.Global.{Global}
 use Rattle.itm_types.specs.declared.call.Ran.{Ran}
-use Rattle.norec_world.proofs.Common.{IsTied, in_transaction}
 use Rattle.tx_attempts.specs.declared.attempt.Outcome.TheVariants.{NoMemory}
-use Rattle.norec_world.proofs.Rooms.LaterActions.{given_up_free, given_up_later, given_up_most}
-use Rattle.norec_world.proofs.Attempts.OthersAttempts.{others_starved}
+use Rattle.tx_runs.specs.declared.player_run.Current.{Current}
+use Rattle.tx_runs.specs.declared.player_run.Current.TheVariants.{Outside, Begins, Within}
+use Rattle.tx_runs.specs.PlayerRuns.{MayStop, stage_of}
+use Rattle.tx_runs.specs.Tallies.{Stand, over_as}
+use Rattle.norec_world.specs.ActionRoom.{IsRefused}
+use Rattle.norec_world.specs.Rows.{rows_in}
+use Rattle.norec_world.specs.Stages.{ends_in}
+use Rattle.norec_world.proofs.Common.{Actor, Attempt, Core, IsTied, after_undoing, in_transaction, open_in, count_in}
 use Rattle.norec_world.proofs.Engines.TiedEngines.{tied_undone}
+use Rattle.norec_world.proofs.Rooms.LaterActions.{given_up_free, given_up_later, given_up_most}
+use Rattle.norec_world.proofs.Tries.Stages.{others_same, others_stopped, room_less}
 use Rattle.norec_world.proofs.actor.Actor.starve.Goals.{in-Done, in_default}
 use Rattle.norec_world.proofs.actor.Actor.starve.Goals as goal
 
-pub stop-requires-clause-first : goal.stop-requires-clause-first
-stop-requires-clause-first g c row e =
-    let free = given_up_free c.args.self.now.engine.holds (in_transaction c.args.self.now.engine) (sym c.abort.ensures.undone ∙ c.in-Done.is) in
-    let later = given_up_later c.args.self.now.engine c.abort.new.self free c.abort.ensures.after in
-    (later.0, ap (λ (ran : List Ran). ran ++ later.0) (c.requires.acts.all row e) ∙ (sym later.1 ∙ sym c.due.ensures))
+may_stop : {P : Type 0} (a : Actor P) (new : Core) (at : ℕ) (c : Current) → a.run.current ≡ c → IsRefused a → a.engine.holds ≡ false → new ≡ after_undoing a.engine → MayStop at new.actions.ran c
+may_stop a new at Outside is refused free after = tt
+may_stop a new at (Begins o) is refused free after = tt
+may_stop a new at (Within o) is refused free after =
+    let here = ap (λ (c : Current). open_in (stage_of c)) is in
+    let later = given_up_later a.engine new free after in
+    let place = refused.places o.row here in
+    let same = ap ends_in is in
+    let most = given_up_most a.engine new free after in
+    ((later.0, ap (λ (ran : List Ran). ran ++ later.0) (refused.all o.row here) ∙ sym later.1), omega arith)
 
 pub stop-requires-clause-room : goal.stop-requires-clause-room
-stop-requires-clause-room g c row e =
-    let free = given_up_free c.args.self.now.engine.holds (in_transaction c.args.self.now.engine) (sym c.abort.ensures.undone ∙ c.in-Done.is) in
-    let place = c.requires.acts.places row e in
-    let most = given_up_most c.args.self.now.engine c.abort.new.self free c.abort.ensures.after in
-    let due = ap (length {A = Ran}) c.due.ensures in
-    omega arith
+stop-requires-clause-room g c =
+    let a = c.args.self.now in
+    let free = given_up_free a.engine.holds (in_transaction a.engine) (sym c.abort.ensures.undone ∙ c.in-Done.is) in
+    subst (λ (ran : List Ran). MayStop (c.snapshot-at.result / 2) ran a.run.current) (sym c.due.ensures) (may_stop a c.abort.new.self (c.snapshot-at.result / 2) a.run.current refl c.requires.refused free c.abort.ensures.after)
 
 pub returns-clause-tied : goal.returns-clause-tied
 returns-clause-tied g c cells t =
@@ -29,6 +40,13 @@ returns-clause-tied g c cells t =
 
 pub returns-clause-others : goal.returns-clause-others
 returns-clause-others g c =
-    let thread : c.match-abort.self.thread ≡ c.args.self.now.thread = elim c.match-abort.branch [ in-Done w ↦ ap (λ (x : _). x.thread) w.self-is | in_default w ↦ ap (λ (x : _). x.thread) w.self-is ] in
-    let pending : c.match-abort.self.pending ≡ c.args.self.now.pending = elim c.match-abort.branch [ in-Done w ↦ ap (λ (x : _). x.pending) w.self-is | in_default w ↦ ap (λ (x : _). x.pending) w.self-is ] in
-    others_starved c.args.self.now _ c.args.recorded.now _ (in_transaction c.args.self.now.engine) c.args.self.now.engine.irrevocable (c.args.self.now.engine.snapshot / 2) NoMemory c.abort.new.self.actions.ran c.requires.kept.row thread pending (search rules) (search rules) (search rules)
+    let a = c.args.self.now in
+    elim c.match-abort.branch [
+      | in-Done w ↦ (let stand : Stand = record { is_open = true; at = w.snapshot-at.result / 2; ran = w.due.result.now } in
+          let over = ap (λ (v : Vec Attempt Global). v.items) w.ended-is ∙ w.stop.ensures.over true in
+          others_stopped a _ (rows_in c.args.ended.now) (rows_in c.match-abort.ended) NoMemory stand c.requires.kept (ap (λ (x : Actor g.row.P.Denot). x.run) w.self-is ∙ w.stop.ensures.run) over
+          (room_less c.args.ended.now c.match-abort.ended (over_as NoMemory stand (stage_of a.run.current)) over (ap vec_capacity w.ended-is ∙ w.stop.ensures.capacity)))
+      | in_default w ↦ (let run = ap (λ (x : Actor g.row.P.Denot). x.run) w.self-is in
+          others_same a _ (rows_in c.args.ended.now) (rows_in c.match-abort.ended) (ap (λ (x : _). x.thread) run) (let n = ap (λ (x : _). count_in (stage_of x.current)) run in omega arith)
+          (ap (λ (v : Vec Attempt Global). v.items) w.ended-is) (let n = ap (λ (v : Vec Attempt Global). (rows_in v).room) w.ended-is in omega arith))
+    ]

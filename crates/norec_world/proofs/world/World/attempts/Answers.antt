@@ -1,13 +1,12 @@
+use Rattle.norec_world.specs.Stages.{opens}
 use Rattle.std.proofs.Common.{subst}
 use Rattle.norec_world.proofs.Common.{AreOpaque, AreOpen, AreTied, World, observed, world_of}
 use Rattle.norec_world.proofs.Runs.Others.{world_opaque, world_tied}
-use Rattle.norec_world.proofs.Events.SoundOthers.{are_open}
+use Rattle.norec_world.proofs.Tries.ThreadAttempts.{are_open}
 use Rattle.norec_world.proofs.world.World.attempts.Goals as goal
 
 pub returns-clause-unfinished : goal.returns-clause-unfinished
-returns-clause-unfinished g c =
-    subst (λ (w : World g.row.P.Denot). AreOpen w.attempts.active) c.self.view_is
-    (are_open g.P.Player c.self.inside.memory c.self.inside.recorded c.self.inside.actors.items c.self.invariant.actors c.all.ensures.by_actor)
+returns-clause-unfinished g c = subst (λ (w : World g.row.P.Denot). AreOpen (opens w.actors)) c.self.view_is (are_open c.self.invariant.actors)
 
 pub returns-clause-opaque : goal.returns-clause-opaque
 returns-clause-opaque g c =

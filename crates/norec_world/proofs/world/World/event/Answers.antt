@@ -1,5 +1,6 @@
-use Rattle.std.proofs.Common.{◌≡◌, ℕ, ap, ◌∙◌, sym, subst, IsSome, slice_get, slice_set}
-use Rattle.norec_world.proofs.Common.{same_Some, Actor, Goes, HasLess, World, active_of, ending_at, slice_get-set_same, event_result, waits_at, world_of, slice_get_within}
+use Rattle.norec_world.specs.Rows.{rows_in}
+use Rattle.std.proofs.Common.{◌≡◌, ap, ◌∙◌, sym, subst, IsSome, slice_get, slice_set}
+use Rattle.norec_world.proofs.Common.{same_Some, Actor, Goes, HasLess, World, ending_at, slice_get-set_same, event_result, waits_at, world_of, slice_get_within}
 use Rattle.norec_world.proofs.Events.Worlds.{going_here}
 use Rattle.norec_world.proofs.Events.Measures.{event_less}
 use Rattle.norec_world.proofs.Runs.Others.{world_tied}
@@ -14,13 +15,12 @@ step-requires-clause-sound g c =
 
 -- its open attempt stands where its engine reads
 pub step-requires-clause-reads : goal.step-requires-clause-reads
-step-requires-clause-reads g c inside row e =
+step-requires-clause-reads g c row e =
     let old : World g.row.P.Denot = world_of c.self.inside in
     let W : World g.row.P.Denot → Type 0 = λ w. IsSome (waits_at w c.args.actor) in
     let got = c.index_mut-a.result.now in
     let here = going_here old c.args.actor got (subst W (sym c.self.view_is) c.requires) c.index_mut-a.ensures.value in
-    let own = (c.self.invariant.actors.each c.args.actor got here.0).thread in
-    (world_tied g.P.Player g.met.P.Player.laws old c.self.invariant).reads c.args.actor got row here.0 (ap (λ (t : ℕ). active_of t old.attempts.active) (sym own) ∙ e)
+    (world_tied g.P.Player g.met.P.Player.laws old c.self.invariant).reads c.args.actor got row here.0 e
 
 pub step-requires-clause-waits : goal.step-requires-clause-waits
 step-requires-clause-waits g c =
@@ -40,7 +40,7 @@ returns-clause-goes g c =
     let waits = subst W (sym c.self.view_is) c.requires in
     let old : World g.row.P.Denot = world_of c.self.inside in
     let here = going_here old c.args.actor c.index_mut-a.result.now waits c.index_mut-a.ensures.value in
-    let new : World g.row.P.Denot = record old { cells = c.step.new.memory; actors = slice_set old.actors c.args.actor c.work.new.self; attempts = c.work.new.recorded; events = c.saturating_add-self-inside.result } in
+    let new : World g.row.P.Denot = record old { cells = c.step.new.memory; actors = slice_set old.actors c.args.actor c.work.new.self; attempts = rows_in c.work.new.ended; events = c.saturating_add-self-inside.result } in
     subst (λ (w : World g.row.P.Denot). Goes g.P.Player c.args.actor w (event_result (ending_at new c.args.actor)) new) c.self.view_is
     (goes_after g.met.P.Player.laws old c.self.invariant c.args.actor c.index_mut-a.result.now here.0 c.step.ensures c.work.ensures.worked c.work.ensures.done waits c.saturating_add-self-inside.result c.saturating_add-self-inside.ensures)
 

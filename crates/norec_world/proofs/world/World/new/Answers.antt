@@ -1,32 +1,33 @@
-use Rattle.std.proofs.Common.{rules, ◌≡◌, ◌/◌, ℕ, length, replicate, List, slice_get, sym, ap, subst, ◌∙◌}
-use Rattle.norec_world.proofs.Common.{AreFrom, AreOfActors, HasStarted, IsBetween, RunsFrom, World, bytes_of, first_of, opening, words_of}
+use Rattle.norec_world.proofs.Tries.ThreadAttempts.{opens_none}
+use Rattle.norec_world.specs.Rows.{rows_in}
+use Rattle.std.proofs.Common.{rules, ◌≡◌, ◌/◌, ℕ, length, replicate, List, slice_get, sym, ap, subst, ◌∙◌, ◌++◌}
+use Rattle.norec_world.proofs.Common.{AreOfActors, HasStarted, IsBetween, RunsFrom, World, bytes_of, first_of, opening, words_of}
 use Rattle.itm_types.proofs.WordLists.{words_of-bytes_of}
 use Rattle.norec_world.proofs.Runs.Others.{laid_first, world_opaque, world_tied}
 use Rattle.norec_world.proofs.Commits.CommitCounts.{commits_first}
-use Rattle.norec_world.proofs.Attempts.Dates.{dated_first}
+use Rattle.norec_world.proofs.Tries.Dates.{dated_first}
 use Rattle.norec_world.proofs.world.World.new.Goals as goal
 
 pub invariant_of-result : goal.invariant_of-result
-invariant_of-result g c = let w : World g.row.P.Denot = record { opening = c.in_ok-opening.opening.items; base = c.new-base.result; arena = c.args.setup.arena; patience = c.args.setup.limits.patience; max_commits = c.args.setup.limits.max_commits; retries = c.args.setup.limits.retries; depth = c.args.setup.limits.depth; cells = c.new-memory.result; actors = c.in_ok-actors.actors.items; attempts = c.start_all.new.recorded; events = 0 } in
+invariant_of-result g c = let w : World g.row.P.Denot = record { opening = c.in_ok-opening.opening.items; base = c.new-base.result; arena = c.args.setup.arena; patience = c.args.setup.limits.patience; max_commits = c.args.setup.limits.max_commits; retries = c.args.setup.limits.retries; depth = c.args.setup.limits.depth; cells = c.new-memory.result; actors = c.in_ok-actors.actors.items; attempts = (rows_in c.start_all.new.ended); events = 0 } in
     let based : c.new-base.result ≡ bytes_of c.new-memory.result.words = (c.new-base.ensures ∙ (c.in_ok-to_vec.ensures.items_if_clones_equal (λ x y e. e) ∙ c.as_slice.ensures)) ∙ (sym c.into_vec.ensures ∙ sym c.new-memory.ensures.bytes) in
-    let commits = commits_first g.P.Player w c.in_ok-actors.ensures.sound c.new-memory.ensures.clock c.in_ok-actors.ensures.none.0 c.in_ok-actors.ensures.first in record {
+    let commits = commits_first g.P.Player w c.in_ok-actors.ensures.sound c.new-memory.ensures.clock c.in_ok-actors.ensures.none c.in_ok-actors.ensures.first in record {
       actors = search rules;
       long = search rules;
       commits = commits;
       running = record {
-        laid = laid_first c.args.setup.limits.depth c.new-base.result c.new-memory.result c.start_all.new.recorded based c.new-memory.ensures.fit c.new-memory.ensures.clock c.in_ok-actors.ensures.none.0;
-        ordered = subst (AreFrom 0) (sym c.in_ok-actors.ensures.none.1) tt;
-        threads = subst (AreOfActors (length c.in_ok-actors.actors.items)) (sym c.in_ok-actors.ensures.none.0) tt;
+        laid = laid_first c.args.setup.limits.depth c.new-base.result c.new-memory.result (rows_in c.start_all.new.ended) based c.new-memory.ensures.fit c.new-memory.ensures.clock c.in_ok-actors.ensures.none;
+        threads = subst (AreOfActors (length c.in_ok-actors.actors.items)) (sym c.in_ok-actors.ensures.none) tt;
         each = λ place p a e f.
             (let players : c.in_ok-opening.opening.items ≡ c.args.players.items = search rules in
-            subst (λ (base : List ℕ). RunsFrom g.P.Player (first_of p c.args.setup.arena) c.args.setup.limits.depth base c.new-memory.result c.start_all.new.recorded a) (sym based)
+            subst (λ (base : List ℕ). RunsFrom g.P.Player (first_of p c.args.setup.arena) c.args.setup.limits.depth base c.new-memory.result (rows_in c.start_all.new.ended) a) (sym based)
             (c.in_ok-actors.ensures.runs place p a (ap (λ (xs : List g.row.P.Denot). slice_get xs place) (sym players) ∙ e) f));
       };
-      dated = dated_first w c.new-memory.ensures.clock c.in_ok-actors.ensures.none.0 (λ place a e. (c.in_ok-actors.ensures.first place a e).between);
+      dated = dated_first w c.new-memory.ensures.clock c.in_ok-actors.ensures.none (λ place a e. (c.in_ok-actors.ensures.first place a e).between);
     }
 
 pub returns-clause-first : goal.returns-clause-first
-returns-clause-first g c place a e = subst (λ (n : ℕ). IsBetween n 1 c.start_all.new.recorded a) c.new-memory.ensures.clock (c.in_ok-actors.ensures.first place a e).between
+returns-clause-first g c place a e = subst (λ (n : ℕ). IsBetween n 1 a) c.new-memory.ensures.clock (c.in_ok-actors.ensures.first place a e).between
 
 pub returns-clause-commits : goal.returns-clause-commits
 returns-clause-commits g c = (invariant_of-result g c).commits
@@ -52,7 +53,7 @@ returns-clause-anew g c =
           is);
       clock = c.new-memory.ensures.clock;
       words = sym (ap words_of based ∙ words_of-bytes_of c.new-memory.result.words c.new-memory.ensures.fit);
-      none = search rules;
+      none = (λ i. c.in_ok-actors.ensures.none i ++ opens_none c.in_ok-actors.actors.items c.in_ok-actors.ensures.none_open i);
       events = search rules;
       actors = search rules;
       fed = search rules;

@@ -1,38 +1,41 @@
-use Rattle.std.proofs.Common.{◌≡◌, ℕ, false, refl, Option, sym, subst, ◌∙◌}
-use Rattle.itm_types.specs.declared.call.Call.{Call}
-use Rattle.itm_types.specs.declared.call.Call.TheVariants.{Begin}
-use Rattle.itm_types.specs.declared.call.Props.{Props}
-use Rattle.itm_types.specs.Calls.{is_begin}
-use Rattle.tx_worker.specs.declared.current.OpenAttempt.{OpenAttempt}
-use Rattle.tx_worker.specs.Workers.{IsWorking}
+use Rattle.std.proofs.Common.{false, sym, subst}
+use Rattle.tx_runs.specs.declared.ending.End.{End}
+use Rattle.tx_worker.specs.Workers.{IsStopped}
+use Rattle.tx_worker.proofs.Laws.Asks.{answered, hungry, hungry_still}
 use Rattle.tx_worker.proofs.worker.Worker.make.Goals as goal
 
-not_begin : (call : Call) → ((props : Props) (room : ℕ) → call ≡ Begin props room → ⊥) → is_begin call ≡ false
-not_begin (Begin props room) h = absurd (h props room refl)
-not_begin call h = refl
+pub starve-requires : goal.starve-requires
+starve-requires g c =
+    let k = c.requires.works in
+    (c.args.words.now, k.0, k.1, c.args.self.now, c.args.call, hungry k.2 c.requires.asks c.prepare.ensures.same c.in_default.ensures.unready)
 
-pub call_inside-requires-clause-works : goal.call_inside-requires-clause-works
-call_inside-requires-clause-works g c = (
-  c.requires.works.0,
-  c.requires.works.1,
-  subst (λ (x : Option OpenAttempt). IsWorking g.P.Player c.args.words.now c.requires.works.0 c.requires.works.1 (record c.args.self.now { current = x })) (sym c.take.ensures.value ∙ c.in-Some.is) c.requires.works.2,
-)
+pub returns-in_default : goal.returns-in_default
+returns-in_default g c shuts course b k =
+    subst (λ (end : End). IsStopped g.P.Player c.args.words.now course b shuts end c.args.self.now c.starve.new.self) (sym c.starve.ensures.end)
+    (c.starve.ensures.stopped c.args.words.now course b c.args.self.now c.args.call shuts (hungry k c.requires.asks c.prepare.ensures.same c.in_default.ensures.unready))
 
-pub begin-requires-clause-works : goal.begin-requires-clause-works
-begin-requires-clause-works g c = (
-  c.requires.works.0,
-  c.requires.works.1,
-  subst (λ (x : Option OpenAttempt). IsWorking g.P.Player c.args.words.now c.requires.works.0 c.requires.works.1 (record c.args.self.now { current = x })) (sym c.take.ensures.value ∙ (c.in-None.is ∙ sym c.take.ensures.after)) c.requires.works.2,
-)
-
-pub call_outside-requires : goal.call_outside-requires
-call_outside-requires g c = record {
-  works = (
-    c.requires.works.0,
-    c.requires.works.1,
-    subst (λ (x : Option OpenAttempt). IsWorking g.P.Player c.args.words.now c.requires.works.0 c.requires.works.1 (record c.args.self.now { current = x })) (sym c.take.ensures.value ∙ (c.in-None.is ∙ sym c.take.ensures.after)) c.requires.works.2,
-  );
-  asks = c.requires.asks;
-  none = c.take.ensures.after;
-  begins = not_begin c.args.call c.in_default.not-Begin;
+pub take_in-requires : goal.take_in-requires
+take_in-requires g c = record {
+  asked =
+      (let k = c.requires.works in
+      let p = c.in-Ok.ensures.ready c.args.words.now in
+      (c.args.words.now, k.0, k.1, c.args.self.now, answered k.2 c.requires.asks c.prepare.ensures.same p c.ask.new.self c.in-Ok-ask.answer c.ask.ensures.same c.in-Ok-ask.ensures.served));
 }
+
+pub starve-requires-in-Err : goal.starve-requires-in-Err
+starve-requires-in-Err g c =
+    let k = c.requires.works in
+    let p = c.in-Ok.ensures.ready c.args.words.now in
+    (c.args.words.now, k.0, k.1, c.args.self.now, c.args.call, hungry_still k.2 c.requires.asks c.prepare.ensures.same p c.ask.new.self false c.ask.ensures.same c.in-Err.ensures.served)
+
+pub returns-in-Ok-ask : goal.returns-in-Ok-ask
+returns-in-Ok-ask g c shuts =
+    let k = c.requires.works in
+    let p = c.in-Ok.ensures.ready c.args.words.now in
+    c.take_in.ensures c.args.words.now k.0 k.1 c.args.self.now shuts (answered k.2 c.requires.asks c.prepare.ensures.same p c.ask.new.self c.in-Ok-ask.answer c.ask.ensures.same c.in-Ok-ask.ensures.served)
+
+pub returns-in-Err : goal.returns-in-Err
+returns-in-Err g c shuts course b k =
+    let p = c.in-Ok.ensures.ready c.args.words.now in
+    subst (λ (end : End). IsStopped g.P.Player c.args.words.now course b shuts end c.args.self.now c.starve-in-Err.new.self) (sym c.starve-in-Err.ensures.end)
+    (c.starve-in-Err.ensures.stopped c.args.words.now course b c.args.self.now c.args.call shuts (hungry_still k c.requires.asks c.prepare.ensures.same p c.ask.new.self false c.ask.ensures.same c.in-Err.ensures.served))

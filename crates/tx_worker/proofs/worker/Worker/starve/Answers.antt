@@ -1,30 +1,36 @@
-use Rattle.std.proofs.Common.{length, refl, sym, ap, ◌∙◌, arith}
-use Rattle.tx_worker.proofs.Workers.RefusedMemory.{held_on, starve_revocable, starve_room, starve_runs, starved}
-use Rattle.tx_worker.proofs.Workers.BetweenCalls.{row_ran}
+use Rattle.std.proofs.Common.{◌≡◌, ◌/◌, ◌++◌, List, refl, sym, subst, ◌∙◌}
+use Rattle.itm_types.specs.declared.call.Ran.{Ran}
+use Rattle.tx_attempts.specs.declared.attempt.Outcome.TheVariants as outcomes
+use Rattle.tx_runs.specs.PlayerRuns.{MayStop, stage_of}
+use Rattle.tx_runs.specs.Tallies.{Stand, over_as}
+use Rattle.norec_core.specs.declared.answer.Undone.TheVariants.{Held}
+use Rattle.norec_core.specs.Undoing.{undone_of}
+use Rattle.tx_worker.specs.Accounts.{stand_of}
+use Rattle.tx_worker.proofs.Laws.Starves.{holds_on, may_stop, may_tell, starves}
 use Rattle.tx_worker.proofs.worker.Worker.starve.Goals as goal
 
-pub run-requires-clause-first : goal.run-requires-clause-first
-run-requires-clause-first g c =
-    let f = starve_runs g.met.P.Player.laws c.args.self.now c.args.attempt c.requires.works.3 c.abort.new.self c.abort.ensures.engine c.abort.ensures.pass (sym c.abort.ensures.undone ∙ c.in-Done.is) in
-    (f.0, f.1 ∙ sym c.due.ensures)
+pub stop-requires : goal.stop-requires
+stop-requires g c =
+    let k = c.requires.5 in
+    let a = c.abort.ensures in
+    let given_up : undone_of c.args.self.now.thread.engine ≡ Held → ⊥ = λ e. c.in_default.not-Held (a.undone ∙ e) in
+    record {
+      room = subst (λ (ran : List Ran). MayStop (c.snapshot-at.result / 2) ran c.args.self.now.run.current) (sym c.due.ensures) (may_stop k c.abort.new.self a.engine a.pass given_up);
+      place = may_tell k c.abort.new.self a.engine a.pass given_up;
+    }
 
-pub run-requires-clause-room : goal.run-requires-clause-room
-run-requires-clause-room g c =
-    let l = starve_room g.met.P.Player.laws c.args.self.now c.args.attempt c.requires.works.3 c.abort.new.self c.abort.ensures.engine c.abort.ensures.pass (sym c.abort.ensures.undone ∙ c.in-Done.is) in
-    omega (arith, ap length c.due.ensures)
-
-pub returns-in-Done-clause-stopped : goal.returns-in-Done-clause-stopped
-returns-in-Done-clause-stopped g c words course b shuts k =
-    let w = c.args.self.now in
-    let thread = c.abort.new.self in
-    let x = c.run.ensures in
-    let told = c.stop.ensures in
-    let ran = x.all ∙ c.due.ensures in
-    starved g.met.P.Player.laws c.args.self.now c.args.attempt k thread c.abort.ensures.engine c.abort.ensures.pass (sym c.abort.ensures.undone ∙ c.in-Done.is) c.requires.none c.abort.ensures.stands (c.abort.ensures.closed (starve_revocable g.met.P.Player.laws c.args.self.now c.args.attempt k c.abort.new.self c.abort.ensures.engine c.abort.ensures.pass (sym c.abort.ensures.undone ∙ c.in-Done.is))) c.run.new.self ran
-    (row_ran w.number w.nth c.args.attempt c.run.new.self thread.engine.actions.ran x.same.0 x.same.1 x.same.2 x.same.3 ran) c.stop.new.self told.same told.known told.ended shuts
+pub returns-in-Held-clause-stopped : goal.returns-in-Held-clause-stopped
+returns-in-Held-clause-stopped g c words course b old call shuts k =
+    let a = c.abort.ensures in
+    holds_on k c.abort.new.self a.engine a.pass (sym a.undone ∙ c.in-Held.is) shuts a.stands
 
 pub returns-in_default : goal.returns-in_default
 returns-in_default g c = record {
   end = refl;
-  stopped = λ words course b shuts k. held_on g.met.P.Player.laws c.args.self.now c.args.attempt k c.abort.new.self c.abort.ensures.engine c.abort.ensures.pass (λ e. c.in_default.not-Done (c.abort.ensures.undone ∙ e)) shuts;
+  stopped = λ words course b old call shuts k.
+      (let a = c.abort.ensures in
+      let told : Stand = record { is_open = (stand_of c.abort.new.self.engine).is_open; at = c.snapshot-at.result / 2; ran = c.due.result.now } in
+      let same : told ≡ stand_of c.abort.new.self.engine = λ i. record { is_open = (stand_of c.abort.new.self.engine).is_open; at = c.snapshot-at.ensures.value i / 2; ran = c.due.ensures i } in
+      starves k c.abort.new.self a.engine a.pass (λ e. c.in_default.not-Held (a.undone ∙ e)) shuts a.stands (record c.args.self.now { run = c.stop.new.self; thread = c.abort.new.self; ended = c.stop.new.ended }) refl c.stop.ensures.run
+      (subst (λ (s : Stand). c.stop.new.ended.items ≡ c.args.self.now.ended.items ++ over_as outcomes.NoMemory s (stage_of c.args.self.now.run.current)) same (c.stop.ensures.over told.is_open)));
 }

@@ -1,0 +1,266 @@
+-- A call goes to the engine of an actor, or memory is refused to it.
+use Rattle.std.proofs.Common.{◌≡◌, ℕ, ◌+◌, ◌/◌, ◌≤◌, max, ◌&&◌, not, Bool, true, false, true≢false, [], append-nil, Result, Ok, Err, IfOk, OnErr, Option, None, Some, is_some, unwrap_or, refl, sym, ap, subst, ◌∙◌, arith, if◌then◌else◌}
+use Rattle.user_actions.specs.Actions.{total}
+use Rattle.norec_core.specs.Core.{came, irrevocable_room}
+use Rattle.norec_core.specs.Moves.{IsCalled}
+use Rattle.norec_engine.specs.NextSteps.{next_in, ComesInto}
+use Rattle.tx_attempts.specs.Kept.{Kept, reserved}
+use Rattle.tx_runs.specs.declared.player_run.Current.{Current}
+use Rattle.tx_runs.specs.declared.player_run.Current.TheVariants.{Outside, Begins, Within}
+use Rattle.tx_runs.specs.OpenAttempts.{HasPlacesFor, Open}
+use Rattle.itm_types.specs.declared.call.Call.TheVariants.{Mode}
+use Rattle.itm_types.specs.declared.limits.TheConstants.{MAX_ACTORS}
+use Rattle.nest_frames.specs.Nest.{stays_revocable}
+use Rattle.tx_runs.specs.Tallies.{begins, outside, within}
+use Rattle.norec_world.proofs.Engines.NoRestarts.{not_at_once}
+use Rattle.norec_world.specs.ActionRoom.{HasPlace, IsBacked, IsRefused, MayRunOn, promised}
+use Rattle.norec_world.specs.Records.{Asks as AsksOf, asked_stage, begun_by}
+use Rattle.norec_world.specs.Sound.{IsAsked, IsUnasked}
+use Rattle.norec_world.specs.Stages.{cancels_in, ends_in, with_room}
+use Rattle.norec_world.proofs.Common.{Actor, Answer, Attempt, Begin, Call, Cells, Core, HasRow, IsKept, IsSound, KeepsOthers, Props, Ready, Rows, Rules, Step, active_of, begins_again, begun, count_in, in_transaction, is_begin, Next, none-some, open_in, same_Some, stage_of}
+use Rattle.norec_world.proofs.Engines.SoundSteps.{rests}
+use Rattle.norec_world.proofs.Rooms.ActionRoom.{called_acting, gave_acting, places_for}
+use Rattle.norec_world.proofs.Rooms.CallRoom.{backed_came, promised_came, reserved_least, reserved_most, wanted_came}
+use Rattle.norec_world.proofs.Rooms.HeldRoom.{came_room, goes_no_more}
+use Rattle.norec_world.proofs.Tries.Stages.{others_same, row_is_of, row_open, row_same, row_shut, row_unfinished, stage_out}
+
+pub not_within : (c : Current) → ((o : Open) → c ≡ Within o → ⊥) → open_in (stage_of c) ≡ None
+not_within Outside not = refl
+not_within (Begins o) not = refl
+not_within (Within o) not = absurd (not o refl)
+
+pub no_begin : (call : Call) → ((props : Props) (room : ℕ) → call ≡ Begin props room → ⊥) → is_begin call ≡ false
+no_begin (Begin props room) not = absurd (not props room refl)
+no_begin call not = refl
+
+-- what held of an engine holds where the call did not come to it
+pub on_err_still : {E : Type 0} (old new : Core) (call : Call) (again : Bool) (answer : Answer) (Q : Core → Type 0) (result : Result (Option Step) E) → ComesInto old call again result answer new → Q old → OnErr result (Q new)
+on_err_still old new call again answer Q (Ok step) comes q = tt
+on_err_still old new call again answer Q (Err e) comes q = subst Q (sym comes.err) q
+
+pub on_err : {A E T : Type 0} (result : Result A E) → T → OnErr result T
+on_err (Ok what) t = tt
+on_err (Err x) t = t
+
+outside_current : (c : Current) → stage_of c ≡ outside → c ≡ Outside
+outside_current Outside e = refl
+outside_current (Begins o) e = absurd (cc)
+outside_current (Within o) e = absurd (cc)
+
+-- a call that begins nothing
+begins_none : {P : Type 0} (clock : ℕ) (a : Actor P) (call : Call) → is_begin call ≡ false → begun_by clock a call ≡ outside
+begins_none clock a (Begin props room) other = absurd (cc)
+begins_none clock a call other = refl
+
+again_none : (was again : Bool) (call : Call) → is_begin call ≡ false → begins_again was again call ≡ false
+again_none true again call other = refl
+again_none false again (Begin props room) other = absurd (cc)
+again_none false again call other = refl
+
+wants_none : (e : Core) (call : Call) → is_begin call ≡ false → in_transaction e ≡ false → unwrap_or (irrevocable_room e call) 0 ≡ 0
+wants_none e (Begin props room) other shut = absurd (cc)
+wants_none e (Mode room) other shut = ap (λ (b : Bool). unwrap_or (if b && not (stays_revocable e.blocks) && not e.irrevocable then Some room else None) 0) shut
+wants_none e call other shut = refl
+
+-- ## Within an attempt
+
+module _ {P : Type 0} {rules : Rules P} {cells : Cells} {r : Rows} {a : Actor P} (sound : IsSound rules cells r a) (ready : a.status ≡ Ready) (o o' : Open) (is : a.run.current ≡ Within o) (ends : o.ends ≤ o'.ends) (cancels : o.cancels ≤ o'.cancels) where
+  abbrev New : Core → Actor P
+  New e = record a { run = record a.run { current = Within o' }; engine = e }
+
+  here : active_of a ≡ Some o.row
+  here = ap (λ (c : Current). open_in (stage_of c)) is
+
+  inside : in_transaction a.engine ≡ true
+  inside = row_open (in_transaction a.engine) a o.row sound.kept.row here
+
+  -- what it promises
+  pub kept_room : o.row.calls.room ≤ max (promised a.engine) 1
+  kept_room = (let few = subst (IsBacked a) ready sound.acts.backed o.row here in omega arith)
+
+  pub asked_room : (call : Call) → a.engine.irrevocable ≡ true → (reserved o.row.calls (unwrap_or (irrevocable_room a.engine call) 0 + 1)).room ≤ max (promised a.engine) 1
+  asked_room call h =
+      let few = subst (IsBacked a) ready sound.acts.backed o.row here in
+      let most = reserved_most o.row.calls (unwrap_or (irrevocable_room a.engine call) 0) (promised a.engine) few in
+      let none = ap (λ (x : Option ℕ). unwrap_or x 0) (goes_no_more a.engine call h) in
+      omega arith
+
+  same_ends : o.ends ≡ ends_in a.run.current
+  same_ends = ap ends_in (sym is)
+
+  same_cancels : o.cancels ≡ cancels_in a.run.current
+  same_cancels = ap cancels_in (sym is)
+
+  -- its attempt has other places for its calls
+  module _ (k : Kept) (list : k.list ≡ o.row.calls.list) (row : o'.row ≡ record o.row { calls = k }) where
+    pub unasked_within : IsUnasked rules a (New a.engine)
+    unasked_within = record {
+      actor = refl;
+      stage = (k.room, ap within (row ∙ (λ i. record o.row { calls = record { list = list i; room = k.room } })) ∙ ap (with_room k.room) (ap stage_of (sym is)));
+    }
+
+    has_row : (e : Core) → HasRow true (New e)
+    has_row e = (o'.row, refl, ap (λ (x : Attempt). x.outcome) row ∙ row_unfinished _ a o.row sound.kept.row here, ap (λ (x : Attempt). x.thread) row ∙ row_is_of _ a o.row sound.kept.row here)
+
+    pub kept_within : (e : Core) → IsKept (in_transaction a.engine) (New e)
+    kept_within e = record { row = subst (λ (b : Bool). HasRow b (New e)) (sym inside) (has_row e); tried = sound.kept.tried; tries = sound.kept.tries; retries = sound.kept.retries }
+
+    all_within : (x : Attempt) → Some o'.row ≡ Some x → x.ran ≡ a.engine.actions.ran
+    all_within x e = ap (λ (y : Attempt). y.ran) (sym (same_Some _ _ e) ∙ row) ∙ sound.acts.all o.row here
+
+    pub refused_within : (a.engine.irrevocable ≡ true → k.room ≤ max (promised a.engine) 1) → IsRefused (New a.engine)
+    refused_within few = record {
+      all = all_within;
+      places = λ x e. (let p = sound.acts.places o.row here in let s = same_ends in omega arith);
+      nothing = refl;
+      room = λ held some. (let both = sound.acts.room held some in let s = same_ends in let t = same_cancels in ((let x = both.0 in omega arith), (let x = both.1 in omega arith)));
+      backed = λ x e h. (let f = few h in let n = ap (λ (y : Attempt). y.calls.room) (sym (same_Some _ _ e) ∙ row) in omega arith);
+    }
+
+  pub others_within : (e : Core) → KeepsOthers a r (New e) r
+  others_within e = (let one = ap (λ (c : Current). count_in (stage_of c)) is in others_same a (New e) r r refl (omega arith) refl (omega arith))
+
+  -- there is room for the call, which goes to the engine
+  module _ (call : Call) (row : o'.row ≡ record o.row { calls = reserved o.row.calls (unwrap_or (irrevocable_room a.engine call) 0 + 1) }) (asks : rules.next_call a.run.player ≡ Some call) where
+    abbrev Ahead : ℕ
+    Ahead = unwrap_or (irrevocable_room a.engine call) 0
+
+    place_within : HasPlace (came a.engine call false) o'.row
+    place_within =
+        let backed = subst (IsBacked a) ready sound.acts.backed o.row here in
+        let least = reserved_least o.row.calls Ahead in
+        let most = reserved_most o.row.calls Ahead (promised a.engine) backed in
+        let n = ap (λ (x : Attempt). x.calls.room) row in
+        let w = wanted_came a.engine call false in
+        let p = promised_came a.engine call false in
+        record { least = omega arith; most = omega arith }
+
+    pub acts_within : (e : Core) {E : Type 0} (answer : Answer) (result : Result (Option Step) E) → HasPlacesFor call (total a.engine.actions) Ahead o' → ComesInto a.engine call false result answer e → IfOk result (λ what. MayRunOn (New e) call (next_in what answer))
+    acts_within e answer result places comes =
+        let s = same_ends in
+        let t = same_cancels in
+        called_acting answer (New e) a.engine call false true inside (has_row (reserved o.row.calls (Ahead + 1)) refl row e)
+        (all_within (reserved o.row.calls (Ahead + 1)) refl row)
+        (λ x f. places_for call (total a.engine.actions) o.ends o'.ends (let p = sound.acts.places o.row here in omega arith) ends places.ends)
+        (λ x f. places.cancels) (λ x f. absurd (cc))
+        (came_room a.engine call false a (New e) sound.acts.room (omega arith) (omega arith)
+        (λ some. (let n = ap (λ (b : Bool). if b then total a.engine.actions else 0) inside in ((let x = places.ahead_ends some in omega arith), (let x = places.ahead_cancels some in omega arith)))))
+        (λ x f. subst (HasPlace (came a.engine call false)) (same_Some _ _ f) place_within) (λ x f. absurd (cc)) (backed_came a.engine call false) (λ shut. absurd (true≢false (sym inside ∙ shut))) result comes
+
+    pub asked_within : (e : Core) {E : Type 0} (answer : Answer) (result : Result (Option Step) E) → IfOk result (λ what. IsAsked rules a (New e) call (next_in what answer))
+    asked_within e answer (Err x) = tt
+    asked_within e answer (Ok what) = record {
+      status = refl;
+      kept = kept_within (reserved o.row.calls (Ahead + 1)) refl row e;
+      in_call = record { asks = asks; begins = λ shut. absurd (true≢false (sym inside ∙ shut)); inside = λ x. refl; opens = λ x f. absurd (cc); props = λ x props room f. absurd (cc) };
+    }
+
+    pub told_within : (clock : ℕ) (e : Core) {E : Type 0} (answer : Answer) (result : Result (Option Step) E) → ComesInto a.engine call false result answer e → IfOk result (λ what. AsksOf clock r r a (New e) call (next_in what answer))
+    told_within clock e answer (Err x) comes = tt
+    told_within clock e answer (Ok what) comes = record {
+      stage = ap within row ∙ ap (asked_stage clock a call) (ap stage_of (sym is));
+      run = refl;
+      ended = refl;
+      called = subst (λ (b : Bool). IsCalled a.engine call b (next_in what answer) e) (ap (λ (b : Bool). begins_again b a.run.again call) (sym inside)) comes;
+    }
+
+-- ## Outside a transaction
+
+module _ {P : Type 0} {rules : Rules P} {cells : Cells} {r : Rows} {a : Actor P} (sound : IsSound rules cells r a) (ready : a.status ≡ Ready) (none : active_of a ≡ None) where
+  pub shut_outside : in_transaction a.engine ≡ false
+  shut_outside = row_shut (in_transaction a.engine) a sound.kept.row none
+
+  pub out_outside : stage_of a.run.current ≡ outside
+  out_outside = stage_out _ none (rests sound ready).nothing
+
+  -- memory was refused
+  pub unasked_outside : IsUnasked rules a a
+  unasked_outside = record { actor = refl; stage = (0, out_outside ∙ ap (with_room 0) (sym out_outside)) }
+
+  pub refused_outside : IsRefused a
+  refused_outside = record {
+    all = λ x e. absurd (none-some x (sym none ∙ e));
+    places = λ x e. absurd (none-some x (sym none ∙ e));
+    nothing = (rests sound ready).nothing;
+    room = sound.acts.room;
+    backed = λ x e h. absurd (none-some x (sym none ∙ e));
+  }
+
+  module _ (call : Call) (asks : rules.next_call a.run.player ≡ Some call) (e : Core) where
+    abbrev Same : Actor P
+    Same = record a { engine = e }
+
+    kept_outside : IsKept (in_transaction a.engine) Same
+    kept_outside = record { row = row_same (in_transaction a.engine) a Same refl refl sound.kept.row; tried = sound.kept.tried; tries = sound.kept.tries; retries = sound.kept.retries }
+
+    -- a call that begins nothing
+    module _ (other : is_begin call ≡ false) where
+      pub asked_outside : {E : Type 0} (answer : Answer) (result : Result (Option Step) E) → IfOk result (λ what. IsAsked rules a Same call (next_in what answer))
+      asked_outside answer (Err x) = tt
+      asked_outside answer (Ok what) = record {
+        status = refl;
+        kept = kept_outside;
+        in_call = record {
+          asks = asks;
+          begins = λ x. ap (is_some {T = Attempt}) (rests sound ready).nothing ∙ sym other;
+          inside = λ x. (rests sound ready).nothing;
+          opens = λ x f. absurd (none-some x (sym (rests sound ready).nothing ∙ f));
+          props = λ x props room f. absurd (none-some x (sym (rests sound ready).nothing ∙ f));
+        };
+      }
+
+      pub told_outside : (clock : ℕ) (r' : Rows) → r'.ended ≡ r.ended → {E : Type 0} (answer : Answer) (result : Result (Option Step) E) → ComesInto a.engine call false result answer e → IfOk result (λ what. AsksOf clock r r' a Same call (next_in what answer))
+      told_outside clock r' ended answer (Err x) comes = tt
+      told_outside clock r' ended answer (Ok what) comes = record {
+        stage = out_outside ∙ (sym (begins_none clock a call other) ∙ ap (asked_stage clock a call) (sym out_outside));
+        run = refl;
+        ended = ended;
+        called = subst (λ (b : Bool). IsCalled a.engine call b (next_in what answer) e) (sym (again_none (in_transaction a.engine) a.run.again call other)) comes;
+      }
+
+      pub acts_outside : {E : Type 0} (answer : Answer) (result : Result (Option Step) E) → ComesInto a.engine call false result answer e → IfOk result (λ what. MayRunOn Same call (next_in what answer))
+      acts_outside answer result comes =
+          called_acting answer Same a.engine call false (in_transaction a.engine) refl (row_same (in_transaction a.engine) a Same refl refl sound.kept.row)
+          (λ x f. absurd (none-some x (sym none ∙ f))) (λ x f. absurd (none-some x (sym none ∙ f))) (λ x f. absurd (none-some x (sym none ∙ f))) (λ x f. absurd (none-some x (sym (rests sound ready).nothing ∙ f)))
+          (came_room a.engine call false a Same sound.acts.room (omega arith) (omega arith) (λ some. absurd (let wants = wants_none a.engine call other shut_outside in omega arith)))
+          (λ x f. absurd (none-some x (sym none ∙ f))) (λ x f. absurd (none-some x (sym (rests sound ready).nothing ∙ f))) (backed_came a.engine call false) (λ over. (let s = sound.tied.settled.closed shut_outside in (s.2, s.3))) result comes
+
+  -- a begin, whose attempt has the room that it asks for
+  module _ (props : Props) (room : ℕ) (asks : rules.next_call a.run.player ≡ Some (Begin props room)) (e : Core) (o : Open) (clock : ℕ)
+      (row : o.row ≡ begun a.run.thread a.run.nth (clock / 2) props a.engine.arena (unwrap_or (irrevocable_room a.engine (Begin props room)) 0))
+      (ends : unwrap_or (irrevocable_room a.engine (Begin props room)) 0 ≤ o.ends) (cancels : unwrap_or (irrevocable_room a.engine (Begin props room)) 0 ≤ o.cancels) where
+    abbrev Begun : Actor P
+    Begun = record a { run = record a.run { current = Begins o }; engine = e }
+
+    pub asked_begin : (what : Next) → IsAsked rules a Begun (Begin props room) what
+    asked_begin what = record {
+      status = refl;
+      kept = record { row = subst (λ (b : Bool). HasRow b Begun) (sym shut_outside) refl; tried = sound.kept.tried; tries = sound.kept.tries; retries = sound.kept.retries };
+      in_call = record {
+        asks = asks;
+        begins = λ x. refl;
+        inside = λ x. absurd (true≢false (sym x ∙ shut_outside));
+        opens = λ x f. (let same = sym (same_Some _ _ f) ∙ row in record { thread = ap (λ (y : Attempt). y.thread) same; nth = ap (λ (y : Attempt). y.nth) same; outcome = ap (λ (y : Attempt). y.outcome) same });
+        props = λ x others k f is. ap (λ (y : Attempt). y.props) (sym (same_Some _ _ f) ∙ row) ∙ (let p : props ≡ others = cc in p);
+      };
+    }
+
+    pub told_begin : (r' : Rows) → r'.ended ≡ r.ended → (what : Next) → IsCalled a.engine (Begin props room) a.run.again what e → AsksOf clock r r' a Begun (Begin props room) what
+    told_begin r' ended what comes = record {
+      stage = ap begins row ∙ ap (asked_stage clock a (Begin props room)) (sym out_outside);
+      run = refl;
+      ended = ended;
+      called = subst (λ (b : Bool). IsCalled a.engine (Begin props room) b what e) (ap (λ (b : Bool). begins_again b a.run.again (Begin props room)) (sym shut_outside)) comes;
+    }
+
+    pub acts_begin : (what : Next) → IsCalled a.engine (Begin props room) a.run.again what e → MayRunOn Begun (Begin props room) what
+    acts_begin what comes =
+        let same = ap (λ (b : Bool). if b then total a.engine.actions else 0) shut_outside in
+        gave_acting Begun (came a.engine (Begin props room) a.run.again) (Begin props room) false shut_outside refl refl (λ x f. absurd (cc)) (λ x f. absurd (cc)) (λ x f abort. absurd (cc))
+        (λ x f. ap (λ (y : Attempt). y.ran) (sym (same_Some _ _ f) ∙ row))
+        (came_room a.engine (Begin props room) a.run.again a Begun sound.acts.room (let none_ends = ap ends_in (outside_current a.run.current out_outside) in omega arith) (let none_cancels = ap cancels_in (outside_current a.run.current out_outside) in omega arith) (λ some. (omega arith, omega arith)))
+        (λ x f. absurd (cc)) (λ x f. ap (λ (y : Attempt). y.calls.room) (sym (same_Some _ _ f) ∙ row) ∙ sym (wanted_came a.engine (Begin props room) a.run.again))
+        (backed_came a.engine (Begin props room) a.run.again) comes.settled what comes.proceeds (not_at_once what comes.at_once) (λ over. (let s = sound.tied.settled.closed shut_outside in (s.2, s.3))) (λ step is. (refl, refl))
+
+pub others_begun : {P : Type 0} (a : Actor P) (r r' : Rows) (o : Open) (e : Core) → stage_of a.run.current ≡ outside → r'.ended ≡ r.ended → r.room ≤ r'.room → MAX_ACTORS ≤ r'.room → KeepsOthers a r (record a { run = record a.run { current = Begins o }; engine = e }) r'
+others_begun a r r' o e out ended more enough = record { thread = refl; more = []; ended = ended ∙ sym (append-nil r.ended); mine = tt; room = λ k few l. omega arith }

@@ -1,0 +1,46 @@
+-- What a thread of a program did, call by call.
+use Rattle.std.specs.Prelude.{◌≡◌, ◌⊎◌, ℕ, ◌<◌, Bool, List, None, Some}
+use Rattle.norec_core.specs.declared.answer.Answer.{Answer}
+use Rattle.norec_core.specs.declared.answer.Answer.TheVariants.{Busy, Committed, Conflict, Full, Reply, Restarted}
+use Rattle.shared_words.specs.declared.words.Words.{Words}
+use Rattle.shared_words.specs.Passes.{Owns, view_of}
+use Rattle.script_program.specs.Listing.{Listing}
+use Rattle.script_vm.specs.Threads.{Thread, thread_rules}
+use Rattle.itm_runtime.specs.Standing.{Standing}
+use Rattle.itm_runtime.specs.Ties.{Stands}
+use Rattle.tx_attempts.specs.declared.attempt.Attempt.{Attempt}
+use Rattle.tx_runs.specs.declared.ending.End.{End}
+use Rattle.tx_runs.specs.declared.ending.End.TheVariants.{Finished, GaveUp, NoMemory}
+use Rattle.tx_worker.specs.declared.worked.Worked.{Worked}
+use Rattle.tx_worker.specs.Accounts.{Account}
+use Rattle.tx_worker.specs.Calls.{IsMade, IsShut}
+use Rattle.tx_worker.specs.Works.{IsRow}
+use Rattle.tx_host.specs.Starts.{IsFresh}
+
+-- after this answer to a call in the try `nth` of its block there is no further one: no commit more may be, or a conflict was found or the clock was held, and no try is left
+abbrev pub IsLast : ℕ → ℕ → Answer → Type 0
+IsLast retries nth (Reply reply) = ⊥
+IsLast retries nth (Committed at wrote) = ⊥
+IsLast retries nth (Conflict clock word) = retries < nth
+IsLast retries nth (Restarted clock word) = ⊥
+IsLast retries nth (Busy clock) = retries < nth
+IsLast retries nth (Full at) = Unit {0}
+
+-- it finished where its player had no more calls; it gave up where the gate was shut to its next call, or at the answer to its last call, after which there is no further try
+abbrev pub EndsWhere : Words → ℕ → ℕ → Bool → End → Account Thread → Standing → Account Thread → Standing → Type 0
+EndsWhere words number retries shuts Finished a s a' s' = (thread_rules.next_call a.player ≡ None)
+EndsWhere words number retries shuts GaveUp a s a' s' = IsShut thread_rules shuts a s a' s' ⊎ ((last : IsMade words thread_rules number retries a s (Some GaveUp) a' s') × IsLast retries a.nth last.answer)
+EndsWhere words number retries shuts NoMemory a s a' s' = Unit {0}
+
+-- the thread of the program with this number made its calls, on a fresh thread over these words with the program's own limits, until it ended so. Just these attempts are told of it
+pub record WasRun (words : Words) (p : Listing) (base : List ℕ) (shuts : Bool) (number : ℕ) (end : End) (attempts : List Attempt) : Type 0 where
+  pub start : Standing
+  pub player : Thread
+  pub own : Owns words start.pass
+  pub stands : Stands (view_of start.pass) start.engine
+  pub fresh : IsFresh p base number start player
+  pub worked : Worked
+  pub row : IsRow thread_rules words start player number p.limits.retries shuts worked
+  pub end_is : worked.end ≡ end
+  pub attempts_are : worked.attempts ≡ attempts
+  pub why : EndsWhere words number p.limits.retries shuts end row.account row.standing row.left row.thread  -- this follows from it

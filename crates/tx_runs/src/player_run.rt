@@ -1,0 +1,258 @@
+//! A player among the tries of its blocks.
+
+ghost use Rattle.std.specs.Prelude.{◌≡◌, ◌+◌, ◌<◌, ◌≤◌, ◌++◌, false, nat_lt, if◌then◌else◌, List, Option, None, Some, IfOk, length, vec_len, vec_capacity};
+ghost use Rattle.itm_types.specs.declared.limits.TheConstants.{MAX_RETRIES};
+ghost use Rattle.norec_core.specs.declared.answer.Answer.TheVariants.{Restarted};
+ghost use Rattle.tx_attempts.specs.Kept.{spent};
+ghost use Rattle.tx_runs.specs.declared.ending.End.TheVariants.{GaveUp};
+ghost use Rattle.tx_runs.specs.declared.player_run.Current.{Current};
+ghost use Rattle.tx_runs.specs.declared.player_run.Current.TheVariants.{Outside, Begins, Within};
+ghost use Rattle.itm_types.specs.declared.call.Ran.{Ran};
+ghost use Rattle.tx_runs.specs.OpenAttempts.{Open};
+ghost use Rattle.tx_runs.specs.PlayerRuns.{current_with, stage_of, tally_of, KeepsPlaces, MayTakeIn, MayStop, MayTell};
+ghost use Rattle.tx_runs.specs.Tallies.{Stand, begun, closed, entered, over_as, replied};
+
+use crate::ending::End;
+use crate::open_attempt::OpenAttempt;
+use crate::outcome::outcome_of;
+use itm_types::{Call, MAX_RETRIES, Props, Ran, Reply};
+use norec_core::Answer;
+use std::alloc::{AllocError, Global};
+use std::mem;
+use tx_attempts::{Attempt, Bytes, Calls, Outcome, RanActions, Restarts};
+use tx_player::Player;
+
+/// Where a player's try stands.
+#[derive(Drop)]
+pub enum Current {
+    /// No block is open.
+    Outside,
+    /// The begin that is in progress is to open it.
+    Begins(OpenAttempt),
+    /// It is open.
+    Within(OpenAttempt),
+}
+
+/// A player among the tries of its blocks.
+#[derive(Drop)]
+pub struct PlayerRun<P> {
+    /// The number of its thread.
+    pub thread: u8,
+    /// How often a block may be tried again.
+    pub retries: u32,
+    pub player: P,
+    /// Which try of its block is under way or comes next, counted from 1.
+    pub nth: u32,
+    /// An earlier try of the block got past its begin.
+    pub again: bool,
+    pub current: Current,
+}
+
+impl<P: Player> PlayerRun<P> {
+    ghost use Rattle.tx_runs.specs.Tallies.{took_in};
+
+    /// A player that has made no call.
+    pub fn new(thread: u8, retries: u32, player: P) -> Self
+        ensures { result ≡ record { thread = thread; retries = retries; player = player; nth = 1; again = false; current = Outside } }
+    {
+        PlayerRun {
+            thread,
+            retries,
+            player,
+            nth: 1,
+            again: false,
+            current: Current::Outside,
+        }
+    }
+
+    /// The attempt that an outermost begin is to open, with room for so many calls and as many actions.
+    pub fn attempt(
+        &self,
+        alloc: Global,
+        began: u64,
+        props: Props,
+        arena: &[u8],
+        ahead: usize,
+    ) -> Result<OpenAttempt, AllocError>
+        ensures row { IfOk result (λ o. o.row ≡ begun self.now.thread self.now.nth began props arena.now ahead) }
+        ensures room { IfOk result (λ o. (ahead ≤ o.ends) × (ahead ≤ o.cancels)) }
+    {
+        let row = Attempt {
+            thread: self.thread,
+            nth: self.nth,
+            began,
+            at: 0,
+            props,
+            arena: Bytes::new(arena.to_vec(alloc)?),
+            calls: Calls::with_room(alloc, ahead)?,
+            restarts: Restarts::none(),
+            ran: RanActions::new(alloc),
+            outcome: Outcome::Unfinished,
+        };
+        OpenAttempt::new(alloc, row, ahead)
+    }
+
+    /// What comes of a call's answer, where the engine stands like this after it: whether a transaction is open, where it
+    /// reads, and the actions that have run. Answers how the run ended, if it did; else the player's next call may be made.
+    #[inline(always)]
+    pub fn take_in(
+        &mut self,
+        ended: &mut Vec<Attempt>,
+        call: Call,
+        answer: Answer,
+        is_open: bool,
+        at: u64,
+        ran: &[Ran],
+    ) -> Option<End>
+        requires tries { (self.old.nth ≤ self.old.retries + 1) × (self.old.retries ≤ MAX_RETRIES) }
+        requires whole { (clock word : _) → answer ≡ Restarted clock word → ⊥ }
+        requires room { MayTakeIn (record { is_open = is_open; at = at; ran = ran.now }) self.old.current }
+        requires place { MayTell self.old.current ended.old }
+        ensures taken { let taken = took_in P.Player self.old.retries (tally_of self.old) call answer (record { is_open = is_open; at = at; ran = ran.now }) in
+            (tally_of self.new ≡ taken.tally) × (ended.new.items ≡ ended.old.items ++ taken.over) × (result ≡ taken.end) }
+        ensures same { (self.new.thread ≡ self.old.thread) × (self.new.retries ≡ self.old.retries) }
+        ensures capacity { vec_capacity ended.new ≡ vec_capacity ended.old }
+        ensures len { vec_len ended.new ≡ vec_len ended.old + length (took_in P.Player self.old.retries (tally_of self.old) call answer
+            (record { is_open = is_open; at = at; ran = ran.now })).over }
+        ensures places { KeepsPlaces ran.now self.old.current self.new.current }
+    {
+        match answer {
+            Answer::Reply(reply) => {
+                self.player.answer(&reply);
+                self.replied(ended, call, reply, is_open, at, ran);
+                None
+            }
+            Answer::Committed { at: _, wrote } => {
+                self.player.answer(&Reply::Done);
+                self.add(call, Reply::Done);
+                self.close(ended, outcome_of(wrote), at, ran);
+                None
+            }
+            Answer::Conflict { .. } => {
+                if let Current::Within(_) = self.current {
+                    self.player.restart();
+                }
+                self.stop(ended, Outcome::Conflict, at, ran);
+                self.retry()
+            }
+            Answer::Busy { .. } => {
+                self.current = Current::Outside;
+                self.retry()
+            }
+            Answer::Full { .. } => {
+                self.stop(ended, Outcome::Full, at, ran);
+                Some(End::GaveUp)
+            }
+            Answer::Restarted { .. } => unreachable!(),
+        }
+    }
+
+    /// The transaction is open as it was, or was cancelled, or its begin is over.
+    #[inline(always)]
+    fn replied(
+        &mut self,
+        ended: &mut Vec<Attempt>,
+        call: Call,
+        reply: Reply,
+        is_open: bool,
+        at: u64,
+        ran: &[Ran],
+    )
+        requires room { MayTakeIn (record { is_open = is_open; at = at; ran = ran.now }) self.old.current }
+        requires place { MayTell self.old.current ended.old }
+        ensures taken { let taken = replied (stage_of self.old.current) (tally_of self.old) call reply (record { is_open = is_open; at = at; ran = ran.now }) in
+            (tally_of self.new ≡ taken.tally) × (ended.new.items ≡ ended.old.items ++ taken.over) }
+        ensures same { (self.new.thread ≡ self.old.thread) × (self.new.retries ≡ self.old.retries) }
+        ensures capacity { vec_capacity ended.new ≡ vec_capacity ended.old }
+        ensures len { vec_len ended.new ≡ vec_len ended.old + length (replied (stage_of self.old.current) (tally_of self.old) call reply
+            (record { is_open = is_open; at = at; ran = ran.now })).over }
+        ensures places { KeepsPlaces ran.now self.old.current self.new.current }
+    {
+        match &mut self.current {
+            Current::Within(open) => {
+                open.add(call, reply);
+                if is_open {
+                    open.run(ran);
+                } else {
+                    self.close(ended, Outcome::Cancelled, at, ran);
+                }
+            }
+            Current::Begins(_) => self.begun(is_open, at),
+            Current::Outside => {}
+        }
+    }
+
+    /// The call has this reply in the open attempt.
+    #[inline(always)]
+    fn add(&mut self, call: Call, reply: Reply)
+        requires { (o : Open) → self.old.current ≡ Within o → 0 < o.row.calls.room }
+        ensures { self.new ≡ record self.old { current = current_with call reply self.old.current } }
+    {
+        if let Current::Within(open) = &mut self.current {
+            open.add(call, reply);
+        }
+    }
+
+    /// The begin is over: the attempt is open, or the begin was refused.
+    fn begun(&mut self, is_open: bool, at: u64)
+        requires { (o : Open) × (self.old.current ≡ Begins o) }
+        ensures taken { (o : Open) (s : Stand) → self.old.current ≡ Begins o → s.is_open ≡ is_open → s.at ≡ at
+            → tally_of self.new ≡ entered is_open (tally_of self.old) o.row s }
+        ensures same { (self.new.thread ≡ self.old.thread) × (self.new.retries ≡ self.old.retries) }
+        ensures places { (ran : List Ran) → KeepsPlaces ran self.old.current self.new.current }
+    {
+        if let Current::Begins(mut open) = mem::replace(&mut self.current, Current::Outside) {
+            if is_open {
+                open.move_to(at);
+                self.again = true;
+                self.current = Current::Within(open);
+            }
+        }
+    }
+
+    /// The block has ended, and the next one is tried for the first time.
+    fn close(&mut self, ended: &mut Vec<Attempt>, outcome: Outcome, at: u64, ran: &[Ran])
+        requires room { MayStop at ran.now self.old.current }
+        requires place { MayTell self.old.current ended.old }
+        ensures taken { (is_open : _) → let taken = closed (tally_of self.old) outcome (record { is_open = is_open; at = at; ran = ran.now }) in
+            (tally_of self.new ≡ taken.tally) × (ended.new.items ≡ ended.old.items ++ taken.over) }
+        ensures outside { self.new.current ≡ Outside }
+        ensures same { (self.new.thread ≡ self.old.thread) × (self.new.retries ≡ self.old.retries) }
+        ensures capacity { vec_capacity ended.new ≡ vec_capacity ended.old }
+        ensures len { (is_open : _) → vec_len ended.new ≡ vec_len ended.old + length (closed (tally_of self.old) outcome
+            (record { is_open = is_open; at = at; ran = ran.now })).over }
+    {
+        self.stop(ended, outcome, at, ran);
+        self.nth = 1;
+        self.again = false;
+    }
+
+    /// The open attempt is over, at this position, with these actions that have run in it; one that is to be opened is not
+    /// told.
+    pub fn stop(&mut self, ended: &mut Vec<Attempt>, outcome: Outcome, at: u64, ran: &[Ran])
+        requires room { MayStop at ran.now self.old.current }
+        requires place { MayTell self.old.current ended.old }
+        ensures run { self.new ≡ record self.old { current = Outside } }
+        ensures over { (is_open : _) → ended.new.items ≡ ended.old.items ++ over_as outcome (record { is_open = is_open; at = at; ran = ran.now }) (stage_of self.old.current) }
+        ensures capacity { vec_capacity ended.new ≡ vec_capacity ended.old }
+        ensures len { (is_open : _) → vec_len ended.new ≡ vec_len ended.old + length (over_as outcome
+            (record { is_open = is_open; at = at; ran = ran.now }) (stage_of self.old.current)) }
+    {
+        if let Current::Within(open) = mem::replace(&mut self.current, Current::Outside) {
+            ended.push_reserved(open.end(outcome, at, ran));
+        }
+    }
+
+    /// The block is tried again, where it may be.
+    fn retry(&mut self) -> Option<End>
+        requires { (self.old.nth ≤ self.old.retries + 1) × (self.old.retries ≤ MAX_RETRIES) }
+        ensures end { result ≡ (if nat_lt self.old.retries self.old.nth then Some GaveUp else None) }
+        ensures tries { self.new ≡ (if nat_lt self.old.retries self.old.nth then self.old else record self.old { nth = self.old.nth + 1 }) }
+    {
+        if self.retries < self.nth {
+            return Some(End::GaveUp);
+        }
+        self.nth += 1;
+        None
+    }
+}

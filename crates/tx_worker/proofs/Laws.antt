@@ -1,0 +1,11 @@
+-- What a call makes of a run that goes on, and where it ends.
+pub mod Rooms
+pub mod CallsWithin
+pub mod CallsOutside
+pub mod Answers
+pub mod Rows
+pub mod Starves
+pub mod Asks
+pub mod Stopped
+pub mod Ends
+pub mod Begins

@@ -1,0 +1,81 @@
+-- What a player's next call makes of its run, wherever it stands.
+use Rattle.std.proofs.Common.{◌≡◌, ℕ, ◌/◌, Bool, true, false, None, Some, refl, sym, subst, unwrap_or}
+use Rattle.itm_types.specs.declared.call.Call.{Call}
+use Rattle.norec_core.specs.declared.answer.Answer.{Answer}
+use Rattle.norec_core.specs.Core.{Core, in_transaction, irrevocable_room}
+use Rattle.shared_words.specs.declared.view.View.{View}
+use Rattle.shared_words.specs.declared.words.Words.{Words}
+use Rattle.shared_words.specs.Passes.{view_of}
+use Rattle.itm_runtime.specs.CallResults.{IsAnswered}
+use Rattle.itm_runtime.specs.Served.{Served, Start}
+use Rattle.itm_runtime.specs.Standing.{Standing, start_of}
+use Rattle.itm_runtime.specs.Ties.{Stands}
+use Rattle.tx_player.specs.Rules.{Obeys, Rules}
+use Rattle.tx_runs.specs.declared.ending.End.{End}
+use Rattle.tx_runs.specs.Tallies.{Stage, outside, within, Taken, begins_again, begun, stage_at, took_in}
+use Rattle.tx_worker.specs.Accounts.{Account, account_after, stand_of, tally_in}
+use Rattle.tx_worker.specs.Calls.{asked}
+use Rattle.tx_worker.specs.Falls.{Falls}
+use Rattle.tx_worker.specs.Progress.{Course, IsRunning}
+use Rattle.tx_worker.proofs.Laws.CallsOutside.{outside_falls, outside_on, outside_over}
+use Rattle.tx_worker.proofs.Laws.CallsWithin.{IsOverSo, inside_falls, inside_on, inside_over}
+
+module _ {P : Type 0} {rules : Rules P} (laws : Obeys rules) (words : Words) (c : Course P) (a : Account P) (s : Standing) (running : IsRunning rules c (view_of s.pass) s.engine a) (stands : Stands (view_of s.pass) s.engine) (whole : s.engine.restarts ≡ 0)
+    (number retries : ℕ) (number_is : number ≡ c.number) (retries_is : retries ≡ c.retries) (call : Call) (asks : rules.next_call a.player ≡ Some call) (answer : Answer) (s' : Standing) (answered : IsAnswered words (start_of s call (begins_again a.stage a.again call)) answer s'.pass s'.engine) where
+  abbrev e : Core
+  e = s'.engine
+
+  abbrev v : View
+  v = view_of s'.pass
+
+  abbrev ahead : ℕ
+  ahead = unwrap_or (irrevocable_room s.engine call) 0
+
+  abbrev pub Took : Taken P
+  Took = took_in rules retries (asked words rules number retries s a call) call answer (stand_of s'.engine)
+
+  -- by the course's own number and tries, where the player stands like this
+  abbrev Took_at : Stage → Taken P
+  Took_at g = took_in rules c.retries (record (tally_in a) { stage = stage_at g call (λ props. begun c.number a.nth (s.engine.clock / 2) props s.engine.arena ahead) ahead }) call answer (stand_of s'.engine)
+
+  took_so : (g : Stage) → a.stage ≡ g → Took_at g ≡ Took
+  took_so g is = λ i. took_in rules (sym retries_is i)
+      (record (tally_in a) { stage = stage_at (sym is i) call (λ props. begun (sym number_is i) a.nth (s.engine.clock / 2) props s.engine.arena ahead) ahead }) call answer (stand_of e)
+
+  -- the start by where the player stands
+  abbrev start_at : Stage → Start
+  start_at g = start_of s call (begins_again g a.again call)
+
+  served_at : (g : Stage) → a.stage ≡ g → Served (start_at g) answer v e
+  served_at g is = subst (λ (x : Stage). Served (start_at x) answer v e) is answered.served
+
+  abbrev pub Both : Taken P → Type 0
+  Both x = (x.end ≡ None → IsRunning rules c v e (account_after a x) × Falls rules c.retries (in_transaction s.engine) (in_transaction e) a.nth x.tally.nth a.player x.tally.player)
+      × ((end : End) → x.end ≡ Some end → IsOverSo rules c s.engine.max_commits end v e (account_after a x))
+
+  by_mode : (i : Bool) → in_transaction s.engine ≡ i → Both Took
+  by_mode true inside =
+      let h = running.inside inside in
+      let served = served_at (within h.row) h.stage_is in
+      subst Both (took_so (within h.row) h.stage_is) (
+        λ none. (
+          inside_on laws c (start_at (within h.row)) a v e running stands answered.stands whole asks refl inside ahead answer served none,
+          subst (λ (i : Bool). Falls rules c.retries i (in_transaction e) a.nth (Took_at (within h.row)).tally.nth a.player (Took_at (within h.row)).tally.player) (sym inside)
+              (inside_falls laws c (start_at (within h.row)) a v e running stands answered.stands whole asks refl inside ahead answer served none),
+        ),
+        λ end some. inside_over laws c (start_at (within h.row)) a v e running stands answered.stands whole asks refl inside ahead answer end served some,
+      )
+  by_mode false shut =
+      let o = running.outside shut in
+      let served = served_at outside o.stage_is in
+      subst Both (took_so outside o.stage_is) (
+        λ none. (
+          outside_on laws c (start_at outside) a v e running stands asks shut ahead refl answer served none,
+          subst (λ (i : Bool). Falls rules c.retries i (in_transaction e) a.nth (Took_at outside).tally.nth a.player (Took_at outside).tally.player) (sym shut)
+              (outside_falls laws c (start_at outside) a v e running stands asks shut ahead refl answer served none),
+        ),
+        λ end some. outside_over laws c (start_at outside) a v e running stands asks shut ahead refl answer end served some,
+      )
+
+  pub both : Both Took
+  both = by_mode (in_transaction s.engine) refl

@@ -1,0 +1,210 @@
+-- The room that is made before a call serves whatever comes of its answer.
+use Rattle.std.proofs.Common.{◌≡◌, ℕ, ◌+◌, ◌/◌, ◌<◌, ◌≤◌, Bool, true, false, true≢false, nat_lt, if◌then◌else◌, List, ◌++◌, length, is_some, refl, sym, ap, subst, ◌∙◌, arith, unwrap_or, ltb-false}
+use Rattle.itm_types.specs.Calls.{is_abort, registered_by}
+use Rattle.itm_types.specs.declared.call.Call.{Call}
+use Rattle.itm_types.specs.declared.call.Call.TheVariants.{Abort, Begin, CommitAction, UndoAction}
+use Rattle.itm_types.specs.declared.call.Props.{Props}
+use Rattle.itm_types.specs.declared.call.Ran.{Ran}
+use Rattle.norec_core.proofs.Replies.ActionCounts.{registers}
+use Rattle.norec_core.specs.declared.answer.Answer.{Answer}
+use Rattle.norec_core.specs.declared.answer.Answer.TheVariants.{Busy, Committed, Conflict, Full, Reply, Restarted}
+use Rattle.norec_core.specs.Core.{Core, in_transaction, irrevocable_room}
+use Rattle.user_actions.specs.Actions.{total}
+use Rattle.shared_words.specs.declared.words.Words.{Words}
+use Rattle.itm_runtime.specs.Served.{Served, Start}
+use Rattle.itm_runtime.specs.Standing.{start_of}
+use Rattle.tx_attempts.specs.declared.attempt.Attempt.{Attempt}
+use Rattle.tx_attempts.specs.declared.attempt.Outcome.{Outcome}
+use Rattle.tx_attempts.specs.Kept.{Kept, reserved}
+use Rattle.tx_player.specs.Rules.{Rules}
+use Rattle.tx_runs.specs.declared.player_run.Current.{Current}
+use Rattle.tx_runs.specs.declared.player_run.Current.TheVariants.{Outside, Begins, Within}
+use Rattle.tx_runs.specs.OpenAttempts.{Open, HasRoom}
+use Rattle.tx_runs.specs.PlayerRuns.{MayTakeIn, MayTell, stage_of}
+use Rattle.tx_runs.specs.Tallies.{Stage, outside, begins, within, Stand, begins_again, begun, over_as, stage_at}
+use Rattle.tx_worker.specs.declared.worker.Worker.{Worker}
+use Rattle.tx_worker.specs.Accounts.{account_of, stand_of}
+use Rattle.tx_worker.specs.Progress.{Course, IsRunning}
+use Rattle.tx_worker.specs.Workers.{Bounds, IsAsked, IsReadyFor, IsRoomier, again_for, view_in}
+use Rattle.tx_worker.proofs.Machines.PlainActions.{served_ran, served_runs}
+
+-- ## What a begin is told
+
+-- no other call is told anything
+pub not_told : (x : Current) (again : Bool) (call : Call) → ((props : Props) (room : ℕ) → call ≡ Begin props room → ⊥) → again_for x again call ≡ false
+not_told (Begins o) again (Begin props room) other = absurd (other props room refl)
+not_told (Begins o) again call other = refl
+not_told Outside again call other = refl
+not_told (Within o) again call other = refl
+
+pub again_prepared : (old : Stage) (x : Current) (again : Bool) (call : Call) (row : Props → Attempt) (ahead : ℕ) → ((r : Attempt) → old ≡ begins r → ⊥) → stage_of x ≡ stage_at old call row ahead → again_for x again call ≡ begins_again old again call
+again_prepared (begins r) x again call row ahead never is = absurd (never r refl)
+again_prepared outside (Begins o) again (Begin props room) row ahead never is = refl
+again_prepared outside Outside again (Begin props room) row ahead never is = absurd (cc)
+again_prepared outside (Within o) again (Begin props room) row ahead never is = absurd (cc)
+again_prepared outside Outside again call row ahead never is = refl
+again_prepared outside (Begins o) again call row ahead never is = absurd (cc)
+again_prepared outside (Within o) again call row ahead never is = refl
+again_prepared (within r) (Within o) again call row ahead never is = refl
+again_prepared (within r) Outside again call row ahead never is = refl
+again_prepared (within r) (Begins o) again call row ahead never is = absurd (cc)
+
+-- ## Places
+
+-- a place is promised for the call
+pub some_room : (k : Kept) (ahead : ℕ) → 0 < (reserved k (ahead + 1)).room
+some_room k ahead = by_test (nat_lt k.room (ahead + 1)) refl
+  where
+    by_test : (b : Bool) → nat_lt k.room (ahead + 1) ≡ b → 0 < (if b then ahead + 1 else k.room)
+    by_test true e = omega arith
+    by_test false e = (let l = ltb-false k.room (ahead + 1) e in omega arith)
+
+-- there is room for the actions after a call
+pub room_after : (call : Call) (before after room : ℕ) → before ≤ room → (is_some (registered_by call) ≡ true → before < room) → after ≤ before + registers call → after ≤ room
+room_after (CommitAction action) before after room few more l = (let m = more refl in omega arith)
+room_after (UndoAction action) before after room few more l = (let m = more refl in omega arith)
+room_after call before after room few more l = omega arith
+
+-- a cancel registers none
+cancels_none : (call : Call) → is_abort call ≡ true → registers call ≡ 0
+cancels_none (Abort outer) is = refl
+cancels_none call is = absurd (cc)
+
+-- ## The same attempt with more room
+
+pub same_over : (outcome : Outcome) (s : Stand) (x y : Current) → IsRoomier x y → over_as outcome s (stage_of y) ≡ over_as outcome s (stage_of x)
+same_over outcome s Outside Outside r = refl
+same_over outcome s Outside (Begins o) r = refl
+same_over outcome s (Within o) (Within o') r = ap (λ (row : Attempt). over_as outcome s (within row)) r
+same_over outcome s Outside (Within o) r = absurd r
+same_over outcome s (Begins o) y r = absurd r
+same_over outcome s (Within o) Outside r = absurd r
+same_over outcome s (Within o) (Begins o') r = absurd r
+
+module _ {P : Type 0} {rules : Rules P} {c : Course P} (w : Worker P) (running : IsRunning rules c (view_in w) w.thread.engine (account_of w)) where
+  -- no begin is in progress between two calls
+  pub never_begins : (row : Attempt) → stage_of w.run.current ≡ begins row → ⊥
+  never_begins row is = by_mode (in_transaction w.thread.engine) refl
+    where
+      by_mode : (i : Bool) → in_transaction w.thread.engine ≡ i → ⊥
+      by_mode true inside = let open_is : within (running.inside inside).row ≡ begins row = sym (running.inside inside).stage_is ∙ is in cc
+      by_mode false shut = let none : outside ≡ begins row = sym (running.outside shut).stage_is ∙ is in cc
+
+  -- one is open just within a transaction
+  pub within_inside : (row : Attempt) → stage_of w.run.current ≡ within row → (i : in_transaction w.thread.engine ≡ true) × ((running.inside i).row ≡ row)
+  within_inside row is = by_mode (in_transaction w.thread.engine) refl
+    where
+      same : (x : Attempt) → within x ≡ within row → x ≡ row
+      same x e = cc
+
+      by_mode : (b : Bool) → in_transaction w.thread.engine ≡ b → (i : in_transaction w.thread.engine ≡ true) × ((running.inside i).row ≡ row)
+      by_mode true inside = (inside, same _ (sym (running.inside inside).stage_is ∙ is))
+      by_mode false shut = let none : outside ≡ within row = sym (running.outside shut).stage_is ∙ is in absurd (cc)
+
+module _ {P : Type 0} {rules : Rules P} {words : Words} {c : Course P} {b : Bounds} {old new : Worker P} {call : Call} {answer : Answer} (k : IsAsked rules words c b old call answer new) where
+  abbrev s : Start
+  s = start_of old.thread call (begins_again (stage_of old.run.current) old.run.again call)
+
+  abbrev e : Core
+  e = new.thread.engine
+
+  -- the attempt that an outermost begin is to open
+  abbrev opens : Worker P → Props → Attempt
+  opens w props = begun w.run.thread w.run.nth (w.thread.engine.clock / 2) props w.thread.engine.arena (unwrap_or (irrevocable_room w.thread.engine call) 0)
+
+  -- where the open attempt is at hand
+  module _ (o : Open) (is : new.run.current ≡ Within o) (ready : IsReadyFor old.thread.engine call (unwrap_or (irrevocable_room old.thread.engine call) 0) new.ended (Within o)) (row : Attempt) (row_is : o.row ≡ record row { calls = reserved row.calls (unwrap_or (irrevocable_room old.thread.engine call) 0 + 1) })
+      (inside : in_transaction old.thread.engine ≡ true) (same : (k.works.running.inside inside).row ≡ row) where
+    runs : (later : List Ran) × (old.thread.engine.actions.ran ++ later ≡ new.thread.engine.actions.ran) × (total new.thread.engine.actions ≤ total old.thread.engine.actions + registers call)
+    runs = (let r = served_runs s (view_in new) e k.works.same.stands inside k.answered.served in (r.later, sym r.ran, r.most))
+
+    ran_is : o.row.ran ≡ old.thread.engine.actions.ran
+    ran_is = ap (λ (x : Attempt). x.ran) row_is ∙ (ap (λ (x : Attempt). x.ran) (sym same) ∙ (k.works.running.inside inside).try.ran)
+
+    still_places : total new.thread.engine.actions ≤ o.ends
+    still_places = room_after call (total old.thread.engine.actions) (total e.actions) o.ends ready.1 ready.2.ends runs.2
+
+    open_cancels : (x : Answer) → Served s x (view_in new) new.thread.engine → in_transaction new.thread.engine ≡ true → length o.row.ran < length new.thread.engine.actions.ran → length new.thread.engine.actions.ran ≤ o.cancels
+    open_cancels (Reply r) served now less = by_abort (is_abort call) refl
+      where
+        by_abort : (a : Bool) → is_abort call ≡ a → length e.actions.ran ≤ o.cancels
+        by_abort true is = (let places = ready.2.cancels is in let most = runs.2 in let none = cancels_none call is in omega arith)
+        by_abort false is = (let ran = ap length (served_ran s (view_in new) e k.works.same.stands inside r served is now) in let had = ap length ran_is in absurd (omega arith))
+    open_cancels (Committed at wrote) served now less = absurd (true≢false (sym now ∙ served.tells.closes.closed))
+    open_cancels (Conflict clock word) served now less = absurd (true≢false (sym now ∙ served.tells.closes.closed))
+    open_cancels (Restarted clock word) served now less = (let whole = k.works.same.whole in let left = served.tells.left in absurd (omega arith))
+    open_cancels (Busy clock) served now less = absurd (true≢false (sym now ∙ served.tells.closes.closed))
+    open_cancels (Full at) served now less = absurd (true≢false (sym now ∙ served.tells.closes.closed))
+
+    has_room : HasRoom (stand_of new.thread.engine) o
+    has_room = record {
+      entry = subst (λ (x : Attempt). 0 < x.calls.room) (sym row_is) (some_room row.calls (unwrap_or (irrevocable_room old.thread.engine call) 0));
+      first = (runs.0, ap (λ (x : List Ran). x ++ runs.0) ran_is ∙ runs.1);
+      ends = (let places = still_places in omega arith);
+      cancels = open_cancels answer k.answered.served;
+    }
+
+  the_row : (o : Open) (row : Attempt) → within o.row ≡ within row → o.row ≡ row
+  the_row o row e = cc
+
+  -- the attempt that is at hand is the open one, with room for the call
+  at_hand : (old_stage : Stage) → stage_of old.run.current ≡ old_stage → (o : Open) (row : Props → Attempt) (ahead : ℕ) → within o.row ≡ stage_at old_stage call row ahead → (r : Attempt) × (old_stage ≡ within r) × (o.row ≡ record r { calls = reserved r.calls (ahead + 1) })
+  at_hand outside was o row ahead is = absurd (by_call call is)
+    where
+      by_call : (x : Call) → within o.row ≡ stage_at outside x row ahead → ⊥
+      by_call (Begin props room) e = cc
+      by_call x e = cc
+  at_hand (begins r) was o row ahead is = absurd (cc)
+  at_hand (within r) was o row ahead is = (r, refl, the_row o _ is)
+
+  module _ (x : Current) (is : new.run.current ≡ x) where
+    stage_is : stage_of x ≡ stage_at (stage_of old.run.current) call (opens old) (unwrap_or (irrevocable_room old.thread.engine call) 0)
+    stage_is = ap stage_of (sym is) ∙ ap (λ (t : _). t.stage) k.prepared.came
+
+  pub may_take_in : MayTakeIn (stand_of new.thread.engine) new.run.current
+  may_take_in = by_current new.run.current refl
+    where
+      by_current : (x : Current) → new.run.current ≡ x → MayTakeIn (stand_of e) x
+      by_current Outside is = tt
+      by_current (Begins o) is = tt
+      by_current (Within o) is =
+          let hand = at_hand (stage_of old.run.current) refl o (opens old) (unwrap_or (irrevocable_room old.thread.engine call) 0) (stage_is (Within o) is) in
+          let inside = within_inside old k.works.running hand.0 hand.1 in
+          has_room o is (subst (IsReadyFor old.thread.engine call (unwrap_or (irrevocable_room old.thread.engine call) 0) new.ended) is k.prepared.ready) hand.0 hand.2 inside.0 inside.1
+
+  pub may_tell : MayTell new.run.current new.ended
+  may_tell = by_current new.run.current refl
+    where
+      by_current : (x : Current) → new.run.current ≡ x → MayTell x new.ended
+      by_current Outside is = tt
+      by_current (Begins o) is = tt
+      by_current (Within o) is = (subst (IsReadyFor old.thread.engine call (unwrap_or (irrevocable_room old.thread.engine call) 0) new.ended) is k.prepared.ready).0
+
+  -- an attempt that is to be opened is so by a begin, outside a transaction
+  pub begins_call : (o : Open) → new.run.current ≡ Begins o → (props : Props) × (room : ℕ) × (call ≡ Begin props room) × (in_transaction old.thread.engine ≡ false)
+  begins_call o is = by_stage (stage_of old.run.current) refl (stage_is (Begins o) is)
+    where
+      by_call : (x : Call) → call ≡ x → begins o.row ≡ stage_at outside x (opens old) (unwrap_or (irrevocable_room old.thread.engine call) 0) → (props : Props) × (room : ℕ) × (call ≡ Begin props room)
+      by_call (Begin props room) call_is e = (props, room, call_is)
+      by_call x call_is e = absurd (cc)
+
+      shut : stage_of old.run.current ≡ outside → in_transaction old.thread.engine ≡ false
+      shut none = by_mode (in_transaction old.thread.engine) refl
+        where
+          by_mode : (i : Bool) → in_transaction old.thread.engine ≡ i → i ≡ false
+          by_mode false i = refl
+          by_mode true i = (let some : within (k.works.running.inside i).row ≡ outside = sym (k.works.running.inside i).stage_is ∙ none in absurd (cc))
+
+      by_stage : (g : Stage) → stage_of old.run.current ≡ g → begins o.row ≡ stage_at (stage_of old.run.current) call (opens old) (unwrap_or (irrevocable_room old.thread.engine call) 0) → (props : Props) × (room : ℕ) × (call ≡ Begin props room) × (in_transaction old.thread.engine ≡ false)
+      by_stage outside was e =
+          let begin = by_call call refl (e ∙ ap (λ (g : Stage). stage_at g call (opens old) (unwrap_or (irrevocable_room old.thread.engine call) 0)) was) in
+          (begin.0, begin.1, begin.2, shut was)
+      by_stage (begins r) was e = absurd (never_begins old k.works.running r was)
+      by_stage (within r) was e = (let none : begins o.row ≡ stage_at (within r) call (opens old) (unwrap_or (irrevocable_room old.thread.engine call) 0) = e ∙ ap (λ (g : Stage). stage_at g call (opens old) (unwrap_or (irrevocable_room old.thread.engine call) 0)) was in absurd (cc))
+
+  -- one that is open has a place for each action
+  pub still_within : (o : Open) → new.run.current ≡ Within o → IsReadyFor old.thread.engine call (unwrap_or (irrevocable_room old.thread.engine call) 0) new.ended (Within o) → total new.thread.engine.actions ≤ o.ends
+  still_within o is ready =
+      let hand = at_hand (stage_of old.run.current) refl o (opens old) (unwrap_or (irrevocable_room old.thread.engine call) 0) (stage_is (Within o) is) in
+      let inside = within_inside old k.works.running hand.0 hand.1 in
+      still_places o is ready hand.0 hand.2 inside.0 inside.1

@@ -1,0 +1,34 @@
+use Rattle.std.proofs.Common.{◌≡◌, ◌/◌, ◌+◌, ◌++◌, length, refl, sym, subst, vec_len}
+use Rattle.tx_runs.specs.PlayerRuns.{KeepsPlaces, MayTakeIn, tally_of}
+use Rattle.tx_runs.specs.Tallies.{Stand, took_in}
+use Rattle.tx_worker.specs.Accounts.{stand_of}
+use Rattle.tx_worker.specs.declared.worker.Worker.{Worker}
+use Rattle.tx_worker.proofs.Laws.Rooms.{may_take_in}
+use Rattle.tx_worker.proofs.Laws.Rows.{turns}
+use Rattle.tx_worker.proofs.worker.Worker.take_in.Goals as goal
+
+pub take_in-end-requires-clause-room : goal.take_in-end-requires-clause-room
+take_in-end-requires-clause-room g c =
+    let told : Stand = record { is_open = c.is_open-is_open.result; at = c.snapshot-at.result / 2; ran = c.due.result.now } in
+    let same : told ≡ stand_of c.args.self.now.thread.engine = λ i. record { is_open = c.is_open-is_open.ensures i; at = c.snapshot-at.ensures.value i / 2; ran = c.due.ensures i } in
+    subst (λ (s : Stand). MayTakeIn s c.args.self.now.run.current) (sym same) (may_take_in c.requires.asked.4)
+
+pub returns : goal.returns
+returns g c words course b old shuts k =
+    let mid = c.args.self.now in
+    let x = c.take_in-end.ensures in
+    let new : Worker g.row.P.Denot = record mid { run = c.take_in-end.new.self; ended = c.take_in-end.new.ended } in
+    let told : Stand = record { is_open = c.is_open-is_open.result; at = c.snapshot-at.result / 2; ran = c.due.result.now } in
+    let same : told ≡ stand_of mid.thread.engine = λ i. record { is_open = c.is_open-is_open.ensures i; at = c.snapshot-at.ensures.value i / 2; ran = c.due.ensures i } in
+    turns g.met.P.Player.laws k new c.take_in-end.result
+    (record {
+      thread = refl;
+      number = x.same.0;
+      retries = x.same.1;
+      tally = subst (λ (s : Stand). tally_of new.run ≡ (took_in g.P.Player mid.run.retries (tally_of mid.run) c.args.call c.args.answer s).tally) same x.taken.0;
+      ended = subst (λ (s : Stand). new.ended.items ≡ mid.ended.items ++ (took_in g.P.Player mid.run.retries (tally_of mid.run) c.args.call c.args.answer s).over) same x.taken.1;
+      end_is = subst (λ (s : Stand). c.take_in-end.result ≡ (took_in g.P.Player mid.run.retries (tally_of mid.run) c.args.call c.args.answer s).end) same x.taken.2;
+      capacity = x.capacity;
+      len = subst (λ (s : Stand). vec_len new.ended ≡ vec_len mid.ended + length (took_in g.P.Player mid.run.retries (tally_of mid.run) c.args.call c.args.answer s).over) same x.len;
+      places = subst (λ (s : Stand). KeepsPlaces s.ran mid.run.current new.run.current) same x.places;
+    }) shuts
