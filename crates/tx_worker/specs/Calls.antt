@@ -1,19 +1,25 @@
 -- A player's run on a thread as a row of calls, each with its answer and with what the answer made of the run.
-use Rattle.std.specs.Prelude.{◌≡◌, ◌⊎◌, ℕ, zero, suc, ◌/◌, Bool, true, false, ◌++◌, Option, None, Some, unwrap_or}
-use Rattle.itm_types.specs.Calls.{is_begin}
+use Rattle.std.specs.Prelude.{◌≡◌, ◌⊎◌, ℕ, zero, suc, ◌/◌, ◌<◌, Bool, true, false, ◌++◌, Option, None, Some, is_some, unwrap_or}
+use Rattle.itm_types.specs.Calls.{is_abort, is_begin, registered_by}
 use Rattle.itm_types.specs.declared.call.Call.{Call}
 use Rattle.norec_core.specs.declared.answer.Answer.{Answer}
-use Rattle.norec_core.specs.Core.{irrevocable_room}
+use Rattle.norec_core.specs.Core.{Core, irrevocable_room}
+use Rattle.norec_core.specs.Proceeds.{MayStarve}
 use Rattle.norec_core.specs.Undoing.{after_undoing}
 use Rattle.shared_words.specs.declared.words.Words.{Words}
 use Rattle.itm_runtime.specs.CallResults.{IsAnswered}
 use Rattle.itm_runtime.specs.Standing.{Standing, start_of}
+use Rattle.tx_attempts.specs.declared.attempt.Attempt.{Attempt}
 use Rattle.tx_attempts.specs.declared.attempt.Outcome.TheVariants as outcomes
 use Rattle.tx_player.specs.Rules.{Rules}
 use Rattle.tx_runs.specs.declared.ending.End.{End}
 use Rattle.tx_runs.specs.declared.ending.End.TheVariants.{Finished, GaveUp, NoMemory}
-use Rattle.tx_runs.specs.Tallies.{outside, Tally, begins_again, came, over_as, took_in}
+use Rattle.tx_runs.specs.Tallies.{outside, within, Tally, begins_again, came, over_as, took_in}
 use Rattle.tx_worker.specs.Accounts.{Account, account_after, stand_of, tally_in}
+
+-- within a block memory is wanted for the call with its reply where there is no room left for them, for the actions that it leaves, for the room that it asks for, or by the call for itself
+abbrev pub IsShort : Core → Call → Attempt → Type 0
+IsShort e call row = (row.calls.room ≡ 0) ⊎ (is_some (registered_by call) ≡ true) ⊎ (is_abort call ≡ true) ⊎ (0 < unwrap_or (irrevocable_room e call) 0) ⊎ MayStarve e call
 
 module _ {P : Type 0} (rules : Rules P) where
   -- memory was refused to the player's next call, which begins a block where none is open. What was open is given up, unless it is irrevocable
@@ -21,6 +27,7 @@ module _ {P : Type 0} (rules : Rules P) where
     pub call : Call
     pub asks : rules.next_call a.player ≡ Some call
     pub begins : a.stage ≡ outside → is_begin call ≡ true
+    pub short : (row : Attempt) → a.stage ≡ within row → IsShort s.engine call row
     pub pass : s'.pass ≡ s.pass
     pub engine : s'.engine ≡ after_undoing s.engine
     pub held : s.engine.irrevocable ≡ true → a' ≡ a

@@ -20,11 +20,11 @@ use Rattle.tx_runs.specs.declared.player_run.Current.{Current}
 use Rattle.tx_runs.specs.declared.player_run.Current.TheVariants.{Outside, Begins, Within}
 use Rattle.tx_runs.specs.OpenAttempts.{HasPlacesFor}
 use Rattle.tx_runs.specs.PlayerRuns.{MayStop, MayTell, stage_of, tally_of}
-use Rattle.tx_runs.specs.Tallies.{begins_again, outside}
+use Rattle.tx_runs.specs.Tallies.{begins_again, outside, within}
 use Rattle.tx_player.specs.Rules.{Rules}
 use Rattle.tx_worker.specs.declared.worker.Worker.{Worker}
 use Rattle.tx_worker.specs.Accounts.{Account, account_of, stand_of, told}
-use Rattle.tx_worker.specs.Calls.{IsMade, StopsAs, asked}
+use Rattle.tx_worker.specs.Calls.{IsMade, IsShort, StopsAs, asked}
 use Rattle.tx_worker.specs.Positions.{AreFew, AreOver}
 use Rattle.tx_worker.specs.Falls.{Falls}
 use Rattle.tx_worker.specs.Progress.{Course, IsRunning}
@@ -96,6 +96,7 @@ module _ {P : Type 0} where
     pub roomy : HasPlaces old.thread.engine new.ended new.run.current
     pub ended : new.ended.items ≡ old.ended.items
     pub begins : stage_of old.run.current ≡ outside → is_begin call ≡ true
+    pub short : (row : Attempt) → stage_of old.run.current ≡ within row → IsShort old.thread.engine call row
 
 module _ {P : Type 0} (rules : Rules P) where
   pub record IsWorking (words : Words) (c : Course P) (b : Bounds) (w : Worker P) : Type 0 where

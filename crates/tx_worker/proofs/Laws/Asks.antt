@@ -1,5 +1,5 @@
 -- A worker between its player's next call and what comes of it.
-use Rattle.std.proofs.Common.{◌≡◌, ℕ, ◌/◌, Bool, true, false, refl, sym, ap, subst, ◌∙◌, Some, unwrap_or}
+use Rattle.std.proofs.Common.{◌≡◌, ℕ, ◌/◌, Bool, true, false, refl, sym, ap, subst, ◌∙◌, inr, Some, unwrap_or}
 use Rattle.itm_types.specs.Calls.{is_begin}
 use Rattle.itm_types.specs.declared.call.Call.{Call}
 use Rattle.itm_types.specs.declared.call.Call.TheVariants.{Begin}
@@ -85,9 +85,13 @@ module _ {P : Type 0} {rules : Rules P} {words : Words} {c : Course P} {b : Boun
           roomy = subst (λ (x : Worker P). HasPlaces old.thread.engine x.ended x.run.current) (sym is) (places mid.run.current prepared.ready);
           ended = ap (λ (w : Worker P). w.ended.items) is ∙ prepared.ended;
           begins = λ none. by_begin (is_begin call) refl none;
+          short = λ row inside. inr (inr (inr (inr starves)));
         };
       }
     where
+      starves : MayStarve old.thread.engine call
+      starves = subst (λ (t : Standing). MayStarve t.engine call) (ap (λ (w : Worker P). w.thread) same) starved.starves
+
       places : (x : Current) → IsReadyFor old.thread.engine call (unwrap_or (irrevocable_room old.thread.engine call) 0) mid.ended x → HasPlaces old.thread.engine mid.ended x
       places Outside r = tt
       places (Begins o) r = tt
@@ -96,8 +100,7 @@ module _ {P : Type 0} {rules : Rules P} {words : Words} {c : Course P} {b : Boun
       by_begin : (x : Bool) → is_begin call ≡ x → stage_of old.run.current ≡ outside → x ≡ true
       by_begin true i none = refl
       by_begin false i none =
-          absurd (never_starves (start_of old.thread call false) (view_of old.thread.pass) old.thread.engine works.same.stands (shut_is none) i
-          (subst (λ (t : Standing). MayStarve t.engine call) (ap (λ (w : Worker P). w.thread) same) starved.starves))
+          absurd (never_starves (start_of old.thread call false) (view_of old.thread.pass) old.thread.engine works.same.stands (shut_is none) i starves)
 
   -- it was answered
   pub answered : (new : Worker P) (answer : Answer) → new ≡ record mid { thread = new.thread } → IsAnswered words (start_of mid.thread call (again_for mid.run.current mid.run.again call)) answer new.thread.pass new.thread.engine → IsAsked rules words c b old call answer new

@@ -140,6 +140,7 @@ module _ {P : Type 0} {rules : Rules P} {words : Words} {c : Course P} {b : Boun
             call = call;
             asks = k.asks;
             begins = k.unprepared.begins;
+            short = k.unprepared.short;
             pass = ap (λ (t : Standing). t.pass) is ∙ pass_is;
             engine = ap (λ (t : Standing). t.engine) is ∙ engine_is;
             held = λ held. absurd (true≢false (sym held ∙ revocable));
@@ -176,6 +177,7 @@ module _ {P : Type 0} {rules : Rules P} {words : Words} {c : Course P} {b : Boun
           call = call;
           asks = k.asks;
           begins = k.unprepared.begins;
+          short = k.unprepared.short;
           pass = pass_is;
           engine = engine_is;
           held = λ h. refl;
