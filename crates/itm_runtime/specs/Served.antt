@@ -29,12 +29,13 @@ pub record Start : Type 0 where
   pub call : Call
   pub again : Bool
 
--- the view is a later one of the same pass
+-- the view is a later one of the same pass; what is known of the clock does not fall
 pub record Went (old new : View) : Type 0 where
   pub base : new.base ≡ old.base
   pub share : new.share ≡ old.share
   pub grows : StartsWith new.seen old.seen
   pub looks : old.looks ≤ new.looks
+  pub high : old.high ≤ new.high
 
 -- the memory that an engine stands over: in an irrevocable transaction the words as its own stores have left them, else those of its position
 abbrev pub memory_in : Bool → View → View → ℕ → List ℕ

@@ -3,3 +3,4 @@ pub mod CommitCounts
 pub mod Memories
 pub mod SeenMemories
 pub mod LaidWords
+pub mod OutrunConflicts

@@ -1,24 +1,13 @@
 -- Worked cases, computed: the attempts of one counter, and of two whose first try is lost; a block that is cancelled and the next one; the counts of a schedule; which transactions have a room that is kept.
-use Rattle.std.proofs.Common.{◌≡◌, ℕ, zero, suc, ◌-◌, List, [], ◌∷◌, ◌++◌, map, refl, ap, ◌∙◌, false, true, replicate, Option, None, Some, Ok, Err, arith}
-use Rattle.itm_types.specs.declared.access.Width.TheVariants.{U1, U2, U8}
-use Rattle.itm_types.specs.declared.access.ReadHint.TheVariants.{R}
-use Rattle.itm_types.specs.declared.access.WriteHint.TheVariants.{W}
-use Rattle.itm_types.specs.declared.datum.Datum.{Datum}
-use Rattle.norec_world.proofs.Common.{Attempt, Begin, Between, Call, Commit, Done, CallRecord, IsOpaque, IsRunOf, Props, Read, Rules, Write, after, alone, passes_of, takes_clock}
-use Rattle.itm_types.specs.declared.call.Reply.{Reply}
-use Rattle.itm_types.specs.declared.call.Call.TheVariants.{Abort, Load, Log, Mode, Save}
-use Rattle.itm_types.specs.declared.call.Reply.TheVariants.{Bytes, Code, Refused}
+use Rattle.std.proofs.Common.{◌≡◌, ℕ, suc, ◌-◌, List, [], ◌∷◌, ◌++◌, length, map, refl, ap, ◌∙◌, false, true, replicate, Option, None, Some, Ok, Err, arith, slice_get}
+use Rattle.norec_world.proofs.Common.{Abort, AreDated, Attempt, Begin, Between, Call, CallRecord, Code, Commit, Core, Done, Frame, IsDated, IsOpaque, IsRunOf, Log, Mode, Props, Read, Refused, Outcome, Replied as Reply, Rules, Save, Write, after, alone, is_held, opening, passes_of, promised, slice_index_or, takes_clock, wanted}
+use Rattle.norec_world.proofs.Plan.{Plan, next_call, restarted, at_block}
+use Rattle.norec_world.specs.{ActionRoom.counted, PlayerRooms.EndsWithin}
 use Rattle.tx_attempts.specs.declared.attempt.Outcome.TheVariants.{Cancelled, Committed, Conflict, Full, ReadOnly}
-use Rattle.norec_world.specs.declared.fault.WorldFault.TheVariants as faults
+use Rattle.itm_types.specs.declared.{access.ReadHint.TheVariants.R, access.Width.TheVariants.U1, access.Width.TheVariants.U2, access.Width.TheVariants.U8, access.WriteHint.TheVariants.W, call.Call.TheVariants.Load, call.Refusal.TheVariants.Outside, call.Reply.TheVariants.Bytes, datum.Datum.Datum}
 use Rattle.tx_attempts.specs.Attempts.{ByAbort, memory_after}
-use Rattle.norec_world.specs.Dates.{AreDated, IsDated}
-use Rattle.nest_frames.specs.Nest.{Frame}
-use Rattle.norec_core.specs.Core.{Core, opening}
-use Rattle.itm_types.specs.declared.call.Refusal.TheVariants.{Outside}
-use Rattle.norec_world.specs.ActionRoom.{counted, is_held, promised, wanted}
-use Rattle.norec_world.specs.PlayerRooms.{EndsWithin}
 use Rattle.tx_player.specs.Replies.{MayReply}
-use Rattle.norec_world.proofs.Plan.{Plan, next_call, restarted, at_block, calls_left, depth}
+use Rattle.norec_world.specs.declared.fault.WorldFault.TheVariants as faults
 use Rattle.norec_world.proofs.Plan as plans
 
 -- ## A player that adds one to the counter at place 0
@@ -46,50 +35,36 @@ pub record Counter : Type 0 where
   pub step : ℕ
   pub got : ℕ
 
-abbrev pub first_byte : List ℕ → ℕ
-first_byte [] = 0
-first_byte (b ∷ bs) = b
-
+-- at the step with this number, where this byte was read
 abbrev pub call_at : ℕ → ℕ → Option Call
-call_at zero got = Some (Begin plain 3)
-call_at (suc zero) got = Some (Read R U8 0)
-call_at (suc (suc zero)) got = Some (Write W 0 (word (suc got)))
-call_at (suc (suc (suc zero))) got = Some Commit
-call_at (suc (suc (suc (suc n)))) got = None
+call_at step got = slice_get (Begin plain 3 ∷ Read R U8 0 ∷ Write W 0 (word (suc got)) ∷ Commit ∷ []) step
 
 abbrev pub answered : Counter → Reply → Counter
-answered p (Bytes v) = record { step = suc p.step; got = first_byte v.items }
+answered p (Bytes v) = record { step = suc p.step; got = slice_index_or v.items 0 0 }
 answered p r = record { step = suc p.step; got = p.got }
 
-abbrev pub left_at : ℕ → ℕ
-left_at zero = 4
-left_at (suc zero) = 3
-left_at (suc (suc zero)) = 2
-left_at (suc (suc (suc zero))) = 1
-left_at (suc (suc (suc (suc n)))) = 0
+abbrev pub at_step : ℕ → Counter
+at_step n = record { step = n; got = 0 }
 
 abbrev pub counter_rules : Rules Counter
-counter_rules = record {
-  next_call = λ p. call_at p.step p.got;
-  answered = answered;
-  restarted = λ p. record { step = 0; got = 0 };
-  at_block = λ p d. record { step = 1; got = 0 };
-  calls_left = λ p. left_at p.step;
-  depth = λ p. 0;
-}
+counter_rules = record { next_call = λ p. call_at p.step p.got; answered = answered; restarted = λ p. at_step 0; at_block = λ p d. at_step 1; calls_left = λ p. 4 - p.step; depth = λ p. 0 }
 
 abbrev pub fresh : Between Counter
-fresh = record { player = record { step = 0; got = 0 }; arena = []; again = false; tries = 0 }
+fresh = record { player = at_step 0; arena = []; again = false; tries = 0 }
 
 -- ## One counter
 
+-- the attempt of this thread, at this position, with these calls, which ended so
+abbrev pub tried : ℕ → ℕ → ℕ → List ℕ → List CallRecord → Outcome → Attempt
+tried thread nth position arena calls outcome = record { thread = thread; nth = nth; began = position; at = position; props = plain; arena = arena; calls = record { list = calls; room = 0 }; restarts = []; ran = []; outcome = outcome }
+
 abbrev pub counter : Attempt
-counter = record { thread = 0; nth = 1; began = 0; at = 0; props = plain; arena = []; calls = record { list = read 0 ∷ write 1 ∷ commit ∷ []; room = 0 }; restarts = []; ran = []; outcome = Committed }
+counter = tried 0 1 0 [] (read 0 ∷ write 1 ∷ commit ∷ []) Committed
 
 counter_memory : memory_after 1 (replicate 8 0) (counter ∷ []) 1 ≡ 1 ∷ replicate 7 0
 counter_memory = refl
 
-counter_is_opaque : IsOpaque counter_rules 1 (record { step = 1; got = 0 }) counter 1 (replicate 8 0)
+counter_is_opaque : IsOpaque counter_rules 1 (at_step 1) counter 1 (replicate 8 0)
 counter_is_opaque = record { no_older = omega arith; no_newer = omega arith; beginning = ([], refl); whole = λ e. refl; ends = (refl, refl); closed = (read 0 ∷ write 1 ∷ [], refl); ran = refl; again = record { stand = tt; revocable = tt }; full = λ f. absurd (cc) }
 
 counter_run : IsRunOf counter_rules 1 1 (memory_after 1 (replicate 8 0) (counter ∷ [])) (Some fresh) (counter ∷ [])
@@ -98,13 +73,13 @@ counter_run = ((refl, refl, omega arith, counter_is_opaque), tt)
 -- ## The lost update: of two counters the first to begin is the last to commit. Its first try conflicts, and is opaque all the same.
 
 abbrev other : Attempt
-other = record { thread = 1; nth = 1; began = 0; at = 0; props = plain; arena = []; calls = record { list = read 0 ∷ write 1 ∷ commit ∷ []; room = 0 }; restarts = []; ran = []; outcome = Committed }
+other = tried 1 1 0 [] (read 0 ∷ write 1 ∷ commit ∷ []) Committed
 
 abbrev lost : Attempt
-lost = record { thread = 0; nth = 1; began = 0; at = 0; props = plain; arena = []; calls = record { list = read 0 ∷ write 1 ∷ []; room = 0 }; restarts = []; ran = []; outcome = Conflict }
+lost = tried 0 1 0 [] (read 0 ∷ write 1 ∷ []) Conflict
 
 abbrev retried : Attempt
-retried = record { thread = 0; nth = 2; began = 1; at = 1; props = plain; arena = []; calls = record { list = read 1 ∷ write 2 ∷ commit ∷ []; room = 0 }; restarts = []; ran = []; outcome = Committed }
+retried = tried 0 2 1 [] (read 1 ∷ write 2 ∷ commit ∷ []) Committed
 
 abbrev memory : ℕ → List ℕ
 memory = memory_after 1 (replicate 8 0) (other ∷ lost ∷ retried ∷ [])
@@ -115,43 +90,32 @@ lost_update_memory = refl
 abbrev commit_pair : List (Call × Reply)
 commit_pair = (Commit, Done) ∷ []
 
-lost_is_opaque : IsOpaque counter_rules 1 (record { step = 1; got = 0 }) lost 2 (memory 0)
+lost_is_opaque : IsOpaque counter_rules 1 (at_step 1) lost 2 (memory 0)
 lost_is_opaque = record { no_older = omega arith; no_newer = omega arith; beginning = (commit_pair, refl); whole = λ e. absurd (cc); ends = (refl, refl); closed = tt; ran = refl; again = record { stand = tt; revocable = tt }; full = λ f. absurd (cc) }
 
-retried_is_opaque : IsOpaque counter_rules 1 (record { step = 1; got = 0 }) retried 2 (memory 1)
+retried_is_opaque : IsOpaque counter_rules 1 (at_step 1) retried 2 (memory 1)
 retried_is_opaque = record { no_older = omega arith; no_newer = omega arith; beginning = ([], refl); whole = λ e. refl; ends = (refl, refl); closed = (read 1 ∷ write 2 ∷ [], refl); ran = refl; again = record { stand = tt; revocable = tt }; full = λ f. absurd (cc) }
 
 lost_update_run : IsRunOf counter_rules 1 2 memory (Some fresh) (lost ∷ retried ∷ [])
 lost_update_run = ((refl, refl, omega arith, lost_is_opaque), ((refl, refl, omega arith, retried_is_opaque), tt))
 
 -- the other one ended first. Both first tries began before any commit, and the second one with that commit done, as the lost try ended
-other_dated : IsDated 1 [] other
-other_dated = record { later = omega arith; few = omega arith; after = omega arith; by_now = omega arith; at_once = λ e. refl }
-
-lost_dated : IsDated 1 (other ∷ []) lost
-lost_dated = record { later = omega arith; few = omega arith; after = omega arith; by_now = omega arith; at_once = λ e. refl }
-
-retried_dated : IsDated 1 (other ∷ lost ∷ []) retried
-retried_dated = record { later = omega arith; few = omega arith; after = omega arith; by_now = omega arith; at_once = λ e. refl }
-
 lost_update_dated : AreDated 1 [] (other ∷ lost ∷ retried ∷ [])
-lost_update_dated = (other_dated, (lost_dated, (retried_dated, tt)))
+lost_update_dated = (
+  record { later = omega arith; few = omega arith; after = omega arith; by_now = omega arith; at_once = λ e. refl },
+  (
+    record { later = omega arith; few = omega arith; after = omega arith; by_now = omega arith; at_once = λ e. refl },
+    (record { later = omega arith; few = omega arith; after = omega arith; by_now = omega arith; at_once = λ e. refl }, tt),
+  ),
+)
 
--- it cannot have begun before that
-too_soon : IsDated 1 (other ∷ lost ∷ []) (record retried { began = 0 }) → ⊥
-too_soon d = (let l = d.after in absurd (omega arith))
-
--- nor later, with one commit more
-too_late : IsDated 1 (other ∷ lost ∷ other ∷ []) (record retried { began = 2 }) → ⊥
-too_late d = (let e = d.at_once refl in absurd (omega arith))
+-- It cannot have begun before that, nor later, with one commit more; and the lost try counts.
+not_otherwise : (IsDated 1 (other ∷ lost ∷ []) (record retried { began = 0 }) → ⊥) × (IsDated 1 (other ∷ lost ∷ other ∷ []) (record retried { began = 2 }) → ⊥) × (IsDated 1 (other ∷ lost ∷ []) (record retried { nth = 1 }) → ⊥)
+not_otherwise = (λ d. (let l = d.after in absurd (omega arith)), λ d. (let e = d.at_once refl in absurd (omega arith)), λ d. (let l = d.later in absurd (omega arith)))
 
 -- but where a try in between left no attempt
 after_a_try : IsDated 2 (other ∷ lost ∷ other ∷ []) (record retried { nth = 3; began = 2 })
 after_a_try = record { later = omega arith; few = omega arith; after = omega arith; by_now = omega arith; at_once = λ e. absurd (omega (arith, e)) }
-
--- the lost try counts
-not_the_first : IsDated 1 (other ∷ lost ∷ []) (record retried { nth = 1 }) → ⊥
-not_the_first d = (let l = d.later in absurd (omega arith))
 
 -- a commit ends the block, so the next one begins with its first try
 next_block : IsDated 0 (other ∷ []) (record other { began = 1 })
@@ -160,29 +124,24 @@ next_block = record { later = omega arith; few = omega arith; after = omega arit
 -- ## Full: the counter's commit is refused, and full is told of nothing before it
 
 abbrev pub refused : Attempt
-refused = record { thread = 0; nth = 1; began = 0; at = 0; props = plain; arena = []; calls = record { list = read 0 ∷ write 1 ∷ []; room = 0 }; restarts = []; ran = []; outcome = Full }
+refused = tried 0 1 0 [] (read 0 ∷ write 1 ∷ []) Full
 
-refused_is_opaque : IsOpaque counter_rules 1 (record { step = 1; got = 0 }) refused 0 (replicate 8 0)
+refused_is_opaque : IsOpaque counter_rules 1 (at_step 1) refused 0 (replicate 8 0)
 refused_is_opaque = record { no_older = omega arith; no_newer = omega arith; beginning = (commit_pair, refl); whole = λ e. absurd (cc); ends = (refl, refl); closed = tt; ran = refl; again = record { stand = tt; revocable = tt }; full = λ f. record { call = Commit; rest = []; answers_are = refl; revocable = refl; takes = refl } }
 
 -- one that would still write is not full
 abbrev early : Attempt
-early = record { thread = 0; nth = 1; began = 0; at = 0; props = plain; arena = []; calls = record { list = read 0 ∷ []; room = 0 }; restarts = []; ran = []; outcome = Full }
+early = tried 0 1 0 [] (read 0 ∷ []) Full
 
-abbrev second : List (Call × Reply) → Call
-second [] = Commit
-second (x ∷ []) = Commit
-second (x ∷ y ∷ rest) = y.0
-
-too_early : IsOpaque counter_rules 1 (record { step = 1; got = 0 }) early 0 (replicate 8 0) → ⊥
+too_early : IsOpaque counter_rules 1 (at_step 1) early 0 (replicate 8 0) → ⊥
 too_early o =
     let lacks = o.full refl in
-    absurd (let taken : false ≡ true = ap (λ (l : List (Call × Reply)). takes_clock (after 1 (alone 1 (replicate 8 0) early) (second l))) lacks.answers_are ∙ lacks.takes in cc)
+    absurd (let taken : false ≡ true = ap (λ (l : List (Call × Reply)). takes_clock (after 1 (alone 1 (replicate 8 0) early) (slice_index_or l 1 (Commit, Done)).0)) lacks.answers_are ∙ lacks.takes in cc)
 
 -- ## A block that logs a byte of its arena, saves that byte and the next one, writes, and is cancelled with the block in it. The next block begins with the logged byte as it was, and the other one as it was saved.
 
 abbrev pub plan_rules : Rules Plan
-plan_rules = record { next_call = next_call; answered = plans.answered; restarted = restarted; at_block = at_block; calls_left = calls_left; depth = depth }
+plan_rules = record { next_call = next_call; answered = plans.answered; restarted = restarted; at_block = at_block; calls_left = λ p. length p.calls - p.at; depth = λ p. length p.blocks }
 
 abbrev pub begin : Call
 begin = Begin plain 3
@@ -204,13 +163,13 @@ abbrev pub in_block : List CallRecord
 in_block = record { call = Log U1 0; reply = Done } ∷ record { call = begin; reply = Code 5 } ∷ record { call = save; reply = Done } ∷ write 7 ∷ []
 
 abbrev pub cancelled : Attempt
-cancelled = record { thread = 0; nth = 1; began = 0; at = 0; props = plain; arena = two 0 0; calls = record { list = in_block ++ record { call = Abort true; reply = Code 24 } ∷ []; room = 0 }; restarts = []; ran = []; outcome = Cancelled }
+cancelled = tried 0 1 0 (two 0 0) (in_block ++ record { call = Abort true; reply = Code 24 } ∷ []) Cancelled
 
 abbrev pub load : CallRecord
 load = record { call = Load U2 0; reply = Bytes (record { items = two 0 2 }) }
 
 abbrev pub next : Attempt
-next = record { thread = 0; nth = 1; began = 0; at = 0; props = plain; arena = two 0 2; calls = record { list = load ∷ commit ∷ []; room = 0 }; restarts = []; ran = []; outcome = ReadOnly }
+next = tried 0 1 0 (two 0 2) (load ∷ commit ∷ []) ReadOnly
 
 cancelled_is_opaque : IsOpaque plan_rules 2 (planned_to 1) cancelled 0 (replicate 8 0)
 cancelled_is_opaque = record { no_older = omega arith; no_newer = omega arith; beginning = ([], refl); whole = λ e. refl; ends = (refl, refl); closed = (in_block, true, refl); ran = refl; again = record { stand = tt; revocable = tt }; full = λ f. absurd (cc) }
@@ -246,61 +205,36 @@ inside props = record (opening 1 [] 1 1 16 0) { blocks = block props ∷ []; act
 abbrev pub going : Props
 going = record plain { goes_irrevocable = true }
 
-outside_none : is_held (opening 1 [] 1 1 16 0) ≡ false
-outside_none = refl
+abbrev pub unwilling : Props
+unwilling = record plain { no_irrevocable = true }
 
-begin_goes : is_held (record (opening 1 [] 1 1 16 0) { doing = Some (Begin going 3) }) ≡ true
-begin_goes = refl
+-- the engine with this call in progress
+abbrev asked : Core → Call → Core
+asked e call = record e { doing = Some call }
 
-mode_goes : is_held (record (inside plain) { doing = Some (Mode 3) }) ≡ true
-mode_goes = refl
+held_so : (is_held (opening 1 [] 1 1 16 0) ≡ false) × (is_held (asked (opening 1 [] 1 1 16 0) (Begin going 3)) ≡ true) × (is_held (asked (inside plain) (Mode 3)) ≡ true)
+    × (is_held (asked (inside unwilling) (Mode 3)) ≡ false) × (is_held (asked (inside plain) Commit) ≡ false) × (is_held (asked (record (inside plain) { irrevocable = true }) Commit) ≡ true)
+held_so = (refl, refl, refl, refl, refl, refl)
 
-mode_refused : is_held (record (inside (record plain { no_irrevocable = true })) { doing = Some (Mode 3) }) ≡ false
-mode_refused = refl
-
-commit_goes_not : is_held (record (inside plain) { doing = Some Commit }) ≡ false
-commit_goes_not = refl
-
-irrevocable_is : is_held (record (inside plain) { irrevocable = true; doing = Some Commit }) ≡ true
-irrevocable_is = refl
-
--- one action is registered
-counts_one : counted (inside plain) ≡ 1
-counts_one = refl
-
-counts_none : counted (record (inside plain) { blocks = [] }) ≡ 0
-counts_none = refl
+-- one action is registered within a block, and none counts outside
+counted_so : (counted (inside plain) ≡ 1) × (counted (record (inside plain) { blocks = [] }) ≡ 0)
+counted_so = (refl, refl)
 
 -- the room that such a call wants, and what the list may promise: nothing before the transaction is irrevocable
-begin_wants : wanted (record (opening 1 [] 1 1 16 0) { doing = Some (Begin going 3) }) ≡ 3
-begin_wants = refl
+wanted_so : (wanted (asked (opening 1 [] 1 1 16 0) (Begin going 3)) ≡ 3) × (wanted (asked (inside plain) (Mode 3)) ≡ 3) × (wanted (asked (inside unwilling) (Mode 3)) ≡ 0)
+wanted_so = (refl, refl, refl)
 
-mode_wants : wanted (record (inside plain) { doing = Some (Mode 3) }) ≡ 3
-mode_wants = refl
-
-refused_wants_none : wanted (record (inside (record plain { no_irrevocable = true })) { doing = Some (Mode 3) }) ≡ 0
-refused_wants_none = refl
-
-promises_none : promised (record (inside plain) { room = 3 }) ≡ 0
-promises_none = refl
-
-promises_room : promised (record (inside plain) { irrevocable = true; room = 3 }) ≡ 3
-promises_room = refl
+promised_so : (promised (record (inside plain) { room = 3 }) ≡ 0) × (promised (record (inside plain) { irrevocable = true; room = 3 }) ≡ 3)
+promised_so = (refl, refl)
 
 -- ## Players that tell their room: one that has a commit to make, within its block, ends within one call and within no fewer
 
 abbrev ending : Plan
 ending = record { calls = Commit ∷ []; at = 0; blocks = 0 ∷ [] }
 
-ends_in_one : EndsWithin plan_rules 1 ending
-ends_in_one some call reply next may call' next' = absurd (let both : None ≡ Some call' = next' in cc)
-
-not_in_none : EndsWithin plan_rules 0 ending → ⊥
-not_in_none e = absurd (let one : 1 ≡ 0 = e Commit refl in omega arith)
+ends_in_one : EndsWithin plan_rules 1 ending × (EndsWithin plan_rules 0 ending → ⊥)
+ends_in_one = (λ some call reply next may call' next'. absurd (let both : None ≡ Some call' = next' in cc), λ e. absurd (let one : 1 ≡ 0 = e Commit refl in omega arith))
 
 -- a commit within a block is done, and a begin is not
-commit_refused_not : MayReply 1 Commit (Refused Outside) → ⊥
-commit_refused_not may = absurd (let same : Refused Outside ≡ Done = may (omega arith) in cc)
-
-begin_done_not : MayReply 0 (Begin plain 3) Done → ⊥
-begin_done_not may = may
+may_not_reply : (MayReply 1 Commit (Refused Outside) → ⊥) × (MayReply 0 (Begin plain 3) Done → ⊥)
+may_not_reply = (λ may. absurd (let same : Refused Outside ≡ Done = may (omega arith) in cc), λ may. may)

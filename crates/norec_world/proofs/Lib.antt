@@ -1,6 +1,6 @@
+-- What the answers cite, passed on from one place; the lemmas below name each other.
 pub mod Common
 pub mod Plan
-mod PlanLaws
 pub mod Examples
 pub mod Tries
 pub mod Rooms
@@ -8,3 +8,31 @@ pub mod Engines
 pub mod Events
 pub mod Commits
 pub mod Runs
+pub use Rattle.std.proofs.Common.{All, Bool, Err, IsSome, List, None, Option, Result, Some, Vec, [], ap, arith, drop, false, length, refl, replicate, rules, slice_get, slice_index, slice_set, subst, suc, sym, take, true, vec_capacity, ℕ, ◌*◌, ◌++◌, ◌+◌, ◌/◌, ◌<◌, ◌∙◌, ◌≡◌, ◌≤◌}
+pub use Common.*
+pub use Commits.CommitCounts.*
+pub use Engines.Intakes.*
+pub use Engines.PlayerLaws.*
+pub use Engines.SoundSteps.*
+pub use Engines.TiedEngines.*
+pub use Events.EventWorlds.*
+pub use Events.Measures.*
+pub use Events.SoundOthers.*
+pub use Events.WorkChains.*
+pub use Events.WorldEvents.*
+pub use Events.Worlds.*
+pub use Rooms.ActionRoom.*
+pub use Rooms.AskingActors.*
+pub use Rooms.CallRoom.*
+pub use Rooms.LaterActions.*
+pub use Rooms.RecordedRoom.*
+pub use Runs.Calls.*
+pub use Runs.Others.*
+pub use Tries.Dates.*
+pub use Tries.ReadPositions.*
+pub use Tries.Stages.*
+pub use Tries.ThreadAttempts.*
+pub use Tries.ToldTries.*
+pub use Tries.TryCalls.*
+pub use Tries.TryChains.*
+pub use Engines.SoundSteps.{rests}

@@ -1,16 +1,11 @@
 -- A list of calls that are made one after the other, whatever the replies are.
+use Rattle.norec_world.proofs.Common.{Call, Replied as Reply, depth_after}
 use Rattle.std.specs.Prelude.{ℕ, ◌+◌, ◌-◌, min, nat_lt, if◌then◌else◌, List, [], ◌∷◌, ◌++◌, length, take, Option, None, Some, slice_get, slice_index_or}
-use Rattle.itm_types.specs.declared.call.Call.{Call}
-use Rattle.itm_types.specs.declared.call.Reply.{Reply}
-use Rattle.tx_player.specs.Depth.{depth_after}
 
 pub record Plan : Type 0 where
   pub calls : List Call
   pub at : ℕ  -- the next one
   pub blocks : List ℕ  -- where the open blocks began, the outermost first
-
-abbrev pub depth : Plan → ℕ
-depth p = length p.blocks
 
 abbrev pub next_call : Plan → Option Call
 next_call p = slice_get p.calls p.at
@@ -39,6 +34,3 @@ restarted p = restarted_at p p.blocks
 
 abbrev pub at_block : Plan → ℕ → Plan
 at_block p d = moved p (slice_index_or p.blocks (d - 1) 0) (take d p.blocks)
-
-abbrev pub calls_left : Plan → ℕ
-calls_left p = length p.calls - p.at

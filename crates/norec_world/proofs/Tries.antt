@@ -6,8 +6,6 @@ pub mod AnswerEndings
 pub mod ThreadAttempts
 pub mod ToldTries
 pub mod OpenTries
-pub mod TryOutcomes
-pub mod Cancels
 pub mod TryCalls
 pub mod TryChains
 pub mod Dates

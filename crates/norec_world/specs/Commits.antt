@@ -4,6 +4,7 @@ use Rattle.norec_world.specs.declared.actor.Actor.{Actor}
 use Rattle.norec_world.specs.Headline.{AreCounted}
 use Rattle.norec_world.specs.Rows.{AreEnded}
 use Rattle.norec_world.specs.World.{World}
+use Rattle.tx_attempts.specs.Outrun.{AreOutrun}
 
 -- an actor has the limits of its world
 pub record HasLimits {P : Type 0} (w : World P) (a : Actor P) : Type 0 where
@@ -17,6 +18,7 @@ pub record HasLimits {P : Type 0} (w : World P) (a : Actor P) : Type 0 where
 pub record CommitsInOrder {P : Type 0} (w : World P) : Type 0 where
   pub counted : AreCounted w.cells.clock w.attempts.ended
   pub ended : AreEnded w.attempts.ended
+  pub outrun : AreOutrun w.cells.clock w.attempts.ended  -- the clock has moved on from where each conflict had read
   pub few : w.cells.clock ≤ 2 * w.max_commits  -- no more than may
   pub held : w.cells.clock % 2 ≡ 1 → (place : ℕ) × (a : Actor P) × (slice_get w.actors place ≡ Some a) × (a.engine.holds ≡ true)  -- an odd clock is held
   pub free : w.cells.clock % 2 ≡ 0 → (place : ℕ) (a : Actor P) → slice_get w.actors place ≡ Some a → a.engine.holds ≡ false  -- an even one is not

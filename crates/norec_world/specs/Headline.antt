@@ -6,6 +6,7 @@ use Rattle.tx_attempts.specs.Counts.{one_where, count_at, count_committed}
 use Rattle.tx_player.specs.Rules.{Rules}
 use Rattle.norec_world.specs.Dates.{AreDated}
 use Rattle.tx_attempts.specs.Opacity.{Between, IsRunOf}
+use Rattle.tx_attempts.specs.Outrun.{AreOutrun}
 use Rattle.tx_runs.specs.Unbroken.{AreUnbroken}
 
 -- the bytes that the first commits left, each run alone on those that the one before it left, where `deepest` blocks may be open at once
@@ -44,6 +45,7 @@ module _ {P : Type 0} (rules : Rules P) where
         → IsRunOf rules o.depth (o.clock / 2) (bytes_at o.depth o.base o.attempts) (Some (first_of p o.arena)) (of_thread place o.attempts)
     pub threads : AreOfActors (length o.players) o.attempts  -- there are no others
     pub counted : AreCounted o.clock o.attempts  -- the clock counts the commits
+    pub outrun : AreOutrun o.clock o.attempts  -- it has moved on from where each conflict had read
     pub dated : AreDated o.retries [] o.attempts  -- the attempts tell which try each is, and when it began
     pub unbroken : AreUnbroken o.attempts  -- no inner block runs again alone
     pub size : length o.bytes ≡ length o.base

@@ -17,9 +17,9 @@ use Rattle.norec_world.specs.declared.actor.Status.TheVariants.{Ready, Waits, En
 use Rattle.norec_world.specs.Cells.{Cells, found}
 use Rattle.norec_world.specs.Rows.{Rows}
 use Rattle.norec_world.specs.Stages.{active_of, cancels_in, ends_in, pending_of, with_room}
-use Rattle.norec_world.specs.Records.{Asks, TakesTo, Tells, stand_of, told}
+use Rattle.norec_world.specs.Records.{Asks, TakesTo, Tells, told}
 use Rattle.tx_runs.specs.PlayerRuns.{stage_of, tally_of}
-use Rattle.tx_runs.specs.Tallies.{stopped}
+use Rattle.tx_runs.specs.Tallies.{stand_of, stopped}
 use Rattle.tx_player.specs.Rules.{Rules}
 
 -- it is the same actor, and where its player is to be asked, no attempt is to be opened

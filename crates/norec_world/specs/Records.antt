@@ -1,19 +1,17 @@
 -- What the attempts, the player and the counts are once an answer is recorded.
-use Rattle.std.specs.Prelude.{◌≡◌, ℕ, ◌+◌, ◌/◌, Bool, true, false, ◌++◌, Option, None, Some, unwrap_or}
+use Rattle.std.specs.Prelude.{◌≡◌, ℕ, ◌/◌, ◌++◌, Option, None, Some, unwrap_or}
 use Rattle.itm_types.specs.declared.call.Call.{Call}
-use Rattle.itm_types.specs.declared.call.Call.TheVariants.{Begin}
 use Rattle.norec_core.specs.Moves.{IsCalled}
 use Rattle.norec_core.specs.Restarts.{IsRestart}
 use Rattle.norec_core.specs.declared.answer.Answer.{Answer}
 use Rattle.norec_core.specs.declared.answer.Next.{Next}
 use Rattle.norec_core.specs.declared.answer.Next.TheVariants.{Step as Steps, Answer as Answers}
-use Rattle.norec_core.specs.Core.{Core, irrevocable_room, in_transaction}
+use Rattle.norec_core.specs.Core.{irrevocable_room}
 use Rattle.tx_attempts.specs.declared.attempt.Attempt.{Attempt}
-use Rattle.tx_attempts.specs.Kept.{reserved}
 use Rattle.tx_player.specs.Rules.{Rules}
 use Rattle.tx_runs.specs.declared.ending.End.{End}
 use Rattle.tx_runs.specs.PlayerRuns.{stage_of, tally_of}
-use Rattle.tx_runs.specs.Tallies.{Stage, outside, begins, within, Stand, Taken, begun, took_in}
+use Rattle.tx_runs.specs.Tallies.{Taken, begins_again, came, stand_of, took_in}
 use Rattle.norec_world.specs.declared.actor.Actor.{Actor}
 use Rattle.norec_world.specs.declared.actor.Status.{Status}
 use Rattle.norec_world.specs.declared.actor.Status.TheVariants.{Ready, Waits, Ended}
@@ -21,10 +19,6 @@ use Rattle.norec_world.specs.Rows.{Rows}
 use Rattle.norec_world.specs.Stages.{active_of, moved_to}
 
 -- ## An answer
-
--- where the engine stands as it has answered
-abbrev pub stand_of : Core → Stand
-stand_of e = record { is_open = in_transaction e; at = e.snapshot / 2; ran = e.actions.ran }
 
 -- the player's next call may be made, or that was the end
 abbrev pub status_after : Option End → Status
@@ -58,26 +52,9 @@ ReadsAt a = (row : Attempt) → active_of a ≡ Some row → row.at ≡ a.engine
 
 -- ## A call goes to the engine
 
--- an outermost begin is to open an attempt, with room for what it asks for
-abbrev pub begun_by : {P : Type 0} → ℕ → Actor P → Call → Stage
-begun_by clock a (Begin props room) = begins (begun a.run.thread a.run.nth (clock / 2) props a.engine.arena (unwrap_or (irrevocable_room a.engine (Begin props room)) 0))
-begun_by clock a _ = outside
-
--- the stage once the call has come to the engine: within an attempt there is a place for it, and for what it asks for
-abbrev pub asked_stage : {P : Type 0} → ℕ → Actor P → Call → Stage → Stage
-asked_stage clock a call outside = begun_by clock a call
-asked_stage clock a call (begins row) = begins row
-asked_stage clock a call (within row) = within (record row { calls = reserved row.calls (unwrap_or (irrevocable_room a.engine call) 0 + 1) })
-
--- whether the call begins a block that was begun before
-abbrev pub begins_again : Bool → Bool → Call → Bool
-begins_again true again call = false
-begins_again false again (Begin props room) = again
-begins_again false again _ = false
-
 -- the call went to the engine, and nothing is recorded yet
 pub record Asks {P : Type 0} (clock : ℕ) (r r' : Rows) (old new : Actor P) (call : Call) (what : Next) : Type 0 where
-  pub stage : stage_of new.run.current ≡ asked_stage clock old call (stage_of old.run.current)
+  pub stage : stage_of new.run.current ≡ (came old.run.thread (clock / 2) old.engine.arena (unwrap_or (irrevocable_room old.engine call) 0) (tally_of old.run) call).stage
   pub run : new.run ≡ record old.run { current = new.run.current }
   pub ended : r'.ended ≡ r.ended
-  pub called : IsCalled old.engine call (begins_again (in_transaction old.engine) old.run.again call) what new.engine
+  pub called : IsCalled old.engine call (begins_again (stage_of old.run.current) old.run.again call) what new.engine

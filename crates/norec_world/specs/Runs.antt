@@ -9,10 +9,10 @@ use Rattle.tx_attempts.specs.declared.attempt.Attempt.{Attempt}
 use Rattle.tx_runs.specs.declared.ending.End.TheVariants.{GaveUp, NoMemory}
 use Rattle.norec_world.specs.declared.actor.Actor.{Actor}
 use Rattle.tx_attempts.specs.Attempts.{of_thread}
-use Rattle.tx_attempts.specs.Alone.{state_then, player_then, IsAlone}
-use Rattle.tx_attempts.specs.Opacity.{Beginning, Between, begin_code, IsRunOf}
+use Rattle.tx_attempts.specs.Alone.{state_then, IsAlone}
+use Rattle.tx_attempts.specs.Opacity.{Between, begin_code, IsRunOf}
 use Rattle.tx_attempts.specs.Restarts.{breaks_of}
-use Rattle.tx_runs.specs.Runs.{LeadsTo, begins_at, run_after}
+use Rattle.tx_runs.specs.Runs.{IsOfBlock, LeadsTo, begins_at, run_after}
 use Rattle.norec_world.specs.Cells.{Cells}
 use Rattle.norec_world.specs.Records.{ReadsAt}
 use Rattle.norec_world.specs.Rows.{Rows}
@@ -33,19 +33,14 @@ ReadsFrom true position log m = m ≡ position
 module _ {P : Type 0} (rules : Rules P) where
   -- the open attempt: its calls are those of its player alone, over every memory that it may have read; the words of its position are these
   pub record IsInTry (deepest : ℕ) (position : List ℕ) (b : Between P) (row : Attempt) (p : P) (e : Core) : Type 0 where
-    pub start : Beginning P
-    pub begins : begins_at rules deepest b ≡ Some start
-    pub arena : row.arena ≡ start.arena
-    pub props : row.props ≡ start.props
-    pub tries : b.tries < row.nth
+    pub block : IsOfBlock rules deepest b row p
     pub began : row.began ≤ e.snapshot / 2
     pub anew : e.again ≡ false
     pub restarts : row.restarts ≡ []  -- no block of it has run again
     pub ran : row.ran ≡ e.actions.ran
-    pub player : p ≡ player_then rules.answered (rules.answered start.player (begin_code b.again)) row.calls.list
     pub alone : (m : List ℕ) → IsMemory e.words m → ReadsFrom e.irrevocable position e.log m
-        → IsAlone rules deepest (breaks_of row.restarts) (rules.answered start.player (begin_code b.again)) (opened (bytes_of m) start.arena start.props) row.calls.list
-    pub stands : e.irrevocable ≡ false → (m : List ℕ) → IsMemory e.words m → Agrees m e.log → stands_for e m ≡ state_then deepest (breaks_of row.restarts) (opened (bytes_of m) start.arena start.props) row.calls.list
+        → IsAlone rules deepest (breaks_of row.restarts) (rules.answered block.start.player (begin_code b.again)) (opened (bytes_of m) block.start.arena block.start.props) row.calls.list
+    pub stands : e.irrevocable ≡ false → (m : List ℕ) → IsMemory e.words m → Agrees m e.log → stands_for e m ≡ state_then deepest (breaks_of row.restarts) (opened (bytes_of m) block.start.arena block.start.props) row.calls.list
 
   -- before the next one, with so many commits done: the player has come as far as its calls outside a transaction led, and perhaps called its begin
   pub record IsBeforeTry (deepest n : ℕ) (b : Between P) (a : Actor P) : Type 0 where

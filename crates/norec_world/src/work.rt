@@ -20,7 +20,7 @@ impl<P: Player> Actor<P> {
     ghost use Rattle.norec_world.specs.Cells.{Cells};
     ghost use Rattle.norec_world.specs.Status.{is_ready};
     ghost use Rattle.norec_world.specs.Stages.{KeepsOthers, count_of};
-    ghost use Rattle.norec_world.specs.Records.{Asks, TakesTo, stand_of};
+    ghost use Rattle.norec_world.specs.Records.{Asks, TakesTo};
     ghost use Rattle.norec_core.specs.Proceeds.{IsSettled};
     ghost use Rattle.norec_core.specs.Undoing.{after_undoing};
     ghost use Rattle.itm_types.specs.Calls.{is_begin};
@@ -29,7 +29,7 @@ impl<P: Player> Actor<P> {
     ghost use Rattle.norec_world.specs.ActionRoom.{MayRunOn, IsActing, IsRefused, MayRun};
     ghost use Rattle.norec_world.specs.Sound.{IsTied, IsKept, IsReady, IsSound, IsAsked, IsUnasked, MayRecord, WritesDown, Falls};
     ghost use Rattle.tx_runs.specs.PlayerRuns.{tally_of};
-    ghost use Rattle.tx_runs.specs.Tallies.{stopped};
+    ghost use Rattle.tx_runs.specs.Tallies.{stand_of, stopped};
 
     /// Calls are made until one waits for a step or the actor has ended.
     #[inline(always)]

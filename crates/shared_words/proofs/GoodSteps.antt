@@ -89,6 +89,7 @@ module _ (cells : List ℕ) (views : List View) (g : Good cells views) where
       grows = mine_fits.begins;
       counts = omega arith;
       late = (let l = mine_fits.late in omega arith);
+      high = (let l = mine_fits.high in omega arith);
       fit = g.log_fits;
       stands = λ even same. subst (λ (b : List ℕ). Stand (after b g.log) v.fresh) (sym (mine_fits.base_is alive)) (mine_fits.stands (same ∙ found) (ap (λ (n : ℕ). n % 2) (sym found) ∙ even));
     }
@@ -108,6 +109,7 @@ module _ (cells : List ℕ) (views : List View) (g : Good cells views) where
         begins = starts_self g.log;
         shorter = told_now;
         late = omega arith;
+        high = omega arith;
         long = omega arith;
         stands = λ _ _. tt;
         positions = places;
@@ -128,6 +130,7 @@ module _ (cells : List ℕ) (views : List View) (g : Good cells views) where
           begins = mine_fits.begins;
           shorter = mine_fits.shorter;
           late = mine_fits.late;
+          high = mine_fits.high;
           long = mine_fits.long;
           stands = λ same even. (let one = g.one in let none : holders views ≡ 0 = omega arith in
               let is' : n ≡ get_or (after g.base g.log) k 0 = is ∙ ap (λ (p : List (ℕ × ℕ)). get_or (stored (after g.base g.log) p) k 0) (g.settled none) in
@@ -145,6 +148,7 @@ module _ (cells : List ℕ) (views : List View) (g : Good cells views) where
       begins = mine_fits.begins;
       shorter = mine_fits.shorter;
       late = mine_fits.late;
+      high = mine_fits.high;
       long = mine_fits.long;
       stands = mine_fits.stands;
       positions = mine_fits.positions;
@@ -197,6 +201,7 @@ module _ (cells : List ℕ) (views : List View) (g : Good cells views) where
                   begins = starts_self g.log;
                   shorter = told_now;
                   late = omega arith;
+                  high = omega arith;
                   long = omega arith;
                   stands = λ _ _. tt;
                   positions = places;
@@ -204,11 +209,12 @@ module _ (cells : List ℕ) (views : List View) (g : Good cells views) where
                   met = subst (λ (p : List (ℕ × ℕ)). AllMet g.base (g.log ++ p ∷ []) v.met) (g.settled none) mine_fits.met;
                   spent = λ z. absurd (omega arith);
                 }
-                (λ j u other e. (let f = g.each j u e in let late = f.late in record {
+                (λ j u other e. (let f = g.each j u e in let late = f.late in let high = f.high in record {
                   base_is = f.base_is;
                   begins = f.begins;
                   shorter = f.shorter;
                   late = omega arith;
+                  high = omega arith;
                   long = f.long;
                   stands = λ same ev. absurd (omega arith);
                   positions = f.positions;
@@ -255,6 +261,7 @@ module _ (cells : List ℕ) (views : List View) (g : Good cells views) where
                 begins = mine_fits.begins;
                 shorter = mine_fits.shorter;
                 late = mine_fits.late;
+                high = mine_fits.high;
                 long = mine_fits.long;
                 stands = mine_fits.stands;
                 positions = mine_fits.positions;
@@ -267,6 +274,7 @@ module _ (cells : List ℕ) (views : List View) (g : Good cells views) where
                 begins = o.begins;
                 shorter = o.shorter;
                 late = o.late;
+                high = o.high;
                 long = o.long;
                 stands = o.stands;
                 positions = o.positions;
@@ -281,6 +289,10 @@ module _ (cells : List ℕ) (views : List View) (g : Good cells views) where
           log_fits = g.log_fits;
           pending_fits = stores_snoc g.pending k x g.pending_fits small;
         }
+
+    -- it has seen no clock past its own
+    pub frees_later : v.holds ≡ true → v.high ≤ v.clock + 2
+    frees_later h = let at_clock = (mine_fits.holding h).2 in let one = g.one in let high = mine_fits.high in omega arith
 
     -- the holder frees the clock, and its stores become the next commit
     pub frees : (st : Step) → v.holds ≡ true → Good (set cells 0 (v.clock + 2)) (set views id (freed v st (v.clock + 2)))
@@ -319,6 +331,7 @@ module _ (cells : List ℕ) (views : List View) (g : Good cells views) where
                 begins = ([], sym new ∙ sym (append-nil w.seen));
                 shorter = starts_longer v.seen v.shorter (v.done ∷ []) mine_fits.shorter;
                 late = le_refl (v.clock + 2);
+                high = le_refl (v.clock + 2);
                 long = omega arith;
                 stands = λ _ _. tt;
                 positions = λ p l. dite (ℕ_discrete (length g.log) p) (λ (is : length g.log ≡ p). (let r : p < length w.seen = omega arith in r))
@@ -329,11 +342,12 @@ module _ (cells : List ℕ) (views : List View) (g : Good cells views) where
                 met = all_grows g.base log' (log' ++ [] ∷ []) v.met (grows_commit log' []) mine_fits.met;
                 spent = λ z. absurd (let no : v.holds ≡ false = (mine_fits.spent z).0 in cc);
               }
-              (λ j u other e. (let o = g.each j u e in let late = o.late in record {
+              (λ j u other e. (let o = g.each j u e in let late = o.late in let high = o.high in record {
                 base_is = o.base_is;
                 begins = starts_longer g.log u.seen (g.pending ∷ []) o.begins;
                 shorter = o.shorter;
                 late = omega arith;
+                high = omega arith;
                 long = o.long;
                 stands = λ same ev. absurd (omega arith);
                 positions = o.positions;

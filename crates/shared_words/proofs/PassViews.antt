@@ -25,6 +25,7 @@ only m zero u e = subst (λ (x : View). Fits m [] [] 0 x) (some-injective (openi
   begins = ([], refl);
   shorter = ([], refl);
   late = omega arith;
+  high = omega arith;
   long = omega arith;
   stands = λ _ _. tt;
   positions = λ p l. absurd (omega arith);
@@ -82,6 +83,7 @@ module _ (cells : List ℕ) (views : List View) (g : Good cells views) (id : ℕ
         begins = f.begins;
         shorter = f.shorter;
         late = f.late;
+        high = f.high;
         long = f.long;
         stands = f.stands;
         positions = f.positions;
@@ -94,6 +96,7 @@ module _ (cells : List ℕ) (views : List View) (g : Good cells views) (id : ℕ
         begins = f.begins;
         shorter = (v.seen, refl);
         late = f.late;
+        high = f.high;
         long = f.long;
         stands = λ _ _. tt;
         positions = λ p l. absurd (omega arith);
@@ -204,6 +207,7 @@ module _ (cells : List ℕ) (views : List View) (g : Good cells views) (id : ℕ
           begins = t.0;
           shorter = t.1;
           late = f.late;
+          high = (let a = f.high in let b = f'.high in omega arith);
           long = (let l = f.long in let m = t.2 in omega arith);
           stands = f.stands;
           positions = λ p l. (let q = sum p in let a = t.2 in let b = t.3 in dite (ℕ_discrete (times p v.mine) 0)
@@ -218,6 +222,7 @@ module _ (cells : List ℕ) (views : List View) (g : Good cells views) (id : ℕ
           begins = (g.log, refl);
           shorter = ([], refl);
           late = omega arith;
+          high = omega arith;
           long = omega arith;
           stands = λ _ _. tt;
           positions = λ p l. absurd (omega arith);
@@ -262,6 +267,7 @@ ends_of cells views g id v at all idle clock words is =
     let both : clock ∷ words ≡ 2 * length v.seen ∷ after v.base v.seen = is ∙ t.0 in
     record {
       clock_is = cc;
+      high = (let h = (g.each id v at).high in let first : clock ≡ clock_of g.log views = (let c = is ∙ g.cells_are in cc) in omega arith);
       words_are = cc;
       met = closes_met cells views g id v at all idle;
       mine = t.1;
@@ -270,7 +276,7 @@ ends_of cells views g id v at all idle clock words is =
 
 -- what the view knows of them that holds the clock
 pub held_of : (cells : List ℕ) (views : List View) → Good cells views → (id : ℕ) (v : View) → get_elem? views id ≡ some v → v.holds ≡ true
-    → (clock : ℕ) (words : List ℕ) → clock ∷ words ≡ cells → (clock ≡ 2 * length v.seen + 1) × (words ≡ held v)
+    → (clock : ℕ) (words : List ℕ) → clock ∷ words ≡ cells → (clock ≡ 2 * length v.seen + 1) × (words ≡ held v) × (v.high ≤ clock)
 held_of cells views g id v at holds clock words is =
     let f : Fits g.base g.log g.pending (clock_of g.log views) v = g.each id v at in
     let h = f.holding holds in
@@ -285,7 +291,8 @@ held_of cells views g id v at holds clock words is =
     let all : clock ∷ words ≡ clock_of g.log views ∷ stored (after g.base g.log) g.pending = is ∙ g.cells_are in
     let first : clock ≡ clock_of g.log views = cc in
     let rest : words ≡ stored (after g.base g.log) g.pending = cc in
-    (omega arith, (cc))
+    let high = f.high in
+    (omega arith, (cc), omega arith)
 
 one_of : (v u : View) (b : Bool) → StartsWith (longer b v.seen u.seen) (longer b u.seen v.seen)
     → (StartsWith v.seen u.seen × (longer b v.seen u.seen ≡ v.seen)) ⊎ (StartsWith u.seen v.seen × (longer b v.seen u.seen ≡ u.seen))
@@ -304,6 +311,7 @@ joined v u s once = record {
       z);
   base = refl;
   clock = refl;
+  high = refl;
   fresh = refl;
   met = refl;
   holds = refl;

@@ -1,5 +1,5 @@
 -- One lawful step: the cells and the views stay good, and only the view of the seat that steps changes.
-use Rattle.std.proofs.Common.{◌≡◌, ℕ, eqb, zero, suc, ◌+◌, ◌<◌, ◌≢◌, Bool, true, false, cond, List, get_or, set, sym, refl, ap, ◌∙◌, subst, arith, eq-eqb, ne_eqb}
+use Rattle.std.proofs.Common.{◌≡◌, ℕ, eqb, zero, suc, ◌+◌, ◌<◌, ◌≤◌, ◌≢◌, Bool, true, false, cond, List, get_or, set, sym, refl, ap, ◌∙◌, subst, arith, eq-eqb, ne_eqb}
 use mathlib.Core.Option.{some}
 use mathlib.Core.Logic.{dite}
 use native.Mathlib.Decide.{ℕ_discrete}
@@ -10,7 +10,7 @@ use Rattle.itm_types.specs.declared.step.Step.TheVariants.{Load, Store, Cas}
 use Rattle.shared_words.specs.Views.{read, noted, wrote, freed}
 use Rattle.shared_words.specs.Steps.{Loaded, Lawful, StepTells, ValueFits, finds, cells_after}
 use Rattle.shared_words.specs.Good.{Good}
-use Rattle.shared_words.proofs.GoodSteps.{looks, takes, writes, frees, held_word}
+use Rattle.shared_words.proofs.GoodSteps.{looks, takes, writes, frees, frees_later, held_word}
 use Rattle.shared_words.proofs.GoodSteps as keep
 
 module _ (cells : List ℕ) (views : List View) (g : Good cells views) (id : ℕ) (v : View) (at : get_elem? views id ≡ some v) (alive : 0 < v.share) where
@@ -42,7 +42,7 @@ module _ (cells : List ℕ) (views : List View) (g : Good cells views) (id : ℕ
   turns (Store zero x) can small = (
     freed v (Store 0 x) x,
     subst (λ (n : ℕ). Good (set cells 0 n) (set views id (freed v (Store 0 x) n))) (sym (can.1 refl)) (frees cells views g id v at (Store 0 x) can.0),
-    (λ _. refl, λ k e. absurd (omega arith)),
+    (λ _. (refl, subst (λ (n : ℕ). v.high ≤ n) (sym (can.1 refl)) (frees_later cells views g id v at can.0)), λ k e. absurd (omega arith)),
     refl,
   )
   turns (Store (suc k) x) can small = (

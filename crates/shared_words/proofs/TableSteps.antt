@@ -60,7 +60,7 @@ load_holds v w zero n t = ap (λ (u : View). u.holds) (t.0 refl).0
 load_holds v w (suc k) n t = (let l : Loaded v (Load (suc k)) k n w = t.1 k (omega arith) in load_one v w (Load (suc k)) k n l v.holds refl)
 
 pub free_holds : (v w : View) (x n : ℕ) → StepTells v (Store 0 x) n w → w.holds ≡ false
-free_holds v w x n t = ap (λ (u : View). u.holds) (t.0 refl)
+free_holds v w x n t = ap (λ (u : View). u.holds) (t.0 refl).0
 
 pub store_holds : (v w : View) (c x n : ℕ) → c ≢ 0 → StepTells v (Store c x) n w → w.holds ≡ v.holds
 store_holds v w zero x n away t = absurd (away refl)

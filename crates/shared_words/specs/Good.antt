@@ -13,6 +13,7 @@ pub record Fits (base : List ℕ) (log : List (List (ℕ × ℕ))) (pending : Li
   pub begins : StartsWith log v.seen
   pub shorter : StartsWith v.seen v.shorter
   pub late : v.clock ≤ clock
+  pub high : v.high ≤ clock
   pub long : v.clock / 2 ≤ length v.seen
   pub stands : v.clock ≡ clock → clock % 2 ≡ 0 → Stand (after base log) v.fresh
   pub positions : (p : ℕ) → 0 < times p v.mine → p < length v.seen
@@ -40,9 +41,10 @@ pub record Good (cells : List ℕ) (views : List View) : Type 0 where
   pub log_fits : CommitsFit log
   pub pending_fits : StoresFit pending
 
--- the only view that is left has seen all commits, the cells are what they left, each word that was loaded had its value at some moment of them, and all positions are its own
+-- the only view that is left has seen all commits, the clock is no earlier than any that was seen, the cells are what they left, each word that was loaded had its value at some moment of them, and all positions are its own
 pub record Ends (v : View) (clock : ℕ) (words : List ℕ) : Type 0 where
   pub clock_is : clock ≡ 2 * length v.seen
+  pub high : v.high ≤ clock
   pub words_are : words ≡ after v.base v.seen
   pub met : AllMet v.base (v.seen ++ [] ∷ []) v.met
   pub mine : (p : ℕ) → p < length v.seen → times p v.mine ≡ 1
@@ -51,12 +53,14 @@ pub record Ends (v : View) (clock : ℕ) (words : List ℕ) : Type 0 where
 -- the same, as bytes
 pub record EndsWith (v : View) (clock : ℕ) (bytes : List ℕ) : Type 0 where
   pub clock_is : clock ≡ 2 * length v.seen
+  pub high : v.high ≤ clock
   pub bytes_are : bytes ≡ bytes_of (after v.base v.seen)
   pub met : AllMet v.base (v.seen ++ [] ∷ []) v.met
   pub mine : (p : ℕ) → p < length v.seen → times p v.mine ≡ 1
   pub no_other : (p : ℕ) → length v.seen ≤ p → times p v.mine ≡ 0
 
--- the view holds the clock, and the bytes are what its stores so far have left
+-- the view holds the clock, which is no earlier than any that was seen, and the bytes are what its stores so far have left
 pub record EndsHeld (v : View) (clock : ℕ) (bytes : List ℕ) : Type 0 where
   pub clock_is : clock ≡ 2 * length v.seen + 1
+  pub high : v.high ≤ clock
   pub bytes_are : bytes ≡ bytes_of (held v)

@@ -1,26 +1,26 @@
 -- What changes in a view at each kind of step, as it is split, and as two are joined.
-use Rattle.std.specs.Prelude.{ℕ, ◌+◌, ◌-◌, ◌/◌, ltb, Bool, true, false, cond, List, [], ◌∷◌, ◌++◌, length, count_by, sum_by, ◌==◌}
+use Rattle.std.specs.Prelude.{ℕ, ◌+◌, ◌-◌, ◌/◌, max, ltb, Bool, true, false, cond, List, [], ◌∷◌, ◌++◌, length, count_by, sum_by, ◌==◌}
 use Rattle.itm_types.specs.declared.step.Step.{Step}
 use Rattle.shared_words.specs.Commits.{stored, after}
 use Rattle.shared_words.specs.declared.view.View.{View}
 
 -- a view of words that nobody has written yet, and the only one
 abbrev pub opening : List ℕ → View
-opening m = record { base = m; seen = []; shorter = []; mine = []; clock = 0; fresh = []; met = []; holds = false; done = []; steps = []; looks = 0; share = 128 }
+opening m = record { base = m; seen = []; shorter = []; mine = []; high = 0; clock = 0; fresh = []; met = []; holds = false; done = []; steps = []; looks = 0; share = 128 }
 
 -- a view that gave all it had to another
 abbrev pub spent : View
-spent = record { base = []; seen = []; shorter = []; mine = []; clock = 0; fresh = []; met = []; holds = false; done = []; steps = []; looks = 0; share = 0 }
+spent = record { base = []; seen = []; shorter = []; mine = []; high = 0; clock = 0; fresh = []; met = []; holds = false; done = []; steps = []; looks = 0; share = 0 }
 
 -- ## What each step leaves; each is noted, with what it found
 
 -- the clock was loaded, n was found, and h are the commits so far
 abbrev pub looked : View → Step → List (List (ℕ × ℕ)) → ℕ → View
-looked v st h n = record v { seen = h; clock = n; fresh = []; steps = v.steps ++ (st, n) ∷ []; looks = v.looks + 1 }
+looked v st h n = record v { seen = h; high = n; clock = n; fresh = []; steps = v.steps ++ (st, n) ∷ []; looks = v.looks + 1 }
 
 -- the clock was taken at s
 abbrev pub took : View → Step → List (List (ℕ × ℕ)) → ℕ → View
-took v st h s = record v { seen = h; clock = s; fresh = []; holds = true; done = []; steps = v.steps ++ (st, s) ∷ []; looks = v.looks + 1 }
+took v st h s = record v { seen = h; high = s; clock = s; fresh = []; holds = true; done = []; steps = v.steps ++ (st, s) ∷ []; looks = v.looks + 1 }
 
 -- a word was loaded by one that does not hold the clock
 abbrev pub read : View → Step → ℕ → ℕ → View
@@ -36,7 +36,7 @@ wrote v st k n = record v { done = v.done ++ (k, n) ∷ []; steps = v.steps ++ (
 
 -- the clock was freed with n
 abbrev pub freed : View → Step → ℕ → View
-freed v st n = record v { seen = v.seen ++ v.done ∷ []; mine = v.mine ++ v.clock / 2 ∷ []; clock = n; fresh = []; holds = false; done = []; steps = v.steps ++ (st, 0) ∷ [] }
+freed v st n = record v { seen = v.seen ++ v.done ∷ []; mine = v.mine ++ v.clock / 2 ∷ []; high = n; clock = n; fresh = []; holds = false; done = []; steps = v.steps ++ (st, 0) ∷ [] }
 
 -- ## What else is said of a view
 
@@ -62,6 +62,7 @@ both v w = record v {
   seen = longer (ltb (length v.seen) (length w.seen)) v.seen w.seen;
   shorter = longer (ltb (length v.seen) (length w.seen)) w.seen v.seen;
   mine = v.mine ++ w.mine;
+  high = max v.high w.high;
   met = v.met ++ w.met;
   share = v.share + w.share;
 }

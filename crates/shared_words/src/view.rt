@@ -13,6 +13,8 @@ pub struct View {
     pub shorter: LinkedList<LinkedList<(u64, u64)>>,
     /// The positions of its own commits.
     pub mine: LinkedList<u64>,
+    /// The latest clock that it has seen, or a view that was joined to it.
+    pub high: u64,
     /// The clock as it saw it last.
     pub clock: u64,
     /// The words that it has loaded since, with their values.

@@ -1,4 +1,4 @@
--- An attempt within which a block ran again, worked by computation.
+-- An attempt within which a block ran again, and attempts in conflict, worked by computation.
 use Rattle.std.proofs.Common.{◌≡◌, ℕ, suc, ◌-◌, false, true, List, [], ◌∷◌, ◌++◌, take, refl, subst, arith}
 use Rattle.std.specs.Prelude.{slice_get}
 use Rattle.itm_types.specs.declared.access.Width.TheVariants.{U1, U8}
@@ -16,10 +16,12 @@ use Rattle.tx_player.specs.Rules.{Rules}
 use Rattle.tx_attempts.specs.declared.attempt.Again.{Again}
 use Rattle.tx_attempts.specs.declared.attempt.Attempt.{Attempt}
 use Rattle.tx_attempts.specs.declared.attempt.CallRecord.{CallRecord}
-use Rattle.tx_attempts.specs.declared.attempt.Outcome.TheVariants.{ReadOnly}
+use Rattle.tx_attempts.specs.declared.attempt.Outcome.TheVariants.{Conflict, ReadOnly}
 use Rattle.tx_attempts.specs.Attempts.{alone, calls_of, replies_of}
 use Rattle.tx_attempts.specs.Restarts.{AreAgain, IsInnerBegin, breaks_of, open_in, with_again}
 use Rattle.tx_attempts.specs.Opacity.{EndsAs, IsOpaque, ran_of}
+use Rattle.tx_attempts.specs.Outrun.{AreOutrun}
+use Rattle.tx_attempts.proofs.LaterClocks.{outrun_more, outrun_none}
 
 abbrev pub plain : Props
 plain = record { no_abort = false; no_irrevocable = false; goes_irrevocable = false }
@@ -174,3 +176,20 @@ no_begin h =
 -- and its arena is a whole one
 short_arena : AreAgain 2 0 again.calls.list (record { kept = 2; arena = 9 ∷ []; undone = [] } ∷ []) → ⊥
 short_arena h = (let size = h.0.arena in omega arith)
+
+-- ## Conflicts and the clock
+
+-- in conflict at position 2, and a try with no conflict at position 9
+abbrev lost : Attempt
+lost = record (attempt []) { at = 2; outcome = Conflict }
+
+abbrev unharmed : Attempt
+unharmed = record (attempt []) { at = 9 }
+
+-- the clock was odd: somebody held it
+outrun_held : AreOutrun 5 (lost ∷ unharmed ∷ [])
+outrun_held = outrun_more 5 (lost ∷ []) unharmed (outrun_more 5 [] lost (outrun_none 5) (λ e. omega arith)) (λ e. absurd (cc))
+
+-- it had not moved
+not_outrun : AreOutrun 4 (lost ∷ []) → ⊥
+not_outrun all = let past = all 0 lost (omega arith) refl in omega arith

@@ -12,8 +12,8 @@ use Rattle.tx_attempts.specs.declared.attempt.Outcome.TheVariants as outcomes
 use Rattle.tx_player.specs.Rules.{Rules}
 use Rattle.tx_runs.specs.declared.ending.End.{End}
 use Rattle.tx_runs.specs.declared.ending.End.TheVariants.{Finished, GaveUp, NoMemory}
-use Rattle.tx_runs.specs.Tallies.{Stage, Stand, Taken, Tally, begins, outside, over_as, replied, sent_back, took_in, tried, went_on, within}
-use Rattle.tx_worker.specs.Accounts.{Account, stand_of}
+use Rattle.tx_runs.specs.Tallies.{Stage, Stand, Taken, Tally, begins, outside, over_as, replied, sent_back, took_in, tried, went_on, within, stand_of}
+use Rattle.tx_worker.specs.Accounts.{Account}
 use Rattle.tx_worker.specs.Calls.{StopsAs, asked}
 use Rattle.tx_host.specs.Rows.{EndsWhere, IsLast}
 

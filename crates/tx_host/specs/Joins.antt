@@ -4,6 +4,7 @@ use Rattle.shared_words.specs.declared.view.View.{View}
 use Rattle.shared_words.specs.declared.words.Words.{Words}
 use Rattle.script_program.specs.Listing.{Listing, threads_of}
 use Rattle.tx_attempts.specs.declared.attempt.Attempt.{Attempt}
+use Rattle.tx_attempts.specs.Outrun.{AreOutrun}
 use Rattle.tx_runs.specs.declared.ending.End.{End}
 use Rattle.tx_worker.specs.Positions.{AreFew, AreLeft, bytes_at, positions}
 use Rattle.tx_worker.specs.Works.{AreHeld}
@@ -23,13 +24,14 @@ abbrev pub ends_in : List Done → List End
 ends_in [] = []
 ends_in (d ∷ ds) = d.end ∷ ends_in ds
 
--- what the worker with this number did, by the commits that this view has seen; none of its attempts holds the clock
+-- what the worker with this number did, by the commits that this view has seen, and the clock; none of its attempts holds the clock
 pub record Did (words : Words) (p : Listing) (shuts : Bool) (v : View) (number : ℕ) (d : Done) : Type 0 where
   pub course : IsCourse p (length v.seen) (bytes_at v) number (code_of p number) d.end d.attempts
   pub row : WasRun words p v.base shuts number d.end d.attempts
   pub left : AreLeft p.limits.depth v d.attempts
   pub few : AreFew p.limits.max_commits d.attempts
   pub held : AreHeld p.limits.depth v false d.attempts
+  pub outrun : AreOutrun v.high d.attempts
 
 -- n workers' passes were joined to a pass with the view `start`, and are in `now`
 pub record Joins (words : Words) (start : View) (p : Listing) (shuts : Bool) (n : ℕ) (now : View) (all : List Done) : Type 0 where

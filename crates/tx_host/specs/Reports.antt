@@ -7,6 +7,7 @@ use Rattle.script_program.specs.Listing.{Listing, opening_of, threads_of}
 use Rattle.tx_attempts.specs.declared.attempt.Attempt.{Attempt}
 use Rattle.tx_attempts.specs.Attempts.{of_thread}
 use Rattle.tx_attempts.specs.Counts.{count_at, count_committed, one_where}
+use Rattle.tx_attempts.specs.Outrun.{AreOutrun}
 use Rattle.tx_history.specs.Legal.{IsLegal, memory_at}
 use Rattle.tx_runs.specs.declared.ending.End.{End}
 use Rattle.tx_host.specs.declared.report.Report.{Report}
@@ -37,5 +38,6 @@ pub record Ran (shuts : Bool) (p : Listing) (r : Report) : Type 0 where
   pub counted : (position : ℕ) → count_at position r.history.attempts ≡ one_where (nat_lt position (commits_of r))  -- each position below their number is that of one commit
   pub few : commits_of r ≤ p.limits.max_commits  -- no more than the program lets there be
   pub clock : r.history.clock ≡ 2 * commits_of r
+  pub outrun : AreOutrun r.history.clock r.history.attempts  -- the clock has moved on from where each conflict had read
   pub bytes : r.history.bytes ≡ memory_at r.history (commits_of r)
   pub legal : IsLegal r.history  -- the history is legal, by the plain machine alone

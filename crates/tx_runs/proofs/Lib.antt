@@ -1,3 +1,6 @@
+pub mod EngineStates
+pub mod EngineDepths
+pub mod ClockCalls
 pub mod RunLists
 pub mod Tries
 pub mod Begins
@@ -8,3 +11,8 @@ pub mod OpenBegins
 pub mod OpenCalls
 pub mod OpenRooms
 pub mod TookIn
+pub mod OutermostBegins
+pub mod EngineReplies
+pub mod IrrevocableCalls
+pub mod GivenUp
+pub mod StepCalls

@@ -13,13 +13,14 @@ use Rattle.itm_model.specs.State.{State}
 use Rattle.tx_player.specs.Rules.{Obeys, Rules}
 use Rattle.tx_attempts.specs.Alone.{IsAlone, player_then, state_then}
 use Rattle.tx_attempts.specs.Attempts.{ClosedBy, alone, pair_of}
-use Rattle.tx_attempts.specs.Opacity.{AreRestarts, Beginning, Between, EndsAs, IsTryAt, LacksClock, begin_code, ran_of, takes_clock}
+use Rattle.tx_attempts.specs.Opacity.{AreRestarts, Beginning, Between, EndsAs, IsTryAt, LacksClock, after_try, begin_code, follows, ran_of, takes_clock}
 use Rattle.tx_attempts.specs.declared.attempt.Attempt.{Attempt}
 use Rattle.tx_attempts.specs.declared.attempt.CallRecord.{CallRecord}
 use Rattle.tx_attempts.specs.declared.attempt.Outcome.{Outcome}
 use Rattle.tx_attempts.specs.declared.attempt.Outcome.TheVariants as outcomes
 use Rattle.tx_attempts.specs.Restarts.{breaks_of}
-use Rattle.tx_attempts.proofs.AloneCalls.{alone_snoc, begins_alone, breaks_after, gets_none}
+use Rattle.tx_attempts.proofs.AloneCalls.{alone_snoc, begins_alone, breaks_after, gets_none, player_snoc}
+use Rattle.tx_attempts.specs.Kept.{grown}
 use Rattle.tx_attempts.proofs.RunsAgain.{again_more, all_more, state_more}
 use Rattle.tx_runs.specs.Outcomes.{is_done}
 use Rattle.tx_runs.specs.Runs.{IsOfBlock}
@@ -28,6 +29,10 @@ use Rattle.tx_runs.specs.Runs.{IsOfBlock}
 pub begin_call : (call : Call) → is_begin call ≡ true → (props : Props) × (room : ℕ) × (call ≡ Begin props room)
 begin_call (Begin props room) e = (props, room, refl)
 begin_call call e = absurd (cc)
+
+pub no_begin : (call : Call) → ((props : Props) (room : ℕ) → call ≡ Begin props room → ⊥) → is_begin call ≡ false
+no_begin (Begin props room) not = absurd (not props room refl)
+no_begin call not = refl
 
 -- one whose block has not ended
 pub not_closed : (outcome : Outcome) → is_done outcome ≡ false → (calls : List CallRecord) → ClosedBy outcome calls
@@ -38,6 +43,33 @@ not_closed outcomes.Conflict e calls = tt
 not_closed outcomes.Full e calls = tt
 not_closed outcomes.NoMemory e calls = tt
 not_closed outcomes.Unfinished e calls = tt
+
+-- after one whose block has ended the player goes on where its calls led
+pub follows_done : {P : Type 0} (rules : Rules P) (deepest : ℕ) (outcome : Outcome) → is_done outcome ≡ true → (p : P) (a : Attempt) (s : State) → follows rules deepest outcome p a s ≡ Some (record { player = player_then rules.answered p a.calls.list; arena = s.arena; again = false; tries = 0 })
+follows_done rules deepest outcomes.Committed done p a s = refl
+follows_done rules deepest outcomes.ReadOnly done p a s = refl
+follows_done rules deepest outcomes.Cancelled done p a s = refl
+follows_done rules deepest outcome done p a s = absurd (cc)
+
+-- a commit is a writer's or not
+pub by_wrote : (Q : Outcome → Type 0) (wrote : Bool) → (wrote ≡ true → Q outcomes.Committed) → (wrote ≡ false → Q outcomes.ReadOnly) → Q (if wrote then outcomes.Committed else outcomes.ReadOnly)
+by_wrote Q true writer reader = writer refl
+by_wrote Q false writer reader = reader refl
+
+-- with other room for its calls, elsewhere, an attempt is of the same block
+abbrev pub block_with : {P : Type 0} {rules : Rules P} {deepest : ℕ} {b : Between P} {row : Attempt} {p : P} (at room : ℕ) → IsOfBlock rules deepest b row p → IsOfBlock rules deepest b (record row { at = at; calls = record row.calls { room = room } }) p
+block_with at room t = record { start = t.start; begins = t.begins; arena = t.arena; props = t.props; tries = t.tries; player = t.player }
+
+-- and with one call more
+abbrev pub block_more : {P : Type 0} {rules : Rules P} {deepest : ℕ} {b : Between P} {row : Attempt} {p : P} (x : CallRecord) (ran : List Ran) → IsOfBlock rules deepest b row p → IsOfBlock rules deepest b (record row { calls = grown row.calls x; ran = ran }) (rules.answered p x.reply)
+block_more {rules = rules} {b = b} {row = row} x ran t = record {
+  start = t.start;
+  begins = t.begins;
+  arena = t.arena;
+  props = t.props;
+  tries = t.tries;
+  player = ap (λ q. rules.answered q x.reply) t.player ∙ sym (player_snoc rules.answered (rules.answered t.start.player (begin_code b.again)) row.calls.list x);
+}
 
 -- over these bytes its calls are made alone, and lead to an open block
 pub record IsMadeAlone {P : Type 0} (rules : Rules P) (deepest : ℕ) (b : Between P) (start : Beginning P) (row : Attempt) (memory : List ℕ) : Type 0 where
@@ -182,6 +214,15 @@ module _ {P : Type 0} {rules : Rules P} (laws : Obeys rules) (deepest : ℕ) whe
           → alone deepest memory (record row { calls = record { list = row.calls.list ++ record { call = call; reply = r } ∷ []; room = room }; at = at; ran = ran; outcome = outcome })
           ≡ after deepest (state_then deepest (breaks_of row.restarts) (opened memory t.start.arena t.start.props) row.calls.list) call
       closing_left room at outcome ran = (λ i. state_then deepest (breaks_of row.restarts) (opened memory (t.arena i) (t.props i)) (row.calls.list ++ last ∷ [])) ∙ closing_state
+
+      -- the player goes on from there
+      pub closing_after : (room at : ℕ) (outcome : Outcome) (ran : List Ran) (memories : ℕ → List ℕ) → memories at ≡ memory → is_done outcome ≡ true
+          → after_try rules deepest memories b (Some t.start) (record row { calls = record { list = row.calls.list ++ record { call = call; reply = r } ∷ []; room = room }; at = at; ran = ran; outcome = outcome })
+          ≡ Some (record { player = rules.answered p r; arena = (after deepest (state_then deepest (breaks_of row.restarts) (opened memory t.start.arena t.start.props) row.calls.list) call).arena; again = false; tries = 0 })
+      closing_after room at outcome ran memories here done =
+          let over : Attempt = record row { calls = record { list = row.calls.list ++ last ∷ []; room = room }; at = at; ran = ran; outcome = outcome } in
+          let player : player_then rules.answered by (row.calls.list ++ last ∷ []) ≡ rules.answered p r = player_snoc rules.answered by row.calls.list last ∙ ap (λ q. rules.answered q r) (sym t.player) in
+          follows_done rules deepest outcome done by over _ ∙ (λ i. Some (record { player = player i; arena = (ap (λ (s : State). s.arena) (ap (λ (bytes : List ℕ). alone deepest bytes over) here ∙ closing_left room at outcome ran)) i; again = false; tries = 0 }))
 
       -- it takes the clock, which is refused as full
       pub lacks_clock : (state_then deepest (breaks_of row.restarts) (opened memory t.start.arena t.start.props) row.calls.list).irrevocable ≡ false → takes_clock (after deepest (state_then deepest (breaks_of row.restarts) (opened memory t.start.arena t.start.props) row.calls.list) call) ≡ true

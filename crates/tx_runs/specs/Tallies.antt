@@ -1,11 +1,12 @@
 -- What an answer makes of a player among the tries of its blocks.
-use Rattle.std.specs.Prelude.{ℕ, ◌+◌, Bool, true, false, nat_lt, if◌then◌else◌, List, [], ◌∷◌, Option, None, Some}
+use Rattle.std.specs.Prelude.{ℕ, ◌+◌, ◌/◌, Bool, true, false, nat_lt, if◌then◌else◌, List, [], ◌∷◌, Option, None, Some}
 use Rattle.itm_types.specs.declared.call.Call.{Call}
 use Rattle.itm_types.specs.declared.call.Call.TheVariants.{Begin}
 use Rattle.itm_types.specs.declared.call.Props.{Props}
 use Rattle.itm_types.specs.declared.call.Ran.{Ran}
 use Rattle.itm_types.specs.declared.call.Reply.{Reply as Replied}
 use Rattle.itm_types.specs.declared.call.Reply.TheVariants.{Done}
+use Rattle.norec_core.specs.Core.{Core, in_transaction}
 use Rattle.norec_core.specs.declared.answer.Answer.{Answer}
 use Rattle.norec_core.specs.declared.answer.Answer.TheVariants.{Reply, Committed, Conflict, Restarted, Busy, Full}
 use Rattle.tx_attempts.specs.declared.attempt.Attempt.{Attempt}
@@ -34,6 +35,9 @@ pub record Stand : Type 0 where
   pub is_open : Bool
   pub at : ℕ
   pub ran : List Ran
+
+abbrev pub stand_of : Core → Stand
+stand_of e = record { is_open = in_transaction e; at = e.snapshot / 2; ran = e.actions.ran }
 
 -- what comes of an answer: how the player goes on, the attempt that is over, if one is, and the end, if it is one
 pub record Taken (P : Type 0) : Type 0 where
@@ -124,7 +128,7 @@ sent_back rules outside p = p
 sent_back rules (begins row) p = p
 sent_back rules (within row) p = rules.restarted p
 
--- of a call's answer, where a block may be tried again so often
+-- of a call's answer, where a block may be tried again so often. `Restarted` stands as a call that leaves the tally, since neither worlds nor threads let an inner block go back to its begin alone yet
 abbrev pub took_in : {P : Type 0} → Rules P → ℕ → Tally P → Call → Answer → Stand → Taken P
 took_in rules retries t call (Reply reply) s = replied t.stage (record t { player = rules.answered t.player reply }) call reply s
 took_in rules retries t call (Committed at wrote) s = closed (record t { player = rules.answered t.player Done; stage = stage_with call Done t.stage }) (if wrote then outcomes.Committed else outcomes.ReadOnly) s

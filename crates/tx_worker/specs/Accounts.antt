@@ -1,6 +1,5 @@
 -- How far a player has come on its thread.
-use Rattle.std.specs.Prelude.{ℕ, ◌/◌, Bool, false, List, [], ◌++◌}
-use Rattle.norec_core.specs.Core.{Core, in_transaction}
+use Rattle.std.specs.Prelude.{ℕ, Bool, false, List, [], ◌++◌}
 use Rattle.tx_attempts.specs.declared.attempt.Attempt.{Attempt}
 use Rattle.tx_attempts.specs.declared.attempt.Outcome.TheVariants.{Unfinished}
 use Rattle.tx_runs.specs.PlayerRuns.{stage_of}
@@ -14,10 +13,6 @@ pub record Account (P : Type 0) : Type 0 where
   pub again : Bool
   pub stage : Stage
   pub ended : List Attempt
-
--- where an engine stands between two calls
-abbrev pub stand_of : Core → Stand
-stand_of e = record { is_open = in_transaction e; at = e.snapshot / 2; ran = e.actions.ran }
 
 module _ {P : Type 0} where
   abbrev pub tally_in : Account P → Tally P

@@ -14,8 +14,8 @@ use Rattle.tx_attempts.specs.declared.attempt.Outcome.TheVariants as outcomes
 use Rattle.tx_player.specs.Rules.{Rules}
 use Rattle.tx_runs.specs.declared.ending.End.{End}
 use Rattle.tx_runs.specs.declared.ending.End.TheVariants.{Finished, GaveUp, NoMemory}
-use Rattle.tx_runs.specs.Tallies.{outside, within, Tally, begins_again, came, over_as, took_in}
-use Rattle.tx_worker.specs.Accounts.{Account, account_after, stand_of, tally_in}
+use Rattle.tx_runs.specs.Tallies.{outside, within, Tally, begins_again, came, over_as, took_in, stand_of}
+use Rattle.tx_worker.specs.Accounts.{Account, account_after, tally_in}
 
 -- within a block memory is wanted for the call with its reply where there is no room left for them, for the actions that it leaves, for the room that it asks for, or by the call for itself
 abbrev pub IsShort : Core → Call → Attempt → Type 0

@@ -11,6 +11,7 @@ use Rattle.itm_runtime.specs.Served.{Went}
 use Rattle.tx_attempts.specs.declared.attempt.Attempt.{Attempt}
 use Rattle.tx_attempts.specs.Alone.{state_then, IsAlone}
 use Rattle.tx_attempts.specs.Opacity.{Between, begin_code, IsRunOf}
+use Rattle.tx_attempts.specs.Outrun.{AreOutrun}
 use Rattle.tx_attempts.specs.Restarts.{breaks_of}
 use Rattle.tx_player.specs.Rules.{Rules}
 use Rattle.tx_runs.specs.Nesting.{IsNested}
@@ -69,6 +70,7 @@ module _ {P : Type 0} (rules : Rules P) where
     pub known : known_after c.known ended ≤ length v.seen
     pub own : AreOwn c.number (c.retries + 1) ended
     pub unbroken : AreUnbroken ended  -- no inner block runs again alone
+    pub outrun : AreOutrun v.high ended  -- the clock was seen past where each that ended in a conflict had read
 
   -- where the run stands after them
   abbrev pub now_at : Course P → View → List Attempt → Option (Between P)

@@ -20,10 +20,10 @@ use Rattle.tx_runs.specs.declared.player_run.Current.{Current}
 use Rattle.tx_runs.specs.declared.player_run.Current.TheVariants.{Outside, Begins, Within}
 use Rattle.tx_runs.specs.OpenAttempts.{HasPlacesFor}
 use Rattle.tx_runs.specs.PlayerRuns.{MayStop, MayTell, stage_of, tally_of}
-use Rattle.tx_runs.specs.Tallies.{begins_again, outside, within}
+use Rattle.tx_runs.specs.Tallies.{begins_again, outside, within, stand_of}
 use Rattle.tx_player.specs.Rules.{Rules}
 use Rattle.tx_worker.specs.declared.worker.Worker.{Worker}
-use Rattle.tx_worker.specs.Accounts.{Account, account_of, stand_of, told}
+use Rattle.tx_worker.specs.Accounts.{Account, account_of, told}
 use Rattle.tx_worker.specs.Calls.{IsMade, IsShort, StopsAs, asked}
 use Rattle.tx_worker.specs.Positions.{AreFew, AreOver}
 use Rattle.tx_worker.specs.Falls.{Falls}

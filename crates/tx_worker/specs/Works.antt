@@ -16,7 +16,8 @@ use Rattle.tx_runs.specs.declared.ending.End.TheVariants.{Finished, GaveUp, NoMe
 use Rattle.tx_runs.specs.Runs.{begins_at}
 use Rattle.tx_player.specs.Rules.{Rules}
 use Rattle.tx_worker.specs.declared.worked.Worked.{Worked}
-use Rattle.tx_worker.specs.Accounts.{Account, first_account, stand_of, told}
+use Rattle.tx_runs.specs.Tallies.{stand_of}
+use Rattle.tx_worker.specs.Accounts.{Account, first_account, told}
 use Rattle.tx_worker.specs.Calls.{HasMade, StopsAs}
 use Rattle.tx_worker.specs.Positions.{AreFew, bytes_at, positions}
 use Rattle.tx_worker.specs.Progress.{Course, HasRun, now_at}

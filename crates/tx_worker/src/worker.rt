@@ -7,8 +7,8 @@ ghost use Rattle.shared_words.specs.declared.words.Words.{Words as WordsValue};
 ghost use Rattle.itm_runtime.specs.CallResults.{Returns};
 ghost use Rattle.tx_runs.specs.OpenAttempts.{Open};
 ghost use Rattle.tx_runs.specs.PlayerRuns.{MayStop, MayTell};
-ghost use Rattle.tx_runs.specs.Tallies.{begun};
-ghost use Rattle.tx_worker.specs.Accounts.{account_of, stand_of, told};
+ghost use Rattle.tx_runs.specs.Tallies.{begun, stand_of};
+ghost use Rattle.tx_worker.specs.Accounts.{account_of, told};
 ghost use Rattle.tx_worker.specs.Workers.{Bounds, IsPrepared, IsUnprepared, again_for};
 ghost use Rattle.tx_worker.specs.Works.{Parts};
 

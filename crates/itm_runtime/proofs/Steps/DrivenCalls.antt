@@ -58,7 +58,7 @@ noted_step v w n (Load (suc word)) h = by_holds v.holds refl
     by_holds true is = ap (λ (x : View). x.steps) (told.1 is).0
     by_holds false is = ap (λ (x : View). x.steps) (told.0 is)
 noted_step v w n (Store zero value) h =
-    ap (λ (x : View). x.steps) (h.turn.0 refl) ∙ ap (λ (m : ℕ). v.steps ++ (Store 0 value, m) ∷ []) (sym h.moves.finds_it)
+    ap (λ (x : View). x.steps) (h.turn.0 refl).0 ∙ ap (λ (m : ℕ). v.steps ++ (Store 0 value, m) ∷ []) (sym h.moves.finds_it)
 noted_step v w n (Store (suc word) value) h =
     ap (λ (x : View). x.steps) (h.turn.1 word (let x : suc word ≡ word + 1 = omega arith in x))
     ∙ ap (λ (m : ℕ). v.steps ++ (Store (suc word) value, m) ∷ []) (sym h.moves.finds_it)

@@ -48,12 +48,13 @@ module _ (s : Start) (v : View) (e : Core) (step : Step) (i : InCall s v e step)
     pub taken : mid.holds ≡ true → mid.irrevocable ≡ false → s.view.looks < w.looks
     pub opened : in_transaction e ≡ false → in_transaction new ≡ true → Follows w mid
     pub stepped : length w.steps ≡ length v.steps + 1
+    pub high : v.high ≤ w.high
 
   made : (w : View) (mid : Core) → w.base ≡ v.base → w.share ≡ v.share → Seen w.seen w.looks → IsOver (suc e.words) w → IsHanded e mid → Differs w mid → IsMid s w mid new
   made w mid base_is share_is k o h d = record {
     over = subst (λ (c : ℕ). IsOver (suc c) w) (sym h.keeps.words) o;
     kept = keeps_twice _ e mid i.kept h.keeps;
-    went = went_on s v e step i n new joins settled w base_is share_is k;
+    went = went_on s v e step i n new joins settled w base_is share_is k d.high;
     behind = d.behind;
     known = d.known;
     rises = (let a = i.rises in let b = d.rises in omega arith);
@@ -121,6 +122,7 @@ module _ (s : Start) (v : View) (e : Core) (step : Step) (i : InCall s v e step)
         taken = λ x y. absurd (both e.holds x free);
         opened = λ x y. record { clock = refl; count = c.counts };
         stepped = length-append v.steps _;
+        high = c.high;
       })
 
   -- ## The clock is taken, or not
@@ -160,6 +162,7 @@ module _ (s : Start) (v : View) (e : Core) (step : Step) (i : InCall s v e step)
           taken = λ x y. absurd (cc);
           opened = λ x y. record { clock = refl; count = c.counts };
           stepped = length-append v.steps _;
+          high = c.high;
         })
 
     taken : n ≡ from → (h : Log) → IsOver (suc e.words) (took v (Cas cell from to) h from) → Sees v from h → IsHanded e (Left true) → IsMid s (took v (Cas cell from to) h from) (Left true) new
@@ -182,6 +185,7 @@ module _ (s : Start) (v : View) (e : Core) (step : Step) (i : InCall s v e step)
           taken = λ x y. (let r : s.view.looks < v.looks + 1 = omega arith in r);
           opened = λ x y. record { clock = sym hit; count = count };
           stepped = length-append v.steps _;
+          high = c.high;
         })
 
     by_exchange : (w : View) → IsOver (suc e.words) w → StepTells v (Cas cell from to) n w → (b : Bool) → (n == from) ≡ b → IsHanded e (Left b) → IsMid s w (Left b) new
@@ -210,6 +214,7 @@ module _ (s : Start) (v : View) (e : Core) (step : Step) (i : InCall s v e step)
         let inside = lawful.0 in
         made (read v (Load (suc word)) word n) _ refl refl same_seen o handed (record {
           stepped = length-append v.steps _;
+          high = (let r : v.high ≤ v.high = omega arith in r);
           opened = open_before is_open (read v (Load (suc word)) word n) (word_loaded e false word n);
           behind = t.behind;
           known = t.known;
@@ -228,6 +233,7 @@ module _ (s : Start) (v : View) (e : Core) (step : Step) (i : InCall s v e step)
     by_holder o holds there handed =
         made (noted v (Load (suc word)) n) _ refl refl same_seen o handed (record {
           stepped = length-append v.steps _;
+          high = (let r : v.high ≤ v.high = omega arith in r);
           opened = open_before is_open (noted v (Load (suc word)) n) (word_loaded e true word n);
           behind = t.behind;
           known = t.known;
@@ -285,6 +291,7 @@ module _ (s : Start) (v : View) (e : Core) (step : Step) (i : InCall s v e step)
         let is_open : in_transaction e ≡ true = (t.settled.holder lawful.1).0 in
         let there : IsMid s x mid new = made x mid refl refl still_seen (subst (IsOver (suc e.words)) is_wrote o) (handed_is e (Store (suc word) value) n) (record {
           stepped = length-append v.steps _;
+          high = (let r : v.high ≤ v.high = omega arith in r);
           opened = open_before is_open x mid;
           behind = t.behind;
           known = t.known;
@@ -310,8 +317,8 @@ module _ (s : Start) (v : View) (e : Core) (step : Step) (i : InCall s v e step)
     freed_seen = looks_not s v e step i n new joins settled is_load
         (λ f g x. (let y : Store 0 value ≡ Cas 0 f g = sym is ∙ x in absurd (cc))) (v.seen ++ v.done ∷ []) (v.done ∷ [], refl)
 
-    by_free : (w : View) → IsOver (suc e.words) w → w ≡ freed v (Store 0 value) value → IsMid s w (handed_to e (Some (Store 0 value)) n) new
-    by_free w o is_freed =
+    by_free : (w : View) → IsOver (suc e.words) w → w ≡ freed v (Store 0 value) value → v.high ≤ value → IsMid s w (handed_to e (Some (Store 0 value)) n) new
+    by_free w o is_freed late =
         let x : View = freed v (Store 0 value) value in
         let mid : Core = handed_to e (Some (Store 0 value)) n in
         let is_open : in_transaction e ≡ true = (t.settled.holder lawful.1).0 in
@@ -325,6 +332,7 @@ module _ (s : Start) (v : View) (e : Core) (step : Step) (i : InCall s v e step)
         let long : length (v.seen ++ v.done ∷ []) ≡ value / 2 = omega (arith, length-append v.seen (v.done ∷ [])) in
         let there : IsMid s x mid new = made x mid refl refl freed_seen (subst (IsOver (suc e.words)) is_freed o) (handed_is e (Store 0 value) n) (record {
           stepped = length-append v.steps _;
+          high = late;
           opened = open_before is_open x mid;
           behind = (let r : value ≤ value = omega arith in r);
           known = (let r : value / 2 ≤ length (v.seen ++ v.done ∷ []) = omega arith in r);
@@ -358,7 +366,7 @@ module _ (s : Start) (v : View) (e : Core) (n : ℕ) (new : Core) (joins : Joins
       let free : e.holds ≡ false = i.lawful.1 in
       subst (λ (x : View). IsMid s x (handed_to e (Some (Load 0)) n) new) (sym at_clock.0) (by_look s v e (Load 0) i n new joins settled asks w.seen (subst (IsOver (suc e.words)) at_clock.0 o) at_clock.1 free)
   hands (Load (suc word)) i u = by_word s v e (Load (suc word)) i n new joins settled asks word i.lawful refl w o (u.1 word (let x : suc word ≡ word + 1 = omega arith in x)) e.holds refl (handed_is e (Load (suc word)) n)
-  hands (Store zero value) i u = by_free s v e (Store 0 value) i n new joins settled asks value i.lawful refl w o (u.0 refl)
+  hands (Store zero value) i u = by_free s v e (Store 0 value) i n new joins settled asks value i.lawful refl w o (u.0 refl).0 (u.0 refl).1
   hands (Store (suc word) value) i u = by_store s v e (Store (suc word) value) i n new joins settled asks word value i.lawful refl w o (u.1 word (let x : suc word ≡ word + 1 = omega arith in x))
   hands (Cas cell from to) i u = by_exchange s v e (Cas cell from to) i n new joins settled asks cell from to i.lawful refl w o u (n == from) refl (handed_is e (Cas cell from to) n)
 

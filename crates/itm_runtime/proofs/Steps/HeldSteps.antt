@@ -51,7 +51,7 @@ module _ (s : Start) (v : View) (e : Core) (n : ℕ) (w : View) (holds : e.holds
   words_then : (step : Step) → InCall s v e step → StepTells v step n w → memory_after (Some step) (held v) ≡ held w
   words_then (Load zero) i u = absurd (both e.holds holds i.lawful.1)
   words_then (Load (suc word)) i u = ap held (sym ((u.1 word (add_one word)).1 (i.tied.holds ∙ holds)).0)
-  words_then (Store zero value) i u = sym (after_snoc v.base v.seen v.done) ∙ ap held (sym (u.0 refl))
+  words_then (Store zero value) i u = sym (after_snoc v.base v.seen v.done) ∙ ap held (sym (u.0 refl).0)
   words_then (Store (suc word) value) i u = sym (stored_snoc (after v.base v.seen) v.done (word, value)) ∙ ap held (sym (u.1 word (add_one word)))
   words_then (Cas cell from to) i u = absurd (both e.holds holds i.lawful.1)
 

@@ -107,7 +107,7 @@ module _ (v : View) (e new : Core) (call : Call) (again : Bool) (t : Stands v e)
       record {
         over = t.over;
         kept = keeps_self (came e call again);
-        went = record { base = refl; share = refl; grows = starts_self v.seen; looks = le };
+        went = record { base = refl; share = refl; grows = starts_self v.seen; looks = le; high = (let r : v.high ≤ v.high = omega arith in r) };
         behind = t.behind;
         known = t.known;
         rises = (let r : e.clock ≤ e.clock = omega arith in r);

@@ -139,12 +139,13 @@ module _ (s : Start) (v : View) (e : Core) (step : Step) (i : InCall s v e step)
 
   -- what all next views and engines have in common
   module _ (w : View) (base_is : w.base ≡ v.base) (share_is : w.share ≡ v.share) (k : Looks w.seen w.looks) where
-    pub went_on : Went s.view w
-    went_on = let a = i.went.looks in let b = k.on in record {
+    pub went_on : v.high ≤ w.high → Went s.view w
+    went_on late = let a = i.went.looks in let b = k.on in let c = i.went.high in record {
       base = base_is ∙ i.went.base;
       share = share_is ∙ i.went.share;
       grows = starts_trans w.seen v.seen s.view.seen k.grows i.went.grows;
       looks = omega arith;
+      high = omega arith;
     }
 
     pub logged_on : in_transaction new ≡ true → Agrees (memory_of w (new.snapshot / 2)) new.log

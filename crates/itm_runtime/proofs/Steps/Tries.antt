@@ -40,7 +40,7 @@ looks_on v w n (steps.Load (suc word)) u = by_holds v.holds refl
     by_holds : (b : Bool) → v.holds ≡ b → v.looks ≤ w.looks
     by_holds true h = let is : w.looks ≡ v.looks = ap (λ (x : View). x.looks) ((u.1 word (let x : suc word ≡ word + 1 = omega arith in x)).1 h).0 in omega arith
     by_holds false h = let is : w.looks ≡ v.looks = ap (λ (x : View). x.looks) ((u.1 word (let x : suc word ≡ word + 1 = omega arith in x)).0 h) in omega arith
-looks_on v w n (Store zero value) u = let is : w.looks ≡ v.looks = ap (λ (x : View). x.looks) (u.0 refl) in omega arith
+looks_on v w n (Store zero value) u = let is : w.looks ≡ v.looks = ap (λ (x : View). x.looks) (u.0 refl).0 in omega arith
 looks_on v w n (Store (suc word) value) u = let is : w.looks ≡ v.looks = ap (λ (x : View). x.looks) (u.1 word (let x : suc word ≡ word + 1 = omega arith in x)) in omega arith
 looks_on v w n (Cas cell from to) u = dite (ℕ_discrete n from)
     (λ (hit : n ≡ from). (let is : w.looks ≡ v.looks + 1 = ap (λ (x : View). x.looks) (u.0 hit).0 in let r : v.looks ≤ w.looks = omega arith in r))

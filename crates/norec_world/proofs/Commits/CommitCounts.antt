@@ -1,11 +1,13 @@
 -- The commits stay in order over an event.
-use Rattle.std.proofs.Common.{◌≡◌, inl, inr, ℕ, ◌+◌, ◌*◌, ◌/◌, ◌%◌, ◌≤◌, ◌==◌, ◌&&◌, Bool, true, false, nat_lt, List, [], ◌∷◌, ◌++◌, Some, slice_get, slice_set, refl, sym, ap, subst, ◌∙◌, arith, eq-eqb, lt-ltb}
-use Rattle.std.proofs.lemmas.Bool.{cases_order}
-use Rattle.norec_world.proofs.Common.{Actor, AreActors, AreCounted, AreUnfinished, Attempt, Cells, CommitsInOrder, EndsAt, IsEvent, IsFirst, Outcome, Prior, Rows, Rules, Tries, World, begins, between, both_ways, count_at, count_committed, false_from_ne_true, is_at, is_committed, le-ltb, ne_eqb, one_where, outrun, over, prior_of, runs, shut_out, turned_away}
-use Rattle.tx_attempts.specs.declared.attempt.Outcome.TheVariants as outcomes
-use Rattle.norec_world.specs.Commits.{HasLimits}
-use Rattle.norec_world.specs.Rows.{AreEnded}
+use Rattle.std.proofs.Common.{◌≡◌, inl, inr, ℕ, ◌+◌, ◌*◌, ◌/◌, ◌%◌, ◌≤◌, ◌==◌, ◌&&◌, Bool, true, false, nat_lt, List, [], ◌∷◌, ◌++◌, Some, slice_get, slice_set, refl, sym, ap, subst, ◌∙◌, arith}
+use Rattle.norec_world.proofs.Common.{Actor, AreActors, AreCounted, AreUnfinished, Attempt, Cells, CommitsInOrder, EndsAt, IsEvent, IsFirst, Outcome, Prior, Rows, Rules, Tries, World, begins, between, both_ways, count_at, count_committed, false_from_ne_true, is_at, is_committed, le-ltb, one_where, outrun, over, prior_of, runs, shut_out, turned_away}
+use Rattle.norec_world.proofs.Commits.OutrunConflicts.{outrun_after}
 use Rattle.norec_world.proofs.Events.SoundOthers.{held_after, held_apart, odd_or_even, one_after, set_place}
+use Rattle.norec_world.specs.{Commits.HasLimits, Rows.AreEnded}
+use Rattle.std.proofs.lemmas.Bool.Decides.{nat_tests}
+use Rattle.tx_attempts.proofs.LaterClocks.{outrun_none}
+use Rattle.tx_attempts.specs.Outrun.{AreOutrun}
+use Rattle.tx_attempts.specs.declared.attempt.Outcome.TheVariants as outcomes
 
 -- ## Counts
 
@@ -28,18 +30,11 @@ open_committed [] u = refl
 open_committed (x ∷ xs) u = (let e = open_committed xs u.1 in let none : one_where (is_committed x.outcome) ≡ 0 = ap (λ (o : Outcome). one_where (is_committed o)) u.0 in omega arith)
 
 pub counted_both : (clock : ℕ) (xs ys : List Attempt) → AreUnfinished ys → AreCounted clock xs → AreCounted clock (xs ++ ys)
-counted_both clock xs ys u c = record {
-  all = omega (arith, count_committed_both xs ys, open_committed ys u, c.all);
-  each = λ position. omega (arith, count_at_both position xs ys, open_at position ys u, c.each position);
-}
+counted_both clock xs ys u c = record { all = omega (arith, count_committed_both xs ys, open_committed ys u, c.all); each = λ position. omega (arith, count_at_both position xs ys, open_at position ys u, c.each position) }
 
 -- the clock of one more commit
 below_more : (position n : ℕ) → one_where (nat_lt position (n + 1)) ≡ one_where (nat_lt position n) + one_where (n == position)
-below_more position n = elim (cases_order position n) [
-  | inl same ↦ omega (arith, ap one_where (lt-ltb position (n + 1) (omega arith)), ap one_where (le-ltb position n (omega arith)), ap one_where (eq-eqb n position (sym same)))
-  | inr (inl l) ↦ omega (arith, ap one_where (lt-ltb position (n + 1) (omega arith)), ap one_where (lt-ltb position n l), ap one_where (ne_eqb n position (λ same. omega arith)))
-  | inr (inr l) ↦ omega (arith, ap one_where (le-ltb position (n + 1) (omega arith)), ap one_where (le-ltb position n (omega arith)), ap one_where (ne_eqb n position (λ same. omega arith)))
-]
+below_more position n = grind (arith, nat_tests)
 
 counted_same : (clock clock' : ℕ) (xs ys : List Attempt) → ys ≡ xs → clock' / 2 ≡ clock / 2 → AreCounted clock xs → AreCounted clock' ys
 counted_same clock clock' xs ys same half c = record {
@@ -50,25 +45,22 @@ counted_same clock clock' xs ys same half c = record {
 -- one that did not commit is not counted
 counted_other : (clock clock' : ℕ) (xs ys : List Attempt) (a : Attempt) → is_committed a.outcome ≡ false → ys ≡ xs ++ a ∷ [] → clock' / 2 ≡ clock / 2 → AreCounted clock xs → AreCounted clock' ys
 counted_other clock clock' xs ys a other is half c = record {
-  all = (let more = ap count_committed is ∙ count_committed_both xs (a ∷ []) in let none : one_where (is_committed a.outcome) ≡ 0 = ap one_where other in let all = c.all in omega arith);
+  all = (let none = ap one_where other in omega (arith, ap count_committed is ∙ count_committed_both xs (a ∷ []), c.all));
   each = λ position.
-      (let none : one_where (is_at position a) ≡ 0 = ap (λ (b : Bool). one_where (b && (a.at == position))) other in
+      (let none = ap (λ (b : Bool). one_where (b && (a.at == position))) other in
       omega (arith, ap (count_at position) is ∙ count_at_both position xs (a ∷ []), c.each position, ap (λ (n : ℕ). one_where (nat_lt position n)) half));
 }
 
 -- one that did is
 counted_one : (clock clock' : ℕ) (xs ys : List Attempt) (a : Attempt) → is_committed a.outcome ≡ true → ys ≡ xs ++ a ∷ [] → clock ≡ 2 * a.at + 1 → clock' ≡ 2 * a.at + 2 → AreCounted clock xs → AreCounted clock' ys
-counted_one clock clock' xs ys a one is before now c =
-    let was : clock / 2 ≡ a.at = omega arith in
-    let half : clock' / 2 ≡ a.at + 1 = omega arith in
-    record {
-      all = (let more = ap count_committed is ∙ count_committed_both xs (a ∷ []) in let some : one_where (is_committed a.outcome) ≡ 1 = ap one_where one in let all = c.all in omega arith);
-      each = λ position.
-          (let some : one_where (is_at position a) ≡ one_where (a.at == position) = ap (λ (b : Bool). one_where (b && (a.at == position))) one in
-          let below_was : one_where (nat_lt position (clock / 2)) ≡ one_where (nat_lt position a.at) = ap (λ (n : ℕ). one_where (nat_lt position n)) was in
-          let below : one_where (nat_lt position (clock' / 2)) ≡ one_where (nat_lt position (a.at + 1)) = ap (λ (n : ℕ). one_where (nat_lt position n)) half in
-          omega (arith, ap (count_at position) is ∙ count_at_both position xs (a ∷ []), c.each position, below_more position a.at));
-    }
+counted_one clock clock' xs ys a one is before now c = record {
+  all = (let some = ap one_where one in omega (arith, ap count_committed is ∙ count_committed_both xs (a ∷ []), c.all));
+  each = λ position.
+      (let some = ap (λ (b : Bool). one_where (b && (a.at == position))) one in
+      let was = ap (λ (n : ℕ). one_where (nat_lt position n)) (let h : clock / 2 ≡ a.at = omega arith in h) in
+      let half = ap (λ (n : ℕ). one_where (nat_lt position n)) (let h : clock' / 2 ≡ a.at + 1 = omega arith in h) in
+      omega (arith, ap (count_at position) is ∙ count_at_both position xs (a ∷ []), c.each position, below_more position a.at));
+}
 
 module _ {P : Type 0} where
   pub counted_after : (clock clock' : ℕ) (p : Prior) (r : Rows) (a : Actor P) → Tries clock p clock' r a → AreCounted clock p.ended → AreCounted clock' r.ended
@@ -113,12 +105,10 @@ module _ {P : Type 0} (rules : Rules P) (w : World P) (c : CommitsInOrder w) (i 
   odd_of : (j : ℕ) (b : Actor P) → slice_get w.actors j ≡ Some b → b.engine.holds ≡ true → w.cells.clock % 2 ≡ 1
   odd_of j b e h = elim (odd_or_even w.cells.clock) [ inl even ↦ absurd (both_ways b.engine.holds (c.free even j b e) h) | inr odd ↦ odd ]
 
-  odd_new : new.engine.holds ≡ true → cells'.clock % 2 ≡ 1
-  odd_new = event.clocks.odd (odd_of i got here)
-
   pub commits_after : CommitsInOrder after
   commits_after = record {
     counted = counted_after w.cells.clock cells'.clock (prior_of w.attempts got) r' new event.tries c.counted;
+    outrun = outrun_after w.cells.clock cells'.clock (prior_of w.attempts got) r' new event.clocks.late event.tries c.outrun;
     ended = ended_after w.cells.clock cells'.clock (prior_of w.attempts got) r' new event.tries c.ended;
     few = (let l = (c.limits i got here).max_commits in subst (λ (n : ℕ). cells'.clock ≤ 2 * n) l (event.clocks.capped (subst (λ (n : ℕ). w.cells.clock ≤ 2 * n) (sym l) c.few)));
     held = held_after w.cells cells' w.actors i got new here event.clocks c.one odd_of c.held;
@@ -129,7 +119,7 @@ module _ {P : Type 0} (rules : Rules P) (w : World P) (c : CommitsInOrder w) (i 
     where
       free_after : cells'.clock % 2 ≡ 0 → (place : ℕ) (a : Actor P) → slice_get (slice_set w.actors i new) place ≡ Some a → a.engine.holds ≡ false
       free_after even j b e = elim (set_place w.actors i got new here j b e) [
-        | inl h ↦ ap (λ (z : Actor P). z.engine.holds) h.1 ∙ false_from_ne_true new.engine.holds (λ x. absurd (let odd = odd_new x in omega arith))
+        | inl h ↦ ap (λ (z : Actor P). z.engine.holds) h.1 ∙ false_from_ne_true new.engine.holds (λ x. absurd (let odd = event.clocks.odd (odd_of i got here) x in omega arith))
         | inr h ↦ false_from_ne_true b.engine.holds (λ x. absurd (let odd = odd_of j b h.1 x in let same = ap (λ (z : Cells). z.clock % 2) (held_apart w.cells cells' w.actors i got new here event.clocks c.one odd_of j b h.0 h.1 x).0 in omega arith))
       ]
 
@@ -150,6 +140,7 @@ module _ {P : Type 0} (rules : Rules P) (w : World P)
       each = λ position. ap (count_at position) none ∙ (sym (ap one_where (le-ltb position 0 (omega arith))) ∙ ap (λ (n : ℕ). one_where (nat_lt position (n / 2))) (sym zero_clock));
     };
     ended = subst AreEnded (sym none) tt;
+    outrun = subst (AreOutrun w.cells.clock) (sym none) (outrun_none w.cells.clock);
     few = omega (arith, zero_clock);
     held = λ odd. absurd (omega (arith, zero_clock));
     free = λ even place a e. free_one place a e;

@@ -1,6 +1,6 @@
 -- The memories that the commits left stay when more attempts end.
 use Rattle.std.proofs.Common.{inl, inr, ◌≡◌, ℕ, zero, suc, ◌/◌, ◌<◌, ◌≤◌, List, [], ◌∷◌, ◌++◌, None, Some, refl, sym, ap, ◌∙◌, arith, lt-ltb}
-use Rattle.norec_world.proofs.Common.{AreCounted, Attempt, bytes_at, cases_Bool, committed_at, count_at, is_at, le-ltb, memory_left, one_where, AreLaid, Cells, Rows}
+use Rattle.norec_world.proofs.Common.{AreCounted, AreLaid, Attempt, Cells, Rows, bytes_at, cases_Bool, committed_at, count_at, is_at, le-ltb, memory_left, one_where}
 
 -- ## Which attempt committed at a position
 
@@ -37,9 +37,6 @@ found_later (x ∷ xs) ys position e = elim (cases_Bool (is_at position x)) [
 -- ## The memories
 
 module _ (deepest : ℕ) (base : List ℕ) (clock : ℕ) (xs : List Attempt) (counted : AreCounted clock xs) where
-  one_at : (position : ℕ) → position < clock / 2 → (a : Attempt) × (committed_at xs position ≡ Some a)
-  one_at position l = found_at xs position (let e = counted.each position ∙ ap one_where (lt-ltb position (clock / 2) l) in omega arith)
-
   -- no attempt is at the next position
   pub none_next : (position : ℕ) → clock / 2 ≤ position → committed_at xs position ≡ None
   none_next position l = none_at xs position (counted.each position ∙ ap one_where (le-ltb position (clock / 2) l))
@@ -48,7 +45,7 @@ module _ (deepest : ℕ) (base : List ℕ) (clock : ℕ) (xs : List Attempt) (co
   pub bytes_still : (ys : List Attempt) (k : ℕ) → k ≤ clock / 2 → bytes_at deepest base (xs ++ ys) k ≡ bytes_at deepest base xs k
   bytes_still ys zero l = refl
   bytes_still ys (suc k) l =
-      let one = one_at k (omega arith) in
+      let one = found_at xs k (let e = counted.each k ∙ ap one_where (lt-ltb k (clock / 2) (omega arith)) in omega arith) in
       (λ i. memory_left deepest (bytes_still ys k (omega arith) i) (committed_at (xs ++ ys) k))
       ∙ ap (memory_left deepest (bytes_at deepest base xs k)) (found_still xs ys k one.0 one.1 ∙ sym one.1)
 

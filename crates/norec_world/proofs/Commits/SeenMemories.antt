@@ -1,15 +1,9 @@
 -- What an engine has seen of the memories that the commits left, over a step or a call.
 use Rattle.std.proofs.Common.{◌≡◌, inl, inr, [], take, ℕ, zero, suc, ◌+◌, ◌/◌, ◌%◌, ◌≤◌, ◌==◌, Bool, true, false, if◌then◌else◌, List, length, length-set, Some, refl, sym, ap, subst, ◌∙◌, arith, ◌<◌, slice_get, slice_set, slice_index, eqb-true}
-use Rattle.norec_world.proofs.Common.{Agrees, AreLaid, Call, Cas, Cells, Core, Got, IsLawful, IsMemory, IsTied, Load, Loaded, Rows, Sees, StaysOn, Step, Store, backed, both_ways, bytes_at, bytes_of, came, cells_after, cond-true, found, handed_is, handed_to, in_transaction, is_inside, slice_get-get_or, word_loaded, words_at, write_at}
-use Rattle.norec_core.specs.Proceeds.{Joins, Settles}
-use Rattle.norec_world.proofs.Engines.ClockHolders.{freed_by, is_free}
-use Rattle.norec_world.proofs.Engines.TiedEngines.{held_even}
-use Rattle.norec_core.proofs.Accesses.Logs.{agrees_more}
-use Rattle.norec_core.proofs.Accesses.Logs as logs
-use Rattle.norec_core.proofs.Replies.NoRestarts.{none_goes_back}
-use Rattle.norec_core.proofs.Engines.HeldStores.{got_now, got_or}
-use Rattle.norec_core.specs.OwnAccesses.{got_in}
-use Rattle.write_set.specs.Rows.{overlay}
+use Rattle.norec_world.proofs.Common.{Agrees, AreLaid, Call, Cas, Cells, Core, Got, IsLawful, IsMemory, IsTied, Load, Loaded, Rows, Sees, StaysOn, Step, Store, backed, both_ways, bytes_at, bytes_of, came, cells_after, cond-true, cond_both, found, handed_is, handed_to, in_transaction, is_inside, same_Some, slice_get-get_or, word_loaded, words_at, write_at}
+use Rattle.norec_world.proofs.{Engines.ClockHolders.freed_by, Engines.ClockHolders.is_free, Engines.TiedEngines.held_even}
+use Rattle.norec_core.proofs.Accesses.Logs.{agrees_less, agrees_more, log_longer, log_now as log_then, still_logged as log_of_before}
+use Rattle.{norec_core.proofs.Engines.HeldStores.got_now, norec_core.proofs.Engines.HeldStores.got_or, norec_core.proofs.Replies.NoRestarts.none_goes_back, norec_core.specs.OwnAccesses.got_in, norec_core.specs.Proceeds.Joins, norec_core.specs.Proceeds.Settles, write_set.specs.Rows.overlay}
 
 module _ (memory : ℕ → List ℕ) (cells : Cells) (e : Core) (t : IsTied cells e) (free : cells.clock % 2 ≡ 0 → cells.words ≡ memory (cells.clock / 2)) (fits : IsMemory (length cells.words) (memory (cells.clock / 2))) where
   -- ## The value is handed in
@@ -60,7 +54,7 @@ module _ (memory : ℕ → List ℕ) (cells : Cells) (e : Core) (t : IsTied cell
     -- what is settled was loaded from the last memory
     settled_fresh : Settles e (found cells step) → Agrees (memory (found cells step / 2)) e.fresh
     settled_fresh k =
-        let is : step ≡ Load 0 = (let x : Some step ≡ Some (Load 0) = sym waits ∙ k.load in cc) in
+        let is = same_Some step (Load 0) (sym waits ∙ k.load) in
         let seen : found cells step ≡ cells.clock = ap (found cells) is in
         let own : e.holds ≡ false = (subst (IsLawful e) is lawful).1 in
         let even : cells.clock % 2 ≡ 0 = ap (λ (n : ℕ). n % 2) (sym seen) ∙ k.even in
@@ -68,15 +62,15 @@ module _ (memory : ℕ → List ℕ) (cells : Cells) (e : Core) (t : IsTied cell
 
     -- the log of before is of the new snapshot's memory too
     pub still_logged : in_transaction e ≡ true → Agrees (memory (new.snapshot / 2)) e.log
-    still_logged o = elim (logs.still_logged e new (found cells step) joins t.settled memory s.logged settled_fresh o) [ inl all ↦ all | inr back ↦ absurd (none_goes_back e new (found cells step) t.restarts back) ]
+    still_logged o = elim (log_of_before e new (found cells step) joins t.settled memory s.logged settled_fresh o) [ inl all ↦ all | inr back ↦ absurd (none_goes_back e new (found cells step) t.restarts back) ]
 
     pub log_now : in_transaction new ≡ true → Agrees (memory (new.snapshot / 2)) new.log
-    log_now o = logs.log_now e new (found cells step) joins t.settled memory s.logged settled_fresh o
+    log_now o = log_then e new (found cells step) joins t.settled memory s.logged settled_fresh o
 
     -- one that agrees with the log now agrees with the log of before
     pub less_logged : in_transaction new ≡ true → new.irrevocable ≡ false → (m : List ℕ) → Agrees m new.log → Agrees m e.log
-    less_logged o r m a = elim (logs.log_longer e new (found cells step) joins t.settled o) [
-      | inl more ↦ logs.agrees_less m e.log more.0 (subst (Agrees m) more.1 a)
+    less_logged o r m a = elim (log_longer e new (found cells step) joins t.settled o) [
+      | inl more ↦ agrees_less m e.log more.0 (subst (Agrees m) more.1 a)
       | inr (inl over) ↦ absurd (both_ways new.irrevocable r over.is)
       | inr (inr back) ↦ absurd (none_goes_back e new (found cells step) t.restarts back)
     ]
@@ -138,15 +132,12 @@ module _ (cells : Cells) (e : Core) (tied : IsTied cells e) where
   step_long (Store (suc word) value) = length-set cells.words word value
   step_long s = refl
 
-  exchanged_same : (b : Bool) (from to : ℕ) → (cells.clock == from) ≡ b → from % 2 ≡ 0 → to ≡ from + 1 → (if b then to else cells.clock) % 2 ≡ 0 → record cells { clock = if b then to else cells.clock } ≡ cells
-  exchanged_same true from to e f up even = absurd (omega arith)
-  exchanged_same false from to e f up even = refl
-
   even_same : (s : Step) → IsLawful e s → is_free s ≡ false → (cells_after cells s).clock % 2 ≡ 0 → cells_after cells s ≡ cells
   even_same (Load cell) l k even = refl
   even_same (Store zero value) l k even = absurd (cc)
   even_same (Store (suc word) value) l k even = absurd (let held = tied.holder l.1 in let h = held_even e tied.settled l.1 in omega arith)
-  even_same (Cas cell from to) l k even = exchanged_same (cells.clock == from) from to refl l.4 l.6 even
+  even_same (Cas cell from to) l k even =
+      cond_both (cells.clock == from) to cells.clock (λ (n : ℕ). n % 2 ≡ 0 → record cells { clock = n } ≡ cells) (λ h e. absurd (let was = l.4 in let up = l.6 in omega arith)) (λ h e. refl) even
 
   freed_words : (memory : ℕ → List ℕ) → Loaded memory cells e → (s : Step) → IsLawful e s → is_free s ≡ true → e.irrevocable ≡ false → (cells_after cells s).words ≡ backed (handed_to e (Some s) (found cells s)) (memory (cells.clock / 2))
   freed_words memory x (Store zero value) l k r = x.held l.1 r
@@ -172,14 +163,8 @@ step_seen deepest base cells r e new step laid tied sees waits lawful joins =
       ];
       opens = λ shut o.
           elim (joins.begins (sym (ap is_inside k.keeps.blocks) ∙ shut) o) [
-            | inl b ↦
-                (let is : step ≡ Load 0 = (let x : Some step ≡ Some (Load 0) = sym waits ∙ b.0 in cc) in
-                let clock : found cells step ≡ cells.clock = ap (found cells) is in
-                omega (arith, b.1))
-            | inr b ↦
-                (let is : step ≡ Cas 0 e.snapshot (e.snapshot + 1) = (let x : Some step ≡ Some (Cas 0 e.snapshot (e.snapshot + 1)) = sym waits ∙ b.0.cas in cc) in
-                let clock : found cells step ≡ cells.clock = ap (found cells) is in
-                omega (arith, b.1))
+            | inl b ↦ (let clock : found cells step ≡ cells.clock = ap (found cells) (same_Some _ _ (sym waits ∙ b.0)) in omega (arith, b.1))
+            | inr b ↦ (let clock : found cells step ≡ cells.clock = ap (found cells) (same_Some _ _ (sym waits ∙ b.0.cas)) in omega (arith, b.1))
           ];
       unlogged = λ o. k.log ∙ (tied.settled.closed (sym (ap is_inside k.keeps.blocks) ∙ o)).0;
       logged = λ o. subst (λ (j : ℕ). Agrees (memory (j / 2)) mid.log) (sym k.snapshot) (subst (Agrees (memory (e.snapshot / 2))) (sym k.log) (sees.logged (sym (ap is_inside k.keeps.blocks) ∙ o)));

@@ -1,15 +1,11 @@
 -- An irrevocable attempt over a call that comes, and over a step.
 use Rattle.std.proofs.Common.{◌≡◌, ℕ, zero, suc, ◌/◌, true, false, List, Option, Some, slice_get, refl, sym, ap, subst, ◌∙◌, arith, unwrap_or, ◌+◌}
-use Rattle.norec_core.specs.Core.{irrevocable_room}
-use Rattle.tx_attempts.specs.Kept.{reserved}
-use Rattle.norec_core.specs.Held.{ComesTo, IsFound, answers, leaves, memory_after}
-use Rattle.norec_core.specs.Order.{asked_from, stage_from}
-use Rattle.norec_world.proofs.Common.{Actor, Answers, Asks, AsksFor, Attempt, Call, Cas, Cells, Core, Got, IsHeld, IsLawful, IsTied, Load, Next, Proceeds, Replied, Rows, Rules, StandsIn, State, Step, Store, active_of, after, alone, bytes_at, cells_after, found, handed_to, is_inside, reply, rests, slice_get-get_or, stands_for}
+use Rattle.norec_world.proofs.Common.{Actor, Answers, Asks, AsksFor, Attempt, Call, Cells, Core, Got, IsHeld, IsLawful, IsTied, Load, Next, Proceeds, Replied, Rows, Rules, StandsIn, State, Step, Store, active_of, after, alone, asked_from, bytes_at, cells_after, found, handed_to, irrevocable_room, is_inside, reply, reserved, rests, slice_get-get_or, stage_from, stands_for}
+use Rattle.norec_core.specs.Held.{ComesTo}
+use Rattle.norec_world.proofs.Engines.SoundSteps.{IsCalling, IsStepping, asked_row, mid, mid_step, rests as between_calls, same, waits, went}
 use Rattle.norec_world.proofs.Engines.HeldCalls.{HasHeld, held_same}
-use Rattle.norec_world.proofs.Engines.SoundSteps.{IsCalling, IsStepping, asked_row, mid, mid_step, same, waits, went}
-use Rattle.norec_world.proofs.Engines.SoundSteps as steps
-use Rattle.norec_core.proofs.Engines.HeldStores.{IsLoaded, none_got, shut_revocable}
-use Rattle.norec_core.proofs.Engines.HeldStores as stores
+use Rattle.norec_core.proofs.Engines.HeldStores.{IsLoaded, got_handed as got_stored, none_got, shut_revocable}
+use Rattle.norec_core.specs.Held.{IsFound, answers, leaves, memory_after}
 
 -- ## A call comes
 
@@ -26,7 +22,7 @@ module _ {P : Type 0} {rules : Rules P} {cells : Cells} {r0 r : Rows} {old a : A
 
   stands_then : old.engine.irrevocable ≡ true → (row : Attempt) → active_of a ≡ Some row → stands_for old.engine cells.words ≡ alone old.engine.depth (bytes_at old.engine.depth base r.ended (cells.clock / 2)) row
   stands_then i row f =
-      subst (λ (w : Option Step). StandsIn old.engine.depth w old.engine.doing old.engine cells.words (alone old.engine.depth (bytes_at old.engine.depth base r.ended (cells.clock / 2)) row)) (steps.rests m.sound m.ready).idle (held_then i row f).stands
+      subst (λ (w : Option Step). StandsIn old.engine.depth w old.engine.doing old.engine cells.words (alone old.engine.depth (bytes_at old.engine.depth base r.ended (cells.clock / 2)) row)) (between_calls m.sound m.ready).idle (held_then i row f).stands
 
   pub call_held : HasHeld old.engine.depth base cells cells r (active_of a) (mid m) a.engine call what
   call_held = record {
@@ -44,30 +40,25 @@ module _ {P : Type 0} {rules : Rules P} {cells : Cells} {r0 r : Rows} {old a : A
 
 -- the value that a load found is in the words
 is_loaded : (cells : Cells) (e : Core) (step : Step) → IsTied cells e → IsLawful e step → IsLoaded step (found cells step) cells.words
-is_loaded cells e (Load zero) t l = tt
 is_loaded cells e (Load (suc word)) t l = slice_get-get_or cells.words word 0 (let k = l.0 in let w = t.words in omega arith)
-is_loaded cells e (Store cell value) t l = tt
-is_loaded cells e (Cas cell from to) t l = tt
+is_loaded cells e step t l = tt
 
 -- and what the word that a store writes was made of
 is_found : (e : Core) (step : Step) (seen : ℕ) (m : List ℕ) → IsLoaded step seen m → ((word value : ℕ) → step ≡ Store (suc word) value → Got e.got (slice_get m word)) → IsFound e (Some step) seen m
-is_found e (Load zero) seen m loaded got = tt
 is_found e (Load (suc word)) seen m loaded got = loaded
-is_found e (Store zero value) seen m loaded got = tt
 is_found e (Store (suc word) value) seen m loaded got = got word value refl
-is_found e (Cas cell from to) seen m loaded got = tt
+is_found e step seen m loaded got = tt
 
 words_then : (cells : Cells) (step : Step) → memory_after (Some step) cells.words ≡ (cells_after cells step).words
-words_then cells (Load cell) = refl
 words_then cells (Store zero value) = refl
 words_then cells (Store (suc word) value) = refl
-words_then cells (Cas cell from to) = refl
+words_then cells step = refl
 
 -- the value that the holder was handed
 got_handed : (cells : Cells) (e new : Core) (word value : ℕ) → new.writes ≡ e.writes → IsTied cells e → (step : Step) → IsLawful e step → e.holds ≡ true → (handed_to e (Some step) (found cells step)).freed ≡ false → asked_from e e.stage ≡ Some step
     → asked_from new (stage_from e e.stage (found cells step)) ≡ Some (Store (suc word) value) → Got (handed_to e (Some step) (found cells step)).got (slice_get (cells_after cells step).words word)
 got_handed cells e new word value writes t step l held unfreed was now =
-    subst (λ (m : List ℕ). Got (handed_to e (Some step) (found cells step)).got (slice_get m word)) (words_then cells step) (stores.got_handed e new word value (found cells step) writes cells.words held now step l unfreed was (is_loaded cells e step t l))
+    subst (λ (m : List ℕ). Got (handed_to e (Some step) (found cells step)).got (slice_get m word)) (words_then cells step) (got_stored e new word value (found cells step) writes cells.words held now step l unfreed was (is_loaded cells e step t l))
 
 module _ {P : Type 0} {rules : Rules P} {cells : Cells} {r : Rows} {old : Actor P} {call : Call} {what : Next} {cells' : Cells} {new : Core} (m : IsStepping rules cells r old call what cells' new)
     (deepest : ℕ) (base : List ℕ) (held : old.engine.irrevocable ≡ true → (row : Attempt) → active_of old ≡ Some row → IsHeld deepest (bytes_at deepest base r.ended (cells.clock / 2)) cells.words row old.engine) where

@@ -1,10 +1,7 @@
 -- The moment that a step and a call of the player share: the engine has taken in a value or a call, and what it gave is recorded next.
-use Rattle.norec_world.specs.ActionRoom.{HasFirst, IsActing, wanted}
-use Rattle.norec_world.proofs.Tries.Stages.{row_same}
 use Rattle.std.proofs.Common.{◌≡◌, ◌≢◌, ◌⊎◌, None, ◌+◌, ◌*◌, ◌/◌, Bool, true, false, [], refl, ap, subst, ◌∙◌, sym, length, Some, ◌<◌, ◌≤◌, inl, inr, arith, ℕ}
-use Rattle.norec_world.proofs.Common.{Actor, Answer, AnswerFits, Answers, Asks, Attempt, BeginsAt, Call, asked, Cells, Core, Ended, Ends, frees, HasRow, IsAnswered, IsAtOnce, IsDone, IsKept, IsNested, IsSettledBy, IsSound, IsTied, IsWithin, Next, Proceeds, Ready, Records, RestsAs, Rows, Rules, Status, StatusIs, Step, Tells, Waits, active_of, count_of, in_transaction, is_ready, pending_of, rests, End, ending_of, cases_Bool}
-use Rattle.norec_world.specs.Sound.{IsDue, IsInCall, IsWaiting}
-use Rattle.norec_world.proofs.Engines.TiedEngines.{answer_fits}
+use Rattle.norec_world.proofs.Common.{Actor, Answer, AnswerFits, Answers, Asks, Attempt, BeginsAt, Call, Cells, Core, End, Ended, Ends, HasRow, IsActing, IsAnswered, IsAtOnce, IsDone, IsDue, IsKept, IsNested, IsSettledBy, IsSound, IsTied, IsWaiting, IsWithin, Next, Proceeds, Ready, Records, RestsAs, Rows, Rules, Status, StatusIs, Step, Tells, Waits, active_of, asked, cases_Bool, count_of, ending_of, frees, in_transaction, is_ready, pending_of, rests, wanted}
+use Rattle.norec_world.{proofs.Engines.TiedEngines.answer_fits, proofs.Tries.Stages.row_same, specs.ActionRoom.HasFirst, specs.Sound.IsInCall}
 
 pub ready_of : (s : Status) → is_ready s ≡ true → s ≡ Ready
 ready_of Ready e = refl
@@ -66,29 +63,15 @@ module _ {P : Type 0} (rules : Rules P) where
 
 -- the call is the same, whatever the engine and the status
 pub in_call_of : {P : Type 0} {rules : Rules P} {was : Bool} {a : Actor P} {call : Call} (e : Core) (s : Status) → IsInCall rules was a call → IsInCall rules was (record a { engine = e; status = s }) call
-in_call_of e s i = record {
-  asks = i.asks;
-  begins = i.begins;
-  inside = i.inside;
-  props = i.props;
-  opens = λ row e. (let p = i.opens row e in record { thread = p.thread; nth = p.nth; outcome = p.outcome });
-}
+in_call_of e s i = record { asks = i.asks; begins = i.begins; inside = i.inside; props = i.props; opens = λ row e. (let p = i.opens row e in record { thread = p.thread; nth = p.nth; outcome = p.outcome }) }
 
 module _ {P : Type 0} {rules : Rules P} {was : Bool} {cells cells' : Cells} {r : Rows} {mid : Core} {a : Actor P} {call : Call} where
   pub answered : {answer : Answer} → HasTaken rules was cells cells' r mid a call (Answers answer) → IsAnswered rules was a call answer
   answered {answer} m =
-      let rest = rests mid a.engine answer m.proceeds in
-      record {
-        kept = m.kept;
-        nested = m.nested;
-        in_call = m.in_call;
-        fits =
-            subst (λ (n : ℕ). AnswerFits was n (in_transaction a.engine) (length a.engine.blocks) call answer) (sym m.depth)
-            (subst (λ (b : Bool). AnswerFits b (length mid.blocks) (in_transaction a.engine) (length a.engine.blocks) call answer) m.was_is (answer_fits mid a.engine m.tied.restarts call answer m.doing m.proceeds));
-        idle = rest.idle;
-        free = rest.holds;
-        status = m.ready;
-      }
+      let fits : AnswerFits was (rules.depth a.run.player) (in_transaction a.engine) (length a.engine.blocks) call answer =
+      subst (λ (n : ℕ). AnswerFits was n (in_transaction a.engine) (length a.engine.blocks) call answer) (sym m.depth)
+      (subst (λ (b : Bool). AnswerFits b (length mid.blocks) (in_transaction a.engine) (length a.engine.blocks) call answer) m.was_is (answer_fits mid a.engine m.tied.restarts call answer m.doing m.proceeds)) in
+      assumption (fits, rests mid a.engine answer m.proceeds, m)
 
   -- no commit is done, unless a writer's is what is answered
   pub unfreed : {r1 : Rows} {last : Actor P} {answer : Answer} → HasAnswered rules was cells cells' r r1 mid a last call answer → frees answer ≡ false → mid.freed ≡ false
@@ -123,14 +106,7 @@ module _ {P : Type 0} {rules : Rules P} {was : Bool} {cells cells' : Cells} {r :
 
   -- the answer is recorded
   pub answered_now : {r1 : Rows} {last : Actor P} {answer : Answer} → HasAnswered rules was cells cells' r r1 mid a last call answer → IsNow rules cells' r1 a last
-  answered_now {r1} {last} m = record {
-    engine = m.settled.engine;
-    thread = m.settled.thread;
-    retries = m.settled.retries;
-    kept = m.settled.kept;
-    status = status_of last.status m.settled.rests;
-    sound = λ acts place. record { tied = subst (IsTied cells') (sym m.settled.engine) m.taken.tied; acts = acts; kept = m.settled.kept; status = status_of last.status m.settled.rests; place = place };
-  }
+  answered_now {r1} {last} m = assumption (status_of last.status m.settled.rests, subst (IsTied cells') (sym m.settled.engine) m.taken.tied, m.settled)
     where
       status_of : (st : Status) → RestsAs rules st last → StatusIs rules last st
       status_of Ready rest = rest

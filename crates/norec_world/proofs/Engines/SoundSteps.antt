@@ -1,40 +1,18 @@
 -- A step was done, or a call of the player came: its value or the call went to the engine, and what the engine gave may be recorded.
-use Rattle.user_actions.specs.Actions.{total}
-use Rattle.norec_world.specs.ActionRoom.{AsksAs, IsBacked, MayRunOn, NoCancel, wanted}
-use Rattle.norec_world.proofs.Tries.Stages.{asked_begun, asked_open, row_same}
-use Rattle.tx_attempts.specs.Kept.{reserved}
-use Rattle.tx_runs.specs.declared.player_run.PlayerRun.{PlayerRun}
-use Rattle.norec_world.proofs.Rooms.ActionRoom.{gave_acting, registers_none}
+use Rattle.std.proofs.Common.{◌≡◌, ◌≢◌, ◌⊎◌, [], nat_lt, inl, ℕ, zero, suc, ◌+◌, ◌*◌, ◌/◌, ◌%◌, ◌<◌, ◌≤◌, ◌==◌, Bool, true, false, if◌then◌else◌, Option, None, Some, refl, sym, true≢false, ap, subst, ◌∙◌, arith, eqb-true, inr, length, unwrap_or}
+use Rattle.norec_world.proofs.Common.{Actor, AllFit, Answers, Asks, AsksAs, AsksFor, AsksOf, Attempt, Begin, BeginsAt, Call, Cas, Cells, ClocksOn, Core, Ended, Falls, GoesOn, HoldsOn, IsAsked, IsAtOnce, IsBacked, IsDone, IsLawful, IsNested, IsNoMore, IsReady, IsResumed, IsSettledBy, IsSound, IsTied, IsWaiting, Load, MayRunOn, Next, NoCancel, Phase, PlayerRun, Proceeds, Ready, RestsAs, Rows, Rules, Status, StatusIs, Step, Store, Tells, Waits, active_of, asked, asked_from, begins_again, begun_in, came, cells_after, cond_both, count_of, ending_of, found, handed_is, handed_to, in_transaction, irrevocable_room, is_inside, is_ready, is_waiting, may_go, none_inside, open_in, pending_of, rank, reserved, rests as rested, same_Some, stage_at, stage_from, stage_of, steps_left, told, total, wanted, whole}
 use Rattle.norec_world.proofs.Rooms.CallRoom.{promised_same, reserved_least, wanted_came, wanted_same}
-use Rattle.norec_world.proofs.Rooms.HeldRoom.{same_room}
-use Rattle.norec_world.proofs.Rooms.LaterActions.{first_here}
-use Rattle.std.proofs.Common.{◌≡◌, ◌≢◌, [], nat_lt, inl, ℕ, zero, suc, ◌+◌, ◌*◌, ◌/◌, ◌%◌, ◌<◌, ◌≤◌, ◌==◌, Bool, true, false, if◌then◌else◌, Option, None, Some, refl, sym, true≢false, ap, subst, ◌∙◌, arith, eqb-true, inr, length, unwrap_or}
-use Rattle.norec_world.proofs.Common.{Actor, AllFit, Answers, Asks, AsksFor, Attempt, Begin, BeginsAt, Call, Cas, Cells, ClocksOn, Core, Ended, Falls, GoesOn, HoldsOn, IsDone, IsLawful, IsNested, IsNoMore, IsReady, IsResumed, IsSettledBy, IsSound, IsTied, Load, Next, Proceeds, Ready, RestsAs, Rows, Rules, Status, StatusIs, Step, Store, Waits, active_of, begins_again, begun_in, count_of, open_in, pending_of, stage_of, told, came, cells_after, ending_of, found, handed_is, handed_to, in_transaction, is_inside, is_ready, is_waiting, none_inside, asked, same_Some, rank, rests as rested, steps_left, whole, Tells}
-use Rattle.norec_core.specs.Keeps.{Keeps}
-use Rattle.norec_core.specs.Core.{irrevocable_room, may_go}
-use Rattle.norec_core.specs.Order.{asked_from, snapshot_from, stage_at, stage_from}
-use Rattle.norec_core.specs.declared.call_parts.Opening.{Opening}
-use Rattle.norec_core.specs.Phases.{Phase}
-use Rattle.norec_core.specs.Phases as at
-use Rattle.norec_core.specs.Proceeds.{most}
-use Rattle.norec_core.proofs.Engines.KeptFields.{most_same}
-use Rattle.norec_world.specs.Sound.{IsWaiting, IsAsked}
-use Rattle.norec_world.proofs.Engines.ClockHolders.{clocks_of, clocks_still, clocks_twice, word_freed}
+use Rattle.norec_world.proofs.Engines.ClockHolders.{clocks_of, clocks_still, clocks_twice, freed_by}
 use Rattle.norec_world.proofs.Engines.Intakes.{ClockMoves, HasTaken, in_call_of, ready_of}
-use Rattle.norec_world.proofs.Engines.NoRestarts.{not_restarted}
 use Rattle.norec_world.proofs.Engines.TiedEngines.{IsMid, hands, held_even, holds_handed, clock_same, limit_same, tied, comes}
-use Rattle.norec_world.specs.Records.{Asks as AsksOf}
-use Rattle.norec_world.specs.LocalWork.{SameActor, TakesIn}
+use Rattle.norec_world.{proofs.Engines.NoRestarts.not_restarted, proofs.Rooms.ActionRoom.gave_acting, proofs.Rooms.ActionRoom.registers_none, proofs.Rooms.HeldRoom.same_room, proofs.Rooms.LaterActions.first_here, proofs.Tries.Stages.asked_begun, proofs.Tries.Stages.asked_open, proofs.Tries.Stages.row_same, specs.LocalWork.SameActor, specs.LocalWork.TakesIn}
+use Rattle.norec_core.{proofs.Engines.KeptFields.most_same, specs.Keeps.Keeps, specs.Order.snapshot_from, specs.Proceeds.most, specs.declared.call_parts.Opening.Opening}
+use Rattle.norec_core.specs.Phases as at
 
 -- ## The clock over a step
 
-half_taken : (b : Bool) (clock from to : ℕ) → (b ≡ true → clock ≡ from) → from % 2 ≡ 0 → to ≡ from + 1 → (if b then to else clock) / 2 ≡ clock / 2
-half_taken true clock from to is even up = (let same = is refl in omega arith)
-half_taken false clock from to is even up = refl
-
 moves_of : (cells : Cells) (e : Core) (step : Step) → IsTied cells e → IsLawful e step → ClockMoves cells (cells_after cells step) (handed_to e (Some step) (found cells step))
-moves_of cells e (Load zero) t l = record { frees = λ f. absurd (true≢false (sym f ∙ t.settled.unfreed)); keeps = λ f. refl }
-moves_of cells e (Load (suc word)) t l = record { frees = λ f. absurd (true≢false (sym (sym (word_freed e e.holds word (found cells (Load (suc word)))) ∙ f) ∙ t.settled.unfreed)); keeps = λ f. refl }
+moves_of cells e (Load cell) t l = record { frees = λ f. absurd (true≢false (sym f ∙ freed_by e (Load cell) (found cells (Load cell)) t.settled.unfreed)); keeps = λ f. refl }
 moves_of cells e (Store zero value) t l =
     let held = t.holder l.1 in
     let even = held_even e t.settled l.1 in
@@ -44,7 +22,7 @@ moves_of cells e (Store zero value) t l =
 moves_of cells e (Store (suc word) value) t l = record { frees = λ f. absurd (true≢false (sym f ∙ t.settled.unfreed)); keeps = λ f. refl }
 moves_of cells e (Cas cell from to) t l = record {
   frees = λ f. absurd (true≢false (sym f ∙ t.settled.unfreed));
-  keeps = λ f. half_taken (cells.clock == from) cells.clock from to (λ y. eqb-true cells.clock from y) l.4 l.6;
+  keeps = λ f. cond_both (cells.clock == from) to cells.clock (λ (n : ℕ). n / 2 ≡ cells.clock / 2) (λ h. (let same = eqb-true cells.clock from h in let even = l.4 in let up = l.6 in omega arith)) (λ h. refl);
 }
 
 -- outside a transaction a step loads the clock, or takes it
@@ -60,49 +38,42 @@ loads_clock cells e (Cas cell from to) t l outside free =
 -- ## A begin that waits for a step
 
 module _ (new : Core) (some : new.waits ≢ None) (asks : new.waits ≡ asked new) where
-  not_idle : {A : Type 0} → new.stage ≡ at.Idle → A
-  not_idle e = absurd (some (asks ∙ ap (asked_from new) e))
+  abbrev IsFine : Phase → Type 0
+  IsFine stage = (stage ≡ at.Idle) ⊎ BeginsAt new stage
 
-  stands_at : (stage : Phase) → new.stage ≡ stage → BeginsAt new stage → BeginsAt new new.stage
-  stands_at stage e b = subst (BeginsAt new) (sym e) b
+  -- it waits, so it is not idle
+  begun_at : (stage : Phase) → new.stage ≡ stage → IsFine stage → BeginsAt new new.stage
+  begun_at stage e (inl idle) = absurd (some (asks ∙ ap (asked_from new) (e ∙ idle)))
+  begun_at stage e (inr begins) = subst (BeginsAt new) (sym e) begins
 
   module _ (b : Opening) (doing : new.doing ≡ Some (Begin b.props b.room)) where
-    begins_or_not : (more : Bool) → (more ≡ true → may_go new.blocks b.props ≡ true) → new.stage ≡ (if more then at.Begin b else at.Idle) → BeginsAt new new.stage
-    begins_or_not true may e = stands_at (at.Begin b) e (doing, may refl)
-    begins_or_not false may e = not_idle e
+    begins_or_not : (more : Bool) → (more ≡ true → may_go new.blocks b.props ≡ true) → IsFine (if more then at.Begin b else at.Idle)
+    begins_or_not true may = inr (doing, may refl)
+    begins_or_not false may = inl refl
 
-    module _ (may : may_go new.blocks b.props ≡ true) where
-      takes_or_not : (goes few : Bool) → new.clock ≡ new.snapshot → new.stage ≡ (if goes then (if few then at.Take b else at.Idle) else at.Idle) → BeginsAt new new.stage
-      takes_or_not true true same e = stands_at (at.Take b) e (doing, may, same)
-      takes_or_not true false same e = not_idle e
-      takes_or_not false few same e = not_idle e
-
-      -- after the clock was loaded
-      loaded_begun : (even goes few more : Bool) → (even ≡ true → new.clock ≡ new.snapshot)
-          → new.stage ≡ (if even then (if goes then (if few then at.Take b else at.Idle) else at.Idle) else (if more then at.Begin b else at.Idle)) → BeginsAt new new.stage
-      loaded_begun true goes few more same e = takes_or_not goes few (same refl) e
-      loaded_begun false goes few more same e = begins_or_not more (λ m. may) e
-
-      -- after it was to be taken
-      tried_begun : (taken more : Bool) → new.stage ≡ (if taken then at.Idle else (if more then at.Begin b else at.Idle)) → BeginsAt new new.stage
-      tried_begun true more e = not_idle e
-      tried_begun false more e = begins_or_not more (λ m. may) e
+    takes_or_not : may_go new.blocks b.props ≡ true → new.clock ≡ new.snapshot → (goes few : Bool) → IsFine (if goes then (if few then at.Take b else at.Idle) else at.Idle)
+    takes_or_not may same true true = inr (doing, may, same)
+    takes_or_not may same true false = inl refl
+    takes_or_not may same false few = inl refl
 
   -- once a step was done
   begun_after : (old : Core) (seen : ℕ) (stage : Phase) → BeginsAt old stage → new.doing ≡ old.doing → new.blocks ≡ old.blocks → new.stage ≡ stage_from old stage seen → new.snapshot ≡ snapshot_from old stage seen
       → ((b : Opening) → stage ≡ at.Begin b → new.clock ≡ seen) → BeginsAt new new.stage
   begun_after old seen (at.Begin b) begun doing blocks order snapshot clock =
-      loaded_begun b (doing ∙ begun.0) (ap (λ (bs : _). may_go bs b.props) blocks ∙ begun.1) (seen % 2 == 0) b.props.goes_irrevocable (nat_lt (seen / 2) old.max_commits) (nat_lt old.tries old.patience)
-      (λ even. clock b refl ∙ sym (snapshot ∙ ap (λ (x : Bool). if x then seen else old.snapshot) even)) order
+      let may = ap (λ (bs : _). may_go bs b.props) blocks ∙ begun.1 in
+      begun_at _ order (cond_both (seen % 2 == 0) _ _ IsFine
+      (λ even. takes_or_not b (doing ∙ begun.0) may (clock b refl ∙ sym (snapshot ∙ ap (λ (x : Bool). if x then seen else old.snapshot) even)) b.props.goes_irrevocable (nat_lt (seen / 2) old.max_commits))
+      (λ odd. begins_or_not b (doing ∙ begun.0) (nat_lt old.tries old.patience) (λ m. may)))
   begun_after old seen (at.Take b) begun doing blocks order snapshot clock =
-      tried_begun b (doing ∙ begun.0) (ap (λ (bs : _). may_go bs b.props) blocks ∙ begun.1) (seen == old.snapshot) (nat_lt old.tries old.patience) order
+      let may = ap (λ (bs : _). may_go bs b.props) blocks ∙ begun.1 in
+      begun_at _ order (cond_both (seen == old.snapshot) _ _ IsFine (λ taken. inl refl) (λ lost. begins_or_not b (doing ∙ begun.0) (nat_lt old.tries old.patience) (λ m. may)))
   begun_after old seen stage begun doing blocks order snapshot clock = absurd begun
 
   -- as a call comes
   begun_shut : (c : Core) (call : Call) (again : Bool) → new.doing ≡ Some call → new.blocks ≡ [] → new.stage ≡ stage_at (record c { blocks = [] }) call again → BeginsAt new new.stage
   begun_shut c (Begin props room) again doing none e =
-      begins_or_not (record { props = props; room = room; again = again }) doing (may_go [] props) (λ m. ap (λ (bs : _). may_go bs props) none ∙ m) e
-  begun_shut c call again doing none e = not_idle e
+      begun_at _ e (begins_or_not (record { props = props; room = room; again = again }) doing (may_go [] props) (λ m. ap (λ (bs : _). may_go bs props) none ∙ m))
+  begun_shut c call again doing none e = begun_at at.Idle e (inl refl)
 
   begun_call : (c : Core) (call : Call) (again : Bool) → in_transaction c ≡ false → new.doing ≡ Some call → new.blocks ≡ c.blocks → new.stage ≡ stage_at c call again → BeginsAt new new.stage
   begun_call c call again shut doing blocks e =
@@ -165,28 +136,37 @@ module _ {P : Type 0} {rules : Rules P} {cells : Cells} {r : Rows} {old : Actor 
   pub step_taken : (status : Status) → status ≡ Ready → HasTaken rules (in_transaction old.engine) cells cells' r (handed_to old.engine (Some m.step) (found cells m.step)) (record old { engine = new; status = status }) call what
   step_taken status ready =
       let k = m.sound.kept in
-      record {
-        was_is = ap is_inside same.blocks;
-        proceeds = went;
-        doing = same.doing ∙ waits.doing;
-        words = is_mid.words;
-        tied = tied cells' mid_step new what is_mid went;
-        within = m.resumed.count;
-        kept = record { row = row_same (in_transaction old.engine) old (record old { engine = new; status = status }) refl refl k.row; tried = k.tried; tries = k.tries; retries = k.retries };
-        first = first_here old mid_step new call what (in_transaction old.engine) (ap is_inside same.blocks) k.row (same.doing ∙ waits.doing) went (λ row e. m.sound.acts.all row e ∙ ap (λ (x : _). x.ran) (sym same.actions));
-        nested = waits.nested;
-        depth = waits.depth ∙ ap length (sym same.blocks);
-        in_call = in_call_of new status waits.in_call;
-        place = λ row e. (let least = (subst (IsBacked old) m.waiting m.sound.acts.backed row e).least in let same = same_wants in omega arith);
-        room = m.sound.place;
-        pending = λ row e. (subst (AsksAs old) m.waiting m.sound.acts.asks).pending row e ∙ sym same_wants;
-        ready = ready;
-        moves = moves;
-        empty = λ e. same.writes ∙ (m.sound.tied.settled.closed e).1;
-        asks = m.resumed.asks;
-        begun = step_begun;
-        outside = λ e free. (let l = loads_clock cells old.engine m.step m.sound.tied waits.lawful e free in (ap (λ (c : Cells). c.clock) m.cells_are ∙ l.0, inl (l.1 ∙ ap (λ (c : Cells). c.clock) (sym m.cells_are))));
-      }
+      let inside : in_transaction mid_step ≡ in_transaction old.engine = ap is_inside same.blocks in
+      let doing : mid_step.doing ≡ Some call = same.doing ∙ waits.doing in
+      let place : (row : Attempt) → active_of old ≡ Some row → wanted mid_step < row.calls.room = λ row e. (let least = (subst (IsBacked old) m.waiting m.sound.acts.backed row e).least in let same = same_wants in omega arith) in
+      let pending : (row : Attempt) → pending_of old ≡ Some row → row.calls.room ≡ wanted mid_step = λ row e. (subst (AsksAs old) m.waiting m.sound.acts.asks).pending row e ∙ sym same_wants in
+      let empty : in_transaction old.engine ≡ false → mid_step.writes ≡ [] = λ e. same.writes ∙ (m.sound.tied.settled.closed e).1 in
+      let outside : in_transaction old.engine ≡ false → mid_step.holds ≡ false → (cells'.clock ≡ cells.clock) × ((mid_step.clock ≡ cells'.clock) ⊎ IsAtOnce what) =
+      λ e free. (let l = loads_clock cells old.engine m.step m.sound.tied waits.lawful e free in (ap (λ (c : Cells). c.clock) m.cells_are ∙ l.0, inl (l.1 ∙ ap (λ (c : Cells). c.clock) (sym m.cells_are)))) in
+      let first = first_here old mid_step new call what (in_transaction old.engine) inside k.row doing went (λ row e. m.sound.acts.all row e ∙ ap (λ (x : _). x.ran) (sym same.actions)) in
+      assumption (
+        inside,
+        went,
+        doing,
+        is_mid.words,
+        tied cells' mid_step new what is_mid went,
+        m.resumed.count,
+        row_same (in_transaction old.engine) old (record old { engine = new; status = status }) refl refl k.row,
+        k,
+        first,
+        waits.nested,
+        waits.depth ∙ ap length (sym same.blocks),
+        in_call_of new status waits.in_call,
+        place,
+        m.sound.place,
+        pending,
+        ready,
+        moves,
+        empty,
+        m.resumed.asks,
+        step_begun,
+        outside,
+      )
 
   -- nothing of the actions is lost
   pub step_acts : (status : Status) → status ≡ Ready → MayRunOn (record old { engine = new; status = status }) call what
@@ -216,18 +196,9 @@ module _ {P : Type 0} {rules : Rules P} {cells : Cells} {r : Rows} {old : Actor 
       → last ≡ told recorded → SameActor old last → TakesIn rules cells r old r' last
   takes_in status ready {r'} recorded last engine tells is_told of_same =
       let engine_is : last.engine ≡ new = ap (λ (x : Actor P). x.engine) is_told ∙ engine in
-      record {
-        call = call;
-        step = m.step;
-        waits = m.waiting;
-        what = what;
-        resumed = subst (IsResumed old.engine (found cells m.step) what) (sym engine_is) m.resumed;
-        recorded = recorded;
-        tells = subst (λ (e : Core). Tells rules r r' (record old { engine = e; status = Ready }) recorded call what) (sym engine_is)
-            (subst (λ (s : Status). Tells rules r r' (record old { engine = new; status = s }) recorded call what) ready tells);
-        moves = is_told;
-        same = of_same;
-      }
+      let told_so = subst (λ (e : Core). Tells rules r r' (record old { engine = e; status = Ready }) recorded call what) (sym engine_is)
+      (subst (λ (s : Status). Tells rules r r' (record old { engine = new; status = s }) recorded call what) ready tells) in
+      record { call = call; step = m.step; waits = m.waiting; what = what; resumed = subst (IsResumed old.engine (found cells m.step) what) (sym engine_is) m.resumed; recorded = recorded; tells = told_so; moves = is_told; same = of_same }
 
   pub limit_is : new.max_commits ≡ old.engine.max_commits
   limit_is = (limit_same mid_step new what went).0 ∙ same.max_commits
@@ -253,14 +224,8 @@ module _ {P : Type 0} {rules : Rules P} {cells : Cells} {r : Rows} {old : Actor 
 -- the same, with the value that was found by a name of its own
 pub stepping : {P : Type 0} {rules : Rules P} {cells : Cells} {r : Rows} {old : Actor P} {call : Call} {step : Step} {what : Next} {cells' : Cells} {new : Core} {seen : ℕ} → IsSound rules cells r old → old.status ≡ Waits call step → seen ≡ found cells step
     → cells' ≡ cells_after cells step → AllFit cells'.words → IsResumed old.engine seen what new → IsStepping rules cells r old call what cells' new
-stepping {old} {step} {what} {new} sound waiting seen_is cells_are fit resumed = record {
-  sound = sound;
-  step = step;
-  waiting = waiting;
-  cells_are = cells_are;
-  fit = fit;
-  resumed = subst (λ (n : ℕ). IsResumed old.engine n what new) seen_is resumed;
-}
+stepping {old} {step} {what} {new} sound waiting seen_is cells_are fit resumed =
+    record { sound = sound; step = step; waiting = waiting; cells_are = cells_are; fit = fit; resumed = subst (λ (n : ℕ). IsResumed old.engine n what new) seen_is resumed }
 
 -- ## What is left to do
 
@@ -271,19 +236,14 @@ module _ {P : Type 0} {rules : Rules P} {cells : Cells} {r : Rows} {old : Actor 
   rests_not (Waits c step) rest e = absurd rest
   rests_not st rest e = absurd (cc)
 
-  pub step_on : is_waiting last.status ≡ true → GoesOn rules old last
-  step_on = by_what what m done
+  -- the call goes on, or less is left
+  pub step_lasts : (is_waiting last.status ≡ true → GoesOn rules old last) × (is_ready last.status ≡ true → Falls rules (in_transaction old.engine) (in_transaction last.engine) old last)
+  step_lasts = by_what what m done
     where
-      by_what : (x : Next) → IsStepping rules cells r old call x cells' new → IsDone rules (in_transaction old.engine) r r1 (record old { engine = new; status = status }) last call x → is_waiting last.status ≡ true → GoesOn rules old last
-      by_what (Asks step) m done w = subst (GoesOn rules old) (sym done.0) (step_goes_on m)
-      by_what (Answers answer) m done w = rests_not last.status done.rests w
-
-  pub step_falls : is_ready last.status ≡ true → Falls rules (in_transaction old.engine) (in_transaction last.engine) old last
-  step_falls = by_what what done
-    where
-      by_what : (x : Next) → IsDone rules (in_transaction old.engine) r r1 (record old { engine = new; status = status }) last call x → is_ready last.status ≡ true → Falls rules (in_transaction old.engine) (in_transaction last.engine) old last
-      by_what (Asks step) done e = absurd (let z = sym (ap (λ (y : Actor P). is_ready y.status) done.0) ∙ e in cc)
-      by_what (Answers answer) done e = (let f = done.falls (ready_of last.status e) in record { whole_falls = f.whole_falls; rank_falls = f.rank_falls })
+      by_what : (x : Next) → IsStepping rules cells r old call x cells' new → IsDone rules (in_transaction old.engine) r r1 (record old { engine = new; status = status }) last call x
+          → (is_waiting last.status ≡ true → GoesOn rules old last) × (is_ready last.status ≡ true → Falls rules (in_transaction old.engine) (in_transaction last.engine) old last)
+      by_what (Asks step) m done = (λ w. subst (GoesOn rules old) (sym done.0) (step_goes_on m), λ e. absurd (let z = sym (ap (λ (y : Actor P). is_ready y.status) done.0) ∙ e in cc))
+      by_what (Answers answer) m done = (λ w. rests_not last.status done.rests w, λ e. (let f = done.falls (ready_of last.status e) in assumption f))
 
 -- ## A call
 
@@ -302,7 +262,7 @@ rests {rules} {r} {a} sound ready = subst (StatusIs rules a) ready sound.status
 module _ {P : Type 0} {rules : Rules P} {cells : Cells} {r0 r : Rows} {old a : Actor P} {call : Call} {what : Next} (m : IsCalling rules cells r0 r old a call what) where
   -- the engine with the call
   abbrev pub mid : Core
-  mid = came old.engine call (begins_again (in_transaction old.engine) old.run.again call)
+  mid = came old.engine call (begins_again (stage_of old.run.current) old.run.again call)
 
   -- the attempt that its begin is to open has the room that it asks for
   pending_wants : (row : Attempt) → pending_of a ≡ Some row → row.calls.room ≡ unwrap_or (irrevocable_room old.engine call) 0
@@ -315,38 +275,41 @@ module _ {P : Type 0} {rules : Rules P} {cells : Cells} {r0 r : Rows} {old a : A
   pub player_same : a.run.player ≡ old.run.player
   player_same = ap (λ (x : PlayerRun P). x.player) m.asks.run
 
-  pub call_taken : HasTaken rules (in_transaction old.engine) cells cells r (came old.engine call (begins_again (in_transaction old.engine) old.run.again call)) a call what
+  pub call_taken : HasTaken rules (in_transaction old.engine) cells cells r (came old.engine call (begins_again (stage_of old.run.current) old.run.again call)) a call what
   call_taken =
       let ready = rests m.sound m.ready in
-      record {
-        was_is = refl;
-        proceeds = m.asks.called.proceeds;
-        doing = refl;
-        words = m.sound.tied.words;
-        tied = tied cells mid a.engine what (comes cells old.engine a.engine m.sound.tied m.asks.called.settled call (begins_again (in_transaction old.engine) old.run.again call)) m.asks.called.proceeds;
-        within = m.asks.called.count;
-        kept = m.asked.kept;
-        first = first_here a mid a.engine call what (in_transaction old.engine) refl m.asked.kept.row refl m.asks.called.proceeds (λ row e. (let was = asked_row row e in ap (λ (x : Attempt). x.ran) was.2 ∙ m.sound.acts.all was.0 was.1));
-        nested = subst (IsNested rules (in_transaction old.engine)) (sym player_same) ready.nested;
-        depth = ap rules.depth player_same ∙ ready.depth;
-        in_call = m.asked.in_call;
-        place = λ row e.
-            (let was = asked_row row e in
-            let more = reserved_least was.0.calls (unwrap_or (irrevocable_room old.engine call) 0) in
-            let n = ap (λ (x : Attempt). x.calls.room) was.2 in
-            let w = wanted_came old.engine call (begins_again (in_transaction old.engine) old.run.again call) in
-            omega arith);
-        room = m.place;
-        pending = λ row e. pending_wants row e ∙ sym (wanted_came old.engine call (begins_again (in_transaction old.engine) old.run.again call));
-        ready = m.asked.status ∙ m.ready;
-        moves = record { frees = λ f. absurd (cc); keeps = λ f. refl };
-        empty = λ o. (m.sound.tied.settled.closed o).1;
-        asks = m.asks.called.asks;
-        begun = λ some shut. (let went_on = asks_step mid a.engine what m.asks.called.proceeds some in
-            begun_call a.engine some m.asks.called.asks old.engine call (begins_again (in_transaction old.engine) old.run.again call)
-            (sym (ap is_inside went_on.0) ∙ shut) went_on.1 went_on.0 m.asks.called.order);
-        outside = λ o free. (refl, inr m.asks.called.at_once);
-      }
+      let again = begins_again (stage_of old.run.current) old.run.again call in
+      let wants = wanted_came old.engine call again in
+      let called = m.asks.called in
+      let place : (row : Attempt) → active_of a ≡ Some row → wanted mid < row.calls.room =
+      λ row e. (let was = asked_row row e in let more = reserved_least was.0.calls (unwrap_or (irrevocable_room old.engine call) 0) in let n = ap (λ (x : Attempt). x.calls.room) was.2 in let w = wants in omega arith) in
+      let pending : (row : Attempt) → pending_of a ≡ Some row → row.calls.room ≡ wanted mid = λ row e. pending_wants row e ∙ sym wants in
+      let moves : ClockMoves cells cells mid = record { frees = λ f. absurd (cc); keeps = λ f. refl } in
+      let empty : in_transaction old.engine ≡ false → mid.writes ≡ [] = λ o. (m.sound.tied.settled.closed o).1 in
+      let begun : a.engine.waits ≢ None → in_transaction a.engine ≡ false → BeginsAt a.engine a.engine.stage =
+      λ some shut. (let went_on = asks_step mid a.engine what called.proceeds some in begun_call a.engine some called.asks old.engine call again (sym (ap is_inside went_on.0) ∙ shut) went_on.1 went_on.0 called.order) in
+      let outside : in_transaction old.engine ≡ false → mid.holds ≡ false → (cells.clock ≡ cells.clock) × ((mid.clock ≡ cells.clock) ⊎ IsAtOnce what) = λ o free. (refl, inr called.at_once) in
+      let first = first_here a mid a.engine call what (in_transaction old.engine) refl m.asked.kept.row refl called.proceeds (λ row e. (let was = asked_row row e in ap (λ (x : Attempt). x.ran) was.2 ∙ m.sound.acts.all was.0 was.1)) in
+      assumption (
+        called.proceeds,
+        m.sound.tied.words,
+        tied cells mid a.engine what (comes cells old.engine a.engine m.sound.tied called.settled call again) called.proceeds,
+        called.count,
+        m.asked.kept,
+        first,
+        subst (IsNested rules (in_transaction old.engine)) (sym player_same) ready.nested,
+        ap rules.depth player_same ∙ ready.depth,
+        m.asked.in_call,
+        place,
+        m.place,
+        pending,
+        m.asked.status ∙ m.ready,
+        moves,
+        empty,
+        called.asks,
+        begun,
+        outside,
+      )
 
   -- nor does what is left
   pub same_rank : (n : ℕ) → rank rules n (in_transaction old.engine) a ≡ rank rules n (in_transaction old.engine) old
@@ -354,8 +317,8 @@ module _ {P : Type 0} {rules : Rules P} {cells : Cells} {r0 r : Rows} {old a : A
 
   module _ {last : Actor P} (s : IsSettledBy rules (in_transaction old.engine) a last) where
     -- what comes of an answer is as if the actor had not changed before
-    pub call_falls : last.status ≡ Ready → Falls rules (in_transaction old.engine) (in_transaction last.engine) old last
-    call_falls e =
+    pub answer_falls : last.status ≡ Ready → Falls rules (in_transaction old.engine) (in_transaction last.engine) old last
+    answer_falls e =
         let f = s.falls e in
         record {
           whole_falls = subst (λ (p : P). whole rules (in_transaction last.engine) last.run.player ≤ whole rules (in_transaction old.engine) p) player_same f.whole_falls;
@@ -367,7 +330,7 @@ module _ {P : Type 0} {rules : Rules P} {cells : Cells} {r0 r : Rows} {old a : A
     call_less e = of_status last.status refl s.rests e
       where
         of_status : (x : Status) → last.status ≡ x → RestsAs rules x last → ending_of x ≡ None → IsNoMore rules old last
-        of_status Ready is rest e = let f = call_falls is in record { whole_falls = f.whole_falls; rank_falls = λ n b. (let x = f.rank_falls n b in omega arith) }
+        of_status Ready is rest e = let f = answer_falls is in record { whole_falls = f.whole_falls; rank_falls = λ n b. (let x = f.rank_falls n b in omega arith) }
         of_status (Waits c step) is rest e = absurd rest
         of_status (Ended end) is rest e = absurd (cc)
 

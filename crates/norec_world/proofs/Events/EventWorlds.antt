@@ -1,18 +1,9 @@
 -- An actor of a world took an event, a step and the local work that follows it: the world that it leaves, and that the event says so.
-use Rattle.std.proofs.Common.{◌≡◌, ℕ, Bool, true, false, List, length-set, slice_get, slice_set, None, Some, IsSome, refl, sym, ap, subst, ◌∙◌}
-use Rattle.norec_world.proofs.Common.{Actor, ActorGoes, Cells, ClocksOn, Finished, Goes, HasRead, HasWorked, IsEvent, IsWorld, KeepsOthers, Obeys, Rows, Rules, Tries, World, counted, ending_at, ending_of, is_ready, option_and_then, prior_of, event_result, waiting_step, waits_at}
-use Rattle.norec_world.specs.Moments.{HasStepped}
-use Rattle.norec_world.proofs.Engines.ClockHolders.{clocks_still, clocks_twice}
-use Rattle.norec_world.proofs.Commits.CommitCounts.{commits_after}
-use Rattle.norec_world.proofs.Tries.Dates.{dated_after}
-use Rattle.norec_world.proofs.Tries.Stages.{others_twice}
+use Rattle.std.proofs.Common.{◌≡◌, ℕ, Bool, true, false, List, length-set, slice_get, slice_set, None, Some, IsSome, refl, sym, ap, subst, ◌∙◌, arith}
+use Rattle.norec_world.proofs.Common.{Actor, ActorGoes, AreOpaque, AreTied, Cells, ClocksOn, Finished, Goes, HasLess, HasRead, HasStepped, HasWorked, IsEvent, IsWorld, KeepsOthers, Obeys, Rows, Rules, Tries, World, counted, ending_at, ending_of, event_result, is_ready, is_waiting, observed, option_and_then, prior_of, same_Some, slice_get-set_same, slice_get_within, slice_index_or, waiting_step, waits_at}
+use Rattle.norec_world.proofs.Events.WorldEvents.{no_fault, told_event, waits_not_ended}
 use Rattle.norec_world.proofs.Runs.Others.{has_read, running_after, world_opaque, world_tied}
-use Rattle.norec_world.proofs.Events.SoundOthers.{actors_after}
-use Rattle.norec_world.proofs.Engines.Intakes.{ready_of}
-use Rattle.norec_world.proofs.Tries.TryChains.{tries_then}
-use Rattle.norec_world.proofs.Events.WorldEvents.{event_goes}
-use Rattle.norec_world.proofs.Events.Worlds.{lawful_at, waiting_there}
-use Rattle.norec_world.proofs.Engines.SoundSteps.{rests}
+use Rattle.norec_world.proofs.{Commits.CommitCounts.commits_after, Engines.ClockHolders.clocks_still, Engines.ClockHolders.clocks_twice, Engines.Intakes.ready_of, Engines.SoundSteps.rests, Events.SoundOthers.actors_after, Events.Measures.event_less, Events.Worlds.going_in, Events.Worlds.lawful_at, Tries.Dates.dated_after, Tries.Stages.others_twice, Tries.TryChains.tries_then}
 
 -- ## A step and its local work are one event
 
@@ -24,20 +15,9 @@ module _ {P : Type 0} {rules : Rules P} {cells cells' : Cells} {r r1 r2 : Rows} 
   event_clocks = clocks_twice cells cells' cells' a.engine a1.engine a2.engine x.clocks (clocks_still cells' a1.engine a2.engine y.holds y.clock y.limit)
 
   event_then : (deepest : ℕ) (base : List ℕ) → HasRead deepest base r1 a1 → (event : IsEvent rules cells r a cells' r2 a2) × HasRead deepest base event.rows event.stepped
-  event_then deepest base read = (
-    record {
-      rows = r1;
-      stepped = a1;
-      takes = x.takes;
-      works = y.works;
-      tries = tries_on (is_ready a1.status) refl;
-      finishes = finishes_on (is_ready a1.status) refl;
-      others = event_others;
-      clocks = event_clocks;
-      retries = y.retries ∙ x.takes.same.retries;
-    },
-    read,
-  )
+  event_then deepest base read =
+      let tries = tries_on (is_ready a1.status) refl in
+      (record { rows = r1; stepped = a1; takes = x.takes; works = y.works; tries = tries; finishes = finishes_on (is_ready a1.status) refl; others = event_others; clocks = event_clocks; retries = y.retries ∙ x.takes.same.retries }, read)
     where
       tries_on : (b : Bool) → is_ready a1.status ≡ b → Tries cells.clock (prior_of r a) cells'.clock r2 a2
       tries_on true w =
@@ -53,34 +33,62 @@ module _ {P : Type 0} {rules : Rules P} {cells cells' : Cells} {r r1 r2 : Rows} 
 
 -- ## In a world
 
-module _ {P : Type 0} {rules : Rules P} (laws : Obeys rules) (w : World P) (kept : IsWorld rules w) (i : ℕ) (got : Actor P) (here : slice_get w.actors i ≡ Some got)
-    {cells' : Cells} {r1 r2 : Rows} {a1 a2 : Actor P} (x : HasStepped rules w.cells w.attempts got cells' r1 a1) (y : HasWorked rules cells' r1 a1 r2 a2) (done : is_ready a2.status ≡ false) (waits : IsSome (waits_at w i)) (events : ℕ) where
-  abbrev after : World P
-  after = record w { cells = cells'; actors = slice_set w.actors i a2; attempts = r2; events = events }
+-- what holds of a world holds of it by another name
+module _ {P : Type 0} {rules : Rules P} (laws : Obeys rules) {w v : World P} (is : w ≡ v) (kept : IsWorld rules w) where
+  pub opaque_as : AreOpaque rules (observed v)
+  opaque_as = subst (λ (x : World P). AreOpaque rules (observed x)) is (world_opaque rules laws w kept)
 
-  event : (e : IsEvent rules w.cells w.attempts got cells' r2 a2) × HasRead w.depth w.base e.rows e.stepped
-  event = event_then x y w.depth w.base (has_read rules laws w kept i got a1 here cells' r1 events x.others x.clocks x.runs x.sound.tied)
+  pub tied_as : AreTied rules v
+  tied_as = subst (AreTied rules) is (world_tied rules laws w kept)
 
-  pub world_after : IsWorld rules (record w { cells = cells'; actors = slice_set w.actors i a2; attempts = r2; events = events })
-  world_after =
-      let actors = actors_after rules w.cells cells' w.attempts r2 w.actors kept.actors i got a2 here y.sound done (event_others x y) (event_clocks x y) in
-      let commits = commits_after rules w kept.commits i got a2 here cells' r2 events event.0 in
-      let running = running_after rules laws w kept i got a2 here cells' r2 events (event_others x y) (event_clocks x y)
-      (λ first deepest base laid runs. (let z = x.runs first deepest base laid runs in y.runs first deepest base z.0 z.1)) in
+-- the world with these cells, rows and events, and this actor at this place
+abbrev pub led : {P : Type 0} → World P → ℕ → Cells → Rows → Actor P → ℕ → World P
+led w i cells r a events = record w { cells = cells; actors = slice_set w.actors i a; attempts = r; events = events }
+
+module _ {P : Type 0} {rules : Rules P} (laws : Obeys rules) {w v : World P} (is : w ≡ v) (kept : IsWorld rules w) (i : ℕ) (got : Actor P) (some : IsSome (waits_at v i)) (read : got ≡ slice_index_or w.actors i got)
+    {cells' : Cells} {r1 r2 : Rows} {a1 a2 : Actor P} (x : HasStepped rules w.cells w.attempts got cells' r1 a1) (y : HasWorked rules cells' r1 a1 r2 a2) (done : is_ready a2.status ≡ false) where
+  here : slice_get w.actors i ≡ Some got
+  here = (going_in is i got some read).0
+
+  event : (events : ℕ) → (e : IsEvent rules w.cells w.attempts got cells' r2 a2) × HasRead w.depth w.base e.rows e.stepped
+  event events = event_then x y w.depth w.base (has_read rules laws w kept i got a1 here cells' r1 events x.others x.clocks x.runs x.sound.tied)
+
+  pub world_after : (events : ℕ) → IsWorld rules (led w i cells' r2 a2 events)
+  world_after events =
+      let commits = commits_after rules w kept.commits i got a2 here cells' r2 events (event events).0 in
       record {
-        actors = actors;
+        actors = actors_after rules w.cells cells' w.attempts r2 w.actors kept.actors i got a2 here y.sound done (event_others x y) (event_clocks x y);
         long = length-set w.actors i a2 ∙ kept.long;
         commits = commits;
-        running = running;
-        dated = dated_after w kept i got a2 here cells' r2 events event.0 (waiting_there w i got here waits) commits.counted.all;
+        running = running_after rules laws w kept i got a2 here cells' r2 events (event_others x y) (event_clocks x y) (λ first deepest base laid runs. (let z = x.runs first deepest base laid runs in y.runs first deepest base z.0 z.1));
+        dated = dated_after w kept i got a2 here cells' r2 events (event events).0 (going_in is i got some read).1 commits.counted.all;
       }
 
-  pub goes_after : events ≡ counted w.events 1
-      → Goes rules i w (event_result (ending_at (record w { cells = cells'; actors = slice_set w.actors i a2; attempts = r2; events = events }) i)) (record w { cells = cells'; actors = slice_set w.actors i a2; attempts = r2; events = events })
-  goes_after counts =
-      let kept' = world_after in
-      event_goes rules w after i waits (lawful_at rules w w.attempts kept.actors i) (λ step e. x.cells_are step (sym (ap (option_and_then (λ (a : Actor P). waiting_step a.status)) here) ∙ e)) counts
-      (λ a is.
-      (let same : got ≡ a = (let found : Some got ≡ Some a = sym here ∙ is in cc) in
-      subst (λ (z : Actor P). ActorGoes rules i w z after) same (a2, refl, event.0, done, event.1)))
-      kept'.commits (world_opaque rules laws after kept') (world_tied rules laws after kept') (record { opening = refl; base = refl; arena = refl; patience = refl; max_commits = refl; retries = refl; depth = refl }) (length-set w.actors i a2)
+  pub goes_after : (events : ℕ) → events ≡ counted w.events 1 → Goes rules i v (event_result (ending_at (led w i cells' r2 a2 events) i)) (led w i cells' r2 a2 events)
+  goes_after events counts =
+      let after : World P = led w i cells' r2 a2 events in
+      let waits = subst (λ (z : World P). IsSome (waits_at z i)) (sym is) some in
+      let kept' = world_after events in
+      let e = event events in
+      subst (λ (z : World P). Goes rules i z (event_result (ending_at after i)) after) is (record {
+        no_such = (λ e. no_fault (ending_at after i) e refl, λ l. absurd (let n = slice_get_within w.actors i got here in omega arith));
+        ended = (λ e. no_fault (ending_at after i) e refl, λ e. absurd (waits_not_ended w i waits e));
+        event = (λ e. waits, λ e. told_event (ending_at after i));
+        answer = λ e. refl;
+        lawful = lawful_at rules w w.attempts kept.actors i;
+        operation = λ step e. x.cells_are step (sym (ap (option_and_then (λ (a : Actor P). waiting_step a.status)) here) ∙ e);
+        counts = λ e. counts;
+        unchanged = λ e. absurd (let u = told_event (ending_at after i) in cc);
+        event_of = λ a there taken. subst (λ (z : Actor P). ActorGoes rules i w z after) (same_Some _ _ (sym here ∙ there)) (a2, refl, e.0, done, e.1);
+        commits = kept'.commits;
+        opaque = world_opaque rules laws after kept';
+        tied = world_tied rules laws after kept';
+        opening = record { opening = refl; base = refl; arena = refl; patience = refl; max_commits = refl; retries = refl; depth = refl };
+        actors = length-set w.actors i a2;
+      })
+
+  pub less_after : (on : Bool) → is_waiting a1.status ≡ on → (a b : Actor P) → slice_get v.actors i ≡ Some a → slice_get (slice_set w.actors i a2) i ≡ Some b → HasLess rules on a b
+  less_after on on_is a b there there' =
+      let first : got ≡ a = same_Some _ _ (sym here ∙ (ap (λ (z : World P). slice_get z.actors i) is ∙ there)) in
+      let last : a2 ≡ b = same_Some _ _ (sym (slice_get-set_same w.actors i a2 (slice_get_within w.actors i got here)) ∙ there') in
+      subst (λ (z : Actor P). HasLess rules on z b) first (subst (HasLess rules on got) last (event_less rules got a1 a2 (going_in is i got some read).1 x.goes_on x.falls (λ e. (y.still e).0) y.less on on_is))

@@ -11,10 +11,7 @@ module _ {P : Type 0} (rules : Rules P) where
   same_less a = record { whole_falls = (let o : whole rules (in_transaction a.engine) a.run.player ≤ whole rules (in_transaction a.engine) a.run.player = omega arith in o); rank_falls = λ k b. omega arith }
 
   pub less_less : (a b c : Actor P) → IsNoMore rules a b → IsNoMore rules b c → IsNoMore rules a c
-  less_less a b c f g = record {
-    whole_falls = omega (arith, f.whole_falls, g.whole_falls);
-    rank_falls = λ k l. omega (arith, f.rank_falls k l, g.rank_falls k (omega (arith, f.whole_falls)));
-  }
+  less_less a b c f g = record { whole_falls = omega (arith, f.whole_falls, g.whole_falls); rank_falls = λ k l. omega (arith, f.rank_falls k l, g.rank_falls k (omega (arith, f.whole_falls))) }
 
   pub falls_less : (a b : Actor P) → Falls rules (in_transaction a.engine) (in_transaction b.engine) a b → IsNoMore rules a b
   falls_less a b f = record { whole_falls = f.whole_falls; rank_falls = λ k l. (let u = f.rank_falls k l in omega arith) }
@@ -52,11 +49,7 @@ module _ {P : Type 0} (rules : Rules P) (a b c : Actor P) (waits : is_waiting a.
         less = λ e. subst (IsNoMore rules a) (sym same) on.less;
         over = λ e. absurd (cc);
       }
-  event_less false over = record {
-    on = λ e. absurd (cc);
-    less = λ e. less_less rules a b c (falls_less rules a b (fell over e)) (less (waiting_going c.status e));
-    over = λ e. turn_falls over;
-  }
+  event_less false over = record { on = λ e. absurd (cc); less = λ e. less_less rules a b c (falls_less rules a b (fell over e)) (less (waiting_going c.status e)); over = λ e. turn_falls over }
 
 module _ {P : Type 0} (rules : Rules P) where
   -- a call so far: it goes on, or is over

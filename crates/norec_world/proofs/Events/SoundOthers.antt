@@ -1,27 +1,15 @@
 -- An event of one actor leaves the others sound.
-use Rattle.norec_world.proofs.Tries.ToldTries.{told_kept}
-use Rattle.norec_world.proofs.Rooms.ActionRoom.{told_acting}
-use Rattle.norec_world.proofs.Common.{Waits, Ended, Ready, Attempt}
-use Rattle.norec_world.proofs.Tries.Stages.{others_same, moved_begun, moved_count}
 use Rattle.std.proofs.Common.{◌≡◌, ◌≢◌, ◌⊎◌, inl, inr, ℕ, zero, suc, ◌+◌, ◌%◌, ◌<◌, ◌≤◌, true, false, List, [], ◌∷◌, ◌++◌, length, length-append, Some, slice_get, slice_set, refl, sym, ap, subst, ◌∙◌, arith, eqb-true, ◌==◌, length-set, ◌/◌, is_some}
-use Rattle.norec_world.proofs.Common.{Actor, AllFit, AreActors, Cells, ClocksOn, IsSound, IsTied, KeepsOthers, MAX_ACTORS, Rows, Rules, Stage, both_ways, cases_Bool, cases_lt, count_all, count_in, count_of, eqb-false, false_from_ne_true, is_ready, slice_get-set_same, slice_get_within, stage_of, Status, told, StatusIs}
-use Rattle.itm_types.proofs.Words.{slice_get-set_other}
-use Rattle.tx_runs.specs.Tallies.{begins, outside, within}
-use Rattle.norec_world.proofs.Engines.TiedEngines.{held_even}
-use Rattle.norec_world.specs.Actors.{IsActor}
+use Rattle.norec_world.proofs.Common.{Actor, AllFit, AreActors, Attempt, Cells, ClocksOn, Ended, IsSound, IsTied, KeepsOthers, MAX_ACTORS, Ready, Rows, Rules, Stage, Status, StatusIs, Waits, both_ways, cases_Bool, cases_lt, count_all, count_in, count_of, eqb-false, false_from_ne_true, in_transaction, is_ready, slice_get-set_same, slice_get_within, stage_of, told}
+use Rattle.norec_world.{proofs.Engines.TiedEngines.held_even, proofs.Rooms.ActionRoom.told_acting, proofs.Tries.Stages.moved_begun, proofs.Tries.Stages.moved_count, proofs.Tries.Stages.others_same, proofs.Tries.ToldTries.told_kept, specs.Actors.IsActor, specs.Sound.IsInCall}
+use Rattle.{itm_types.proofs.Words.slice_get-set_other, tx_runs.specs.Tallies.begins, tx_runs.specs.Tallies.outside, tx_runs.specs.Tallies.within}
 pub use Rattle.std.proofs.lemmas.Option.{slice_get_within as within_of}
 
 module _ {P : Type 0} (rules : Rules P) where
   -- another one, where the cells of the clock that it holds did not change
   pub tied_still : (cells cells' : Cells) (b : Actor P) → IsTied cells b.engine → AllFit cells'.words → cells.clock ≤ cells'.clock → length cells'.words ≡ length cells.words → (b.engine.holds ≡ true → cells' ≡ cells) → IsTied cells' b.engine
-  tied_still cells cells' b t fit late long held = record {
-    words = t.words ∙ sym long;
-    fit = fit;
-    late = (let l = t.late in omega arith);
-    holder = λ h. ap (λ (c : Cells). c.clock) (held h) ∙ t.holder h;
-    settled = t.settled;
-    restarts = t.restarts;
-  }
+  tied_still cells cells' b t fit late long held =
+      record { words = t.words ∙ sym long; fit = fit; late = (let l = t.late in omega arith); holder = λ h. ap (λ (c : Cells). c.clock) (held h) ∙ t.holder h; settled = t.settled; restarts = t.restarts }
 
   pub sound_still : (cells cells' : Cells) (r r' : Rows) (b : Actor P) → IsSound rules cells r b
       → AllFit cells'.words → cells.clock ≤ cells'.clock → length cells'.words ≡ length cells.words → (b.engine.holds ≡ true → cells' ≡ cells) → count_of b ≤ r'.room → IsSound rules cells' r' b
@@ -33,33 +21,20 @@ module _ {P : Type 0} (rules : Rules P) where
   told_status a (Waits call step) s =
       let same = moved_begun (a.engine.snapshot / 2) a.run.current in
       let i = s.in_call in
-      record {
-        nested = s.nested;
-        depth = s.depth;
-        in_call = record {
-          asks = i.asks;
-          begins = λ x. ap (is_some {T = Attempt}) same ∙ i.begins x;
-          inside = λ x. same ∙ i.inside x;
-          opens = λ row e. (let p = i.opens row (sym same ∙ e) in record { thread = p.thread; nth = p.nth; outcome = p.outcome });
-          props = λ row props room e. i.props row props room (sym same ∙ e);
-        };
-        doing = s.doing;
-        waits = s.waits;
-        lawful = s.lawful;
-        within = s.within;
-        asks = s.asks;
-        begun = s.begun;
-      }
+      let in_call : IsInCall rules (in_transaction a.engine) (told a) call = record {
+        asks = i.asks;
+        begins = λ x. ap (is_some {T = Attempt}) same ∙ i.begins x;
+        inside = λ x. same ∙ i.inside x;
+        opens = λ row e. (let p = i.opens row (sym same ∙ e) in record { thread = p.thread; nth = p.nth; outcome = p.outcome });
+        props = λ row props room e. i.props row props room (sym same ∙ e);
+      } in
+      assumption (in_call, s)
   told_status a (Ended end) s = s
 
   pub told_sound : {cells : Cells} {r : Rows} {a : Actor P} → IsSound rules cells r a → IsSound rules cells r (told a)
-  told_sound {a = a} s = record {
-    tied = s.tied;
-    kept = told_kept a s.kept;
-    acts = told_acting a s.acts;
-    status = told_status a a.status s.status;
-    place = (let n = moved_count (a.engine.snapshot / 2) a.run.current in let p = s.place in omega arith);
-  }
+  told_sound {r = r} {a = a} s =
+      let place : count_of (told a) ≤ r.room = (let n = moved_count (a.engine.snapshot / 2) a.run.current in let p = s.place in omega arith) in
+      assumption (told_kept a s.kept, told_acting a s.acts, told_status a a.status s.status, place, s)
 
 -- its room and its thread are the same
 pub told_others : {P : Type 0} (a : Actor P) (r : Rows) → KeepsOthers a r (told a) r
@@ -87,10 +62,6 @@ replaced_sum (a ∷ rest) zero got new e =
 replaced_sum (a ∷ rest) (suc i) got new e =
     let those = replaced_sum rest i got new e in
     (count_of a + those.0, omega (arith, those.1), omega (arith, those.2), omega (arith, those.3, count_one (stage_of a.run.current)))
-
--- one's share of the sum
-count_share : {P : Type 0} (actors : List (Actor P)) (i : ℕ) (a : Actor P) → slice_get actors i ≡ Some a → count_of a ≤ count_all actors
-count_share actors i a e = (let s = replaced_sum actors i a a e in let l = s.1 in omega arith)
 
 pub odd_or_even : (n : ℕ) → (n % 2 ≡ 0) ⊎ (n % 2 ≡ 1)
 odd_or_even n = elim (cases_lt (n % 2) 1) [ inl l ↦ inl (omega arith) | inr l ↦ inr (omega arith) ]
@@ -151,22 +122,12 @@ module _ {P : Type 0} (cells cells' : Cells) (actors actors' : List (Actor P)) (
       | inl h ↦ subst (IsActor rules cells' r' j) (sym h.1) (record { sound = sound; done = done; thread = thread ∙ h.0 })
       | inr h ↦
           (let was = s.each j b h.1 in
-          record {
-            sound = sound_still rules cells cells' r r' b was.sound sound.tied.fit late long (λ holds. (apart j b h.0 h.1 holds).0) (let share = count_share actors' j b e in omega arith);
-            done = was.done;
-            thread = was.thread;
-          })
+          assumption (sound_still rules cells cells' r r' b was.sound sound.tied.fit late long (λ holds. (apart j b h.0 h.1 holds).0) (let share = (replaced_sum actors' j b b e).1 in omega arith), was))
     ]
 
     actors_then : length actors' ≤ MAX_ACTORS → (cells'.clock % 2 ≡ 1 → (place : ℕ) × (a : Actor P) × (slice_get actors' place ≡ Some a) × (a.engine.holds ≡ true))
         → AreActors rules cells' r' actors'
-    actors_then few held = record {
-      few = few;
-      each = each_then;
-      one = one_then s.one;
-      held = held;
-      room = room;
-    }
+    actors_then few held = record { few = few; each = each_then; one = one_then s.one; held = held; room = room }
 
 -- ## One event
 

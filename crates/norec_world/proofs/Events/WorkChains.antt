@@ -1,22 +1,11 @@
 -- Local work of an actor, one call of its player after the other: all that it leaves.
-use Rattle.norec_core.specs.Phases.{Idle}
-use Rattle.norec_core.specs.Core.{rolled_back}
-use Rattle.tx_runs.specs.declared.player_run.PlayerRun.{PlayerRun}
-use Rattle.norec_world.specs.ActionRoom.{IsActing, IsBacked}
-use Rattle.std.proofs.Common.{◌≡◌, Bool, true, false, List, ◌++◌, None, Some, refl, sym, ap, subst, ◌∙◌, arith}
-use Rattle.norec_world.proofs.Common.{Actor, Acts, Attempt, Call, Cells, Core, Ended, Finished, HasWorked, IsDone, IsNoMore, IsSound, KeepsOthers, Next, Obeys, Ready, Rows, Rules, Starves, Tells, Works, after_undoing, cond_both, ending_of, in_transaction, is_ready, prior_of, rank, whole}
-use Rattle.norec_world.specs.LocalWork.{calls, finishes, starves}
-use Rattle.norec_world.proofs.Commits.CommitCounts.{counted_after}
-use Rattle.norec_world.proofs.Events.Measures.{less_less}
-use Rattle.norec_world.proofs.Events.LocalWork.{works_both}
+use Rattle.std.proofs.Common.{◌≡◌, ℕ, zero, suc, Bool, true, false, List, ◌++◌, None, Some, refl, sym, ap, subst, ◌∙◌, arith}
+use Rattle.norec_world.proofs.Common.{Actor, Acts, Attempt, Call, Cells, Core, Ended, Finished, HasWorked, Idle, IsActing, IsBacked, IsDone, IsNoMore, IsSound, KeepsOthers, Next, Obeys, PlayerRun, Ready, Rows, Rules, Starves, StillRuns, Tells, Tries, Works, after_undoing, cond_both, ending_of, in_transaction, is_ready, prior_of, rank, rolled_back, whole}
 use Rattle.norec_world.proofs.Tries.Stages.{others_place, others_same, others_twice, row_same}
 use Rattle.norec_world.proofs.Runs.Calls.{call_runs, finish_runs, laid_calls, starve_runs, still_at}
 use Rattle.norec_world.proofs.Engines.SoundSteps.{IsCalling, call_less, call_taken, mid, player_same, rests, same_rank}
 use Rattle.norec_world.proofs.Engines.Intakes.{now, ready_of, recorded, still_going}
-use Rattle.norec_world.proofs.Engines.TiedEngines.{clock_same, limit_same, snapshot_still}
-use Rattle.norec_world.proofs.Tries.TryCalls.{call_tries, finish_tries, starve_tries}
-use Rattle.norec_world.proofs.Tries.TryChains.{tries_still, tries_then}
-use Rattle.norec_world.proofs.Tries.AnswerEndings.{not_finished}
+use Rattle.norec_world.{proofs.Commits.CommitCounts.counted_after, proofs.Engines.TiedEngines.clock_same, proofs.Engines.TiedEngines.limit_same, proofs.Engines.TiedEngines.snapshot_still, proofs.Events.Measures.less_less, proofs.Events.Measures.same_less, proofs.Tries.AnswerEndings.not_finished, proofs.Tries.TryCalls.call_tries, proofs.Tries.TryCalls.finish_tries, proofs.Tries.TryCalls.starve_tries, proofs.Tries.TryChains.tries_still, proofs.Tries.TryChains.tries_then, specs.LocalWork.ActsOn, specs.LocalWork.SameActor, specs.LocalWork.calls, specs.LocalWork.finishes, specs.LocalWork.starves}
 
 not_still : {P : Type 0} {A : Type 0} (a : Actor P) → a.status ≡ Ready → is_ready a.status ≡ false → A
 not_still a ready n = absurd (let both : true ≡ false = ap is_ready (sym ready) ∙ n in cc)
@@ -35,52 +24,28 @@ module _ {P : Type 0} {rules : Rules P} (laws : Obeys rules) {cells : Cells} {r0
 
   -- the player has none
   pub finish_worked : rules.next_call old.run.player ≡ None → HasWorked rules cells r0 old r0 (record old { status = Ended Finished })
-  finish_worked none = record {
-    sound = record {
-      tied = sound.tied;
-      acts = (let x = sound.acts in
-          record { all = x.all; places = x.places; pending = x.pending; status = tt; room = x.room; backed = λ row e. (let few = subst (IsBacked old) ready x.backed row e in omega arith); asks = tt });
-      kept = (let k = sound.kept in record { row = row_same (in_transaction old.engine) old (record old { status = Ended Finished }) refl refl k.row; tried = k.tried; tries = k.tries; retries = k.retries });
-      status = (rests sound ready).idle;
-      place = sound.place;
-    };
-    works = one_act r0 (record old { status = Ended Finished }) (finishes (record { none = none; actor = refl; rows = refl }));
-    tries = λ w. finish_tries rules cells r0 old sound ready;
-    runs = λ first deepest base laid runs. (laid, finish_runs sound ready first deepest base runs);
-    others = others_same old (record old { status = Ended Finished }) r0 r0 refl (omega arith) refl (omega arith);
-    holds = refl;
-    clock = refl;
-    limit = (refl, refl, refl, refl);
-    snapshot = refl;
-    retries = refl;
-    finishes = λ w e. none;
-    still = not_still old ready;
-    less = λ e. absurd (cc);
-  }
+  finish_worked none =
+      let last : Actor P = record old { status = Ended Finished } in
+      let backed : IsBacked last last.status = λ row e. (let few = subst (IsBacked old) ready sound.acts.backed row e in omega arith) in
+      let still : is_ready old.status ≡ false → (last ≡ old) × (r0 ≡ r0) = not_still old ready in
+      let less : Some Finished ≡ None → IsNoMore rules old last = λ e. absurd (cc) in
+      let runs : StillRuns rules cells r0 old cells r0 last = λ first deepest base laid runs. (laid, finish_runs sound ready first deepest base runs) in
+      let works = one_act r0 last (finishes (record { none = none; actor = refl; rows = refl })) in
+      assumption (sound, backed, row_same (in_transaction old.engine) old last refl refl sound.kept.row, (rests sound ready).idle, works, finish_tries rules cells r0 old sound ready, runs, others_same old last r0 r0 refl (omega arith) refl (omega arith), still, less)
 
   -- memory was refused to it
   pub starve_worked : (r1 : Rows) (last : Actor P) → IsSound rules cells r1 last → Starves rules r0 old r1 last → KeepsOthers old r0 last r1 → HasWorked rules cells r0 old r1 last
   starve_worked r1 last sound' s others =
       let keeps = undone_keeps old.engine last.engine s.engine in
       let tries = starve_tries rules cells r0 old sound ready r1 last s in
-      record {
-        sound = sound';
-        works = one_act r1 last (starves s);
-        tries = λ w. tries;
-        runs = still_at rules cells r0 old cells r1 last old.engine.depth refl (λ first base laid runs. (
-          laid_calls old.engine.depth base cells r0 r1 laid others.more others.ended (counted_after cells.clock cells.clock (prior_of r0 old) r1 last tries laid.counted),
-          starve_runs laws sound s first base laid runs (rests sound ready).free (rests sound ready).nested others.more others.ended,
-        ));
-        others = others;
-        holds = keeps.1;
-        clock = keeps.0;
-        limit = (keeps.2, keeps.3, keeps.4, keeps.5);
-        snapshot = snapshot_still old.engine last.engine s.engine;
-        retries = s.same.retries;
-        finishes = λ w e. absurd (let z = sym (ap ending_of s.status) ∙ e in cc);
-        still = not_still old ready;
-        less = λ e. absurd (let z = sym (ap ending_of s.status) ∙ e in cc);
-      }
+      let finishes : is_ready old.status ≡ true → ending_of last.status ≡ Some Finished → rules.next_call last.run.player ≡ None = λ w e. absurd (let z = sym (ap ending_of s.status) ∙ e in cc) in
+      let still : is_ready old.status ≡ false → (last ≡ old) × (r1 ≡ r0) = not_still old ready in
+      let less : ending_of last.status ≡ None → IsNoMore rules old last = λ e. absurd (let z = sym (ap ending_of s.status) ∙ e in cc) in
+      let runs = still_at rules cells r0 old cells r1 last old.engine.depth refl (λ first base laid runs. (
+        laid_calls old.engine.depth base cells r0 r1 laid others.more others.ended (counted_after cells.clock cells.clock (prior_of r0 old) r1 last tries laid.counted),
+        starve_runs laws sound s first base laid runs (rests sound ready).free (rests sound ready).nested others.more others.ended,
+      )) in
+      assumption (sound', one_act r1 last (starves s), tries, runs, others, keeps, snapshot_still old.engine last.engine s.engine, s.same, finishes, still, less)
 
 -- it goes to the engine
 module _ {P : Type 0} {rules : Rules P} (laws : Obeys rules) {cells : Cells} {r0 r : Rows} {old a : Actor P} {call : Call} {what : Next} (m : IsCalling rules cells r0 r old a call what) (r1 : Rows) (last : Actor P)
@@ -98,20 +63,11 @@ module _ {P : Type 0} {rules : Rules P} (laws : Obeys rules) {cells : Cells} {r0
       let x = now taken done tells in
       let tries = call_tries m done tells in
       let kept = limit_same (mid m) a.engine what m.asks.called.proceeds in
+      let sound = x.sound acts (others_place others m.sound.place) in
+      let same : SameActor old last = record { thread = x.thread ∙ ap (λ (y : PlayerRun P). y.thread) m.asks.run; retries = x.retries ∙ ap (λ (y : PlayerRun P). y.retries) m.asks.run; nothing = λ e. (rests sound e).nothing } in
       record {
-        sound = x.sound acts (others_place others m.sound.place);
-        works = one_act laws m.sound m.ready r1 last (calls (record {
-          call = call;
-          next_is = asks;
-          what = what;
-          rows = r;
-          asked = a;
-          asks = m.asks;
-          ready = m.asked.status ∙ m.ready;
-          tells = tells;
-          engine = x.engine;
-          same = record { thread = x.thread ∙ ap (λ (y : PlayerRun P). y.thread) m.asks.run; retries = x.retries ∙ ap (λ (y : PlayerRun P). y.retries) m.asks.run; nothing = λ e. (rests (x.sound acts (others_place others m.sound.place)) e).nothing };
-        }));
+        sound = sound;
+        works = one_act laws m.sound m.ready r1 last (calls (record { call = call; next_is = asks; what = what; rows = r; asked = a; asks = m.asks; ready = m.asked.status ∙ m.ready; tells = tells; engine = x.engine; same = same }));
         tries = λ w. tries;
         runs = still_at rules cells r0 old cells r1 last old.engine.depth refl (λ first base laid runs.
             call_runs laws m first base laid runs r1 last done tells others.more (others.ended ∙ ap (λ (l : List Attempt). l ++ others.more) (sym m.asks.ended)) (counted_after cells.clock cells.clock (prior_of r0 old) r1 last tries laid.counted));
@@ -129,30 +85,24 @@ module _ {P : Type 0} {rules : Rules P} (laws : Obeys rules) {cells : Cells} {r0
 
 -- ## One after the other
 
+acts_both : {P : Type 0} (rules : Rules P) (clock n k : ℕ) (r r1 r2 : Rows) (a a1 a2 : Actor P) → ActsOn rules clock n r a r1 a1 → ActsOn rules clock k r1 a1 r2 a2 → Works rules clock r a r2 a2
+acts_both {P} rules clock n zero r r1 r2 a a1 a2 f g = subst (λ (x : Rows). Works rules clock r a x a2) (sym g.0) (subst (λ (x : Actor P). Works rules clock r a r1 x) (sym g.1) (n, f))
+acts_both rules clock n (suc k) r r1 r2 a a1 a2 f g = (let w = acts_both rules clock n k r r1 g.0 a a1 g.1 f g.2 in (suc w.0, (g.0, g.1, w.1, g.3, g.4)))
+
 module _ {P : Type 0} {rules : Rules P} {cells : Cells} {r : Rows} {a : Actor P} where
   pub work_none : IsSound rules cells r a → HasWorked rules cells r a r a
-  work_none sound = record {
-    sound = sound;
-    works = (0, (refl, refl));
-    tries = λ w. tries_still rules cells r a sound (ready_of a.status w);
-    runs = λ first deepest base laid runs. (laid, runs);
-    others = others_same a a r r refl (omega arith) refl (omega arith);
-    holds = refl;
-    clock = refl;
-    limit = (refl, refl, refl, refl);
-    snapshot = refl;
-    retries = refl;
-    finishes = λ w. still_going (ready_of a.status w);
-    still = λ n. (refl, refl);
-    less = λ e. record { whole_falls = omega arith; rank_falls = λ n b. omega arith };
-  }
+  work_none sound =
+      let works : Works rules cells.clock r a r a = (0, (refl, refl)) in
+      let tries : is_ready a.status ≡ true → Tries cells.clock (prior_of r a) cells.clock r a = λ w. tries_still rules cells r a sound (ready_of a.status w) in
+      let finishes : is_ready a.status ≡ true → ending_of a.status ≡ Some Finished → rules.next_call a.run.player ≡ None = λ w. still_going (ready_of a.status w) in
+      assumption (sound, works, tries, finishes, others_same a a r r refl (omega arith) refl (omega arith), same_less rules a)
 
   pub work_more : {r1 r2 : Rows} {a1 a2 : Actor P} → HasWorked rules cells r a r1 a1 → a1.status ≡ Ready → HasWorked rules cells r1 a1 r2 a2 → HasWorked rules cells r a r2 a2
   work_more {r1} {r2} {a1} {a2} x ready y =
       let ready_1 = ap is_ready ready in
       record {
         sound = y.sound;
-        works = works_both rules cells.clock r r1 r2 a a1 a2 x.works y.works;
+        works = acts_both rules cells.clock x.works.0 y.works.0 r r1 r2 a a1 a2 x.works.1 y.works.1;
         tries = λ w. tries_then cells.clock cells.clock (prior_of r a) r1 r2 a1 a2 ready (rests x.sound ready).nothing x.limit.0 x.retries y.snapshot (y.tries ready_1) (x.tries w);
         runs = λ first deepest base laid runs. (let z = x.runs first deepest base laid runs in y.runs first deepest base z.0 z.1);
         others = others_twice a a1 a2 r r1 r2 x.others y.others;

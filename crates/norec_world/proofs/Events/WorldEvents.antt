@@ -1,15 +1,11 @@
 -- Events of a world: what their answers tell, many in a row, and the events of one call of an actor and of one call after the other.
 use Rattle.std.proofs.Common.{inl, inr, ◌≡◌, ◌↔◌, ◌≤◌, zero, suc, ℕ, ◌+◌, ◌<◌, Bool, true, false, cond, length, take, get_or, arith, List, [], ◌∷◌, ◌++◌, count_by, IsTrue, Option, None, Some, Result, Ok, Err, IsSome, refl, sym, ap, subst, ◌∙◌, slice_get, min, if◌then◌else◌}
-use Rattle.std.proofs.lemmas.List.{take_more}
-use Rattle.std.proofs.lemmas.List.Sums.{sum_by-append}
-use Rattle.norec_world.proofs.Common.{Actor, ActorGoes, AreActors, AreOpaque, AreTied, CommitsInOrder, End, Finished, Goes, IsLawful, IsNoMore, Leads, LeavesLess, Passes, Rules, SameOpening, Status, Step, Takes, Waits, World, WorldFault, cells_after, counted, ending_at, ending_of, in_transaction, observed, is_ready, is_waiting, option_and_then, passes_of, run_left, steps_left, event_result, waiting_step, waits_at, whole, slice_get_within, cases_lt}
-use Rattle.norec_world.specs.declared.fault.WorldFault.TheVariants as faults
-use Rattle.norec_world.specs.World.{is_event}
-use Rattle.std.specs.Option.{option_map, option_map_or}
-use Rattle.norec_world.proofs.Events.SoundOthers.{there_is}
-use Rattle.norec_world.proofs.Events.Worlds.{some_ended, within_some, some_waiting, waits_there, waiting_going}
-use Rattle.norec_world.specs.WorldEvents.{is_taken, is_passed, is_starved}
+use Rattle.norec_world.proofs.Common.{Actor, AreActors, AreOpaque, AreTied, CommitsInOrder, End, Finished, Goes, IsNoMore, Leads, LeavesLess, Passes, Rules, SameOpening, Status, Takes, Waits, World, WorldFault, cases_lt, counted, ending_at, ending_of, event_result, in_transaction, is_ready, is_waiting, observed, option_and_then, passes_of, run_left, slice_get_within, steps_left, waiting_step, waits_at, whole}
+use Rattle.norec_world.proofs.Events.Worlds.{some_ended, some_waiting, waits_there, waiting_going}
 use Rattle.norec_world.proofs.Events.Measures.{HasLessSoFar, less_so_far, same_less, less_less}
+use Rattle.norec_world.{proofs.Events.SoundOthers.there_is, specs.World.is_event, specs.WorldEvents.is_passed, specs.WorldEvents.is_starved, specs.WorldEvents.is_taken}
+use Rattle.std.{proofs.lemmas.List.take_more, proofs.lemmas.List.Sums.sum_by-append, specs.Option.option_map, specs.Option.option_map_or}
+use Rattle.norec_world.specs.declared.fault.WorldFault.TheVariants as faults
 
 -- an event is answered by no fault of the other two
 pub told_event : (e : Option End) → IsTrue (is_event (event_result e))
@@ -23,32 +19,13 @@ waits_not_ended {P} w actor waits ended =
     let y = waits_there w actor waits in
     absurd (let none = subst IsSome (ap (option_and_then (λ (a : Actor P). ending_of a.status)) y.1 ∙ waiting_going y.0.status y.2) ended in cc)
 
--- an event is one of the world
-module _ {P : Type 0} (rules : Rules P) (old new : World P) (actor : ℕ) (waits : IsSome (waits_at old actor))
-    (lawful : (a : Actor P) (step : Step) → slice_get old.actors actor ≡ Some a → waiting_step a.status ≡ Some step → IsLawful a.engine step)
-    (operation : (step : Step) → waits_at old actor ≡ Some step → new.cells ≡ cells_after old.cells step) (counts : new.events ≡ counted old.events 1)
-    (event_of : (a : Actor P) → slice_get old.actors actor ≡ Some a → ActorGoes rules actor old a new)
-    (commits : CommitsInOrder new) (opaque : AreOpaque rules (observed new)) (tied : AreTied rules new) (same : SameOpening old new) (long : length new.actors ≡ length old.actors) where
-  no_fault : {A : Type 0} {fault : WorldFault} → event_result (ending_at new actor) ≡ Err fault → is_event (Err fault) ≡ false → A
-  no_fault e none = absurd (let u = subst (λ (r : Result (Unit {0}) WorldFault). IsTrue (is_event r)) e (told_event (ending_at new actor)) in cc)
+-- nor by a fault that is none
+pub no_fault : {A : Type 0} {fault : WorldFault} (end : Option End) → event_result end ≡ Err fault → is_event (Err fault) ≡ false → A
+no_fault end e none = absurd (let u = subst (λ (r : Result (Unit {0}) WorldFault). IsTrue (is_event r)) e (told_event end) in cc)
 
-  pub event_goes : Goes rules actor old (event_result (ending_at new actor)) new
-  event_goes = record {
-    no_such = (λ e. no_fault e refl, λ l. absurd (let n = within_some (λ (a : Actor P). waiting_step a.status) old.actors actor waits in omega arith));
-    ended = (λ e. no_fault e refl, λ e. absurd (waits_not_ended old actor waits e));
-    event = (λ e. waits, λ e. told_event (ending_at new actor));
-    answer = λ e. refl;
-    lawful = lawful;
-    operation = operation;
-    counts = λ e. counts;
-    unchanged = λ e. absurd (let u = told_event (ending_at new actor) in cc);
-    event_of = λ a here taken. event_of a here;
-    commits = commits;
-    opaque = opaque;
-    tied = tied;
-    opening = same;
-    actors = long;
-  }
+-- the world keeps its beginning
+pub opening_same : {P : Type 0} (w : World P) → SameOpening w w
+opening_same w = record { opening = refl; base = refl; arena = refl; patience = refl; max_commits = refl; retries = refl; depth = refl }
 
 -- ## Where the actor waits for no operation
 
@@ -84,7 +61,7 @@ module _ {P : Type 0} (rules : Rules P) (w : World P) (i : ℕ)
     commits = commits;
     opaque = opaque;
     tied = tied;
-    opening = record { opening = refl; base = refl; arena = refl; patience = refl; max_commits = refl; retries = refl; depth = refl };
+    opening = opening_same w;
     actors = refl;
   }
 
@@ -161,8 +138,8 @@ module _ {P : Type 0} (rules : Rules P) where
 pub counted_one : (n before now : ℕ) → before ≡ counted 0 n → now ≡ min (before + 1) 18446744073709551615 → now ≡ counted 0 (suc n)
 counted_one n before now b e = omega arith
 
-pub counted_both : (n k m before more now : ℕ) → before ≡ counted 0 n → more ≡ counted 0 k → m ≡ n + k → now ≡ min (before + more) 18446744073709551615 → now ≡ counted 0 m
-counted_both n k m before more now b f s e = omega arith
+pub counts_both : (n k m before more now : ℕ) → before ≡ counted 0 n → more ≡ counted 0 k → m ≡ n + k → now ≡ min (before + more) 18446744073709551615 → now ≡ counted 0 m
+counts_both n k m before more now b f s e = omega arith
 
 pub events_both : (first between last before more now : ℕ) → between ≡ counted first before → last ≡ counted between more → now ≡ min (before + more) 18446744073709551615 → last ≡ counted first now
 events_both first between last before more now b l n = omega arith
@@ -177,19 +154,8 @@ at_place_is {A} f xs place x e = ap (λ (o : Option A). option_map_or f o 0) e
 
 -- ## Worlds
 
-pub opening_same : {P : Type 0} (w : World P) → SameOpening w w
-opening_same w = record { opening = refl; base = refl; arena = refl; patience = refl; max_commits = refl; retries = refl; depth = refl }
-
 pub opening_both : {P : Type 0} (a b c : World P) → SameOpening a b → SameOpening b c → SameOpening a c
-opening_both a b c f g = record {
-  opening = g.opening ∙ f.opening;
-  base = g.base ∙ f.base;
-  arena = g.arena ∙ f.arena;
-  patience = g.patience ∙ f.patience;
-  max_commits = g.max_commits ∙ f.max_commits;
-  depth = g.depth ∙ f.depth;
-  retries = g.retries ∙ f.retries;
-}
+opening_both a b c f g = record { opening = g.opening ∙ f.opening; base = g.base ∙ f.base; arena = g.arena ∙ f.arena; patience = g.patience ∙ f.patience; max_commits = g.max_commits ∙ f.max_commits; depth = g.depth ∙ f.depth; retries = g.retries ∙ f.retries }
 
 module _ {P : Type 0} (rules : Rules P) (actor : ℕ) where
   pub takes_one : (n : ℕ) (old between new : World P) → Takes rules actor n old between → Goes rules actor between (event_result (ending_at new actor)) new

@@ -1,8 +1,8 @@
 -- The actors of a world, over one event.
-use Rattle.std.proofs.Common.{◌≡◌, ℕ, zero, suc, ◌<◌, true, false, List, [], ◌∷◌, length, Option, None, Some, IsSome, slice_get, refl, ap, subst, arith}
-use Rattle.std.proofs.lemmas.Option.{slice_get_read}
-use Rattle.norec_world.proofs.Events.SoundOthers.{there_is}
+use Rattle.std.proofs.Common.{◌≡◌, ℕ, zero, suc, ◌<◌, true, false, List, [], ◌∷◌, length, Option, None, Some, IsSome, slice_get, refl, sym, ap, subst, arith}
 use Rattle.norec_world.proofs.Common.{Actor, AreActors, Ended, IsLawful, Rows, Rules, Status, StatusIs, Step, Waits, World, ending_of, is_ready, is_waiting, option_and_then, slice_index_or, waiting_step, waits_at}
+use Rattle.norec_world.proofs.Events.SoundOthers.{there_is}
+use Rattle.std.proofs.lemmas.Option.{slice_get_read}
 
 pub within_some : {A B : Type 0} (f : A → Option B) (xs : List A) (i : ℕ) → IsSome (option_and_then f (slice_get xs i)) → i < length xs
 within_some f [] i h = absurd (cc)
@@ -35,17 +35,18 @@ pub some_ended : (s : Status) → is_waiting s ≡ false → is_ready s ≡ fals
 some_ended (Ended end) e r = refl
 some_ended s e r = absurd (cc)
 
--- the actor at its place in a world, where it waits for an operation
-pub going_here : {P : Type 0} (w : World P) (actor : ℕ) (a : Actor P) → IsSome (waits_at w actor) → a ≡ slice_index_or w.actors actor a → (slice_get w.actors actor ≡ Some a) × (is_waiting a.status ≡ true)
-going_here w actor a waits is =
+pub waiting_there : {P : Type 0} (w : World P) (actor : ℕ) (a : Actor P) → slice_get w.actors actor ≡ Some a → IsSome (waits_at w actor) → is_waiting a.status ≡ true
+waiting_there {P} w actor a here some = waiting_some a.status (subst IsSome (ap (option_and_then (λ (x : Actor P). waiting_step x.status)) here) some)
+
+-- the actor at its place in a world, where it waits for an operation; the world may have another name
+pub going_in : {P : Type 0} {w v : World P} → w ≡ v → (actor : ℕ) (a : Actor P) → IsSome (waits_at v actor) → a ≡ slice_index_or w.actors actor a → (slice_get w.actors actor ≡ Some a) × (is_waiting a.status ≡ true)
+going_in {P} {w} same actor a some is =
+    let waits = subst (λ (x : World P). IsSome (waits_at x actor)) (sym same) some in
     let here = slice_get_read w.actors (length w.actors) actor a refl (within_some (λ x. waiting_step x.status) w.actors actor waits) is in
-    (here, waiting_some a.status (subst IsSome (ap (option_and_then (λ x. waiting_step x.status)) here) waits))
+    (here, waiting_there w actor a here waits)
 
 -- who waits for an operation is there, and waits
 pub waits_there : {P : Type 0} (w : World P) (actor : ℕ) → IsSome (waits_at w actor) → (a : Actor P) × (slice_get w.actors actor ≡ Some a) × (is_waiting a.status ≡ true)
 waits_there {P} w actor some =
     let here = there_is w.actors actor (within_some (λ (a : Actor P). waiting_step a.status) w.actors actor some) in
-    (here.0, here.1, waiting_some here.0.status (subst IsSome (ap (option_and_then (λ (a : Actor P). waiting_step a.status)) here.1) some))
-
-pub waiting_there : {P : Type 0} (w : World P) (actor : ℕ) (a : Actor P) → slice_get w.actors actor ≡ Some a → IsSome (waits_at w actor) → is_waiting a.status ≡ true
-waiting_there {P} w actor a here some = waiting_some a.status (subst IsSome (ap (option_and_then (λ (x : Actor P). waiting_step x.status)) here) some)
+    (here.0, here.1, waiting_there w actor here.0 here.1 some)

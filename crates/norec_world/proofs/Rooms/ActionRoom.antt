@@ -1,30 +1,15 @@
 -- What an engine gives for a call leaves room for the actions that have run.
-use Rattle.std.proofs.Common.{◌≡◌, ℕ, ◌+◌, ◌/◌, ◌<◌, ◌≤◌, Bool, true, false, true≢false, [], length, is_some, Result, Ok, Err, IfOk, OnErr, Some, None, Option, refl, sym, ap, subst, ◌∙◌, inl, inr, arith}
-use Rattle.itm_types.specs.Calls.{is_abort, registered_by}
-use Rattle.norec_core.specs.Core.{came, irrevocable_room}
-use Rattle.norec_core.specs.Copies.{copy_refusal}
-use Rattle.norec_engine.specs.NextSteps.{next_in, ComesInto}
-use Rattle.norec_core.specs.Order.{asked, asked_from, stage_at}
-use Rattle.norec_core.specs.Proceeds.{IsSettled, MayStarveIn, MayStarveOpen}
-use Rattle.norec_core.specs.Restarts.{IsRestart}
-use Rattle.norec_world.specs.Stages.{cancels_in, ends_in}
+use Rattle.std.proofs.Common.{◌≡◌, ◌+◌, ◌/◌, ◌<◌, ◌≤◌, Bool, true, false, true≢false, [], length, is_some, Result, Ok, Err, IfOk, OnErr, Some, None, Option, refl, sym, ap, subst, ◌∙◌, inl, inr, arith}
+use Rattle.itm_types.specs.Calls.{registered_by}
 use Rattle.norec_world.proofs.Tries.Stages.{moved_begun, moved_cancels, moved_ends, moved_open, row_open, row_shut}
-use Rattle.itm_types.specs.declared.call.Call.TheVariants.{Abort, Begin, CommitAction, Copy, Fill, Log, LogBytes, Mode, Read, UndoAction, Write}
-use Rattle.itm_types.specs.declared.call.Ran.{Ran}
-use Rattle.user_actions.specs.Actions.{total}
-use Rattle.norec_core.specs.declared.answer.Next.{Next}
-use Rattle.norec_core.specs.declared.answer.Next.TheVariants.{Step as Asks, Answer as Answers}
-use Rattle.norec_core.proofs.Replies.ActionCounts.{LeavesActions, registers}
-use Rattle.norec_world.specs.ActionRoom.{AsksAs, HasPlace, HasRoomFor, IsActing, MayRunOn, NoCancel, PromisesAs, StartsEmpty, is_held, wanted}
+use Rattle.norec_world.specs.ActionRoom.{PromisesAs, StartsEmpty}
 use Rattle.norec_world.proofs.Rooms.CallRoom.{leaves_backed, promised_same, wanted_same}
 use Rattle.norec_world.proofs.Rooms.HeldRoom.{LeavesRoom, leaves_room, same_room}
-use Rattle.norec_world.proofs.Common.{Actor, Answer, AsksFor, Attempt, Call, Core, Ended, Ends, HasRow, Proceeds, Ready, Status, Step, Waits, active_of, cases_Bool, in_transaction, is_begin, is_inside, none-some, none_inside, pending_of, rests, told}
+use Rattle.norec_world.proofs.Common.{Actor, Answer, Answers, Asks, AsksAs, AsksFor, Attempt, Call, ComesInto, Core, Ended, Ends, HasPlace, HasRoomFor, HasRow, IsActing, IsRestart, IsSettled, LeavesActions, MayRunOn, Next, NoCancel, Proceeds, Ran, Ready, Status, Step, Waits, active_of, came, cancels_in, cases_Bool, ends_in, in_transaction, is_abort, is_begin, is_held, next_in, none-some, pending_of, registers, rests, told, total, wanted}
 use Rattle.norec_world.proofs.Rooms.LaterActions.{first_here}
 use Rattle.norec_world.proofs.Engines.NoRestarts.{not_at_once}
-
-cancels_register_none : (call : Call) → is_abort call ≡ true → registers call ≡ 0
-cancels_register_none (Abort outer) e = refl
-cancels_register_none call e = absurd (cc)
+pub use Rattle.tx_runs.proofs.StepCalls.{registers_none}
+use Rattle.tx_runs.proofs.StepCalls.{cancels_register_none, gave_plainly, starves_shut}
 
 module _ {P : Type 0} (a : Actor P) (mid : Core) (call : Call) (was : Bool) (o : in_transaction mid ≡ was) (has : HasRow was a) (doing : mid.doing ≡ Some call)
     (all : (row : Attempt) → active_of a ≡ Some row → row.ran ≡ mid.actions.ran)
@@ -96,18 +81,6 @@ module _ {P : Type 0} (a : Actor P) (mid : Core) (call : Call) (was : Bool) (o :
 
 -- ## Calls that wait for a step
 
-pub registers_none : (call : Call) → is_some (registered_by call) ≡ false → registers call ≡ 0
-registers_none (CommitAction action) e = absurd (cc)
-registers_none (UndoAction action) e = absurd (cc)
-registers_none call e = refl
-
--- a cancel and a registration take no step
-pub plain_waits : (old new : Core) (call : Call) (again : Bool) (step : Step) → new.stage ≡ stage_at old call again → new.waits ≡ asked new → new.waits ≡ Some step → (is_abort call ≡ false) × (is_some (registered_by call) ≡ false)
-plain_waits old new (Abort outer) again step stage asks waits = absurd (let none : None ≡ Some step = sym (ap (asked_from new) stage) ∙ (sym asks ∙ waits) in cc)
-plain_waits old new (CommitAction action) again step stage asks waits = absurd (let none : None ≡ Some step = sym (ap (asked_from new) stage) ∙ (sym asks ∙ waits) in cc)
-plain_waits old new (UndoAction action) again step stage asks waits = absurd (let none : None ≡ Some step = sym (ap (asked_from new) stage) ∙ (sym asks ∙ waits) in cc)
-plain_waits old new call again step stage asks waits = (refl, refl)
-
 -- ## An actor that has no open attempt, and one whose attempt is changed
 
 pub none_acting : {P : Type 0} (a : Actor P) → active_of a ≡ None → StartsEmpty a → NoCancel a.status → is_held a.engine ≡ false → AsksAs a a.status → IsActing a
@@ -153,11 +126,6 @@ told_acting a acts =
 
 -- ## A call goes to the engine
 
-gave_plainly : (mid new old : Core) (call : Call) (again : Bool) (what : Next) → Proceeds mid what new → new.stage ≡ stage_at old call again → new.waits ≡ asked new → (step : Step) → what ≡ Asks step → (is_abort call ≡ false) × (is_some (registered_by call) ≡ false)
-gave_plainly mid new old call again what g stage asks step is =
-    let h = subst (λ (w : Next). Proceeds mid w new) is g in
-    plain_waits old new call again step stage asks (ap (λ (c : Core). c.waits) h.stays)
-
 -- there is room for what comes of it, which the result tells
 pub called_acting : {P E : Type 0} (answer : Answer) (a : Actor P) (old : Core) (call : Call) (again was : Bool) (o : in_transaction (came old call again) ≡ was) (has : HasRow was a)
     → ((row : Attempt) → active_of a ≡ Some row → row.ran ≡ (came old call again).actions.ran)
@@ -170,30 +138,6 @@ called_acting answer a old call again was o has all places cancel pending room b
     gave_acting a (came old call again) call was o has refl all places cancel pending room backed wants reserved e.settled (next_in what answer) e.proceeds (not_at_once (next_in what answer) e.at_once) shut (gave_plainly (came old call again) a.engine old call again (next_in what answer) e.proceeds e.order e.asks)
 called_acting answer a old call again was o has all places cancel pending room backed wants reserved shut (Err x) e = tt
 
--- a place more where the call registers one
-pub places_for : (call : Call) (least room room' : ℕ) → least ≤ room → room ≤ room' → (is_some (registered_by call) ≡ true → least < room') → least + registers call ≤ room'
-places_for (CommitAction action) least room room' l k more = (let m = more refl in omega arith)
-places_for (UndoAction action) least room room' l k more = (let m = more refl in omega arith)
-places_for call least room room' l k more = omega arith
-
--- outside one memory is wanted for a begin alone
-starves_open : (c : Core) (call : Call) → c.blocks ≡ [] → MayStarveOpen c call → is_begin call ≡ true
-starves_open c (Begin props room) none s = refl
-starves_open c (Mode room) none s = absurd (let both : None ≡ Some room = (λ i. irrevocable_room (record c { blocks = sym none i }) (Mode room)) ∙ s.0 in cc)
-starves_open c (Copy k) none s = absurd (let both = (λ i. copy_refusal (is_inside (sym none i)) c.words (length c.arena) k) ∙ s.0 in cc)
-starves_open c (Read hint width at) none s = absurd (true≢false (sym s.0 ∙ ap is_inside none))
-starves_open c (Write hint at value) none s = absurd (true≢false (sym s.0 ∙ ap is_inside none))
-starves_open c (Log width at) none s = absurd (true≢false (sym s.0 ∙ ap is_inside none))
-starves_open c (LogBytes at size) none s = absurd (true≢false (sym s.0 ∙ ap is_inside none))
-starves_open c (Fill hint to byte size) none s = absurd (true≢false (sym s.0 ∙ ap is_inside none))
-starves_open c (CommitAction action) none s = absurd (true≢false (sym s.0 ∙ ap is_inside none))
-starves_open c (UndoAction action) none s = absurd (true≢false (sym s ∙ ap is_inside none))
-starves_open c call none s = absurd s
-
-starves_in : (irrevocable : Bool) (c : Core) (call : Call) → c.irrevocable ≡ irrevocable → IsSettled c → in_transaction c ≡ false → MayStarveIn irrevocable c call → is_begin call ≡ true
-starves_in true c call i s shut m = absurd (true≢false (sym (s.holder (s.irrevocable i).0).0 ∙ shut))
-starves_in false c call i s shut m = starves_open c call (none_inside c.blocks shut) m
-
 pub starves_begin : {E : Type 0} (c new : Core) (call : Call) (answer : Answer) → IsSettled c → (result : Result (Option Step) E) → ComesInto c call false result answer new → OnErr result (in_transaction c ≡ false → is_begin call ≡ true)
 starves_begin c new call answer s (Ok what) m = tt
-starves_begin c new call answer s (Err x) m = λ shut. starves_in c.irrevocable c call refl s shut m.starves
+starves_begin c new call answer s (Err x) m = λ shut. starves_shut c call s shut m.starves

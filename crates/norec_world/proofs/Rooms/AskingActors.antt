@@ -1,37 +1,23 @@
 -- A call goes to the engine of an actor, or memory is refused to it.
-use Rattle.std.proofs.Common.{◌≡◌, ℕ, ◌+◌, ◌/◌, ◌≤◌, max, ◌&&◌, not, Bool, true, false, true≢false, [], append-nil, Result, Ok, Err, IfOk, OnErr, Option, None, Some, is_some, unwrap_or, refl, sym, ap, subst, ◌∙◌, arith, if◌then◌else◌}
-use Rattle.user_actions.specs.Actions.{total}
-use Rattle.norec_core.specs.Core.{came, irrevocable_room}
+pub use Rattle.tx_runs.proofs.Tries.{no_begin}
+use Rattle.tx_runs.proofs.StepCalls.{wants_none, places_for}
+use Rattle.tx_runs.proofs.OpenRooms.{again_none, begins_none, outside_current, reserved_least, reserved_most}
+use Rattle.std.proofs.Common.{◌≡◌, ℕ, ◌+◌, ◌/◌, ◌≤◌, max, not, Bool, true, false, true≢false, [], append-nil, Result, Ok, Err, IfOk, OnErr, Option, None, Some, is_some, unwrap_or, refl, sym, ap, subst, ◌∙◌, arith, if◌then◌else◌}
 use Rattle.norec_core.specs.Moves.{IsCalled}
-use Rattle.norec_engine.specs.NextSteps.{next_in, ComesInto}
-use Rattle.tx_attempts.specs.Kept.{Kept, reserved}
-use Rattle.tx_runs.specs.declared.player_run.Current.{Current}
-use Rattle.tx_runs.specs.declared.player_run.Current.TheVariants.{Outside, Begins, Within}
 use Rattle.tx_runs.specs.OpenAttempts.{HasPlacesFor, Open}
-use Rattle.itm_types.specs.declared.call.Call.TheVariants.{Mode}
-use Rattle.itm_types.specs.declared.limits.TheConstants.{MAX_ACTORS}
-use Rattle.nest_frames.specs.Nest.{stays_revocable}
-use Rattle.tx_runs.specs.Tallies.{begins, outside, within}
+use Rattle.tx_runs.specs.Tallies.{begins, outside}
 use Rattle.norec_world.proofs.Engines.NoRestarts.{not_at_once}
-use Rattle.norec_world.specs.ActionRoom.{HasPlace, IsBacked, IsRefused, MayRunOn, promised}
-use Rattle.norec_world.specs.Records.{Asks as AsksOf, asked_stage, begun_by}
-use Rattle.norec_world.specs.Sound.{IsAsked, IsUnasked}
-use Rattle.norec_world.specs.Stages.{cancels_in, ends_in, with_room}
-use Rattle.norec_world.proofs.Common.{Actor, Answer, Attempt, Begin, Call, Cells, Core, HasRow, IsKept, IsSound, KeepsOthers, Props, Ready, Rows, Rules, Step, active_of, begins_again, begun, count_in, in_transaction, is_begin, Next, none-some, open_in, same_Some, stage_of}
+use Rattle.norec_world.specs.Records.{Asks as AsksOf}
+use Rattle.norec_world.proofs.Common.{Actor, Answer, Attempt, Begin, Begins, Call, Cells, ComesInto, Core, Current, HasPlace, HasRow, IsAsked, IsBacked, IsKept, IsRefused, IsSound, IsUnasked, KeepsOthers, Kept, MAX_ACTORS, MayRunOn, Next, Props, Ready, Rows, Rules, Stage, Step, Within, active_of, begins_again, begun, came, cancels_in, count_in, ends_in, asks_no_room, in_transaction, irrevocable_room, is_begin, next_in, none-some, open_in, promised, reserved, same_Some, stage_of, total, with_room, within}
 use Rattle.norec_world.proofs.Engines.SoundSteps.{rests}
-use Rattle.norec_world.proofs.Rooms.ActionRoom.{called_acting, gave_acting, places_for}
-use Rattle.norec_world.proofs.Rooms.CallRoom.{backed_came, promised_came, reserved_least, reserved_most, wanted_came}
-use Rattle.norec_world.proofs.Rooms.HeldRoom.{came_room, goes_no_more}
-use Rattle.norec_world.proofs.Tries.Stages.{others_same, row_is_of, row_open, row_same, row_shut, row_unfinished, stage_out}
+use Rattle.norec_world.proofs.Rooms.ActionRoom.{called_acting, gave_acting}
+use Rattle.norec_world.proofs.Rooms.CallRoom.{backed_came, promised_came, wanted_came}
+use Rattle.norec_world.proofs.Rooms.HeldRoom.{came_room}
+use Rattle.norec_world.proofs.Tries.Stages.{asked_at, others_same, row_is_of, row_open, row_same, row_shut, row_unfinished, stage_out}
 
 pub not_within : (c : Current) → ((o : Open) → c ≡ Within o → ⊥) → open_in (stage_of c) ≡ None
-not_within Outside not = refl
-not_within (Begins o) not = refl
 not_within (Within o) not = absurd (not o refl)
-
-pub no_begin : (call : Call) → ((props : Props) (room : ℕ) → call ≡ Begin props room → ⊥) → is_begin call ≡ false
-no_begin (Begin props room) not = absurd (not props room refl)
-no_begin call not = refl
+not_within c not = refl
 
 -- what held of an engine holds where the call did not come to it
 pub on_err_still : {E : Type 0} (old new : Core) (call : Call) (again : Bool) (answer : Answer) (Q : Core → Type 0) (result : Result (Option Step) E) → ComesInto old call again result answer new → Q old → OnErr result (Q new)
@@ -41,26 +27,6 @@ on_err_still old new call again answer Q (Err e) comes q = subst Q (sym comes.er
 pub on_err : {A E T : Type 0} (result : Result A E) → T → OnErr result T
 on_err (Ok what) t = tt
 on_err (Err x) t = t
-
-outside_current : (c : Current) → stage_of c ≡ outside → c ≡ Outside
-outside_current Outside e = refl
-outside_current (Begins o) e = absurd (cc)
-outside_current (Within o) e = absurd (cc)
-
--- a call that begins nothing
-begins_none : {P : Type 0} (clock : ℕ) (a : Actor P) (call : Call) → is_begin call ≡ false → begun_by clock a call ≡ outside
-begins_none clock a (Begin props room) other = absurd (cc)
-begins_none clock a call other = refl
-
-again_none : (was again : Bool) (call : Call) → is_begin call ≡ false → begins_again was again call ≡ false
-again_none true again call other = refl
-again_none false again (Begin props room) other = absurd (cc)
-again_none false again call other = refl
-
-wants_none : (e : Core) (call : Call) → is_begin call ≡ false → in_transaction e ≡ false → unwrap_or (irrevocable_room e call) 0 ≡ 0
-wants_none e (Begin props room) other shut = absurd (cc)
-wants_none e (Mode room) other shut = ap (λ (b : Bool). unwrap_or (if b && not (stays_revocable e.blocks) && not e.irrevocable then Some room else None) 0) shut
-wants_none e call other shut = refl
 
 -- ## Within an attempt
 
@@ -82,7 +48,7 @@ module _ {P : Type 0} {rules : Rules P} {cells : Cells} {r : Rows} {a : Actor P}
   asked_room call h =
       let few = subst (IsBacked a) ready sound.acts.backed o.row here in
       let most = reserved_most o.row.calls (unwrap_or (irrevocable_room a.engine call) 0) (promised a.engine) few in
-      let none = ap (λ (x : Option ℕ). unwrap_or x 0) (goes_no_more a.engine call h) in
+      let none = ap (λ (x : Option ℕ). unwrap_or x 0) (asks_no_room a.engine call h) in
       omega arith
 
   same_ends : o.ends ≡ ends_in a.run.current
@@ -158,10 +124,10 @@ module _ {P : Type 0} {rules : Rules P} {cells : Cells} {r : Rows} {a : Actor P}
     pub told_within : (clock : ℕ) (e : Core) {E : Type 0} (answer : Answer) (result : Result (Option Step) E) → ComesInto a.engine call false result answer e → IfOk result (λ what. AsksOf clock r r a (New e) call (next_in what answer))
     told_within clock e answer (Err x) comes = tt
     told_within clock e answer (Ok what) comes = record {
-      stage = ap within row ∙ ap (asked_stage clock a call) (ap stage_of (sym is));
+      stage = ap within row ∙ ap (asked_at clock a call) (ap stage_of (sym is));
       run = refl;
       ended = refl;
-      called = subst (λ (b : Bool). IsCalled a.engine call b (next_in what answer) e) (ap (λ (b : Bool). begins_again b a.run.again call) (sym inside)) comes;
+      called = subst (λ (b : Bool). IsCalled a.engine call b (next_in what answer) e) (ap (λ (c : Current). begins_again (stage_of c) a.run.again call) (sym is)) comes;
     }
 
 -- ## Outside a transaction
@@ -212,10 +178,10 @@ module _ {P : Type 0} {rules : Rules P} {cells : Cells} {r : Rows} {a : Actor P}
       pub told_outside : (clock : ℕ) (r' : Rows) → r'.ended ≡ r.ended → {E : Type 0} (answer : Answer) (result : Result (Option Step) E) → ComesInto a.engine call false result answer e → IfOk result (λ what. AsksOf clock r r' a Same call (next_in what answer))
       told_outside clock r' ended answer (Err x) comes = tt
       told_outside clock r' ended answer (Ok what) comes = record {
-        stage = out_outside ∙ (sym (begins_none clock a call other) ∙ ap (asked_stage clock a call) (sym out_outside));
+        stage = out_outside ∙ (sym (begins_none call _ _ other) ∙ ap (asked_at clock a call) (sym out_outside));
         run = refl;
         ended = ended;
-        called = subst (λ (b : Bool). IsCalled a.engine call b (next_in what answer) e) (sym (again_none (in_transaction a.engine) a.run.again call other)) comes;
+        called = subst (λ (b : Bool). IsCalled a.engine call b (next_in what answer) e) (sym (again_none (stage_of a.run.current) a.run.again call other)) comes;
       }
 
       pub acts_outside : {E : Type 0} (answer : Answer) (result : Result (Option Step) E) → ComesInto a.engine call false result answer e → IfOk result (λ what. MayRunOn Same call (next_in what answer))
@@ -247,10 +213,10 @@ module _ {P : Type 0} {rules : Rules P} {cells : Cells} {r : Rows} {a : Actor P}
 
     pub told_begin : (r' : Rows) → r'.ended ≡ r.ended → (what : Next) → IsCalled a.engine (Begin props room) a.run.again what e → AsksOf clock r r' a Begun (Begin props room) what
     told_begin r' ended what comes = record {
-      stage = ap begins row ∙ ap (asked_stage clock a (Begin props room)) (sym out_outside);
+      stage = ap begins row ∙ ap (asked_at clock a (Begin props room)) (sym out_outside);
       run = refl;
       ended = ended;
-      called = subst (λ (b : Bool). IsCalled a.engine (Begin props room) b what e) (ap (λ (b : Bool). begins_again b a.run.again (Begin props room)) (sym shut_outside)) comes;
+      called = subst (λ (b : Bool). IsCalled a.engine (Begin props room) b what e) (ap (λ (s : Stage). begins_again s a.run.again (Begin props room)) (sym out_outside)) comes;
     }
 
     pub acts_begin : (what : Next) → IsCalled a.engine (Begin props room) a.run.again what e → MayRunOn Begun (Begin props room) what

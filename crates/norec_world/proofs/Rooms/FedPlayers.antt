@@ -1,64 +1,13 @@
 -- What a player that tells its room truly has left to call in an irrevocable transaction, over an answer: no more than its attempt has places for.
-use Rattle.std.proofs.Common.{◌≡◌, ℕ, zero, suc, ◌-◌, ◌<◌, ◌≤◌, ◌&&◌, not, Bool, true, false, true≢false, nat_lt, if◌then◌else◌, List, [], length, replicate, Option, None, Some, IsSome, unwrap_or, refl, sym, ap, subst, ◌∙◌, inl, inr, arith}
-use Rattle.std.proofs.lemmas.Bool.{lt-ltb}
-use Rattle.std.proofs.lemmas.List.{length-map}
-use Rattle.itm_types.specs.declared.call.Call.TheVariants.{Mode}
-use Rattle.itm_types.specs.declared.call.Refusal.TheVariants.{Outside}
-use Rattle.itm_model.specs.Machine.{or_else, reply_unless, unless}
-use Rattle.norec_core.specs.Core.{irrevocable_room, may_go}
-use Rattle.norec_core.specs.Proceeds.{IsSettled, reply_held}
-use Rattle.norec_core.specs.Effects.{recoded}
-use Rattle.norec_core.specs.Stands.{block_kept, state_in}
-use Rattle.norec_core.proofs.Engines.IrrevocableCalls.{length-over}
-use Rattle.norec_world.specs.ActionRoom.{wanted}
-use Rattle.norec_world.specs.PlayerRooms.{ComesTo, EndsWithin, TellsRoom, going_room}
-use Rattle.tx_player.specs.Replies.{MayReply}
-use Rattle.tx_runs.specs.Tallies.{within}
-use Rattle.norec_world.proofs.Tries.Stages.{busy_player, conflict_player, reply_player, sent_same, stage_open, taken_at, told_active, told_player}
+use Rattle.std.proofs.Common.{◌≡◌, ℕ, zero, suc, ◌-◌, ◌<◌, ◌≤◌, ◌&&◌, not, Bool, true, false, true≢false, nat_lt, if◌then◌else◌, length, None, Some, IsSome, unwrap_or, refl, sym, ap, subst, ◌∙◌, inl, inr, arith}
+use Rattle.norec_world.specs.PlayerRooms.{going_room}
+use Rattle.norec_core.proofs.Replies.ReplyCases.{Ways}
+use Rattle.tx_runs.proofs.EngineReplies.{engine_may}
+use Rattle.tx_runs.proofs.TookIn.{OpensBy}
+use Rattle.norec_world.proofs.Tries.Stages.{begun_shut, open_by, row_open, row_shut, busy_player, conflict_player, reply_player, sent_same, stage_open, told_player}
 use Rattle.norec_world.proofs.Rooms.CallRoom.{wanted_as}
 use Rattle.norec_world.proofs.Engines.Intakes.{HasAnswered, HasTaken}
-use Rattle.norec_world.proofs.Tries.TryEnds.{begun_or_not}
-use Rattle.norec_world.proofs.Common.{Actor, Answer, Asks, Attempt, Begin, Busy, Call, Cells, Code, Commit, Committed, Conflict, Core, Done, Ends, Full, IsMemory, Props, Refusal, Replied, Reply, Restarted, Rows, Rules, State, Step, Waits, active_of, in_transaction, refusal, reply as machine_reply, reply_cases, same_Some, stage_of, stands_for}
-
--- ## The replies of the plain machine
-
-begin_may : (props : Props) (room depth : ℕ) (again : Bool) (why : Option Refusal) → MayReply depth (Begin props room) (recoded (Begin props room) again (reply_unless why (Code 5)))
-begin_may props room depth true None = tt
-begin_may props room depth false None = tt
-begin_may props room depth true (Some why) = tt
-begin_may props room depth false (Some why) = tt
-
-commit_done : (deepest : ℕ) (s : State) → 0 < length s.blocks → machine_reply deepest s Commit ≡ Done
-commit_done deepest s some = ap (λ (b : Bool). reply_unless (or_else (unless b Outside) None) Done) (lt-ltb 0 (length s.blocks) some)
-
-machine_may : (deepest : ℕ) (s : State) (call : Call) (again : Bool) → MayReply (length s.blocks) call (recoded call again (machine_reply deepest s call))
-machine_may deepest s (Begin props room) again = begin_may props room (length s.blocks) again (refusal deepest s (Begin props room))
-machine_may deepest s Commit again = λ some. commit_done deepest s some
-machine_may deepest s call again = tt
-
-stands_deep : (c : Core) (m : List ℕ) → length (stands_for c m).blocks ≡ length c.blocks
-stands_deep c m = by_mode c.irrevocable
-  where
-    by_mode : (b : Bool) → length (state_in b c.writes c.blocks c.arena c.actions m).blocks ≡ length c.blocks
-    by_mode true = length-map c.blocks block_kept
-    by_mode false = length-over c.blocks c.arena m
-
-module _ (mid new : Core) (call : Call) (r : Replied) where
-  by_state : (m : List ℕ) (again : Bool) → r ≡ recoded call again (machine_reply mid.depth (stands_for mid m) call) → MayReply (length mid.blocks) call r
-  by_state m again is = subst (λ (d : ℕ). MayReply d call r) (stands_deep mid m) (subst (MayReply (length (stands_for mid m).blocks) call) (sym is) (machine_may mid.depth (stands_for mid m) call again))
-
-  -- as an engine replies
-  pub engine_may : mid.doing ≡ Some call → IsSettled new → Ends mid (Reply r) new → MayReply (length mid.blocks) call r
-  engine_may doing settled g = elim (reply_cases mid new call r doing g) [
-    | inl w ↦ (let m = settled.agreed in by_state m.0 mid.again (w.reply_is m.0 (subst (λ (n : ℕ). IsMemory n m.0) (ap (λ (c : Core). c.words) w.stays) m.1) m.2))
-    | inr (inl w) ↦ by_state [] mid.again (w.reply_is [])
-    | inr (inr w) ↦ by_call call w.reply_is
-  ]
-    where
-      by_call : (c : Call) → r ≡ reply_held mid c → MayReply (length mid.blocks) c r
-      by_call (Begin props room) is = subst (λ (d : ℕ). MayReply d (Begin props room) r) (stands_deep mid (replicate mid.words 0)) (subst (MayReply (length (stands_for mid (replicate mid.words 0)).blocks) (Begin props room)) (sym is) (machine_may mid.depth (stands_for mid (replicate mid.words 0)) (Begin props room) false))
-      by_call Commit is = subst (λ (d : ℕ). MayReply d Commit r) (stands_deep mid (replicate mid.words 0)) (subst (MayReply (length (stands_for mid (replicate mid.words 0)).blocks) Commit) (sym is) (machine_may mid.depth (stands_for mid (replicate mid.words 0)) Commit false))
-      by_call c is = tt
+use Rattle.norec_world.proofs.Common.{IsDeep, begun_in, open_in, stand_of, Actor, Answer, Asks, Attempt, Begin, Busy, Call, Cells, ComesTo, Committed, Conflict, Core, Done, EndsWithin, Full, MayReply, Mode, Replied, Reply, Restarted, Rows, Rules, Step, TellsRoom, Waits, active_of, in_transaction, irrevocable_room, may_go, reply_cases, stage_of, wanted, within}
 
 -- ## Room
 
@@ -68,10 +17,7 @@ told_if false room some = absurd (cc)
 
 told_going : (going may few free : Bool) (room : ℕ) → IsSome (if going && may && few && free then Some room else None) → (if going then Some room else None) ≡ Some (unwrap_or (if going && may && few && free then Some room else None) 0)
 told_going true true true true room some = refl
-told_going true true true false room some = absurd (cc)
-told_going true true false free room some = absurd (cc)
-told_going true false few free room some = absurd (cc)
-told_going false may few free room some = absurd (cc)
+told_going going may few free room some = absurd (cc)
 
 -- a call that makes its transaction irrevocable tells the room that it asks for
 told_as_asked : (c : Core) (call : Call) → IsSome (irrevocable_room c call) → going_room call ≡ Some (unwrap_or (irrevocable_room c call) 0)
@@ -117,7 +63,7 @@ module _ {P : Type 0} {rules : Rules P} {was : Bool} {cells cells' : Cells} {r :
 
   module _ {r1 : Rows} {last : Actor P} where
     reply_may : (reply : Replied) → HasAnswered rules was cells cells' r r1 mid a last call (Reply reply) → MayReply (rules.depth a.run.player) call reply
-    reply_may reply t = subst (λ (d : ℕ). MayReply d call reply) (sym t.taken.depth) (engine_may mid a.engine call reply t.taken.doing t.taken.tied.settled t.ends)
+    reply_may reply t = subst (λ (d : ℕ). MayReply d call reply) (sym t.taken.depth) (engine_may mid a.engine reply call t.taken.doing t.taken.tied.settled t.ends)
 
     comes_on : (answer : Answer) → HasAnswered rules was cells cells' r r1 mid a last call answer → (k : ℕ) × ComesTo rules k p last.run.player
     comes_on (Reply reply) t = (suc n, (a.run.player, comes, inl (call, reply, t.answered.in_call.asks, reply_may reply t, reply_player reply t.told)))
@@ -138,44 +84,23 @@ module _ {P : Type 0} {rules : Rules P} {was : Bool} {cells cells' : Cells} {r :
         more_within rules (unwrap_or (irrevocable_room mid call) 0) room (rules.answered a.run.player reply) (omega arith)
         (tells_room n a.run.player call reply (unwrap_or (irrevocable_room mid call) 0) comes t.answered.in_call.asks (reply_may reply t) (told_as_asked mid call goes_so))
 
-    within_open : (b : Bool) (reply : Replied) → HasAnswered rules was cells cells' r r1 mid a last call (Reply reply) → HasAnswered rules b cells cells' r r1 mid a last call (Reply reply) → in_transaction last.engine ≡ true → a.engine.irrevocable ≡ true
-        → (row : Attempt) → active_of last ≡ Some row → EndsWithin rules row.calls.room (rules.answered a.run.player reply)
-    within_open true reply t' t now held row e =
-        let old = t.answered.kept.row in
-        let x = taken_at t.told (stage_open _ old.1) now in
-        let room : row.calls.room ≡ old.0.calls.room - 1 = ap (λ (x : Attempt). x.calls.room) (same_Some _ _ (sym e ∙ told_active x)) in
-        let place = t.taken.place old.0 old.1 in
-        subst (λ (k : ℕ). EndsWithin rules k (rules.answered a.run.player reply)) (sym room) (elim (reply_cases mid a.engine call reply t.taken.doing t.ends) [
-          | inl w ↦ absurd (true≢false (sym held ∙ (ap (λ (c : Core). c.irrevocable) w.stays ∙ w.revocable)))
-          | inr (inl w) ↦ entered_left reply t' w.goes (old.0.calls.room - 1) (omega arith)
-          | inr (inr w) ↦ less_within rules old.0.calls.room a.run.player call reply (within_room w.irrevocable old.0 old.1) t.answered.nested.deep t.answered.in_call.asks (reply_may reply t')
-        ])
-    within_open false reply t' t now held row e = elim (begun_or_not reply t).either [
-      | inl b ↦
-          (let room : row.calls.room ≡ wanted mid = ap (λ (x : Attempt). x.calls.room) (same_Some _ _ (sym e ∙ b.active)) ∙ t.taken.pending b.row b.pending in
-          elim (reply_cases mid a.engine call reply t.taken.doing t.ends) [
-            | inl w ↦ absurd (true≢false (sym held ∙ (ap (λ (c : Core). c.irrevocable) w.stays ∙ w.revocable)))
-            | inr (inl w) ↦ entered_left reply t' w.goes row.calls.room (omega arith)
-            | inr (inr w) ↦ absurd (true≢false (sym w.irrevocable ∙ shut t.taken.was_is))
-          ])
-      | inr x ↦ absurd (true≢false (sym now ∙ x.shut))
-    ]
+    -- an open attempt had its reply
+    within_on : (answer : Answer) → HasAnswered rules was cells cells' r r1 mid a last call answer → a.engine.irrevocable ≡ true → (row : Attempt) → active_of last ≡ Some row → EndsWithin rules row.calls.room last.run.player
+    within_on answer t held row e =
+        let x = (open_by t.told row e).2 in
+        let m = subst (λ (y : Answer). HasAnswered rules was cells cells' r r1 mid a last call y) x.is t in
+        subst (EndsWithin rules row.calls.room) (sym (reply_player x.reply m.told)) (by_case x.reply m x.either (reply_cases mid a.engine call x.reply m.taken.doing m.ends))
+      where
+        by_case : (reply : Replied) → HasAnswered rules was cells cells' r r1 mid a last call (Reply reply) → OpensBy (stage_of a.run.current) call reply (stand_of last.engine) row → Ways mid a.engine call reply → EndsWithin rules row.calls.room (rules.answered a.run.player reply)
+        by_case reply m y (inl w) = absurd (true≢false (sym held ∙ (ap (λ (c : Core). c.irrevocable) w.stays ∙ w.revocable)))
+        by_case reply m (inl y) (inr (inl w)) = (let place = m.taken.place y.0 (ap open_in y.1) in let room = ap (λ (x : Attempt). x.calls.room) y.2 in entered_left reply m w.goes row.calls.room (omega arith))
+        by_case reply m (inr y) (inr (inl w)) = (let room = ap (λ (x : Attempt). x.calls.room) y.2 ∙ m.taken.pending y.0 (ap begun_in y.1) in entered_left reply m w.goes row.calls.room (omega arith))
+        by_case reply m (inl y) (inr (inr w)) =
+            let here = ap open_in y.1 in
+            let deep = subst (λ (b : Bool). IsDeep b (rules.depth a.run.player)) (row_open was a y.0 m.answered.kept.row here) m.answered.nested.deep in
+            subst (λ (k : ℕ). EndsWithin rules k (rules.answered a.run.player reply)) (sym (ap (λ (x : Attempt). x.calls.room) y.2)) (less_within rules y.0.calls.room a.run.player call reply (within_room w.irrevocable y.0 here) deep m.answered.in_call.asks (reply_may reply m))
+        by_case reply m (inr y) (inr (inr w)) = absurd (true≢false (sym w.irrevocable ∙ shut (m.taken.was_is ∙ row_shut was a m.answered.kept.row (begun_shut _ (ap begun_in y.1)))))
 
     -- it is answered
     pub answered_left : (answer : Answer) → HasAnswered rules was cells cells' r r1 mid a last call answer → HasLeft rules p last
-    answered_left answer t =
-        let x = comes_on answer t in
-        record {
-          moves = x.0;
-          comes = x.1;
-          within = λ held.
-              (let h : a.engine.irrevocable ≡ true = sym (ap (λ (c : Core). c.irrevocable) t.settled.engine) ∙ held in
-              let s = t.taken.tied.settled in
-              by_answer answer t h (s.holder (s.irrevocable h).0).0);
-        }
-      where
-        by_answer : (answer : Answer) → HasAnswered rules was cells cells' r r1 mid a last call answer → a.engine.irrevocable ≡ true → in_transaction a.engine ≡ true → (row : Attempt) → active_of last ≡ Some row → EndsWithin rules row.calls.room last.run.player
-        by_answer (Reply reply) t held now row e =
-            subst (EndsWithin rules row.calls.room) (sym (reply_player reply t.told)) (within_open was reply t t (ap in_transaction t.settled.engine ∙ now) held row e)
-        by_answer (Restarted clock word) t held now row e = absurd t.answered.fits
-        by_answer answer t held now row e = absurd (true≢false (sym now ∙ t.answered.fits.1))
+    answered_left answer t = (let x = comes_on answer t in record { moves = x.0; comes = x.1; within = λ held row e. within_on answer t (sym (ap (λ (c : Core). c.irrevocable) t.settled.engine) ∙ held) row e })

@@ -1,14 +1,9 @@
 -- The actions that have run in an actor's attempt, as its engine goes on.
-use Rattle.user_actions.specs.Actions.{total}
-use Rattle.std.proofs.Common.{◌≡◌, ◌≤◌, length, arith, ℕ, Bool, true, false, if◌then◌else◌, List, ◌++◌, Some, refl, sym, ap, ◌∙◌}
-use Rattle.itm_types.specs.declared.call.Ran.{Ran}
-use Rattle.norec_core.specs.declared.answer.Undone.TheVariants.{Done, Held, Nothing}
-use Rattle.norec_core.proofs.Replies.ActionCounts.{given_up_actions, given_up_on, undone_actions}
+use Rattle.std.proofs.Common.{◌≡◌, Bool, true, false, List, ◌++◌, Some, sym, ap, ◌∙◌}
 use Rattle.norec_core.proofs.Replies.AnsweredEngines.{runs_on}
 use Rattle.tx_attempts.specs.Beginnings.{IsBeginningOf}
-use Rattle.norec_world.proofs.Common.{Actor, Attempt, Call, Core, HasRow, Next, Proceeds, active_of, after_undoing, in_transaction, none-some, stands_for, state_over}
-use Rattle.norec_core.specs.Stands.{state_in}
-use Rattle.itm_model.specs.Machine.{undone}
+use Rattle.norec_world.proofs.Common.{Actor, Attempt, Call, Core, HasRow, Next, Proceeds, Ran, active_of, in_transaction, none-some}
+pub use Rattle.tx_runs.proofs.GivenUp.{given_up_free, given_up_later, given_up_most}
 
 -- the open attempt that had all of them has the first of those that there are then
 pub first_here : {P : Type 0} (a : Actor P) (mid new : Core) (call : Call) (what : Next) (was : Bool) → in_transaction mid ≡ was → HasRow was a → mid.doing ≡ Some call → Proceeds mid what new
@@ -17,28 +12,3 @@ first_here a mid new call what false o none doing g all row e = absurd (none-som
 first_here a mid new call what true o some doing g all row e =
     let f = runs_on mid new call what doing o g in
     (f.later, ap (λ (ran : List Ran). ran ++ f.later) (all row e) ∙ sym f.ran)
-
--- a transaction that is given up leaves those of the plain machine
-pub given_up_as : (old new : Core) (m : List ℕ) → old.holds ≡ false → old.irrevocable ≡ false → new ≡ after_undoing old → new.actions.ran ≡ (undone (stands_for old m)).actions.ran
-given_up_as old new m free revocable is =
-    ap (λ (c : Core). c.actions.ran) is ∙ (ap (λ (a : _). a.ran) (given_up_actions old free)
-    ∙ (sym (ap (λ (a : _). a.ran) (undone_actions old.blocks old.arena m (state_over old.writes old.blocks old.arena old.actions m)))
-    ∙ ap (λ (b : Bool). (undone (state_in b old.writes old.blocks old.arena old.actions m)).actions.ran) (sym revocable)))
-
-pub given_up_later : (old new : Core) → old.holds ≡ false → new ≡ after_undoing old → (more : List Ran) × (new.actions.ran ≡ old.actions.ran ++ more)
-given_up_later old new free is =
-    let f = given_up_on old in
-    (f.later, ap (λ (c : Core). c.actions.ran) is ∙ (ap (λ (a : _). a.ran) (given_up_actions old free) ∙ f.ran))
-
--- and all of them have a place
-pub given_up_most : (old new : Core) → old.holds ≡ false → new ≡ after_undoing old → length new.actions.ran ≤ total old.actions
-given_up_most old new free is =
-    let f = given_up_on old in
-    let most = f.most in
-    let same = ap (λ (c : Core). length c.actions.ran) is ∙ ap (λ (a : _). length a.ran) (given_up_actions old free) in
-    omega arith
-
--- what is given up held no clock
-pub given_up_free : (holds inside : Bool) → (if holds then Held else (if inside then Done else Nothing)) ≡ Done → holds ≡ false
-given_up_free true inside e = absurd (cc)
-given_up_free false inside e = refl

@@ -1,22 +1,14 @@
 -- An actor's run over a call, up to its first step, and over a step.
-use Rattle.tx_attempts.specs.Kept.{Kept, reserved}
-use Rattle.tx_runs.specs.Tallies.{over_as}
-use Rattle.tx_runs.specs.declared.player_run.PlayerRun.{PlayerRun}
-use Rattle.tx_runs.specs.declared.player_run.Current.{Current}
-use Rattle.tx_runs.specs.declared.player_run.Current.TheVariants.{Outside, Begins, Within}
-use Rattle.norec_world.specs.Stages.{moved_to, with_room}
+use Rattle.tx_runs.proofs.OpenRooms.{reserved_more}
 use Rattle.norec_world.specs.LocalWork.{Stays}
 use Rattle.norec_world.proofs.Tries.ReadPositions.{still_reads}
-use Rattle.norec_world.proofs.Rooms.LaterActions.{given_up_as}
+use Rattle.tx_runs.proofs.GivenUp.{given_up_as}
 use Rattle.std.proofs.Common.{unwrap_or, ◌≡◌, ℕ, ◌/◌, ◌<◌, ◌≤◌, ◌&&◌, Bool, true, false, not, List, [], ◌∷◌, ◌++◌, ◌+◌, Some, refl, sym, true≢false, ap, subst, ◌∙◌, arith, None, inl, inr}
 use Rattle.std.proofs.lemmas.Bool.{and_right, not_from_true}
-use Rattle.norec_world.proofs.Common.{Actor, Agrees, AreCounted, AreLaid, Attempt, Begin, Between, Call, Cells, Commit, Core, Ended, HasRow, IsBeforeTry, IsDone, IsHeld, IsInTry, IsNested, IsRun, IsSound, LeadsTo, Next, Obeys, Props, Ready, Rows, Rules, RunsFrom, Sees, Stage, Starves, Status, Step, StillRuns, Tells, active_of, append-nil, begins_again, begins_at, begun_in, bytes_at, cases_Bool, cond-false, cond-true, ending_as, ending_of, found, handed_is, handed_to, in_transaction, is_inside, none-some, open_in, pending_of, same_Some, stage_of, stand_of, told, words_at}
+use Rattle.norec_world.proofs.Common.{Actor, AreCounted, AreLaid, Attempt, Begin, Between, Call, Cells, ComesTo, Commit, Core, Ended, EndsWithin, HasRow, Idle, IsBeforeTry, IsDeep, IsDone, IsHeld, IsInTry, IsNested, IsRun, IsSettled, IsSound, LeadsTo, Next, Obeys, PlayerRun, Props, Ready, Rows, Rules, RunsFrom, Sees, Stage, Starves, Status, Step, StillRuns, Tells, active_of, append-nil, begins_again, begins_at, begun_in, bytes_at, cases_Bool, cond-false, cond-true, ending_as, ending_of, found, handed_is, handed_to, in_transaction, irrevocable_room, is_inside, may_go, open_in, over_as, pending_of, reserved, rolled_back, same_Some, shut_revocable, stage_of, stand_of, told, with_room, words_at}
 use Rattle.tx_attempts.specs.declared.attempt.Outcome.TheVariants as outcomes
 use Rattle.tx_runs.specs.declared.ending.End.TheVariants as ends
-use Rattle.norec_world.proofs.Tries.Stages.{asked_begun, moved_begun, moved_open, row_is_of, stage_open, told_active, told_player}
-use Rattle.norec_core.specs.Core.{irrevocable_room, may_go, rolled_back}
-use Rattle.norec_core.specs.Proceeds.{IsSettled}
-use Rattle.norec_core.specs.Phases.{Idle}
+use Rattle.norec_world.proofs.Tries.Stages.{asked_at, asked_begun, moved_begun, moved_open, moved_row, row_is_of, stage_open, stage_out, told_active, told_player}
 use Rattle.norec_world.proofs.Engines.SoundSteps.{IsCalling, asked_row, call_taken, mid, player_same, rests, IsStepping, mid_step, same, step_taken, waits, went}
 use Rattle.norec_world.proofs.Commits.Memories.{bytes_stay}
 use Rattle.norec_world.proofs.Commits.LaidWords.{laid_on, laid_same}
@@ -24,35 +16,16 @@ use Rattle.norec_world.proofs.Runs.Intakes.{runs_recorded}
 use Rattle.norec_world.proofs.Engines.HeldMoves.{call_held, step_held}
 use Rattle.norec_world.proofs.Engines.HeldCalls.{held_same}
 use Rattle.norec_world.proofs.Engines.TiedEngines.{limit_same}
-use Rattle.norec_core.proofs.Engines.HeldStores.{shut_revocable}
 use Rattle.norec_world.proofs.Commits.SeenMemories.{HasSeen, call_seen, step_seen}
 use Rattle.norec_world.proofs.Engines.Intakes.{recorded, now, still_going}
-use Rattle.norec_world.specs.PlayerRooms.{ComesTo, EndsWithin}
-use Rattle.norec_world.specs.Records.{asked_stage}
-use Rattle.tx_runs.specs.Nesting.{IsDeep}
 use Rattle.norec_world.proofs.Rooms.FedPlayers.{HasLeft, answered_left, more_within, none_within, waits_left}
-use Rattle.norec_world.proofs.Runs.Answers.{RunOf, before_on, now_at, run_same}
+use Rattle.norec_world.proofs.Runs.Answers.{RunOf, before_as, idle_from, now_at, open_run, run_on, run_same, top}
 use Rattle.norec_world.proofs.Runs.Endings.{stop_run}
 use Rattle.tx_runs.proofs.Begins.{begin_here}
-use Rattle.norec_world.proofs.Runs.Begins.{led_before, may_begin, none_over}
-use Rattle.norec_world.proofs.Tries.OpenTries.{try_handed, try_kept}
+use Rattle.norec_world.proofs.Runs.Begins.{led_before, none_over}
+use Rattle.tx_runs.proofs.OutermostBegins.{may_begin}
+use Rattle.norec_world.proofs.Tries.OpenTries.{try_handed, try_kept, try_same}
 use Rattle.std.proofs.Math.Bool.{and-true}
-
--- ## The open attempt
-
--- where it stands elsewhere, with another room for its calls
-try_same : {P : Type 0} {rules : Rules P} {deepest : ℕ} {position : List ℕ} {b : Between P} {row : Attempt} {p : P} {e : Core} (at room : ℕ) → IsInTry rules deepest position b row p e → IsInTry rules deepest position b (record row { at = at; calls = record row.calls { room = room } }) p e
-try_same at room t =
-    record { start = t.start; begins = t.begins; arena = t.arena; props = t.props; tries = t.tries; began = t.began; anew = t.anew; restarts = t.restarts; ran = t.ran; player = t.player; alone = t.alone; stands = t.stands }
-
-reserved_more : (k : Kept) (more : ℕ) → k.room ≤ (reserved k more).room
-reserved_more k more = grind arith
-
--- told where it reads
-moved_opens : (at : ℕ) (c : Current) (row : Attempt) → open_in (stage_of c) ≡ Some row → open_in (stage_of (moved_to at c)) ≡ Some (record row { at = at })
-moved_opens at Outside row e = absurd (cc)
-moved_opens at (Begins o) row e = absurd (cc)
-moved_opens at (Within o) row e = ap (λ (x : Attempt). Some (record x { at = at })) (same_Some _ _ e)
 
 -- ## How many blocks may be open
 
@@ -68,12 +41,8 @@ module _ {P : Type 0} {rules : Rules P} {cells : Cells} {r0 : Rows} {old : Actor
   pub finish_runs : RunsFrom rules first deepest base cells r0 (record old { status = Ended ends.Finished })
   finish_runs = record {
     depth = runs.depth;
-    runs = (let x = runs.runs in record {
-      run = x.run;
-      inside = x.inside;
-      between = λ o gave_up starved.
-          (let t = x.between o (still_going ready) (still_going ready) in (t.0, t.1, before_on t.2 old.engine (Ended ends.Finished) refl refl));
-    });
+    runs = run_on rules first deepest base (record old { status = Ended ends.Finished }) runs.runs runs.runs.run refl refl refl refl (λ end e. still_going ready e) (λ b row o e t. (row, e, refl, t))
+        (λ b o k. before_as (record old { status = Ended ends.Finished }) k (top (cells.clock / 2)) refl refl refl refl refl (λ row e. e));
     sees = runs.sees;
     held = runs.held;
     starved = λ e. absurd (cc);
@@ -102,52 +71,42 @@ module _ {P : Type 0} {rules : Rules P} (laws : Obeys rules) {cells : Cells} {r0
       let f = asked_begun cells.clock old call (stage_of old.run.current) row (rests m.sound m.ready).nothing (sym (ap begun_in m.asks.stage) ∙ e) in
       let made = f.3 in
       let asks : rules.next_call old.run.player ≡ Some (Begin f.0 f.1) = ap rules.next_call (sym (player_same m)) ∙ (m.asked.in_call.asks ∙ ap (λ (c : Call). Some c) f.2) in
+      let out = stage_out _ (subst (λ (x : Bool). HasRow x old) o m.sound.kept.row) (rests m.sound m.ready).nothing in
       let same : f.0 ≡ row.props = ap (λ (x : Attempt). x.props) (sym made) in (
         omega (arith, ap (λ (x : Attempt). x.began) made),
         ap (λ (x : Attempt). x.arena) made,
         ap (λ (x : Attempt). x.calls.list) made,
         ap (λ (x : Attempt). x.ran) made,
         λ may. led_before rules laws k ∙ (begin_here rules laws old.engine.depth old.run.player old.engine.arena f.0 f.1 asks (may_begin old.engine.depth old.engine.arena f.0 f.1 m.sound.tied.settled.deep (subst (λ (x : Props). may_go [] x ≡ true) (sym same) may)) ∙ (λ i. Some (record { player = (sym (player_same m)) i; arena = old.engine.arena; props = same i }))),
-        (λ i. begins_again (o i) old.run.again (f.2 i) && not (o i)) ∙ (and-true old.run.again ∙ k.again),
+        (λ i. begins_again (out i) old.run.again (f.2 i) && not (o i)) ∙ (and-true old.run.again ∙ k.again),
         ap (λ (x : Attempt). x.restarts) made,
       )
 
   run_came : IsRun rules first old.engine.depth base (cells.clock / 2) r (record a { engine = mid m })
   run_came =
-      let x = runs.runs in
-      record {
-        run = run_same rules first old.engine.depth base (cells.clock / 2) r0.ended r.ended old.run.thread a.run.thread m.asks.ended came_thread x.run;
-        inside = λ o.
-            (let t = x.inside o in
-            let row : Attempt = record t.1 { calls = reserved t.1.calls (unwrap_or (irrevocable_room old.engine call) 0 + 1) } in (
-              t.0,
-              row,
-              (λ i. now_at rules first old.engine.depth base (m.asks.ended i) (came_thread i)) ∙ t.2,
-              ap open_in (m.asks.stage ∙ ap (asked_stage cells.clock old call) (stage_open _ t.3)),
-              subst (λ (l : List Attempt). IsInTry rules old.engine.depth (words_at old.engine.depth base l (cells.clock / 2)) t.0 row a.run.player (mid m)) (sym m.asks.ended)
-                  (subst (λ (q : P). IsInTry rules old.engine.depth (words_at old.engine.depth base r0.ended (cells.clock / 2)) t.0 row q (mid m)) (sym (player_same m))
-                  (try_kept laws (mid m) (try_same row.at row.calls.room t.4) refl refl (and_right (begins_again (in_transaction old.engine) old.run.again call) (not (in_transaction old.engine)) (not_from_true (in_transaction old.engine) o)) refl
-                  (λ e k. refl) t.4.began (λ e k agrees. agrees))),
-              came_again ∙ t.5,
-              t.6 ∙ sym came_nth,
-            ));
-        between = λ o gave_up starved.
-            (let t = x.between o (still_going m.ready) (still_going m.ready) in let k = t.2 in (
-              t.0,
-              (λ i. now_at rules first old.engine.depth base (m.asks.ended i) (came_thread i)) ∙ t.1,
-              record {
-                calls = k.calls;
-                leads = subst (λ (q : P). LeadsTo rules old.engine.depth k.calls t.0.player t.0.arena q old.engine.arena) (sym (player_same m)) k.leads;
-                again = came_again ∙ k.again;
-                tries = omega (arith, came_nth, k.tries);
-                pending = λ row e. fresh_pending t.0 k o row e;
-              },
-            ));
-      }
+      let room = λ (row : Attempt). reserved row.calls (unwrap_or (irrevocable_room old.engine call) 0 + 1) in
+      run_on rules first old.engine.depth base (record a { engine = mid m }) runs.runs (run_same rules first old.engine.depth base (cells.clock / 2) r0.ended r.ended old.run.thread a.run.thread m.asks.ended came_thread runs.runs.run)
+      (λ i. now_at rules first old.engine.depth base (m.asks.ended i) (came_thread i)) refl came_again came_nth (λ end e. still_going m.ready e)
+      (λ b row o e t. (
+        record row { calls = room row },
+        ap open_in (m.asks.stage ∙ ap (asked_at cells.clock old call) (stage_open _ e)),
+        refl,
+        subst (λ (l : List Attempt). IsInTry rules old.engine.depth (words_at old.engine.depth base l (cells.clock / 2)) b (record row { calls = room row }) a.run.player (mid m)) (sym m.asks.ended)
+            (subst (λ (q : P). IsInTry rules old.engine.depth (words_at old.engine.depth base r0.ended (cells.clock / 2)) b (record row { calls = room row }) q (mid m)) (sym (player_same m))
+            (try_kept laws (mid m) (try_same laws row.at (room row).room t) refl refl (and_right (begins_again (stage_of old.run.current) old.run.again call) (not (in_transaction old.engine)) (not_from_true (in_transaction old.engine) o)) refl
+            (λ e k. refl) t.began (λ e k agrees. agrees))),
+      ))
+      (λ b o k. record {
+        calls = k.calls;
+        leads = subst (λ (q : P). LeadsTo rules old.engine.depth k.calls b.player b.arena q old.engine.arena) (sym (player_same m)) k.leads;
+        again = came_again ∙ k.again;
+        tries = omega (arith, came_nth, k.tries);
+        pending = λ row e. fresh_pending b k o row e;
+      })
 
   seen : HasSeen old.engine.depth base cells cells r (mid m) a.engine
   seen =
-      call_seen old.engine.depth base cells r old.engine a.engine call (begins_again (in_transaction old.engine) old.run.again call) (laid_same old.engine.depth base cells r0 r m.asks.ended laid) m.sound.tied (rests m.sound m.ready).free
+      call_seen old.engine.depth base cells r old.engine a.engine call (begins_again (stage_of old.run.current) old.run.again call) (laid_same old.engine.depth base cells r0 r m.asks.ended laid) m.sound.tied (rests m.sound m.ready).free
       (subst (λ (l : List Attempt). Sees (words_at old.engine.depth base l) cells old.engine) (sym m.asks.ended) runs.sees) m.asks.called.stays
 
   pub call_runs : (r1 : Rows) (last : Actor P) → IsDone rules (in_transaction old.engine) r r1 a last call what → Tells rules r r1 a last call what → (more : List Attempt) → r1.ended ≡ r.ended ++ more → AreCounted cells.clock r1.ended
@@ -215,29 +174,15 @@ module _ {P : Type 0} {rules : Rules P} (laws : Obeys rules) {cells : Cells} {r0
         ∙ ap (λ (c : Core). r0.ended ++ record (ending_as outcomes.NoMemory (stand_of last.engine) t.1) { at = c.snapshot / 2 } ∷ []) gone) in
         (stop_run laws r1 old last Commit still_seen runs.runs (cells.clock / 2) (let l : cells.clock / 2 ≤ cells.clock / 2 = omega arith in l)
         (bytes_stay laid more ended) o (old.engine.snapshot / 2) outcomes.NoMemory last.engine.actions.ran refl (λ x y i. (y, i)) s.same.thread (row_is_of (in_transaction old.engine) old t.1 sound.kept.row t.3) stops
-        t.4.began still_seen.late (runs.sees.logged o) revocable (given_up_as old.engine last.engine (words_at old.engine.depth base r1.ended (old.engine.snapshot / 2)) (free ∙ revocable) revocable s.engine) (λ f. absurd (cc))).0
+        t.4.began still_seen.late (runs.sees.logged o) revocable (given_up_as old.engine last.engine (words_at old.engine.depth base r0.ended (old.engine.snapshot / 2)) (free ∙ revocable) revocable s.engine) (λ f. absurd (cc))).0
 
     -- its transaction is rolled back
     rolled_runs : RunsFrom rules first old.engine.depth base cells r1 last
-    rolled_runs = record {
-      depth = ap (λ (c : Core). c.depth) gone;
-      runs = record { run = starve_run (in_transaction old.engine) refl; inside = λ o. absurd (true≢false (sym o ∙ closed)); between = λ o gave_up starved. absurd (starved (ap ending_of s.status)) };
-      sees = record {
-        loaded = record {
-          fresh = λ even same f. subst (Agrees (words_at old.engine.depth base r1.ended (cells.clock / 2))) (sym (ap (λ (c : Core). c.fresh) gone)) tt;
-          held = λ h. absurd (true≢false (sym h ∙ ap (λ (c : Core). c.holds) gone));
-          got = λ h. absurd (true≢false (sym h ∙ ap (λ (c : Core). c.holds) gone));
-        };
-        logged = λ o. absurd (true≢false (sym o ∙ closed));
-      };
-      held = λ i. absurd (true≢false (sym i ∙ ap (λ (c : Core). c.irrevocable) gone));
-      starved = λ e r. closed;
-      reads = λ row e. absurd (none-some row (sym (told_active (s.stops revocable)) ∙ e));
-      fed = λ true_room.
-          (let before = runs.fed true_room in
-          let lost : last.engine.irrevocable ≡ false = ap (λ (c : Core). c.irrevocable) gone in
-          record { moves = before.moves; comes = subst (ComesTo rules before.moves first.player) (sym (told_player (s.stops revocable))) before.comes; within = λ h. absurd (true≢false (sym h ∙ lost)); fed = λ e. lost });
-    }
+    rolled_runs =
+        idle_from (ap (λ (c : Core). c.depth) gone)
+        (record { run = starve_run (in_transaction old.engine) refl; inside = λ o. absurd (true≢false (sym o ∙ closed)); between = λ o gave_up starved. absurd (starved (ap ending_of s.status)) })
+        closed (ap (λ (c : Core). c.fresh) gone) (ap (λ (c : Core). c.holds) gone) (ap (λ (c : Core). c.irrevocable) gone) (told_active (s.stops revocable))
+        (λ told. (let before = runs.fed told in (before.moves, subst (ComesTo rules before.moves first.player) (sym (told_player (s.stops revocable))) before.comes)))
 
   module _ (irrevocable : old.engine.irrevocable ≡ true) where
     kept : last.engine ≡ old.engine
@@ -260,22 +205,14 @@ module _ {P : Type 0} {rules : Rules P} (laws : Obeys rules) {cells : Cells} {r0
     held_runs : RunsFrom rules first old.engine.depth base cells r1 last
     held_runs = record {
       depth = ap (λ (c : Core). c.depth) kept;
-      runs = record {
-        run = run_same rules first old.engine.depth base (cells.clock / 2) r0.ended r1.ended old.run.thread last.run.thread stays.ended s.same.thread runs.runs.run;
-        inside = λ o.
-            (let t = runs.runs.inside inside in (
-              t.0,
-              with_place,
-              (λ i. now_at rules first old.engine.depth base (stays.ended i) (s.same.thread i)) ∙ t.2,
-              here,
-              subst (λ (l : List Attempt). IsInTry rules old.engine.depth (words_at old.engine.depth base l (cells.clock / 2)) t.0 with_place last.run.player last.engine) (sym stays.ended)
-                  (subst (λ (q : P). IsInTry rules old.engine.depth (words_at old.engine.depth base r0.ended (cells.clock / 2)) t.0 with_place q last.engine) (sym (ap (λ (x : PlayerRun P). x.player) stays.run))
-                  (subst (λ (e : Core). IsInTry rules old.engine.depth (words_at old.engine.depth base r0.ended (cells.clock / 2)) t.0 with_place old.run.player e) (sym kept) (try_same with_place.at stays.room t.4))),
-              ap (λ (x : PlayerRun P). x.again) stays.run ∙ t.5,
-              t.6 ∙ sym (ap (λ (x : PlayerRun P). x.nth) stays.run),
-            ));
-        between = λ o. absurd (true≢false (sym (ap in_transaction kept ∙ inside) ∙ o));
-      };
+      runs =
+          (let t = runs.runs.inside inside in
+          open_run rules first old.engine.depth base (run_same rules first old.engine.depth base (cells.clock / 2) r0.ended r1.ended old.run.thread last.run.thread stays.ended s.same.thread runs.runs.run) (ap in_transaction kept ∙ inside)
+          t.0 with_place ((λ i. now_at rules first old.engine.depth base (stays.ended i) (s.same.thread i)) ∙ t.2) here
+          (subst (λ (l : List Attempt). IsInTry rules old.engine.depth (words_at old.engine.depth base l (cells.clock / 2)) t.0 with_place last.run.player last.engine) (sym stays.ended)
+          (subst (λ (q : P). IsInTry rules old.engine.depth (words_at old.engine.depth base r0.ended (cells.clock / 2)) t.0 with_place q last.engine) (sym (ap (λ (x : PlayerRun P). x.player) stays.run))
+          (subst (λ (e : Core). IsInTry rules old.engine.depth (words_at old.engine.depth base r0.ended (cells.clock / 2)) t.0 with_place old.run.player e) (sym kept) (try_same laws with_place.at stays.room t.4))))
+          (ap (λ (x : PlayerRun P). x.again) stays.run ∙ t.5) (t.6 ∙ sym (ap (λ (x : PlayerRun P). x.nth) stays.run)));
       sees = subst (λ (l : List Attempt). Sees (words_at old.engine.depth base l) cells last.engine) (sym stays.ended) (subst (Sees (words_at old.engine.depth base r0.ended) cells) (sym kept) runs.sees);
       held = λ i row f.
           (let t = runs.runs.inside inside in
@@ -309,24 +246,15 @@ module _ {P : Type 0} (rules : Rules P) (laws : Obeys rules) (first : Between P)
       → IsRun rules first deepest base n r a → IsRun rules first deepest base n r (record a { engine = handed_to a.engine (Some step) seen; status = status })
   run_handed n r a step seen status settled on same x =
       let kept = (handed_is a.engine step seen).keeps in
-      record {
-        run = x.run;
-        inside = λ o. (let t = x.inside (sym same ∙ o) in (t.0, t.1, t.2, t.3, try_handed laws step seen t.4, t.5, t.6));
-        between = λ o gave_up starved.
-            (let t = x.between (sym same ∙ o) (λ e. absurd (let z = sym on ∙ e in cc)) (λ e. absurd (let z = sym on ∙ e in cc)) in
-            (t.0, t.1, before_on t.2 (handed_to a.engine (Some step) seen) status (kept.arena (shut_revocable a.engine settled (sym same ∙ o))) kept.again));
-      }
+      run_on rules first deepest base (record a { engine = handed_to a.engine (Some step) seen; status = status }) x x.run refl same refl refl (λ end e. absurd (let z = sym on ∙ e in cc)) (λ b row o e t. (row, e, refl, try_handed laws step seen t))
+      (λ b o k. before_as (record a { engine = handed_to a.engine (Some step) seen; status = status }) k (top n) refl refl refl (kept.arena (shut_revocable a.engine settled o)) kept.again (λ row e. e))
 
   -- the open attempt is told where it reads
   pub run_told : (n : ℕ) (r : Rows) (a : Actor P) → IsRun rules first deepest base n r a → IsRun rules first deepest base n r (told a)
-  run_told n r a x = record {
-    run = x.run;
-    inside = λ o. (let t = x.inside o in (t.0, record t.1 { at = a.engine.snapshot / 2 }, t.2, moved_opens (a.engine.snapshot / 2) a.run.current t.1 t.3, try_same (a.engine.snapshot / 2) t.1.calls.room t.4, t.5, t.6));
-    between = λ o gave_up starved.
-        (let t = x.between o gave_up starved in
-        let k = t.2 in
-        (t.0, t.1, record { calls = k.calls; leads = k.leads; again = k.again; tries = k.tries; pending = λ row e. k.pending row (sym (moved_begun (a.engine.snapshot / 2) a.run.current) ∙ e) }));
-  }
+  run_told n r a x =
+      run_on rules first deepest base (told a) x x.run refl refl refl refl (λ end e. e)
+      (λ b row o e t. (record row { at = a.engine.snapshot / 2 }, moved_row (a.engine.snapshot / 2) a.run.current row e, refl, try_same laws (a.engine.snapshot / 2) row.calls.room t))
+      (λ b o k. before_as (told a) k (top n) refl refl refl refl refl (λ row e. sym (moved_begun (a.engine.snapshot / 2) a.run.current) ∙ e))
 
 -- it goes on, or is answered
 

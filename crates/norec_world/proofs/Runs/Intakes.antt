@@ -1,22 +1,17 @@
 -- A value or a call was taken in, and what the engine gave is recorded: the actor's run goes on, and the words are still those that the commits left.
 use Rattle.std.proofs.Common.{◌≡◌, ℕ, suc, ◌+◌, ◌/◌, ◌≤◌, ◌==◌, Bool, true, false, List, [], ◌∷◌, ◌++◌, Option, None, Some, refl, sym, true≢false, ap, subst, ◌∙◌, arith, eq-eqb, append-nil, inl, inr}
-use Rattle.norec_world.proofs.Common.{Actor, Agrees, Answer, Answers, AreCounted, AreLaid, Asks, Attempt, Between, Busy, Call, Cells, Committed, Conflict, Core, Full, IsDone, IsHeld, IsRun, Loaded, Next, NoMemory, Obeys, Replied, Reply, Restarted, Rows, Rules, Sees, StandsIn, State, Step, Tells, Waits, active_of, after, alone, backed, bytes_at, committed_at, cond-true, ending_of, frees, in_transaction, is_open, memory_left, opened, reply_cases, rests, same_Some, stands_for, with_call, words_at}
+use Rattle.norec_world.proofs.Common.{Actions, Actor, Agrees, Answer, Answers, AreCounted, AreLaid, Asks, Attempt, Between, Busy, Call, Cells, Committed, Conflict, Core, Full, HasRow, IsDone, IsHeld, IsRun, Loaded, Next, NoMemory, Obeys, Replied, Reply, Restarted, Rows, Rules, Sees, StandsIn, State, Step, Tells, Waits, active_of, after, alone, alone_led, backed, bytes_at, committed_at, cond-true, ending_of, frees, in_transaction, is_open, memory_left, opened, reply_cases, rests, same_Some, stands_for, state_whole, with_call, words_at}
 use Rattle.norec_world.proofs.Tries.OpenTries.{try_asks}
 use Rattle.norec_world.proofs.Commits.LaidWords.{laid_more, laid_on}
 use Rattle.norec_world.proofs.Commits.Memories.{bytes_stay, found_later, none_next}
-use Rattle.norec_world.proofs.Runs.Answers.{before_on, held_position, position_bytes, position_fits, reply_runs}
+use Rattle.norec_world.proofs.Runs.Answers.{before_as, held_position, reply_runs, run_on, stands_at, top}
 use Rattle.norec_world.proofs.Runs.Endings.{cancel_runs, commit_ended, committed_row, commit_memory, commit_runs, conflict_runs, full_runs}
 use Rattle.norec_world.proofs.Engines.HeldCalls.{HasHeld, stands_actions, stands_mode}
-use Rattle.tx_runs.proofs.Tries.{alone_led}
-use Rattle.norec_world.proofs.Tries.TryOutcomes.{of_block, stands_led}
-use Rattle.norec_world.proofs.Tries.Stages.{stage_open, taken_at, told_active}
-use Rattle.tx_runs.proofs.Unbroken.{state_whole}
+use Rattle.norec_world.proofs.Tries.Stages.{open_by, stage_open, taken_at, told_active}
 use Rattle.norec_world.proofs.Engines.OpenEngines.{stands_open}
-use Rattle.user_actions.specs.Actions.{Actions}
 use Rattle.norec_world.proofs.Runs.Begins.{begin_holds, shut_runs}
-use Rattle.norec_world.proofs.Commits.SeenMemories.{HasSeen}
+use Rattle.norec_world.proofs.Commits.SeenMemories.{HasSeen, memory_at}
 use Rattle.norec_world.proofs.Engines.Intakes.{HasAnswered, HasTaken, answered, still_going, clock_grows, half_same, unfreed}
-use Rattle.norec_world.proofs.Tries.TryEnds.{begun_or_not}
 use Rattle.norec_world.proofs.Tries.AnswerEndings.{not_starved}
 
 module _ {P : Type 0} (rules : Rules P) (first : Between P) (deepest : ℕ) (base : List ℕ) where
@@ -43,17 +38,10 @@ module _ {P : Type 0} {rules : Rules P} (laws : Obeys rules) {first : Between P}
       let opens : in_transaction a.engine ≡ in_transaction mid = ap in_transaction g.stays in
       let half = t.moves.keeps g.unfreed in
       record {
-        run = subst (λ (k : ℕ). IsRun rules first mid.depth base k r (record a { status = Waits call step })) (sym half) (record {
-          run = run.run;
-          inside = λ o.
-              (let x = run.inside (sym opens ∙ o) in
-              let up = seen.up (sym opens ∙ o) in
-              let early = x.4.began in
-              (x.0, x.1, x.2, x.3, try_asks laws x.4 g (omega arith) (seen.fewer o), x.5, x.6));
-          between = λ o gave_up starved.
-              (let x = run.between (sym opens ∙ o) (still_going t.ready) (still_going t.ready) in
-              (x.0, x.1, before_on x.2 a.engine (Waits call step) (ap (λ (c : Core). c.arena) g.stays) (ap (λ (c : Core). c.again) g.stays)));
-        });
+        run = subst (λ (k : ℕ). IsRun rules first mid.depth base k r (record a { status = Waits call step })) (sym half)
+            (run_on rules first mid.depth base (record a { status = Waits call step }) run run.run refl opens refl refl (λ end e. still_going t.ready e)
+            (λ b row o e x. (let up = seen.up o in let early = x.began in (row, e, refl, try_asks laws x g (omega arith) (seen.fewer (opens ∙ o)))))
+            (λ b o k. before_as (record a { status = Waits call step }) k (top (cells.clock / 2)) refl refl refl (ap (λ (c : Core). c.arena) g.stays) (ap (λ (c : Core). c.again) g.stays) (λ row e. e)));
         sees = record {
           loaded = subst (Loaded (words_at mid.depth base r.ended) cells') (sym g.stays) (let l = seen.loaded g.unfreed in record { fresh = l.fresh; held = l.held; got = l.got });
           logged = seen.now;
@@ -106,11 +94,8 @@ module _ {P : Type 0} {rules : Rules P} (laws : Obeys rules) {first : Between P}
         shut_frees answer m = refl
 
     -- an answer that leaves the transaction open ends no attempt
-    pub open_ended : (b : Bool) (answer : Answer) → HasAnswered rules b cells cells' r r1 mid a last call answer → in_transaction a.engine ≡ true → r1.ended ≡ r.ended
-    open_ended true (Reply reply) m o = (taken_at m.told (stage_open _ m.answered.kept.row.1) (ap in_transaction m.settled.engine ∙ o)).ended ∙ append-nil r.ended
-    open_ended false (Reply reply) m o = (begun_or_not reply m).ended
-    open_ended b (Restarted clock word) m o = absurd m.answered.fits
-    open_ended b answer m o = absurd (true≢false (sym o ∙ m.answered.fits.1))
+    open_ended : {b : Bool} {answer : Answer} → HasAnswered rules b cells cells' r r1 mid a last call answer → in_transaction a.engine ≡ true → r1.ended ≡ r.ended
+    open_ended m o = (let now = subst (λ (x : Bool). HasRow x last) (ap in_transaction m.settled.engine ∙ o) m.settled.kept.row in (open_by m.told now.0 now.1).0)
 
     sees_on : (answer : Answer) → HasAnswered rules was cells cells' r r1 mid a last call answer → Sees (words_at mid.depth base r1.ended) cells' last.engine
     sees_on answer m =
@@ -121,7 +106,7 @@ module _ {P : Type 0} {rules : Rules P} (laws : Obeys rules) {first : Between P}
             held = λ h revocable. absurd (true≢false (sym h ∙ (rest.holds ∙ revocable)));
             got = λ h revocable. absurd (true≢false (sym h ∙ (rest.holds ∙ revocable)));
           };
-          logged = λ o. subst (λ (rows : List Attempt). Agrees (words_at mid.depth base rows (a.engine.snapshot / 2)) a.engine.log) (sym (open_ended was answer m o)) (seen.now o);
+          logged = λ o. subst (λ (rows : List Attempt). Agrees (words_at mid.depth base rows (a.engine.snapshot / 2)) a.engine.log) (sym (open_ended m o)) (seen.now o);
         })
 
     -- a writer's commit: its row's memory is what its stores have made of the words
@@ -171,17 +156,15 @@ module _ {P : Type 0} {rules : Rules P} (laws : Obeys rules) {first : Between P}
     held_stands reply m held irrevocable = elim (reply_cases mid a.engine call reply m.taken.doing m.ends) [
       | inl g ↦ absurd (true≢false (sym irrevocable ∙ (ap (λ (c : Core). c.irrevocable) g.stays ∙ g.revocable)))
       | inr (inl g) ↦
-          (let t = run.inside m.taken.was_is in
+          (let n = cells.clock / 2 in
           let half = m.taken.moves.keeps g.unfreed in
-          let position : List ℕ = words_at mid.depth base r.ended (cells.clock / 2) in
-          let fits = position_fits laws r1 a last call seen run in
-          let bytes = position_bytes laws r1 a last call seen run in
+          let position : List ℕ = words_at mid.depth base r.ended n in
           let same = held_position laws r1 a last call seen run m.taken.tied (ap (λ (c : Core). c.holds) g.stays ∙ g.held) (ap (λ (c : Core). c.clock) g.stays) half g.taken in
           let agrees : Agrees position mid.log = subst (λ (k : ℕ). Agrees (words_at mid.depth base r.ended k) mid.log) same (seen.logged m.taken.was_is) in
-          let words : cells'.words ≡ backed mid position = (seen.loaded g.unfreed).held g.held g.revocable ∙ ap (λ (n : ℕ). backed mid (words_at mid.depth base r.ended n)) half in
+          let words : cells'.words ≡ backed mid position = (seen.loaded g.unfreed).held g.held g.revocable ∙ ap (λ (k : ℕ). backed mid (words_at mid.depth base r.ended k)) half in
           ap (stands_for a.engine) words
-          ∙ (g.meets position fits agrees
-          ∙ ap (λ (s : State). after mid.depth s call) (stands_led laws t.4 (bytes_at mid.depth base r.ended (cells.clock / 2)) position g.revocable m.taken.was_is fits bytes agrees ∙ sym (alone_led laws mid.depth (of_block t.4) (bytes_at mid.depth base r.ended (cells.clock / 2))))))
+          ∙ (g.meets position (memory_at seen n (top n)) agrees
+          ∙ ap (λ (s : State). after mid.depth s call) (stands_at laws r1 a last call seen run m.taken.was_is g.revocable n (top n) agrees refl ∙ sym (alone_led laws mid.depth (run.inside m.taken.was_is).4.block (bytes_at mid.depth base r.ended n)))))
       | inr (inr g) ↦ (held.comes g.irrevocable (run.inside m.taken.was_is).1 (run.inside m.taken.was_is).3).0
     ]
 
@@ -204,7 +187,7 @@ module _ {P : Type 0} {rules : Rules P} (laws : Obeys rules) {first : Between P}
             let more : Attempt = record (with_call call reply t.1) { ran = last.engine.actions.ran } in
             let same : more ≡ row = same_Some _ _ (sym (told_active x) ∙ active) in
             let s = held_stands reply m held now in
-            let memory : bytes_at mid.depth base r.ended (cells.clock / 2) ≡ bytes_at mid.depth base r1.ended (cells'.clock / 2) = λ i. bytes_at mid.depth base (sym (open_ended true (Reply reply) m inside) i) (sym half i) in
+            let memory : bytes_at mid.depth base r.ended (cells.clock / 2) ≡ bytes_at mid.depth base r1.ended (cells'.clock / 2) = λ i. bytes_at mid.depth base (sym (open_ended m inside) i) (sym half i) in
             subst (λ (x : Attempt). IsHeld mid.depth (bytes_at mid.depth base r1.ended (cells'.clock / 2)) cells'.words x a.engine) same
             (subst (λ (bytes : List ℕ). IsHeld mid.depth bytes cells'.words more a.engine) memory
             (stands_held (bytes_at mid.depth base r.ended (cells.clock / 2)) more inside now (s ∙ sym (state_whole mid.depth t.1.restarts (opened (bytes_at mid.depth base r.ended (cells.clock / 2)) t.1.arena t.1.props) t.1.calls.list (record { call = call; reply = reply }) t.4.restarts))
@@ -212,7 +195,7 @@ module _ {P : Type 0} {rules : Rules P} (laws : Obeys rules) {first : Between P}
         by_answer false (Reply reply) m held now inside idle =
             let half = half_same m refl in
             let s = begin_holds laws r1 a last call seen run (held.shut m.taken.was_is) reply m (ap in_transaction m.settled.engine ∙ inside) now row active in
-            let memory : bytes_at mid.depth base r.ended (cells.clock / 2) ≡ bytes_at mid.depth base r1.ended (cells'.clock / 2) = λ i. bytes_at mid.depth base (sym (open_ended false (Reply reply) m inside) i) (sym half i) in
+            let memory : bytes_at mid.depth base r.ended (cells.clock / 2) ≡ bytes_at mid.depth base r1.ended (cells'.clock / 2) = λ i. bytes_at mid.depth base (sym (open_ended m inside) i) (sym half i) in
             subst (λ (bytes : List ℕ). IsHeld mid.depth bytes cells'.words row a.engine) memory (stands_held (bytes_at mid.depth base r.ended (cells.clock / 2)) row inside now s.0 s.1 idle)
         by_answer b (Restarted clock word) m held now inside idle = absurd m.answered.fits
         by_answer b answer m held now inside idle = absurd (true≢false (sym inside ∙ m.answered.fits.1))

@@ -1,26 +1,20 @@
 -- The actors' runs: one's event leaves the others', and together they are the headline.
 use Rattle.std.proofs.Common.{◌≡◌, ◌≢◌, inl, inr, ℕ, ◌/◌, ◌%◌, ◌≤◌, Bool, true, false, List, [], ◌∷◌, ◌++◌, length, length-set, replicate, Option, Some, ◌+◌, ◌<◌, slice_get, slice_set, refl, sym, ap, subst, ◌∙◌, arith, nat_lt}
-use Rattle.norec_world.proofs.Common.{Actor, Agrees, AllFit, AllOf, AreActors, AreLaid, AreOfActors, AreOpaque, AreRunning, AreTied, Attempt, Between, Cells, ClocksOn, Core, Got, HasRead, HasRow, IsHeld, IsMemory, IsRunOf, IsTied, IsTryAt, IsWorld, KeepsOthers, Obeys, Ready, Rows, Rules, RunsFrom, StandsIn, State, World, active_of, alone, append-nil, attempts_of, backed, begins_at, begun_in, breaks_of, bytes_at, bytes_of, cases_Bool, count_at, count_committed, first_of, in_transaction, is_open, le-ltb, none-some, observed, of_thread, one_where, open_in, opened, opening, run_after, same_Some, slice_get_within, stage_of, state_then, words_at, words_of, write_at}
+use Rattle.norec_world.proofs.Common.{Actions, Actor, Agrees, AllFit, AllOf, AreActors, AreDated, AreLaid, AreOfActors, AreOpaque, AreRunning, AreTied, AreUnbroken, Attempt, Between, Cells, ClocksOn, Core, Current, Got, HasRead, HasRow, IsHeld, IsMadeAlone, IsMemory, IsRunOf, IsTied, IsTryAt, IsWorld, KeepsOthers, Obeys, Outside, Ready, Rows, Rules, RunsFrom, StandsIn, State, StillRuns, World, active_of, alone, alone_led, append-nil, attempts_of, backed, begun_in, breaks_of, bytes_at, bytes_of, cases_Bool, count_at, count_committed, first_of, in_transaction, is_open, le-ltb, observed, of_thread, one_where, open_in, opened, opening, run_after, run_still, run_with, same_Some, slice_get_within, stage_of, state_then, try_stops, with_open, words_at, words_of, words_of-bytes_of, write_at}
 use Rattle.tx_attempts.specs.declared.attempt.Outcome.TheVariants as outcomes
-use Rattle.itm_types.proofs.WordLists.{words_of-bytes_of}
-use Rattle.norec_world.specs.Runs.{StillRuns}
-use Rattle.norec_world.specs.Dates.{AreDated}
-use Rattle.tx_runs.specs.Unbroken.{AreUnbroken}
+use Rattle.tx_attempts.specs.Outrun.{AreOutrun}
 use Rattle.norec_world.proofs.Tries.Dates.{all_dated, all_unbroken}
 use Rattle.norec_world.proofs.Events.SoundOthers.{set_place, there_is, held_apart, odd_held}
 use Rattle.norec_world.proofs.Tries.Stages.{row_open, row_unfinished}
-use Rattle.tx_runs.specs.declared.player_run.Current.{Current}
-use Rattle.tx_runs.specs.declared.player_run.Current.TheVariants.{Outside}
-use Rattle.norec_world.specs.Stages.{opens, with_open}
-use Rattle.norec_world.proofs.Tries.OpenTries.{try_moved}
-use Rattle.tx_runs.proofs.Tries.{IsMadeAlone, alone_led, try_stops}
-use Rattle.norec_world.proofs.Tries.TryOutcomes.{made_held, made_so, of_block, stands_led}
+use Rattle.norec_world.specs.Stages.{opens}
+use Rattle.norec_world.proofs.Runs.Answers.{before_as, idle_from, rests_run, run_on, top}
+use Rattle.norec_world.proofs.Tries.OpenTries.{made_held, made_so, stands_led, try_moved}
 use Rattle.norec_world.proofs.Engines.HeldCalls.{stands_actions, stands_mode}
 use Rattle.itm_types.proofs.Words.{length-bytes_of}
-use Rattle.user_actions.specs.Actions.{Actions}
 use Rattle.norec_world.proofs.Commits.CommitCounts.{counted_both}
+use Rattle.norec_world.proofs.Commits.OutrunConflicts.{outrun_both}
 use Rattle.norec_world.proofs.Commits.Memories.{bytes_still, bytes_stay}
-use Rattle.tx_runs.proofs.RunLists.{of_thread_more, run_still, run_more}
+use Rattle.tx_runs.proofs.RunLists.{of_thread_more}
 use Rattle.norec_world.proofs.Tries.ThreadAttempts.{are_open, of_actors_all, of_actors_both, of_actors_each, of_thread_none, opens_each, opens_of, row_there, stand_there}
 
 module _ {P : Type 0} (rules : Rules P) (laws : Obeys rules) where
@@ -31,25 +25,17 @@ module _ {P : Type 0} (rules : Rules P) (laws : Obeys rules) where
   other_runs first deepest base cells cells' r r' thread b laid tied more ended mine apart later held x =
       record {
         depth = x.depth;
-        runs = record {
-          run = subst (IsRunOf rules deepest (cells'.clock / 2) (bytes_at deepest base r'.ended) (Some first)) (sym rows) on.0;
-          inside = λ o. (let t = x.runs.inside o in (t.0, t.1, now ∙ t.2, t.3, try_moved laws (words_at deepest base r'.ended (cells'.clock / 2)) (λ i. ap words_of (memory_held i)) t.4, t.5, t.6));
-          between = λ o gave_up starved.
-              (let t = x.runs.between o gave_up starved in let k = t.2 in (
-                t.0,
-                now ∙ t.1,
-                record { calls = k.calls; leads = k.leads; again = k.again; tries = k.tries; pending = λ row e. (let p = k.pending row e in ((let early = p.0 in omega arith), p.1, p.2, p.3, p.4, p.5, p.6)) },
-              ));
-        };
+        runs = run_on rules first deepest base b x.runs (subst (IsRunOf rules deepest (cells'.clock / 2) (bytes_at deepest base r'.ended) (Some first)) (sym rows) on.0) now refl refl refl (λ end e. e)
+            (λ c row o e t. (row, e, refl, try_moved laws (words_at deepest base r'.ended (cells'.clock / 2)) (λ i. ap words_of (memory_held i)) t)) (λ c o k. before_as b k (omega (arith, later)) refl refl refl refl refl (λ row e. e));
         sees = (let s = x.sees in record {
           loaded = record {
             fresh = λ even same f.
                 (let clock : cells'.clock ≡ cells.clock = (let late = tied.late in omega arith) in
-                let words : words_at deepest base r'.ended (cells'.clock / 2) ≡ words_at deepest base r.ended (cells.clock / 2) = ap (λ (k : ℕ). words_at deepest base r'.ended (k / 2)) clock ∙ ap words_of (bytes_stay laid more ended (cells.clock / 2) (let l : cells.clock / 2 ≤ cells.clock / 2 = omega arith in l)) in
+                let words : words_at deepest base r'.ended (cells'.clock / 2) ≡ words_at deepest base r.ended (cells.clock / 2) = ap (λ (k : ℕ). words_at deepest base r'.ended (k / 2)) clock ∙ ap words_of (bytes_stay laid more ended (cells.clock / 2) (top (cells.clock / 2))) in
                 subst (λ (m : List ℕ). Agrees m b.engine.fresh) (sym words) (s.loaded.fresh (ap (λ (k : ℕ). k % 2) (sym clock) ∙ even) (same ∙ clock) f));
             held = λ h revocable.
                 (let is = held h in
-                ap (λ (c : Cells). c.words) is ∙ (s.loaded.held h revocable ∙ (ap (λ (m : List ℕ). backed b.engine m) (ap words_of (sym (bytes_stay laid more ended (cells.clock / 2) (let l : cells.clock / 2 ≤ cells.clock / 2 = omega arith in l))))
+                ap (λ (c : Cells). c.words) is ∙ (s.loaded.held h revocable ∙ (ap (λ (m : List ℕ). backed b.engine m) (ap words_of (sym (bytes_stay laid more ended (cells.clock / 2) (top (cells.clock / 2)))))
                 ∙ ap (λ (c : Cells). backed b.engine (words_at deepest base r'.ended (c.clock / 2))) (sym is))));
             got = λ h revocable. subst (λ (c : Cells). Got b.engine.got (slice_get c.words (write_at b.engine.writes b.engine.done).word)) (sym (held h)) (s.loaded.got h revocable);
           };
@@ -68,7 +54,7 @@ module _ {P : Type 0} (rules : Rules P) (laws : Obeys rules) where
       holds_it i = (tied.settled.irrevocable i).0
 
       memory_held : b.engine.irrevocable ≡ true → bytes_at deepest base r'.ended (cells'.clock / 2) ≡ bytes_at deepest base r.ended (cells.clock / 2)
-      memory_held i = ap (λ (c : Cells). bytes_at deepest base r'.ended (c.clock / 2)) (held (holds_it i)) ∙ bytes_stay laid more ended (cells.clock / 2) (let l : cells.clock / 2 ≤ cells.clock / 2 = omega arith in l)
+      memory_held i = ap (λ (c : Cells). bytes_at deepest base r'.ended (c.clock / 2)) (held (holds_it i)) ∙ bytes_stay laid more ended (cells.clock / 2) (top (cells.clock / 2))
 
       rows : of_thread b.run.thread r'.ended ≡ of_thread b.run.thread r.ended
       rows =
@@ -94,8 +80,8 @@ module _ {P : Type 0} (rules : Rules P) (laws : Obeys rules) where
     Parts p a x o =
         let t = x.runs.inside o in
         let memory : List ℕ = bytes_at w.depth w.base (attempts_of w) (a.engine.snapshot / 2) in
-        let state : State = state_then w.depth (breaks_of t.1.restarts) (opened memory t.4.start.arena t.4.start.props) t.1.calls.list in
-        IsMadeAlone rules w.depth t.0 t.4.start t.1 memory × (a.engine.actions.ran ≡ state.actions.ran) × (state.irrevocable ≡ a.engine.irrevocable)
+        let state : State = state_then w.depth (breaks_of t.1.restarts) (opened memory t.4.block.start.arena t.4.block.start.props) t.1.calls.list in
+        IsMadeAlone rules w.depth t.0 t.4.block.start t.1 memory × (a.engine.actions.ran ≡ state.actions.ran) × (state.irrevocable ≡ a.engine.irrevocable)
 
     open_parts : (place : ℕ) (p : P) (a : Actor P) (e : slice_get w.opening place ≡ Some p) (f : slice_get w.actors place ≡ Some a) (o : in_transaction a.engine ≡ true) → Parts p a (running.each place p a e f) o
     open_parts place p a e f o = elim (cases_Bool a.engine.irrevocable) [ inl i ↦ held_so i | inr r ↦ open_so r ]
@@ -109,23 +95,14 @@ module _ {P : Type 0} (rules : Rules P) (laws : Obeys rules) where
         k_late : a.engine.snapshot / 2 ≤ w.cells.clock / 2
         k_late = (let reached = tied.settled.reached in let late = tied.late in omega arith)
 
-        words : words_at w.depth w.base (attempts_of w) (a.engine.snapshot / 2) ≡ words_at w.depth w.base w.attempts.ended (a.engine.snapshot / 2)
-        words = ap words_of (shown_still (a.engine.snapshot / 2) k_late)
-
-        memory : IsMemory a.engine.words (words_at w.depth w.base (attempts_of w) (a.engine.snapshot / 2))
-        memory = (let fits = running.laid.memories.fits (a.engine.snapshot / 2) k_late in subst (IsMemory a.engine.words) (sym words) (fits.0 ∙ sym tied.words, fits.1))
-
-        same : bytes_of (words_at w.depth w.base (attempts_of w) (a.engine.snapshot / 2)) ≡ bytes_at w.depth w.base (attempts_of w) (a.engine.snapshot / 2)
-        same = ap bytes_of words ∙ (running.laid.memories.same (a.engine.snapshot / 2) k_late ∙ sym (shown_still (a.engine.snapshot / 2) k_late))
-
-        agrees : Agrees (words_at w.depth w.base (attempts_of w) (a.engine.snapshot / 2)) a.engine.log
-        agrees = subst (λ (m : List ℕ). Agrees m a.engine.log) (sym words) (x.sees.logged o)
-
         open_so : a.engine.irrevocable ≡ false → Parts p a x o
         open_so r =
-            let m : List ℕ = words_at w.depth w.base (attempts_of w) (a.engine.snapshot / 2) in
-            let stands = stands_led laws (x.runs.inside o).4 (bytes_at w.depth w.base (attempts_of w) (a.engine.snapshot / 2)) m r o memory same agrees in (
-              made_so laws (x.runs.inside o).4 (bytes_at w.depth w.base (attempts_of w) (a.engine.snapshot / 2)) m r o memory same agrees,
+            let k : ℕ = a.engine.snapshot / 2 in
+            let m : List ℕ = words_at w.depth w.base w.attempts.ended k in
+            let fits = running.laid.memories.fits k k_late in
+            let same = running.laid.memories.same k k_late ∙ sym (shown_still k k_late) in
+            let stands = stands_led laws (x.runs.inside o).4 (bytes_at w.depth w.base (attempts_of w) k) m r o (fits.0 ∙ sym tied.words, fits.1) same (x.sees.logged o) in (
+              made_so laws (x.runs.inside o).4 (bytes_at w.depth w.base (attempts_of w) k) m r o (fits.0 ∙ sym tied.words, fits.1) same (x.sees.logged o),
               ap (λ (y : Actions). y.ran) (sym (stands_actions a.engine m)) ∙ ap (λ (y : State). y.actions.ran) stands,
               ap (λ (y : State). y.irrevocable) (sym stands) ∙ stands_mode a.engine m,
             )
@@ -136,12 +113,12 @@ module _ {P : Type 0} (rules : Rules P) (laws : Obeys rules) where
             let h = x.held i t.1 t.3 in
             let holds = (tied.settled.irrevocable i).0 in
             let half : a.engine.snapshot / 2 ≡ w.cells.clock / 2 = omega (arith, tied.holder holds, (tied.settled.holder holds).1, tied.settled.even) in
-            let top : w.cells.clock / 2 ≤ w.cells.clock / 2 = omega arith in
-            let fits = running.laid.memories.fits (w.cells.clock / 2) top in
-            let shown : bytes_at w.depth w.base (attempts_of w) (a.engine.snapshot / 2) ≡ bytes_at w.depth w.base w.attempts.ended (w.cells.clock / 2) = ap (bytes_at w.depth w.base (attempts_of w)) half ∙ shown_still (w.cells.clock / 2) top in (
-              made_held laws t.4 (bytes_at w.depth w.base (attempts_of w) (a.engine.snapshot / 2)) i (fits.0 ∙ sym tied.words, fits.1) (running.laid.memories.same (w.cells.clock / 2) top ∙ sym shown) (ap (λ (bytes : List ℕ). is_open (alone w.depth bytes t.1)) shown ∙ h.still_open),
-              sym t.4.ran ∙ (h.ran ∙ (ap (λ (bytes : List ℕ). (alone w.depth bytes t.1).actions.ran) (sym shown) ∙ ap (λ (y : State). y.actions.ran) (alone_led laws w.depth (of_block t.4) (bytes_at w.depth w.base (attempts_of w) (a.engine.snapshot / 2))))),
-              ap (λ (y : State). y.irrevocable) (sym (alone_led laws w.depth (of_block t.4) (bytes_at w.depth w.base (attempts_of w) (a.engine.snapshot / 2)))) ∙ (ap (λ (bytes : List ℕ). (alone w.depth bytes t.1).irrevocable) shown ∙ (h.mode ∙ sym i)),
+            let n : ℕ = w.cells.clock / 2 in
+            let fits = running.laid.memories.fits n (top n) in
+            let shown : bytes_at w.depth w.base (attempts_of w) (a.engine.snapshot / 2) ≡ bytes_at w.depth w.base w.attempts.ended n = ap (bytes_at w.depth w.base (attempts_of w)) half ∙ shown_still n (top n) in (
+              made_held laws t.4 (bytes_at w.depth w.base (attempts_of w) (a.engine.snapshot / 2)) i (fits.0 ∙ sym tied.words, fits.1) (running.laid.memories.same n (top n) ∙ sym shown) (ap (λ (bytes : List ℕ). is_open (alone w.depth bytes t.1)) shown ∙ h.still_open),
+              sym t.4.ran ∙ (h.ran ∙ (ap (λ (bytes : List ℕ). (alone w.depth bytes t.1).actions.ran) (sym shown) ∙ ap (λ (y : State). y.actions.ran) (alone_led laws w.depth t.4.block (bytes_at w.depth w.base (attempts_of w) (a.engine.snapshot / 2))))),
+              ap (λ (y : State). y.irrevocable) (sym (alone_led laws w.depth t.4.block (bytes_at w.depth w.base (attempts_of w) (a.engine.snapshot / 2)))) ∙ (ap (λ (bytes : List ℕ). (alone w.depth bytes t.1).irrevocable) shown ∙ (h.mode ∙ sym i)),
             )
 
     of_actor : (place : ℕ) (p : P) (a : Actor P) → slice_get w.opening place ≡ Some p → slice_get w.actors place ≡ Some a
@@ -149,36 +126,29 @@ module _ {P : Type 0} (rules : Rules P) (laws : Obeys rules) where
     of_actor place p a e f =
         let x = running.each place p a e f in
         let s = sound.each place a f in
-        let own_rows : of_thread a.run.thread (attempts_of w) ≡ of_thread a.run.thread w.attempts.ended ++ with_open (active_of a) [] =
-        of_thread_more a.run.thread w.attempts.ended (opens w.actors) ∙ ap (λ (l : List Attempt). of_thread a.run.thread w.attempts.ended ++ l) (opens_of 0 place a.run.thread w.actors a (stand_there sound) f (s.thread ∙ (let z : place ≡ 0 + place = omega arith in z))) in
-        let on = run_still rules w.depth (w.cells.clock / 2) (w.cells.clock / 2) (bytes_at w.depth w.base w.attempts.ended) (bytes_at w.depth w.base (attempts_of w)) (let l : w.cells.clock / 2 ≤ w.cells.clock / 2 = omega arith in l) shown_still
-        (Some (first_of p w.arena)) (of_thread a.run.thread w.attempts.ended) x.runs.run in
+        let n : ℕ = w.cells.clock / 2 in
+        let memory : ℕ → List ℕ = bytes_at w.depth w.base w.attempts.ended in
+        let shown : ℕ → List ℕ = bytes_at w.depth w.base (attempts_of w) in
+        let ended : List Attempt = of_thread a.run.thread w.attempts.ended in
+        let own_rows : of_thread a.run.thread (attempts_of w) ≡ ended ++ with_open (active_of a) [] =
+        of_thread_more a.run.thread w.attempts.ended (opens w.actors) ∙ ap (λ (l : List Attempt). ended ++ l) (opens_of 0 place a.run.thread w.actors a (stand_there sound) f (s.thread ∙ (let z : place ≡ 0 + place = omega arith in z))) in
         subst (λ (t : ℕ). IsRunOf rules w.depth (w.cells.clock / 2) (bytes_at w.depth w.base (attempts_of w)) (Some (first_of p w.arena)) (of_thread t (attempts_of w))) s.thread
         (elim (cases_Bool (in_transaction a.engine)) [
           | inl o ↦
-              (let tied = s.sound.tied in
-              let t = x.runs.inside o in
+              (let t = x.runs.inside o in
               let k : ℕ = a.engine.snapshot / 2 in
-              let k_late : k ≤ w.cells.clock / 2 = (let reached = tied.settled.reached in let late = tied.late in omega arith) in
-              let row : Attempt = t.1 in
-              let unfinished : row.outcome ≡ outcomes.Unfinished = row_unfinished (in_transaction a.engine) a row s.sound.kept.row t.3 in
-              let at : row.at ≡ k = x.reads row t.3 in
-              let early = t.4.began in
+              let late : k ≤ n = omega (arith, s.sound.tied.settled.reached, s.sound.tied.late) in
               let parts = open_parts place p a e f o in
-              let try = try_stops laws w.depth (of_block t.4) (w.cells.clock / 2) (bytes_at w.depth w.base (attempts_of w)) k outcomes.Unfinished a.engine.actions.ran refl parts.0 parts.0.still_open early k_late parts.1 (λ f. absurd (cc)) in
-              let as_it_is : record row { at = k; ran = a.engine.actions.ran; outcome = outcomes.Unfinished } ≡ row = λ i. record row { at = (sym at) i; ran = (sym t.4.ran) i; outcome = (sym unfinished) i } in
-              let here : IsTryAt rules w.depth (w.cells.clock / 2) (bytes_at w.depth w.base (attempts_of w)) t.0 (begins_at rules w.depth t.0) row =
-              subst (λ (y : _). IsTryAt rules w.depth (w.cells.clock / 2) (bytes_at w.depth w.base (attempts_of w)) t.0 y row) (sym t.4.begins)
-              (subst (IsTryAt rules w.depth (w.cells.clock / 2) (bytes_at w.depth w.base (attempts_of w)) t.0 (Some t.4.start)) as_it_is try) in
-              let more = run_more rules w.depth (w.cells.clock / 2) (bytes_at w.depth w.base (attempts_of w)) (Some (first_of p w.arena)) (of_thread a.run.thread w.attempts.ended) t.0 row on.0 (on.1 ∙ t.2) here in
-              let rows : of_thread a.run.thread (attempts_of w) ≡ of_thread a.run.thread w.attempts.ended ++ row ∷ [] =
-              own_rows ∙ ap (λ (o : Option Attempt). of_thread a.run.thread w.attempts.ended ++ with_open o []) t.3 in
-              subst (IsRunOf rules w.depth (w.cells.clock / 2) (bytes_at w.depth w.base (attempts_of w)) (Some (first_of p w.arena))) (sym rows) more.0)
+              let try = try_stops laws w.depth t.4.block n shown k outcomes.Unfinished a.engine.actions.ran refl parts.0 parts.0.still_open t.4.began late parts.1 (λ f. absurd (cc)) in
+              let as_it_is : record t.1 { at = k; ran = a.engine.actions.ran; outcome = outcomes.Unfinished } ≡ t.1 =
+              λ i. record t.1 { at = (sym (x.reads t.1 t.3)) i; ran = (sym t.4.ran) i; outcome = (sym (row_unfinished (in_transaction a.engine) a t.1 s.sound.kept.row t.3)) i } in
+              let rows : of_thread a.run.thread (attempts_of w) ≡ ended ++ t.1 ∷ [] = own_rows ∙ ap (λ (o : Option Attempt). ended ++ with_open o []) t.3 in
+              subst (IsRunOf rules w.depth n shown (Some (first_of p w.arena))) (sym rows)
+              (run_with rules w.depth n n memory shown (top n) shown_still (Some (first_of p w.arena)) ended t.0 t.4.block.start t.1 x.runs.run t.2 t.4.block.begins (subst (IsTryAt rules w.depth n shown t.0 (Some t.4.block.start)) as_it_is try)).0)
           | inr shut ↦
               (let none : HasRow false a = subst (λ (b : Bool). HasRow b a) shut s.sound.kept.row in
-              let rows : of_thread a.run.thread (attempts_of w) ≡ of_thread a.run.thread w.attempts.ended =
-              own_rows ∙ (ap (λ (o : Option Attempt). of_thread a.run.thread w.attempts.ended ++ with_open o []) none ∙ append-nil (of_thread a.run.thread w.attempts.ended)) in
-              subst (IsRunOf rules w.depth (w.cells.clock / 2) (bytes_at w.depth w.base (attempts_of w)) (Some (first_of p w.arena))) (sym rows) on.0)
+              let rows : of_thread a.run.thread (attempts_of w) ≡ ended = own_rows ∙ (ap (λ (o : Option Attempt). ended ++ with_open o []) none ∙ append-nil ended) in
+              subst (IsRunOf rules w.depth n shown (Some (first_of p w.arena))) (sym rows) (run_still rules w.depth n n memory shown (top n) shown_still (Some (first_of p w.arena)) ended x.runs.run).0)
         ])
 
     player_at : (place : ℕ) (a : Actor P) → slice_get w.actors place ≡ Some a → (p : P) × (slice_get w.opening place ≡ Some p)
@@ -196,7 +166,7 @@ module _ {P : Type 0} (rules : Rules P) (laws : Obeys rules) where
         let same : t.1 ≡ row = same_Some _ _ (sym t.3 ∙ some) in
         ap (λ (j : ℕ). (alone w.depth (bytes_at w.depth w.base (attempts_of w) j) row).irrevocable) (x.reads row some)
         ∙ (ap (λ (y : Attempt). (alone w.depth (bytes_at w.depth w.base (attempts_of w) (a.engine.snapshot / 2)) y).irrevocable) (sym same)
-        ∙ (ap (λ (y : State). y.irrevocable) (alone_led laws w.depth (of_block t.4) (bytes_at w.depth w.base (attempts_of w) (a.engine.snapshot / 2))) ∙ (open_parts place here.0 a here.1 e o).2))
+        ∙ (ap (λ (y : State). y.irrevocable) (alone_led laws w.depth t.4.block (bytes_at w.depth w.base (attempts_of w) (a.engine.snapshot / 2))) ∙ (open_parts place here.0 a here.1 e o).2))
 
     -- who holds the clock has an open attempt, at the last position
     held_row : (place : ℕ) (a : Actor P) → slice_get w.actors place ≡ Some a → a.engine.holds ≡ true → (row : Attempt) × (active_of a ≡ Some row) × (row.at ≡ w.cells.clock / 2)
@@ -210,18 +180,18 @@ module _ {P : Type 0} (rules : Rules P) (laws : Obeys rules) where
         let half : a.engine.snapshot / 2 ≡ w.cells.clock / 2 = omega (arith, tied.holder h, holder.1, tied.settled.even) in
         (t.1, t.3, x.reads t.1 t.3 ∙ half)
 
-    pub are_opaque : AreDated w.retries [] (attempts_of w) → AreUnbroken (attempts_of w) → AreOpaque rules (observed w)
-    are_opaque dated unbroken = record {
+    pub are_opaque : AreOutrun w.cells.clock w.attempts.ended → AreDated w.retries [] (attempts_of w) → AreUnbroken (attempts_of w) → AreOpaque rules (observed w)
+    are_opaque outrun dated unbroken = record {
       runs = λ place p e. (let here = there_is w.actors place (omega (arith, long, slice_get_within w.opening place p e)) in of_actor place p here.0 e here.1);
       threads = subst (λ (n : ℕ). AreOfActors n (attempts_of w)) long (of_actors_both (length w.actors) w.attempts.ended (opens w.actors) running.threads
           (of_actors_each (length w.actors) (opens w.actors) (opens_each (λ (row : Attempt). row.thread < length w.actors) w.actors (λ place a row e here. omega (arith, row_there sound place a row e here, slice_get_within w.actors place a e)))));
       counted = counted_both w.cells.clock w.attempts.ended (opens w.actors) (are_open sound).unfinished running.laid.counted;
+      outrun = outrun_both w.cells.clock w.attempts.ended (opens w.actors) (are_open sound).unfinished outrun;
       dated = dated;
       unbroken = unbroken;
       size = omega (arith, length-bytes_of w.cells.words, length-bytes_of (words_of w.base), (running.laid.memories.fits 0 (omega arith)).0, ap (length {A = ℕ}) (running.laid.memories.same 0 (omega arith)));
       free = λ even.
-          (let top : w.cells.clock / 2 ≤ w.cells.clock / 2 = omega arith in
-          ap bytes_of (running.laid.free even) ∙ (running.laid.memories.same (w.cells.clock / 2) top ∙ sym (shown_still (w.cells.clock / 2) top)));
+          ap bytes_of (running.laid.free even) ∙ (running.laid.memories.same (w.cells.clock / 2) (top (w.cells.clock / 2)) ∙ sym (shown_still (w.cells.clock / 2) (top (w.cells.clock / 2))));
     }
 
     pub are_tied : AreTied rules w
@@ -238,19 +208,17 @@ module _ {P : Type 0} (rules : Rules P) (laws : Obeys rules) where
       irrevocable = λ place a e i. ((sound.each place a e).sound.tied.settled.irrevocable i).0;
       holder = held_row;
       held = λ place a e h r.
-          (let top : w.cells.clock / 2 ≤ w.cells.clock / 2 = omega arith in
-          let here = player_at place a e in
-          (running.each place here.0 a here.1 e).sees.loaded.held h r ∙ ap (λ (m : List ℕ). backed a.engine (words_of m)) (sym (shown_still (w.cells.clock / 2) top)));
+          (let here = player_at place a e in
+          (running.each place here.0 a here.1 e).sees.loaded.held h r ∙ ap (λ (m : List ℕ). backed a.engine (words_of m)) (sym (shown_still (w.cells.clock / 2) (top (w.cells.clock / 2)))));
       rooms = λ place a row e some. (sound.each place a e).sound.acts.backed row some;
       fed = λ place p a e f true_room. ((running.each place p a e f).fed true_room).fed;
       stored = λ place a row e some i.
-          (let top : w.cells.clock / 2 ≤ w.cells.clock / 2 = omega arith in
-          let here = player_at place a e in
-          subst (λ (bytes : List ℕ). StandsIn w.depth a.engine.waits a.engine.doing a.engine w.cells.words (alone w.depth bytes row)) (sym (shown_still (w.cells.clock / 2) top)) ((running.each place here.0 a here.1 e).held i row some).stands);
+          (let here = player_at place a e in
+          subst (λ (bytes : List ℕ). StandsIn w.depth a.engine.waits a.engine.doing a.engine w.cells.words (alone w.depth bytes row)) (sym (shown_still (w.cells.clock / 2) (top (w.cells.clock / 2)))) ((running.each place here.0 a here.1 e).held i row some).stands);
     }
 
   pub world_opaque : (w : World P) → IsWorld rules w → AreOpaque rules (observed w)
-  world_opaque w kept = are_opaque w kept.actors kept.long kept.running (all_dated w kept.actors kept.dated) (all_unbroken w kept.dated)
+  world_opaque w kept = are_opaque w kept.actors kept.long kept.running kept.commits.outrun (all_dated w kept.actors kept.dated) (all_unbroken w kept.dated)
 
   pub world_tied : (w : World P) → IsWorld rules w → AreTied rules w
   world_tied w kept = are_tied w kept.actors kept.long kept.running
@@ -307,38 +275,12 @@ module _ {P : Type 0} (rules : Rules P) (laws : Obeys rules) where
       → RunsFrom rules (first_of a.run.player size) deepest base cells r a
   fresh_runs cells r a deepest base size patience max_commits is none first anew nothing ready =
       let shut : in_transaction a.engine ≡ false = ap in_transaction is in
-      let free : a.engine.holds ≡ false = ap (λ (c : Core). c.holds) is in
       let rows : of_thread a.run.thread r.ended ≡ [] = ap (of_thread a.run.thread) none in
-      record {
-        depth = ap (λ (c : Core). c.depth) is;
-        runs = record {
-          run = subst (IsRunOf rules deepest (cells.clock / 2) (bytes_at deepest base r.ended) (Some (first_of a.run.player size))) (sym rows) tt;
-          inside = λ o. absurd (let z = sym o ∙ shut in cc);
-          between = λ o gave_up starved. (
-            first_of a.run.player size,
-            ap (run_after rules deepest (bytes_at deepest base r.ended) (Some (first_of a.run.player size))) rows,
-            record {
-              calls = 0;
-              leads = (refl, ap (λ (c : Core). c.arena) is);
-              again = anew;
-              tries = (let one = first in omega arith);
-              pending = λ row e. absurd (none-some row (sym (ap (λ (c : Current). begun_in (stage_of c)) nothing) ∙ e));
-            },
-          );
-        };
-        sees = record {
-          loaded = record {
-            fresh = λ even same f. subst (Agrees (words_at deepest base r.ended (cells.clock / 2))) (sym (ap (λ (c : Core). c.fresh) is)) tt;
-            held = λ h. absurd (let z = sym h ∙ free in cc);
-            got = λ h. absurd (let z = sym h ∙ free in cc);
-          };
-          logged = λ o. absurd (let z = sym o ∙ shut in cc);
-        };
-        held = λ i. absurd (let z = sym i ∙ ap (λ (c : Core). c.irrevocable) is in cc);
-        starved = λ e r. shut;
-        reads = λ row e. absurd (none-some row (sym (ap (λ (c : Current). open_in (stage_of c)) nothing) ∙ e));
-        fed = λ true_room. (let revocable = ap (λ (c : Core). c.irrevocable) is in record { moves = 0; comes = refl; within = λ h. absurd (let z = sym h ∙ revocable in cc); fed = λ e. revocable });
-      }
+      idle_from (ap (λ (c : Core). c.depth) is)
+      (rests_run rules (first_of a.run.player size) deepest base (subst (IsRunOf rules deepest (cells.clock / 2) (bytes_at deepest base r.ended) (Some (first_of a.run.player size))) (sym rows) tt) shut false 0
+      (ap (run_after rules deepest (bytes_at deepest base r.ended) (Some (first_of a.run.player size))) rows ∙ (λ i. Some (record { player = a.run.player; arena = sym (ap (λ (c : Core). c.arena) is) i; again = false; tries = 0 })))
+      anew (λ gave_up. (let one = first in omega arith)) (ap (λ (c : Current). begun_in (stage_of c)) nothing))
+      shut (ap (λ (c : Core). c.fresh) is) (ap (λ (c : Core). c.holds) is) (ap (λ (c : Core). c.irrevocable) is) (ap (λ (c : Current). open_in (stage_of c)) nothing) (λ told. (0, refl))
 
 -- no commit has been done
 pub laid_first : (deepest : ℕ) (base : List ℕ) (cells : Cells) (r : Rows) → base ≡ bytes_of cells.words → AllFit cells.words → cells.clock ≡ 0 → r.ended ≡ [] → AreLaid deepest base cells r

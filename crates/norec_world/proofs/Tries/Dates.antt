@@ -1,16 +1,12 @@
 -- Which try of its block an attempt is, and when it began: an event keeps what the attempts before it say of that.
 use Rattle.std.proofs.Common.{◌≡◌, ℕ, ◌+◌, ◌/◌, ◌<◌, ◌≤◌, ◌==◌, Bool, true, false, nat_lt, List, [], ◌∷◌, ◌++◌, Option, None, Some, is_some, slice_get, slice_set, if◌then◌else◌, inl, inr, refl, sym, ap, subst, ◌∙◌, arith, eq-eqb, append_assoc}
-use Rattle.std.proofs.lemmas.Bool.{ltb-false}
-use Rattle.norec_world.proofs.Common.{Actor, AllOf, AreActors, AreFrom, AreOfActors, Attempt, BeginsAt, Call, Cells, Core, End, GaveUp, GoesOnAfter, HasRow, IsBetween, IsEvent, IsWorld, NoMemory, Outcome, Prior, Rows, Rules, Status, StatusIs, Tries, TriesAgain, Waits, World, active_of, append-nil, pending_of, attempts_of, begins, between, both_ways, count_committed, current_of, ending_of, in_transaction, is_begin, is_committed, is_waiting, ne_eqb, none-some, one_where, outrun, over, prior_of, runs, same_Some, shut_out, turned_away}
-use Rattle.norec_core.specs.Phases.{Phase}
+use Rattle.norec_world.proofs.Common.{Actor, AllByRecursion, AllOf, AreActors, AreDated, AreFrom, AreOfActors, AreUnbroken, Attempt, BeginsAt, Call, Cells, Continues, Core, End, GaveUp, GoesOnAfter, HasRow, IsBetween, IsDated, IsEvent, IsWorld, NoMemory, Outcome, Phase, Prior, Rows, Rules, Status, StatusIs, Tries, TriesAgain, Waits, World, active_of, append-nil, attempts_of, begins, between, both_ways, count_committed, current_of, ending_of, in_transaction, is_begin, is_committed, is_waiting, ltb-false, ne_eqb, none-some, one_where, outrun, over, pending_of, prior_of, runs, same_Some, shut_out, turned_away}
 use Rattle.norec_core.specs.Phases as at
 use Rattle.tx_attempts.specs.declared.attempt.Outcome.TheVariants as outcomes
-use Rattle.norec_world.specs.Dates.{AreDated, IsDated, led_by, tried_by, tried_in, up_to_last}
+use Rattle.norec_world.specs.Dates.{led_by, tried_by, tried_in, up_to_last}
 use Rattle.norec_world.specs.Tries.{HasStopped}
 use Rattle.norec_world.specs.Invariant.{IsDatedActor, IsDatedWorld, IsTry}
-use Rattle.tx_runs.specs.Unbroken.{AreUnbroken}
 use Rattle.tx_runs.proofs.Unbroken.{unbroken_both, unbroken_more}
-use Rattle.std.specs.List.{AllByRecursion}
 use Rattle.norec_world.specs.Stages.{opens}
 use Rattle.norec_world.proofs.Tries.Stages.{open_only}
 use Rattle.norec_world.proofs.Tries.ThreadAttempts.{are_open, opens_each}
@@ -68,26 +64,11 @@ last_few thread (x ∷ xs) = (let l = led_few thread x (up_to_last thread xs) in
 
 -- ## Dated attempts
 
--- with others' attempts after those before it
-dated_else : (k : ℕ) (before more : List Attempt) (a : Attempt) → AreElse a.thread more → IsDated k before a → IsDated k (before ++ more) a
-dated_else k before more a n d =
-    let led = last_else a.thread before more n in
-    let tried : tried_in (up_to_last a.thread (before ++ more)) ≡ tried_in (up_to_last a.thread before) = ap tried_in led in
-    let count : count_committed (up_to_last a.thread (before ++ more)) ≡ count_committed (up_to_last a.thread before) = ap count_committed led in
-    record {
-      later = (let l = d.later in omega arith);
-      few = d.few;
-      after = (let l = d.after in omega arith);
-      by_now = (let l = d.by_now in let both = count_committed_both before more in omega arith);
-      at_once = λ e. (let here = d.at_once (e ∙ ap (λ (n : ℕ). n + 1) tried) in here ∙ sym count);
-    }
-
--- a later row of the same attempt
-dated_as : (k : ℕ) (before : List Attempt) (row row' : Attempt) → row'.thread ≡ row.thread → row'.nth ≡ row.nth → row'.began ≡ row.began → IsDated k before row → IsDated k before row'
-dated_as k before row row' thread nth began d =
-    let led : up_to_last row'.thread before ≡ up_to_last row.thread before = ap (λ (t : ℕ). up_to_last t before) thread in
-    let tried : tried_in (up_to_last row'.thread before) ≡ tried_in (up_to_last row.thread before) = ap tried_in led in
-    let count : count_committed (up_to_last row'.thread before) ≡ count_committed (up_to_last row.thread before) = ap count_committed led in
+-- after attempts that end at the same one of its thread, a later row of the same attempt
+dated_by : (k : ℕ) (before before' : List Attempt) (row row' : Attempt) → up_to_last row'.thread before' ≡ up_to_last row.thread before → count_committed before ≤ count_committed before' → row'.nth ≡ row.nth → row'.began ≡ row.began → IsDated k before row → IsDated k before' row'
+dated_by k before before' row row' led fewer nth began d =
+    let tried : tried_in (up_to_last row'.thread before') ≡ tried_in (up_to_last row.thread before) = ap tried_in led in
+    let count : count_committed (up_to_last row'.thread before') ≡ count_committed (up_to_last row.thread before) = ap count_committed led in
     record {
       later = (let l = d.later in omega arith);
       few = (let l = d.few in omega arith);
@@ -95,6 +76,12 @@ dated_as k before row row' thread nth began d =
       by_now = (let l = d.by_now in omega arith);
       at_once = λ e. (let here = d.at_once (sym nth ∙ (e ∙ ap (λ (n : ℕ). n + 1) tried)) in began ∙ (here ∙ sym count));
     }
+
+dated_else : (k : ℕ) (before more : List Attempt) (a : Attempt) → AreElse a.thread more → IsDated k before a → IsDated k (before ++ more) a
+dated_else k before more a n d = dated_by k before (before ++ more) a a (last_else a.thread before more n) (let both = count_committed_both before more in omega arith) refl refl d
+
+dated_as : (k : ℕ) (before : List Attempt) (row row' : Attempt) → Continues row row' → IsDated k before row → IsDated k before row'
+dated_as k before row row' c d = dated_by k before before row row' (ap (λ (t : ℕ). up_to_last t before) c.thread) (let l : count_committed before ≤ count_committed before = omega arith in l) c.nth c.began d
 
 dated_both : (k : ℕ) (before xs ys : List Attempt) → AreDated k before xs → AreDated k (before ++ xs) ys → AreDated k before (xs ++ ys)
 dated_both k before [] ys d e = subst (λ (l : List Attempt). AreDated k l ys) (append-nil before) e
@@ -207,7 +194,7 @@ module _ {P : Type 0} (k clock clock' : ℕ) (p : Prior) (r : Rows) (a : Actor P
               thread = t.continues.thread ∙ d.0;
               nth = t.continues.nth ∙ (d.1 ∙ sym t.tries);
               unbroken = t.continues.restarts ∙ d.3;
-              dated = still_dated t.ended t.row' (dated_as k p.ended t.row t.row' t.continues.thread t.continues.nth t.continues.began d.2);
+              dated = still_dated t.ended t.row' (dated_as k p.ended t.row t.row' t.continues d.2);
             }));
         next = λ on row e. absurd (none-some row (sym (open_only _ t.now) ∙ e));
       }
@@ -243,25 +230,21 @@ module _ {P : Type 0} (k clock clock' : ℕ) (p : Prior) (r : Rows) (a : Actor P
   dated_actor (outrun t) = lost t.row t.none t.was t.ended t.after
   dated_actor (shut_out t) = stopped_dated k clock' r a counted GaveUp t.after
 
+  -- what is true of those that had ended is true of all, if it is with one that ends
+  by_ended : (Q : List Attempt → Type 0) → Q p.ended → ((row row' : Attempt) → current_of p.active p.pending ≡ Some row → Continues row row' → Q (p.ended ++ row' ∷ [])) → Tries clock p clock' r a → Q r.ended
+  by_ended Q before more (over t) = subst Q (sym t.ended) (more t.row t.row' t.was t.continues)
+  by_ended Q before more (between t) = subst Q (sym t.ended) before
+  by_ended Q before more (begins t) = subst Q (sym t.ended) before
+  by_ended Q before more (runs t) = subst Q (sym t.ended) before
+  by_ended Q before more (turned_away t) = subst Q (sym t.ended) before
+  by_ended Q before more (outrun t) = subst Q (sym t.ended) before
+  by_ended Q before more (shut_out t) = subst Q (sym t.ended) before
+
   pub dated_ended : Tries clock p clock' r a → AreDated k [] r.ended
-  dated_ended (over t) =
-      let d = dated_as k p.ended t.row t.row' t.continues.thread t.continues.nth t.continues.began (now t.row t.was).2 in
-      subst (AreDated k []) (sym t.ended) (dated_both k [] p.ended (t.row' ∷ []) all (d, tt))
-  dated_ended (between t) = subst (AreDated k []) (sym t.ended) all
-  dated_ended (begins t) = subst (AreDated k []) (sym t.ended) all
-  dated_ended (runs t) = subst (AreDated k []) (sym t.ended) all
-  dated_ended (turned_away t) = subst (AreDated k []) (sym t.ended) all
-  dated_ended (outrun t) = subst (AreDated k []) (sym t.ended) all
-  dated_ended (shut_out t) = subst (AreDated k []) (sym t.ended) all
+  dated_ended = by_ended (AreDated k []) all (λ row row' was c. dated_both k [] p.ended (row' ∷ []) all (dated_as k p.ended row row' c (now row was).2, tt))
 
   pub unbroken_ended : Tries clock p clock' r a → AreUnbroken p.ended → AreUnbroken r.ended
-  unbroken_ended (over t) none = subst AreUnbroken (sym t.ended) (unbroken_more p.ended t.row' none (t.continues.restarts ∙ (now t.row t.was).3))
-  unbroken_ended (between t) none = subst AreUnbroken (sym t.ended) none
-  unbroken_ended (begins t) none = subst AreUnbroken (sym t.ended) none
-  unbroken_ended (runs t) none = subst AreUnbroken (sym t.ended) none
-  unbroken_ended (turned_away t) none = subst AreUnbroken (sym t.ended) none
-  unbroken_ended (outrun t) none = subst AreUnbroken (sym t.ended) none
-  unbroken_ended (shut_out t) none = subst AreUnbroken (sym t.ended) none
+  unbroken_ended t none = by_ended AreUnbroken none (λ row row' was c. unbroken_more p.ended row' none (c.restarts ∙ (now row was).3)) t
 
 -- ## In a world
 

@@ -1,34 +1,24 @@
 -- The stage of an actor's attempt, and what an answer makes of it.
-use Rattle.tx_runs.specs.declared.player_run.PlayerRun.{PlayerRun}
-use Rattle.std.proofs.Common.{◌≡◌, ℕ, ◌+◌, ◌-◌, ◌/◌, ◌<◌, ◌≤◌, Bool, true, false, nat_lt, if◌then◌else◌, List, [], ◌∷◌, ◌++◌, append_assoc, append-nil, length, Option, None, Some, unwrap_or, refl, sym, ap, subst, ◌∙◌, arith, Vec, Global, vec_capacity}
+use Rattle.tx_runs.proofs.TookIn.{IsOpen, IsTaken, is_taken}
+use Rattle.std.proofs.Common.{◌≡◌, ◌⊎◌, inl, inr, ℕ, ◌+◌, ◌-◌, ◌/◌, ◌<◌, ◌≤◌, Bool, true, false, nat_lt, if◌then◌else◌, List, [], ◌∷◌, ◌++◌, append_assoc, append-nil, length, Option, None, Some, unwrap_or, refl, sym, ap, subst, ◌∙◌, arith, Vec, Global, vec_capacity}
 use Rattle.std.proofs.lemmas.List.{length-append}
 use Rattle.tx_attempts.specs.declared.attempt.Outcome.TheVariants as outcomes
-use Rattle.tx_runs.specs.declared.player_run.Current.{Current}
-use Rattle.tx_runs.specs.declared.player_run.Current.TheVariants.{Outside, Begins, Within}
-use Rattle.tx_runs.specs.Tallies.{Stand, outside, begins, within, entered, over_as, sent_back, stage_with, tried, went_on}
-use Rattle.norec_world.specs.Rows.{rows_in}
-use Rattle.norec_core.specs.Core.{irrevocable_room}
-use Rattle.tx_attempts.specs.Kept.{reserved}
-use Rattle.norec_world.specs.Records.{asked_stage, begun_by}
-use Rattle.norec_world.specs.Stages.{cancels_in, ends_in, moved_to}
-use Rattle.norec_world.proofs.Common.{Actor, AllOf, Answer, Attempt, Begin, Busy, Call, Committed, Conflict, Core, Done, Full, GaveUp, HasRow, IsKept, KeepsOthers, MAX_ACTORS, Outcome, Props, Records, Replied, Reply, Restarted, Rows, Rules, Stage, TakesTo, Taken, Tally, active_of, begun, count_in, count_of, in_transaction, none-some, open_in, begun_in, pending_of, same_Some, stage_of, stand_of, tally_of, took_in, with_call}
+use Rattle.tx_runs.specs.Tallies.{outside, begins, stage_at}
+use Rattle.norec_world.proofs.Common.{Actor, AllOf, Answer, Attempt, Begin, Busy, Call, Conflict, Core, Current, Ended, GaveUp, HasRow, IsKept, KeepsOthers, MAX_ACTORS, Outcome, Outside, PlayerRun, Props, Ready, Records, Replied, Reply, Rows, Rules, Stage, Stand, Taken, TakesTo, Tally, Within, active_of, begun, begun_in, cancels_in, count_in, count_of, ends_in, in_transaction, irrevocable_room, moved_to, none-some, open_in, over_as, pending_of, reserved, rows_in, same_Some, sent_back, stage_of, stand_of, status_after, tally_of, took_in, tried, within}
 
 -- ## Stages
 
 pub stage_open : (s : Stage) {row : Attempt} → open_in s ≡ Some row → s ≡ within row
-stage_open outside e = absurd (cc)
-stage_open (begins x) e = absurd (cc)
 stage_open (within x) e = cc
+stage_open s e = absurd (cc)
 
 pub stage_begun : (s : Stage) {row : Attempt} → begun_in s ≡ Some row → s ≡ begins row
-stage_begun outside e = absurd (cc)
 stage_begun (begins x) e = cc
-stage_begun (within x) e = absurd (cc)
+stage_begun s e = absurd (cc)
 
 pub stage_out : (s : Stage) → open_in s ≡ None → begun_in s ≡ None → s ≡ outside
 stage_out outside e b = refl
-stage_out (begins x) e b = absurd (cc)
-stage_out (within x) e b = absurd (cc)
+stage_out s e b = absurd (cc)
 
 -- one that is begun is not open
 pub begun_shut : (s : Stage) {row : Attempt} → begun_in s ≡ Some row → open_in s ≡ None
@@ -40,68 +30,57 @@ open_only s e = ap begun_in (stage_open s e)
 -- ## Told where its engine reads
 
 pub moved_open : (at : ℕ) (c : Current) (row : Attempt) → open_in (stage_of (moved_to at c)) ≡ Some row → (was : Attempt) × (open_in (stage_of c) ≡ Some was) × (row ≡ record was { at = at })
-moved_open at Outside row e = absurd (cc)
-moved_open at (Begins o) row e = absurd (cc)
 moved_open at (Within o) row e = (o.row, refl, sym (same_Some _ _ e))
+moved_open at c row e = absurd (cc)
 
 pub moved_row : (at : ℕ) (c : Current) (row : Attempt) → open_in (stage_of c) ≡ Some row → open_in (stage_of (moved_to at c)) ≡ Some (record row { at = at })
-moved_row at Outside row e = absurd (cc)
-moved_row at (Begins o) row e = absurd (cc)
 moved_row at (Within o) row e = ap (λ (x : Attempt). Some (record x { at = at })) (same_Some _ _ e)
+moved_row at c row e = absurd (cc)
 
 pub moved_begun : (at : ℕ) (c : Current) → begun_in (stage_of (moved_to at c)) ≡ begun_in (stage_of c)
 moved_begun at Outside = refl
-moved_begun at (Begins o) = refl
-moved_begun at (Within o) = refl
+moved_begun at c = refl
 
 pub moved_ends : (at : ℕ) (c : Current) → ends_in (moved_to at c) ≡ ends_in c
 moved_ends at Outside = refl
-moved_ends at (Begins o) = refl
-moved_ends at (Within o) = refl
+moved_ends at c = refl
 
 pub moved_cancels : (at : ℕ) (c : Current) → cancels_in (moved_to at c) ≡ cancels_in c
 moved_cancels at Outside = refl
-moved_cancels at (Begins o) = refl
-moved_cancels at (Within o) = refl
+moved_cancels at c = refl
 
 pub moved_count : (at : ℕ) (c : Current) → count_in (stage_of (moved_to at c)) ≡ count_in (stage_of c)
 moved_count at Outside = refl
-moved_count at (Begins o) = refl
-moved_count at (Within o) = refl
+moved_count at c = refl
 
 -- one that stands there already
 pub moved_none : (at : ℕ) (c : Current) → open_in (stage_of c) ≡ None → moved_to at c ≡ c
-moved_none at Outside none = refl
-moved_none at (Begins o) none = refl
 moved_none at (Within o) none = absurd (cc)
+moved_none at c none = refl
 
 pub moved_here : (at : ℕ) (c : Current) → ((row : Attempt) → open_in (stage_of c) ≡ Some row → row.at ≡ at) → moved_to at c ≡ c
-moved_here at Outside reads = refl
-moved_here at (Begins o) reads = refl
 moved_here at (Within o) reads = λ i. Within (record o { row = record o.row { at = sym (reads o.row refl) i } })
+moved_here at c reads = refl
 
 -- ## A call comes
 
-begun_by_shut : {P : Type 0} (clock : ℕ) (a : Actor P) (call : Call) → open_in (begun_by clock a call) ≡ None
-begun_by_shut clock a (Begin props room) = refl
-begun_by_shut clock a call = refl
+-- as this actor's
+abbrev pub asked_at : {P : Type 0} → ℕ → Actor P → Call → Stage → Stage
+asked_at clock a call s = stage_at s call (λ props. begun a.run.thread a.run.nth (clock / 2) props a.engine.arena (unwrap_or (irrevocable_room a.engine call) 0)) (unwrap_or (irrevocable_room a.engine call) 0)
 
 -- the open attempt is that of before, with room for the call and what it asks for
-pub asked_open : {P : Type 0} (clock : ℕ) (a : Actor P) (call : Call) (s : Stage) (row : Attempt) → open_in (asked_stage clock a call s) ≡ Some row
+pub asked_open : {P : Type 0} (clock : ℕ) (a : Actor P) (call : Call) (s : Stage) (row : Attempt) → open_in (asked_at clock a call s) ≡ Some row
     → (was : Attempt) × (open_in s ≡ Some was) × (row ≡ record was { calls = reserved was.calls (unwrap_or (irrevocable_room a.engine call) 0 + 1) })
-asked_open clock a call outside row e = absurd (none-some row (sym (begun_by_shut clock a call) ∙ e))
+asked_open clock a (Begin props room) outside row e = absurd (cc)
+asked_open clock a call outside row e = absurd (cc)
 asked_open clock a call (begins x) row e = absurd (cc)
 asked_open clock a call (within x) row e = (x, refl, sym (same_Some _ _ e))
 
-begun_by_begin : {P : Type 0} (clock : ℕ) (a : Actor P) (call : Call) (row : Attempt) → begun_in (begun_by clock a call) ≡ Some row
-    → (props : Props) × (room : ℕ) × (call ≡ Begin props room) × (row ≡ begun a.run.thread a.run.nth (clock / 2) props a.engine.arena (unwrap_or (irrevocable_room a.engine call) 0))
-begun_by_begin clock a (Begin props room) row e = (props, room, refl, sym (same_Some _ _ e))
-begun_by_begin clock a call row e = absurd (cc)
-
 -- one that is to be opened is that of this begin
-pub asked_begun : {P : Type 0} (clock : ℕ) (a : Actor P) (call : Call) (s : Stage) (row : Attempt) → begun_in s ≡ None → begun_in (asked_stage clock a call s) ≡ Some row
+pub asked_begun : {P : Type 0} (clock : ℕ) (a : Actor P) (call : Call) (s : Stage) (row : Attempt) → begun_in s ≡ None → begun_in (asked_at clock a call s) ≡ Some row
     → (props : Props) × (room : ℕ) × (call ≡ Begin props room) × (row ≡ begun a.run.thread a.run.nth (clock / 2) props a.engine.arena (unwrap_or (irrevocable_room a.engine call) 0))
-asked_begun clock a call outside row none e = begun_by_begin clock a call row e
+asked_begun clock a (Begin props room) outside row none e = (props, room, refl, sym (same_Some _ _ e))
+asked_begun clock a call outside row none e = absurd (cc)
 asked_begun clock a call (begins x) row none e = absurd (cc)
 asked_begun clock a call (within x) row none e = absurd (cc)
 
@@ -173,38 +152,29 @@ module _ {P : Type 0} where
   pub tried_at : (t : Tally P) (over : List Attempt) (retries : ℕ) {r r' : Rows} {a last : Actor P} → TakesTo (tried retries t over) r r' a last → {b : Bool} → nat_lt retries t.nth ≡ b → TakesTo (tried_as b t over) r r' a last
   tried_at t over retries {r} {r'} {a} {last} x e = subst (λ (b : Bool). TakesTo (tried_as b t over) r r' a last) e x
 
-  -- whichever it was
-  pub record IsTried (t : Tally P) (over : List Attempt) (r r' : Rows) (last : Actor P) : Type 0 where
+  -- whichever it was, no attempt is left
+  pub record IsTried (t : Tally P) (over : List Attempt) (retries : ℕ) (r r' : Rows) (last : Actor P) : Type 0 where
     pub player : last.run.player ≡ t.player
     pub again : last.run.again ≡ t.again
     pub stage : stage_of last.run.current ≡ outside
     pub ended : r'.ended ≡ r.ended ++ over
+    pub either : ((nat_lt retries t.nth ≡ true) × (last.status ≡ Ended GaveUp)) ⊎ ((nat_lt retries t.nth ≡ false) × (last.status ≡ Ready) × (last.run.nth ≡ t.nth + 1))
 
-  pub is_tried : (t : Tally P) (over : List Attempt) (retries : ℕ) {r r' : Rows} {a last : Actor P} → TakesTo (tried retries t over) r r' a last → IsTried t over r r' last
-  is_tried t over retries {r} {r'} {a} {last} x = by_case (nat_lt retries t.nth) (tried_at t over retries x refl)
+  pub is_tried : (t : Tally P) (over : List Attempt) (retries : ℕ) {r r' : Rows} {a last : Actor P} → TakesTo (tried retries t over) r r' a last → IsTried t over retries r r' last
+  is_tried t over retries {r} {r'} {a} {last} x = by_case (nat_lt retries t.nth) refl
     where
-      by_case : (b : Bool) → TakesTo (tried_as b t over) r r' a last → IsTried t over r r' last
-      by_case true y = record { player = told_player y; again = told_again y; stage = told_stage y; ended = y.ended }
-      by_case false y = record { player = told_player y; again = told_again y; stage = told_stage y; ended = y.ended }
-
-  -- no attempt is left
-  pub tried_shut : (t : Tally P) (over : List Attempt) (retries : ℕ) {r r' : Rows} {a last : Actor P} → TakesTo (tried retries t over) r r' a last → pending_of last ≡ None
-  tried_shut t over retries {r} {r'} {a} {last} x = by_case (nat_lt retries t.nth) (tried_at t over retries x refl)
-    where
-      by_case : (b : Bool) → TakesTo (tried_as b t over) r r' a last → pending_of last ≡ None
-      by_case true y = told_pending y
-      by_case false y = told_pending y
+      by_case : (b : Bool) → nat_lt retries t.nth ≡ b → IsTried t over retries r r' last
+      by_case true e = (let y = tried_at t over retries x e in record { player = told_player y; again = told_again y; stage = told_stage y; ended = y.ended; either = inl (e, y.status) })
+      by_case false e = (let y = tried_at t over retries x e in record { player = told_player y; again = told_again y; stage = told_stage y; ended = y.ended; either = inr (e, y.status, told_nth y) })
 
   -- what becomes of the player
   pub reply_player : {rules : Rules P} {r r' : Rows} {a last : Actor P} {call : Call} (reply : Replied) → Records rules r r' a last call (Reply reply) → last.run.player ≡ rules.answered a.run.player reply
   reply_player {rules} {r} {r'} {a} {last} {call} reply t = by_stage (stage_of a.run.current) refl (in_transaction last.engine) refl
     where
       by_stage : (s : Stage) → stage_of a.run.current ≡ s → (b : Bool) → in_transaction last.engine ≡ b → last.run.player ≡ rules.answered a.run.player reply
-      by_stage outside e b o = told_player (taken_at t e o)
       by_stage (begins row) e true o = told_player (taken_at t e o)
-      by_stage (begins row) e false o = told_player (taken_at t e o)
       by_stage (within row) e true o = told_player (taken_at t e o)
-      by_stage (within row) e false o = told_player (taken_at t e o)
+      by_stage s e b o = told_player (taken_at t e o)
 
   pub conflict_player : {rules : Rules P} {r r' : Rows} {a last : Actor P} {call : Call} {clock : ℕ} {word : Option ℕ} → Records rules r r' a last call (Conflict clock word) → (s : Stage) → stage_of a.run.current ≡ s → last.run.player ≡ sent_back rules s a.run.player
   conflict_player {rules} {a = a} {last = last} t s e = (is_tried (record (tally_at a s) { player = sent_back rules s a.run.player }) (over_as outcomes.Conflict (stand_of last.engine) s) a.run.retries (taken_at t e refl)).player
@@ -212,10 +182,28 @@ module _ {P : Type 0} where
   pub busy_player : {rules : Rules P} {r r' : Rows} {a last : Actor P} {call : Call} {clock : ℕ} → Records rules r r' a last call (Busy clock) → last.run.player ≡ a.run.player
   busy_player {a = a} t = (is_tried (tally_of a.run) [] a.run.retries t.takes).player
 
+  -- whichever the answer was
+  module _ {rules : Rules P} {r r' : Rows} {a last : Actor P} {call : Call} {answer : Answer} (t : Records rules r r' a last call answer) where
+    pub taken_of : IsTaken (stage_of a.run.current) call answer (stand_of last.engine) (took_in rules a.run.retries (tally_of a.run) call answer (stand_of last.engine))
+    taken_of = is_taken call (stand_of last.engine) rules a.run.retries a.run.player a.run.nth a.run.again (stage_of a.run.current) answer t.whole
+
+    -- no attempt is to be opened then
+    pub none_begun : pending_of last ≡ None
+    none_begun = told_pending t.takes ∙ by_stage _ taken_of.begun
+      where
+        by_stage : (s : Stage) → ((row : Attempt) → s ≡ begins row → ⊥) → begun_in s ≡ None
+        by_stage (begins row) never = absurd (never row refl)
+        by_stage s never = refl
+
+    -- and an open one had its reply
+    pub open_by : (row : Attempt) → active_of last ≡ Some row → (r'.ended ≡ r.ended) × (last.status ≡ Ready) × IsOpen (stage_of a.run.current) call answer (stand_of last.engine) row
+    open_by row e =
+        let x = taken_of.still row (stage_open _ (sym (told_active t.takes) ∙ e)) in
+        (t.takes.ended ∙ (ap (λ (l : List Attempt). r.ended ++ l) x.0 ∙ append-nil r.ended), t.takes.status ∙ ap status_after x.1, x.2)
+
 pub sent_same : {P : Type 0} (rules : Rules P) (s : Stage) (p : P) → open_in s ≡ None → sent_back rules s p ≡ p
-sent_same rules outside p none = refl
-sent_same rules (begins row) p none = refl
 sent_same rules (within row) p none = absurd (cc)
+sent_same rules s p none = refl
 
 -- ## What is over
 
@@ -231,48 +219,31 @@ pub record IsOwn (thread : ℕ) (s s' : Stage) (over : List Attempt) : Type 0 wh
 abbrev Mine : ℕ → Stage → Type 0
 Mine thread s = (row : Attempt) → open_in s ≡ Some row → row.thread ≡ thread
 
-own_same : (thread : ℕ) (s : Stage) → IsOwn thread s s []
-own_same thread s = record { mine = tt; count = omega arith }
-
 over_own : (thread : ℕ) (outcome : Outcome) (stand : Stand) (s : Stage) → Mine thread s → IsOwn thread s outside (over_as outcome stand s)
-over_own thread outcome stand outside mine = record { mine = tt; count = omega arith }
-over_own thread outcome stand (begins row) mine = record { mine = tt; count = omega arith }
 over_own thread outcome stand (within row) mine = record { mine = (mine row refl, tt); count = omega arith }
+over_own thread outcome stand s mine = record { mine = tt; count = omega arith }
 
-with_own : (thread : ℕ) (outcome : Outcome) (stand : Stand) (call : Call) (reply : Replied) (s : Stage) → Mine thread s → IsOwn thread s outside (over_as outcome stand (stage_with call reply s))
-with_own thread outcome stand call reply outside mine = record { mine = tt; count = omega arith }
-with_own thread outcome stand call reply (begins row) mine = record { mine = tt; count = omega arith }
-with_own thread outcome stand call reply (within row) mine = record { mine = (mine row refl, tt); count = omega arith }
+count_less : (s s' : Stage) → (s ≡ outside → s' ≡ outside) → count_in s' ≤ count_in s
+count_less outside s' idle = (let none = ap count_in (idle refl) in omega arith)
+count_less s outside idle = omega arith
+count_less s s' idle = omega arith
 
-module _ {P : Type 0} (rules : Rules P) (retries thread : ℕ) where
-  abbrev Own : Stage → Taken P → Type 0
-  Own s taken = IsOwn thread s taken.tally.stage taken.over
-
-  tried_own : (b : Bool) (t : Tally P) (over : List Attempt) (s : Stage) → IsOwn thread s outside over → Own s (tried_as b t over)
-  tried_own true t over s own = own
-  tried_own false t over s own = own
-
-  went_own : (b : Bool) (t : Tally P) (row : Attempt) (s : Stage) (stand : Stand) → row.thread ≡ thread → count_in s ≡ 1 → Own s (went_on b t row stand)
-  went_own true t row s stand mine one = record { mine = tt; count = omega arith }
-  went_own false t row s stand mine one = record { mine = (mine, tt); count = omega arith }
-
-  entered_own : (b : Bool) (t : Tally P) (row : Attempt) (s : Stage) (stand : Stand) → count_in s ≡ 1 → IsOwn thread s (entered b t row stand).stage []
-  entered_own true t row s stand one = record { mine = tt; count = omega arith }
-  entered_own false t row s stand one = record { mine = tt; count = omega arith }
-
-  module _ (player : P) (nth : ℕ) (again : Bool) (stand : Stand) where
-    abbrev At : Stage → Tally P
-    At s = record { player = player; nth = nth; again = again; stage = s }
-
-    taken_own : (call : Call) (answer : Answer) (s : Stage) → Mine thread s → Own s (took_in rules retries (At s) call answer stand)
-    taken_own call (Reply reply) outside mine = own_same thread outside
-    taken_own call (Reply reply) (begins row) mine = entered_own stand.is_open (record (At (begins row)) { player = rules.answered player reply }) row (begins row) stand refl
-    taken_own call (Reply reply) (within row) mine = went_own stand.is_open (record (At (within row)) { player = rules.answered player reply }) (with_call call reply row) (within row) stand (mine row refl) refl
-    taken_own call (Committed at wrote) s mine = with_own thread (if wrote then outcomes.Committed else outcomes.ReadOnly) stand call Done s mine
-    taken_own call (Conflict clock word) s mine = tried_own (nat_lt retries nth) (record (At s) { player = sent_back rules s player }) (over_as outcomes.Conflict stand s) s (over_own thread outcomes.Conflict stand s mine)
-    taken_own call (Restarted clock word) s mine = own_same thread s
-    taken_own call (Busy clock) s mine = tried_own (nat_lt retries nth) (At s) [] s (record { mine = tt; count = omega arith })
-    taken_own call (Full at) s mine = over_own thread outcomes.Full stand s mine
+taken_own : {P : Type 0} {call : Call} {answer : Answer} {stand : Stand} (thread : ℕ) (s : Stage) (taken : Taken P) → IsTaken s call answer stand taken → Mine thread s → IsOwn thread s taken.tally.stage taken.over
+taken_own thread s taken x mine = elim x.over [
+  | inl none ↦ (let less = count_less s taken.tally.stage x.idle in let n = ap (length {A = Attempt}) none in record { mine = subst (AllOf thread) (sym none) tt; count = omega arith })
+  | inr y ↦
+      (let is : s ≡ within y.0 = y.2 in
+      let count = ap count_in is in
+      let n = ap (length {A = Attempt}) y.3 in
+      let out = by_stage taken.tally.stage refl (λ e. (let none : y.1 ∷ [] ≡ [] = sym y.3 ∙ e in cc)) in
+      let shut = ap count_in out in
+      record { mine = subst (AllOf thread) (sym y.3) (y.4 ∙ mine y.0 (ap open_in is), tt); count = omega arith })
+]
+  where
+    by_stage : (now : Stage) → taken.tally.stage ≡ now → (taken.over ≡ [] → ⊥) → taken.tally.stage ≡ outside
+    by_stage outside e some = e
+    by_stage (begins row) e some = absurd (x.begun row e)
+    by_stage (within row) e some = absurd (some (x.still row e).0)
 
 -- ## Its work is its own
 
@@ -318,5 +289,5 @@ module _ {P : Type 0} where
       → r.room - length (took_in rules a.run.retries (tally_of a.run) call answer (stand_of last.engine)).over ≤ r'.room → KeepsOthers a r last r'
   others_taken {rules} {r} {r'} {a} {last} {call} {answer} {was} kept t thread room =
       let taken = took_in rules a.run.retries (tally_of a.run) call answer (stand_of last.engine) in
-      let own = taken_own rules a.run.retries a.run.thread a.run.player a.run.nth a.run.again (stand_of last.engine) call answer (stage_of a.run.current) (λ row e. row_is_of was a row kept.row e) in
+      let own = taken_own a.run.thread (stage_of a.run.current) taken (taken_of t) (λ row e. row_is_of was a row kept.row e) in
       others_own a last r r' taken.over thread t.takes.ended (subst (λ (s : Stage). IsOwn a.run.thread (stage_of a.run.current) s taken.over) (sym (told_stage t.takes)) own) room

@@ -1,9 +1,7 @@
 -- Of all attempts those of one thread, the open attempts of actors, and the actors that attempts are of.
 use Rattle.std.proofs.Common.{◌≡◌, ℕ, zero, suc, ◌+◌, ◌<◌, ◌≤◌, List, [], ◌∷◌, ◌++◌, Option, None, Some, slice_get, refl, sym, ap, subst, ◌∙◌, arith, eq-eqb, if◌then◌else◌, Bool}
-use Rattle.std.specs.List.{AllByRecursion}
-use Rattle.tx_attempts.specs.declared.attempt.Outcome.TheVariants.{Unfinished}
-use Rattle.norec_world.specs.Stages.{opens, with_open}
-use Rattle.norec_world.proofs.Common.{Actor, AllOf, AreActors, AreFrom, AreOfActors, AreOpen, AreUnfinished, Attempt, Cells, Rows, Rules, active_of, ne_eqb, of_thread, same_Some}
+use Rattle.norec_world.specs.Stages.{opens}
+use Rattle.norec_world.proofs.Common.{Actor, AllByRecursion, AllOf, AreActors, AreFrom, AreOfActors, AreOpen, AreUnfinished, Attempt, Cells, Rows, Rules, Unfinished, active_of, ne_eqb, of_thread, same_Some, with_open}
 use Rattle.norec_world.proofs.Tries.Stages.{row_is_of, row_unfinished}
 
 -- ## The attempts of one thread

@@ -1,25 +1,17 @@
 -- What a call of an actor, up to its first step, and a step of it do to its try.
-use Rattle.norec_world.proofs.Rooms.LaterActions.{given_up_later}
-use Rattle.itm_types.specs.declared.call.Ran.{Ran}
+use Rattle.tx_runs.proofs.GivenUp.{given_up_later}
 use Rattle.std.proofs.Common.{unwrap_or, append-nil, List, ◌++◌, ◌≡◌, ℕ, ◌+◌, ◌/◌, ◌%◌, ◌≤◌, ◌==◌, if◌then◌else◌, Bool, true, false, Option, None, Some, refl, sym, ap, subst, ◌∙◌, arith}
-use Rattle.norec_world.proofs.Common.{Actor, Answer, Answers, Asks, Attempt, Begin, BeginsAt, Busy, Call, Cells, Conflict, Continues, Core, Ended, Full, HasRow, IsDone, IsSound, Next, Prior, Props, Ready, Reply, Rows, Rules, Stage, Starves, Status, Step, Tells, Tries, Waits, active_of, begins, begun, begun_in, ending_of, cond-true, false_from_ne_true, found, handed_is, in_transaction, none-some, open_in, pending_of, prior_of, Replied, replied_outside, stage_of, stand_of, told}
-use Rattle.tx_attempts.specs.Kept.{Kept, reserved}
-use Rattle.tx_runs.specs.declared.player_run.PlayerRun.{PlayerRun}
-use Rattle.tx_runs.specs.Tallies.{over_as}
-use Rattle.norec_world.specs.Records.{asked_stage}
-use Rattle.norec_world.specs.Stages.{with_room}
-use Rattle.norec_world.proofs.Tries.Stages.{asked_begun, open_only, stage_open, stage_out, told_nth, told_pending, told_stage}
+use Rattle.norec_world.proofs.Common.{Actor, Answer, Answers, Asks, Attempt, Begin, BeginsAt, Busy, Call, Cells, Conflict, Continues, Core, Ended, EndsAt, Full, HasRow, IsDone, IsSound, Kept, Next, Phase, PlayerRun, Props, Ran, Ready, Replied, Reply, Rows, Rules, Stage, Starves, Status, Step, Tells, Tries, Waits, active_of, begins, begun, begun_in, cond-true, ending_of, false_from_ne_true, found, handed_is, in_transaction, irrevocable_room, may_go, none-some, open_in, over_as, pending_of, prior_of, replied_outside, reserved, stage_of, stand_of, told, with_room}
+use Rattle.norec_world.proofs.Tries.Stages.{asked_at, asked_begun, stage_open, stage_out, told_nth, told_pending, told_stage}
 use Rattle.tx_attempts.specs.declared.attempt.Outcome.TheVariants as outcomes
 use Rattle.tx_runs.specs.declared.ending.End.TheVariants as ends
 use Rattle.norec_world.proofs.Engines.TiedEngines.{limit_same, snapshot_still}
 use Rattle.norec_core.proofs.Engines.KeptFields.{IsHanded}
-use Rattle.norec_core.specs.Core.{irrevocable_room, may_go}
 use Rattle.norec_core.specs.Endings.{EndsSo, ending_after, ending_at, ending_from}
-use Rattle.norec_core.specs.Phases.{Phase}
 use Rattle.norec_core.specs.Phases as at
 use Rattle.norec_world.proofs.Engines.SoundSteps.{IsCalling, call_taken, mid, rests, IsStepping, limit_is, mid_step, step_taken, waits}
 use Rattle.norec_world.proofs.Engines.Intakes.{HasAnswered, HasTaken, recorded}
-use Rattle.norec_world.proofs.Tries.TryEnds.{begin_tries, begun_or_not, continues_calls, is_between, open_tries, stays, stays_between, stays_open, stops_try, tries_from}
+use Rattle.norec_world.proofs.Tries.TryEnds.{current_open, begin_tries, begun_or_not, continues_calls, is_between, open_tries, stays, stays_between, stays_open, stops_try, tries_from}
 use Rattle.norec_world.proofs.Tries.AnswerEndings.{not_finished}
 use Rattle.norec_world.proofs.Tries.ToldTries.{told_tries}
 
@@ -29,7 +21,7 @@ module _ {P : Type 0} (rules : Rules P)
 
   pub finish_tries : Tries cells.clock (prior_of r0 old) cells.clock r0 (record old { status = Ended ends.Finished })
   finish_tries =
-      stays cells.clock cells.clock r0 r0 old (record old { status = Ended ends.Finished }) refl refl (in_transaction old.engine) sound.kept.row (rests sound ready).nothing refl (rests sound ready).nothing refl (λ e. absurd (cc)) (λ e. absurd (cc))
+      stays old.engine.clock cells.clock cells.clock r0 r0 old (record old { status = Ended ends.Finished }) refl refl (in_transaction old.engine) sound.kept.row (rests sound ready).nothing refl (rests sound ready).nothing refl (λ e. absurd (cc)) (λ e. absurd (cc))
 
   -- ## Memory was refused
 
@@ -42,8 +34,8 @@ module _ {P : Type 0} (rules : Rules P)
           let kept = s.held i in
           let holds = (rests sound ready).free ∙ i in
           let same : last.engine ≡ old.engine = s.engine ∙ cond-true old.engine.holds _ _ holds in
-          stays_open cells.clock cells.clock r0 r1 old last kept.ended refl h.0 (record h.0 { calls = record h.0.calls { room = kept.room } }) h.1
-          (ap open_in (kept.stage ∙ ap (with_room kept.room) (stage_open _ h.1))) (continues_calls h.0 _ refl) (ap (λ (x : PlayerRun P). x.nth) kept.run)
+          stays_open old.engine.clock cells.clock cells.clock r0 r1 old last kept.ended refl h.0 (record h.0 { calls = record h.0.calls { room = kept.room } }) (current_open old h.1)
+          (ap open_in (kept.stage ∙ ap (with_room kept.room) (stage_open _ h.1))) (continues_calls h.0 _ h.0.at refl) (ap (λ (x : PlayerRun P). x.nth) kept.run)
           (λ x. absurd (let n = ap ending_of s.status in cc)) (λ x. ap (λ (c : Core). c.irrevocable) same ∙ i)
       by_row true false e i h =
           let x = s.stops i in
@@ -51,14 +43,14 @@ module _ {P : Type 0} (rules : Rules P)
           let reached = sound.tied.settled.reached in
           let late = sound.tied.late in
           let still = snapshot_still old.engine last.engine s.engine in
-          stops_try old.engine.clock cells.clock cells.clock r0 r1 old last h.0 (last.engine.snapshot / 2) outcomes.NoMemory last.engine.actions.ran h.1
-          (x.ended ∙ ap (λ (z : Stage). r0.ended ++ over_as outcomes.NoMemory (stand_of last.engine) z) (stage_open _ h.1)) gone.0 (gone.1 ∙ ap (λ (z : List Ran). z ++ gone.0) (sym (sound.acts.all h.0 h.1))) refl
+          stops_try old.engine.clock cells.clock cells.clock r0 r1 old last h.0 (last.engine.snapshot / 2) outcomes.NoMemory last.engine.actions.ran gone.0 (gone.1 ∙ ap (λ (z : List Ran). z ++ gone.0) (sym (sound.acts.all h.0 h.1))) h.1
+          (x.ended ∙ ap (λ (z : Stage). r0.ended ++ over_as outcomes.NoMemory (stand_of last.engine) z) (stage_open _ h.1)) refl
           (refl, omega arith) refl (record { none = ap open_in (told_stage x); status = s.status })
       by_row false true e i h = absurd (let open_then = (sound.tied.settled.holder (sound.tied.settled.irrevocable i).0).0 in let both : true ≡ false = sym open_then ∙ e in cc)
       by_row false false e i h =
           let x = s.stops i in
           let out = stage_out _ h (rests sound ready).nothing in
-          stays_between cells.clock cells.clock r0 r1 old last (x.ended ∙ (ap (λ (z : Stage). r0.ended ++ over_as outcomes.NoMemory (stand_of last.engine) z) out ∙ append-nil r0.ended)) refl h (rests sound ready).nothing (record {
+          stays_between old.engine.clock cells.clock cells.clock r0 r1 old last (x.ended ∙ (ap (λ (z : Stage). r0.ended ++ over_as outcomes.NoMemory (stand_of last.engine) z) out ∙ append-nil r0.ended)) refl h (rests sound ready).nothing (record {
             none = ap open_in (told_stage x);
             tries = told_nth x;
             opens = λ row p. absurd (none-some row (sym (told_pending x) ∙ p));
@@ -82,15 +74,15 @@ module _ {P : Type 0} {rules : Rules P} {cells : Cells} {r0 r : Rows} {old a : A
   still_open : (row : Attempt) → active_of old ≡ Some row → (row' : Attempt) × (active_of a ≡ Some row') × Continues row row'
   still_open row e =
       let k : Kept = reserved row.calls (unwrap_or (irrevocable_room old.engine call) 0 + 1) in
-      (record row { calls = k }, ap open_in (m.asks.stage ∙ ap (asked_stage cells.clock old call) (stage_open _ e)), continues_calls row k refl)
+      (record row { calls = k }, ap open_in (m.asks.stage ∙ ap (asked_at cells.clock old call) (stage_open _ e)), continues_calls row k row.at refl)
 
   -- it waits for its first step
   waits_tries : (step : Step) → HasTaken rules (in_transaction old.engine) cells cells r (mid m) a call (Asks step) → Tries cells.clock (prior_of r0 old) cells.clock r (record a { status = Waits call step })
   waits_tries step t = by_row (in_transaction old.engine) refl m.sound.kept.row
     where
       by_row : (b : Bool) → in_transaction old.engine ≡ b → HasRow b old → Tries cells.clock (prior_of r0 old) cells.clock r (record a { status = Waits call step })
-      by_row true e h = (let x = still_open h.0 h.1 in stays_open cells.clock cells.clock r0 r old (record a { status = Waits call step }) m.asks.ended refl h.0 x.0 h.1 x.1 x.2 nth_same (λ x. absurd (cc)) (λ x. absurd (cc)))
-      by_row false e h = stays_between cells.clock cells.clock r0 r old (record a { status = Waits call step }) m.asks.ended refl h (rests m.sound m.ready).nothing (record {
+      by_row true e h = (let x = still_open h.0 h.1 in stays_open old.engine.clock cells.clock cells.clock r0 r old (record a { status = Waits call step }) m.asks.ended refl h.0 x.0 (current_open old h.1) x.1 x.2 nth_same (λ x. absurd (cc)) (λ x. absurd (cc)))
+      by_row false e h = stays_between old.engine.clock cells.clock cells.clock r0 r old (record a { status = Waits call step }) m.asks.ended refl h (rests m.sound m.ready).nothing (record {
         none = subst (λ (b : Bool). HasRow b a) e m.asked.kept.row;
         tries = nth_same;
         opens = λ row p. opens_now row p (ap (λ (c : Core). c.arena) t.proceeds.stays);
@@ -107,9 +99,8 @@ module _ {P : Type 0} {rules : Rules P} {cells : Cells} {r0 r : Rows} {old a : A
       by_open : (b : Bool) → in_transaction old.engine ≡ b → HasRow b old → HasAnswered rules b cells cells r r1 (mid m) a last call answer → Tries cells.clock (prior_of r0 old) cells.clock r1 last
       by_open true e h t =
           let x = still_open h.0 h.1 in
-          subst (λ (p : Prior). Tries cells.clock p cells.clock r1 last)
-          (λ i. record { ended = m.asks.ended i; active = sym h.1 i; pending = (open_only _ x.1 ∙ sym (rests m.sound m.ready).nothing) i; nth = nth_same i; retries = ap (λ (z : PlayerRun P). z.retries) m.asks.run i; max_commits = limit i; seen = old.engine.clock })
-          (tries_from cells.clock cells.clock (record (prior_of r a) { seen = old.engine.clock }) r1 last h.0 x.0 x.1 x.2 (open_tries old.engine.clock answer t))
+          tries_from cells.clock cells.clock cells.clock (record (prior_of r a) { seen = old.engine.clock }) (prior_of r0 old) r1 last h.0 x.0 x.1 x.2 (current_open old h.1) m.asks.ended nth_same (ap (λ (z : PlayerRun P). z.retries) m.asks.run) refl
+          (λ at o. subst (λ (n : ℕ). EndsAt n cells.clock cells.clock at o) limit) (open_tries old.engine.clock answer t)
       by_open false e h t =
           let reply = replied_outside old.engine call answer e (subst (EndsSo (ending_at old.engine call)) is m.asks.called.ends) in
           shut reply.0 (subst (HasAnswered rules false cells cells r r1 (mid m) a last call) reply.1 t)
@@ -120,7 +111,7 @@ module _ {P : Type 0} {rules : Rules P} {cells : Cells} {r0 r : Rows} {old a : A
           shut : (reply : Replied) → HasAnswered rules false cells cells r r1 (mid m) a last call (Reply reply) → Tries cells.clock (prior_of r0 old) cells.clock r1 last
           shut reply t =
               let x = begun_or_not reply t in
-              stays_between cells.clock cells.clock r0 r1 old last (x.ended ∙ m.asks.ended) refl h (rests m.sound m.ready).nothing
+              stays_between old.engine.clock cells.clock cells.clock r0 r1 old last (x.ended ∙ m.asks.ended) refl h (rests m.sound m.ready).nothing
               (is_between rules a last false t.settled cells.clock old.run.nth closed x.status (x.nth ∙ nth_same))
 
   pub call_tries : {r1 : Rows} {last : Actor P} → IsDone rules (in_transaction old.engine) r r1 a last call what → Tells rules r r1 a last call what → Tries cells.clock (prior_of r0 old) cells.clock r1 last
@@ -160,12 +151,12 @@ module _ {P : Type 0} {rules : Rules P} {cells : Cells} {r : Rows} {old : Actor 
       half = t.moves.keeps t.proceeds.unfreed
 
       by_pending : (p : Option Attempt) → pending_of old ≡ p → active_of old ≡ None → Tried r (on (Waits call step))
-      by_pending None p none = stays_between cells.clock cells'.clock r r old (on (Waits call step)) refl half none p
+      by_pending None p none = stays_between old.engine.clock cells.clock cells'.clock r r old (on (Waits call step)) refl half none p
           (record { none = none; tries = refl; opens = λ row e. absurd (let n = sym p ∙ e in cc); goes_on = λ e. absurd (cc) })
       by_pending (Some row) p none = begins (record { none = none; row = row; was = p; now = p; ended = refl; still = none; half = half; tries = refl; on = refl })
 
       by_row : (b : Bool) → HasRow b old → Tried r (on (Waits call step))
-      by_row true h = stays_open cells.clock cells'.clock r r old (on (Waits call step)) refl half h.0 h.0 h.1 h.1 (continues_calls h.0 h.0.calls refl) refl (λ e. absurd (cc)) (λ e. absurd (cc))
+      by_row true h = stays_open old.engine.clock cells.clock cells'.clock r r old (on (Waits call step)) refl half h.0 h.0 (current_open old h.1) h.1 (continues_calls h.0 h.0.calls h.0.at refl) refl (λ e. absurd (cc)) (λ e. absurd (cc))
       by_row false h = by_pending (pending_of old) refl h
 
   answered_on : (answer : Answer) → what ≡ Answers answer → {r1 : Rows} {last : Actor P} → HasAnswered rules (in_transaction old.engine) cells cells' r r1 (mid_step m) (on status) last call answer → Tried r1 last

@@ -1,10 +1,10 @@
 -- Local work after an event, or after other local work: what becomes of the try.
 -- Also what holds of actors that have taken no step.
 use Rattle.std.proofs.Common.{◌≡◌, ℕ, ◌+◌, ◌/◌, Bool, true, false, nat_lt, List, [], ◌∷◌, ◌++◌, Option, None, Some, refl, sym, ap, subst, ◌∙◌, arith, zero, suc}
-use Rattle.norec_world.proofs.Common.{Actor, Attempt, Cells, Continues, EndsAt, GoesOnAfter, IsBetween, IsSound, NoMemory, Outcome, Prior, Ready, Rows, Rules, Tries, TriesAgain, active_of, begins, between, current_of, ending_in, ending_of, in_transaction, outrun, over, pending_of, prior_of, runs, shut_out, turned_away}
+use Rattle.norec_world.proofs.Common.{Actor, Attempt, Cells, EndsAt, GoesOnAfter, IsBetween, IsSound, NoMemory, Outcome, Prior, Ready, Rows, Rules, Tries, TriesAgain, begins, between, current_of, ending_in, ending_of, in_transaction, outrun, over, pending_of, prior_of, runs, shut_out, turned_away}
 use Rattle.tx_attempts.specs.declared.attempt.Outcome.TheVariants as outcomes
 use Rattle.norec_world.proofs.Engines.SoundSteps.{rests}
-use Rattle.norec_world.proofs.Tries.TryEnds.{continues_twice, goes_for, stays}
+use Rattle.norec_world.proofs.Tries.TryEnds.{stays, tries_from}
 use Rattle.norec_world.proofs.Engines.Intakes.{still_going}
 
 -- none found no memory
@@ -40,14 +40,6 @@ ends_on max_commits clock clock1 at o half e = (half, e.1)
 
 module _ {P : Type 0} (clock clock1 : ℕ) (p : Prior) (r1 r2 : Rows) (a1 a2 : Actor P) (ready : a1.status ≡ Ready) (nothing : pending_of a1 ≡ None)
     (limit : a1.engine.max_commits ≡ p.max_commits) (retries : a1.run.retries ≡ p.retries) (still : a2.engine.snapshot ≡ a1.engine.snapshot) (work : Tries clock1 (prior_of r1 a1) clock1 r2 a2) where
-  -- the attempt that the work begins with is the open one
-  open_one : (row : Attempt) (o : Option Attempt) → active_of a1 ≡ o → current_of o (pending_of a1) ≡ Some row → active_of a1 ≡ Some row
-  open_one row None e c = absurd (let n = sym nothing ∙ c in cc)
-  open_one row (Some x) e c = e ∙ c
-
-  was_open : (row : Attempt) → current_of (active_of a1) (pending_of a1) ≡ Some row → active_of a1 ≡ Some row
-  was_open row c = open_one row (active_of a1) refl c
-
   -- between two tries, it stays there
   from_between : (nth : ℕ) → IsBetween clock1 nth a1 → IsBetween clock1 nth a2 × (r2.ended ≡ r1.ended)
   from_between nth b = starts_between clock1 nth (prior_of r1 a1) r2 a2 work b.none nothing b.tries
@@ -57,12 +49,11 @@ module _ {P : Type 0} (clock clock1 : ℕ) (p : Prior) (r1 r2 : Rows) (a1 a2 : A
   again false t = from_between (p.nth + 1) t
 
   after : (o : Outcome) → GoesOnAfter o clock1 p a1 → GoesOnAfter o clock1 p a2 × (r2.ended ≡ r1.ended)
-  after outcomes.Committed t = from_between 1 t
-  after outcomes.ReadOnly t = from_between 1 t
-  after outcomes.Cancelled t = from_between 1 t
   after outcomes.Conflict t = again (nat_lt p.retries p.nth) t
+  after outcomes.Full t = still_going ready (ap ending_of t.status)
+  after outcomes.NoMemory t = still_going ready (ap ending_of t.status)
   after outcomes.Unfinished t = absurd t
-  after o t = still_going ready (ap ending_of t.status)
+  after o t = from_between 1 t
 
   pub tries_then : Tries clock p clock1 r1 a1 → Tries clock p clock1 r2 a2
   tries_then (between t) = (let b = from_between p.nth t.between in between (record { idle = t.idle; ended = b.1 ∙ t.ended; half = t.half; between = b.0 }))
@@ -77,45 +68,12 @@ module _ {P : Type 0} (clock clock1 : ℕ) (p : Prior) (r1 r2 : Rows) (a1 a2 : A
       let b = again (nat_lt p.retries p.nth) t.after in
       outrun (record { none = t.none; row = t.row; was = t.was; ended = b.1 ∙ t.ended; moved = t.moved; same = t.same; after = b.0 })
   tries_then (shut_out t) = still_going ready (ap ending_of t.after.status)
-  tries_then (runs t) = by_work work
-    where
-      same_row : (row : Attempt) → current_of (active_of a1) (pending_of a1) ≡ Some row → t.row' ≡ row
-      same_row row c = (let e : Some t.row' ≡ Some row = sym t.now ∙ was_open row c in cc)
-
-      by_work : Tries clock1 (prior_of r1 a1) clock1 r2 a2 → Tries clock p clock1 r2 a2
-      by_work (between w) = absurd (let n = sym (ap (λ (o : Option Attempt). current_of o (pending_of a1)) t.now) ∙ w.idle in cc)
-      by_work (begins w) = absurd (let n = sym nothing ∙ w.was in cc)
-      by_work (turned_away w) = absurd (let n = sym nothing ∙ w.was in cc)
-      by_work (outrun w) = absurd (let n = sym nothing ∙ w.was in cc)
-      by_work (shut_out w) = absurd (let n = sym nothing ∙ w.was in cc)
-      by_work (runs w) = runs (record {
-        row = t.row;
-        row' = w.row';
-        was = t.was;
-        now = w.now;
-        continues = continues_twice t.row t.row' w.row' t.continues (subst (λ (x : Attempt). Continues x w.row') (sym (same_row w.row w.was)) w.continues);
-        ended = w.ended ∙ t.ended;
-        half = t.half;
-        tries = w.tries ∙ t.tries;
-        goes_on = w.goes_on;
-        fed = w.fed;
-      })
-      by_work (over w) = over (record {
-        row = t.row;
-        row' = w.row';
-        was = t.was;
-        ended = w.ended ∙ ap (λ (l : List Attempt). l ++ w.row' ∷ []) t.ended;
-        continues = continues_twice t.row t.row' w.row' t.continues (subst (λ (x : Attempt). Continues x w.row') (sym (same_row w.row w.was)) w.continues);
-        reads = w.reads;
-        at = subst (λ (n : ℕ). EndsAt n clock clock1 w.row'.at w.row'.outcome) limit (ends_on a1.engine.max_commits clock clock1 w.row'.at w.row'.outcome t.half w.at);
-        closed = w.closed;
-        spent = w.spent;
-        after = goes_for clock1 (prior_of r1 a1) p a2 (sym t.tries) (sym retries) w.row'.outcome w.after;
-      })
+  tries_then (runs t) =
+      tries_from clock clock1 clock1 (prior_of r1 a1) p r2 a2 t.row t.row' t.now t.continues t.was t.ended t.tries retries t.half (λ at o e. subst (λ (n : ℕ). EndsAt n clock clock1 at o) limit (ends_on a1.engine.max_commits clock clock1 at o t.half e)) work
 
 -- no work
 module _ {P : Type 0} (rules : Rules P)
     (cells : Cells) (r : Rows) (a : Actor P) (sound : IsSound rules cells r a) (ready : a.status ≡ Ready) where
   pub tries_still : Tries cells.clock (prior_of r a) cells.clock r a
   tries_still =
-      stays cells.clock cells.clock r r a a refl refl (in_transaction a.engine) sound.kept.row (rests sound ready).nothing refl (rests sound ready).nothing refl (still_going ready) (still_going ready)
+      stays a.engine.clock cells.clock cells.clock r r a a refl refl (in_transaction a.engine) sound.kept.row (rests sound ready).nothing refl (rests sound ready).nothing refl (still_going ready) (still_going ready)

@@ -1,46 +1,27 @@
 -- What an answer does to the try that its call belongs to.
-use Rattle.tx_attempts.specs.Kept.{Kept, spent}
-use Rattle.tx_runs.specs.Tallies.{tried, within, begins as begins_at}
-use Rattle.itm_types.specs.declared.call.Ran.{Ran}
-use Rattle.std.proofs.Common.{true≢false, inl, inr, ◌≡◌, ℕ, ◌+◌, ◌*◌, ◌/◌, ◌%◌, ◌<◌, ◌≤◌, Bool, true, false, nat_lt, if◌then◌else◌, is_some, IsSome, ◌&&◌, not, List, [], ◌∷◌, ◌++◌, length, Option, None, Some, refl, sym, ap, subst, ◌∙◌, arith, append-nil, append_assoc, ◌⊎◌}
-use Rattle.nest_frames.specs.Nest.{Frame}
+use Rattle.tx_runs.specs.Tallies.{begins as begins_at}
+use Rattle.std.proofs.Common.{true≢false, inl, inr, ◌≡◌, ℕ, ◌+◌, ◌*◌, ◌/◌, ◌%◌, ◌<◌, ◌≤◌, Bool, true, false, nat_lt, if◌then◌else◌, is_some, List, [], ◌∷◌, ◌++◌, length, Option, None, Some, refl, sym, ap, subst, ◌∙◌, arith, append-nil, append_assoc, ◌⊎◌}
 use Rattle.norec_world.proofs.Engines.PlayerLaws.{deep_of, was_open}
-use Rattle.norec_world.proofs.Tries.Cancels.{cancels}
-use Rattle.norec_world.proofs.Tries.OpenTries.{outermost_refusal}
-use Rattle.norec_world.proofs.Common.{Actor, Agrees, Answer, Attempt, Begin, Busy, Call, CallRecord, Cells, ClosedBy, Code, Committed, Conflict, ConflictsIn, Continues, Core, Ended, Ends, EndsAt, Full, GoesOnAfter, HasRow, IsBetween, IsMemory, IsReady, IsSettledBy, IsTied, Outcome, Prior, Props, Ready, Replied, Replies, Reply, Restarted, RestsAs, Rows, Rules, Status, TakesTo, Tally, Tries, TriesAgain, active_of, begins, between, cases_Bool, current_of, ending_as, ending_of, in_transaction, is_begin, is_done, is_inside, none-some, none_inside, outrun, over, pending_of, prior_of, recoded, reply as replied, reply_cases, runs, same_Some, shut_out, stands_for, tally_of, turned_away, with_call}
+use Rattle.tx_runs.proofs.OutermostBegins.{begin_goes, begin_opens, call_begins}
+use Rattle.norec_world.proofs.Common.{Actor, Agrees, Answer, Attempt, Begin, Busy, Call, CallRecord, Cells, ClosedBy, Commit, Committed, Conflict, Conflicts, ConflictsIn, Continues, Core, EndsAt, Frame, Full, GoesOnAfter, HasRow, IsBegin, IsBetween, IsLost, IsReady, IsSettledBy, IsTied, Kept, Outcome, Prior, Props, Ran, Ready, Replied, Replies, Reply, Restarted, RestsAs, Rows, Rules, Status, TakesTo, Tally, Tries, TriesAgain, WantsClock, active_of, begin_call, begins, between, by_wrote, cancels, closed, current_of, ending_as, ending_of, in_transaction, is_begin, is_done, may_go, none-some, none_inside, outrun, over, pending_of, plain_reply, prior_of, runs, same_Some, shut_out, spent, tally_of, tried, turned_away, with_call, within}
 use Rattle.itm_types.specs.declared.call.Reply.TheVariants as replies
-use Rattle.itm_model.specs.Machine.{or_else, reply_unless, unless}
-use Rattle.itm_types.specs.declared.call.Refusal.{Refusal}
-use Rattle.itm_types.specs.declared.call.Refusal.TheVariants.{NoIrrevocable}
-use Rattle.norec_core.specs.Core.{irrevocable_room, may_go}
-use Rattle.norec_core.specs.Proceeds.{Conflicts, IsBegin, IsLost, IsSettled, WantsClock}
-use Rattle.norec_core.specs.Effects.{blocks_after}
-use Rattle.norec_core.specs.Stands.{state_in}
 use Rattle.tx_attempts.specs.declared.attempt.Outcome.TheVariants as outcomes
 use Rattle.tx_runs.specs.declared.ending.End.TheVariants as ends
-use Rattle.tx_runs.proofs.Tries.{begin_call, not_closed}
+use Rattle.tx_runs.proofs.Tries.{not_closed}
 use Rattle.norec_world.proofs.Engines.Intakes.{HasAnswered, half_same, still_going}
-use Rattle.norec_world.proofs.Tries.Stages.{is_tried, stage_begun, stage_open, stage_out, stand_at, taken_at, told_active, told_again, told_nth, told_pending, told_player, tried_at}
-
--- an irrevocable transaction is open
-irrevocable_open : (e : Core) → IsSettled e → e.irrevocable ≡ true → in_transaction e ≡ true
-irrevocable_open e s i = (s.holder (s.irrevocable i).0).0
-
--- a reply that leaves no transaction open is one of a transaction that is not irrevocable
-pub plain_reply : (mid new : Core) (call : Call) (r : Replied) → mid.doing ≡ Some call → IsSettled new → in_transaction new ≡ false → Ends mid (Reply r) new → Replies mid call r new
-plain_reply mid new call r doing s shut g = elim (reply_cases mid new call r doing g) [
-  | inl g ↦ g
-  | inr (inl g) ↦ absurd (true≢false (sym (irrevocable_open new s (ap (λ (c : Core). c.irrevocable) g.stays)) ∙ shut))
-  | inr (inr g) ↦ absurd (true≢false (sym (irrevocable_open new s (ap (λ (c : Core). c.irrevocable) g.stays ∙ g.irrevocable)) ∙ shut))
-]
+use Rattle.norec_world.proofs.Tries.Stages.{is_tried, tally_at, stage_begun, stage_open, stage_out, stand_at, taken_at, told_active, told_again, told_nth, told_pending, told_player}
 
 -- ## What stays as it is, and what ends with no call more
 
--- with other places for its calls it is the same attempt
-pub continues_calls : (row : Attempt) (k : Kept) → k.list ≡ row.calls.list → Continues row (record row { calls = k })
-continues_calls row k same = record { thread = refl; nth = refl; began = refl; props = refl; arena = refl; restarts = refl; more = []; calls = same ∙ sym (append-nil row.calls.list); more_ran = []; ran = sym (append-nil row.ran) }
+-- with perhaps more calls and more actions that have run it is the same attempt
+continues_to : (row : Attempt) (k : Kept) (more : List CallRecord) → k.list ≡ row.calls.list ++ more → (at : ℕ) (outcome : Outcome) (ran more_ran : List Ran) → ran ≡ row.ran ++ more_ran → Continues row (record row { calls = k; at = at; ran = ran; outcome = outcome })
+continues_to row k more calls at outcome ran more_ran is = record { thread = refl; nth = refl; began = refl; props = refl; arena = refl; restarts = refl; more = more; calls = calls; more_ran = more_ran; ran = is }
 
-pub continues_twice : (a b c : Attempt) → Continues a b → Continues b c → Continues a c
+-- or with other places for its calls, elsewhere
+pub continues_calls : (row : Attempt) (k : Kept) (at : ℕ) → k.list ≡ row.calls.list → Continues row (record row { calls = k; at = at })
+continues_calls row k at same = continues_to row k [] (same ∙ sym (append-nil row.calls.list)) at row.outcome row.ran [] (sym (append-nil row.ran))
+
+continues_twice : (a b c : Attempt) → Continues a b → Continues b c → Continues a c
 continues_twice a b c x y = record {
   thread = y.thread ∙ x.thread;
   nth = y.nth ∙ x.nth;
@@ -54,94 +35,100 @@ continues_twice a b c x y = record {
   ran = y.ran ∙ (ap (λ (l : List Ran). l ++ y.more_ran) x.ran ∙ append_assoc a.ran x.more_ran y.more_ran);
 }
 
--- with one call more, and the actions that have run since
-continues_with : (row : Attempt) (call : Call) (reply : Replied) (at room : ℕ) (outcome : Outcome) (ran more : List Ran) → ran ≡ row.ran ++ more
-    → Continues row (record (with_call call reply row) { calls = record (with_call call reply row).calls { room = room }; at = at; ran = ran; outcome = outcome })
-continues_with row call reply at room outcome ran more is = record { thread = refl; nth = refl; began = refl; props = refl; arena = refl; restarts = refl; more = record { call = call; reply = reply } ∷ []; calls = refl; more_ran = more; ran = is }
+-- the attempt that is open, or else is to be opened
+pub current_open : {P : Type 0} (a : Actor P) {row : Attempt} → active_of a ≡ Some row → current_of (active_of a) (pending_of a) ≡ Some row
+current_open a e = ap (λ (o : Option Attempt). current_of o (pending_of a)) e
 
-module _ {P : Type 0} (clock clock' : ℕ) (r r' : Rows) (a a' : Actor P) (ended : r'.ended ≡ r.ended) (half : clock' / 2 ≡ clock / 2) where
+current_shut : {P : Type 0} (a : Actor P) {o : Option Attempt} → active_of a ≡ None → pending_of a ≡ o → current_of (active_of a) (pending_of a) ≡ o
+current_shut a none e = ap (λ (o : Option Attempt). current_of o (pending_of a)) none ∙ e
+
+module _ {P : Type 0} (seen clock clock' : ℕ) (r r' : Rows) (a a' : Actor P) (ended : r'.ended ≡ r.ended) (half : clock' / 2 ≡ clock / 2) where
   -- no try is open before, and none after
-  pub stays_between : active_of a ≡ None → pending_of a ≡ None → IsBetween clock' a.run.nth a' → Tries clock (prior_of r a) clock' r' a'
-  stays_between none nothing b = between (record { idle = ap (λ (o : Option Attempt). current_of o (pending_of a)) none ∙ nothing; ended = ended; half = half; between = b })
+  pub stays_between : active_of a ≡ None → pending_of a ≡ None → IsBetween clock' a.run.nth a' → Tries clock (record (prior_of r a) { seen = seen }) clock' r' a'
+  stays_between none nothing b = between (record { idle = current_shut a none nothing; ended = ended; half = half; between = b })
 
-  -- the open attempt stays
-  pub stays_open : (row row' : Attempt) → active_of a ≡ Some row → active_of a' ≡ Some row' → Continues row row' → a'.run.nth ≡ a.run.nth → (ending_of a'.status ≡ Some ends.GaveUp → ⊥) → (ending_of a'.status ≡ Some ends.NoMemory → a'.engine.irrevocable ≡ true)
-      → Tries clock (prior_of r a) clock' r' a'
-  stays_open row row' was now continues nth goes_on fed =
-      runs (record { row = row; row' = row'; was = ap (λ (o : Option Attempt). current_of o (pending_of a)) was; now = now; continues = continues; ended = ended; half = half; tries = nth; goes_on = goes_on; fed = fed })
+  -- the attempt is open, or was opened
+  pub stays_open : (row row' : Attempt) → current_of (active_of a) (pending_of a) ≡ Some row → active_of a' ≡ Some row' → Continues row row' → a'.run.nth ≡ a.run.nth → (ending_of a'.status ≡ Some ends.GaveUp → ⊥) → (ending_of a'.status ≡ Some ends.NoMemory → a'.engine.irrevocable ≡ true)
+      → Tries clock (record (prior_of r a) { seen = seen }) clock' r' a'
+  stays_open row row' was now continues nth goes_on fed = runs (record { row = row; row' = row'; was = was; now = now; continues = continues; ended = ended; half = half; tries = nth; goes_on = goes_on; fed = fed })
 
   -- either, where the actor has changed but in this
   pub stays : (b : Bool) → HasRow b a → pending_of a ≡ None → active_of a' ≡ active_of a → pending_of a' ≡ None → a'.run.nth ≡ a.run.nth → (ending_of a'.status ≡ Some ends.GaveUp → ⊥) → (ending_of a'.status ≡ Some ends.NoMemory → a'.engine.irrevocable ≡ true)
-      → Tries clock (prior_of r a) clock' r' a'
-  stays true h nothing same still nth goes_on fed = stays_open h.0 h.0 h.1 (same ∙ h.1) (continues_calls h.0 h.0.calls refl) nth goes_on fed
+      → Tries clock (record (prior_of r a) { seen = seen }) clock' r' a'
+  stays true h nothing same still nth goes_on fed = stays_open h.0 h.0 (current_open a h.1) (same ∙ h.1) (continues_calls h.0 h.0.calls h.0.at refl) nth goes_on fed
   stays false h nothing same still nth goes_on fed = stays_between h nothing (record { none = same ∙ h; tries = nth; opens = λ row e. absurd (none-some row (sym still ∙ e)); goes_on = goes_on })
 
 -- what comes after an attempt has to do with the tries alone
-pub goes_for : {P : Type 0} (clock : ℕ) (p q : Prior) (a : Actor P) → q.nth ≡ p.nth → q.retries ≡ p.retries → (o : Outcome) → GoesOnAfter o clock p a → GoesOnAfter o clock q a
-goes_for clock p q a nth retries outcomes.Committed g = g
-goes_for clock p q a nth retries outcomes.ReadOnly g = g
-goes_for clock p q a nth retries outcomes.Cancelled g = g
+goes_for : {P : Type 0} (clock : ℕ) (p q : Prior) (a : Actor P) → q.nth ≡ p.nth → q.retries ≡ p.retries → (o : Outcome) → GoesOnAfter o clock p a → GoesOnAfter o clock q a
 goes_for clock p q a nth retries outcomes.Conflict g = subst (λ (k : ℕ). TriesAgain (nat_lt k q.nth) clock q.nth a) (sym retries) (subst (λ (k : ℕ). TriesAgain (nat_lt p.retries k) clock k a) (sym nth) g)
-goes_for clock p q a nth retries outcomes.Full g = g
-goes_for clock p q a nth retries outcomes.NoMemory g = g
-goes_for clock p q a nth retries outcomes.Unfinished g = g
+goes_for clock p q a nth retries o g = g
 
--- the open attempt stood so earlier
-pub tries_from : {P : Type 0} (clock clock' : ℕ) (p : Prior) (r : Rows) (a : Actor P) (row row1 : Attempt) → p.active ≡ Some row1 → Continues row row1 → Tries clock p clock' r a → Tries clock (record p { active = Some row }) clock' r a
-tries_from {P} clock clock' p r a row row1 here continues t = by_try t
+-- the attempt that is open stood so earlier, and so did the tries
+pub tries_from : {P : Type 0} (clock0 clock clock' : ℕ) (p q : Prior) (r : Rows) (a : Actor P) (row row1 : Attempt) → p.active ≡ Some row1 → Continues row row1 → current_of q.active q.pending ≡ Some row → p.ended ≡ q.ended → p.nth ≡ q.nth → p.retries ≡ q.retries → clock / 2 ≡ clock0 / 2
+    → ((at : ℕ) (o : Outcome) → EndsAt p.max_commits clock clock' at o → EndsAt q.max_commits clock0 clock' at o) → Tries clock p clock' r a → Tries clock0 q clock' r a
+tries_from {P} clock0 clock clock' p q r a row row1 here continues was ended nth retries half ends t = by_try t
   where
-    was_current : {o : Option Attempt} → current_of p.active p.pending ≡ o → Some row1 ≡ o
-    was_current e = sym (ap (λ (o : Option Attempt). current_of o p.pending) here) ∙ e
+    is_current : {o : Option Attempt} → current_of p.active p.pending ≡ o → Some row1 ≡ o
+    is_current e = sym (ap (λ (o : Option Attempt). current_of o p.pending) here) ∙ e
 
     not_shut : {A : Type 0} → p.active ≡ None → A
     not_shut none = absurd (none-some row1 (sym none ∙ here))
 
     since : (row2 row3 : Attempt) → current_of p.active p.pending ≡ Some row2 → Continues row2 row3 → Continues row row3
-    since row2 row3 was c = continues_twice row row1 row3 continues (subst (λ (x : Attempt). Continues x row3) (sym (same_Some _ _ (was_current was))) c)
+    since row2 row3 is c = continues_twice row row1 row3 continues (subst (λ (x : Attempt). Continues x row3) (sym (same_Some _ _ (is_current is))) c)
 
-    by_try : Tries clock p clock' r a → Tries clock (record p { active = Some row }) clock' r a
-    by_try (between t) = absurd (none-some row1 (sym (was_current t.idle)))
+    by_try : Tries clock p clock' r a → Tries clock0 q clock' r a
+    by_try (between t) = absurd (none-some row1 (sym (is_current t.idle)))
     by_try (begins t) = not_shut t.none
     by_try (turned_away t) = not_shut t.none
     by_try (outrun t) = not_shut t.none
     by_try (shut_out t) = not_shut t.none
-    by_try (runs t) = runs (record { row = row; row' = t.row'; was = refl; now = t.now; continues = since t.row t.row' t.was t.continues; ended = t.ended; half = t.half; tries = t.tries; goes_on = t.goes_on; fed = t.fed })
-    by_try (over t) = over (record { row = row; row' = t.row'; was = refl; ended = t.ended; continues = since t.row t.row' t.was t.continues; reads = t.reads; at = t.at; closed = t.closed; spent = t.spent; after = goes_for clock' p (record p { active = Some row }) a refl refl t.row'.outcome t.after })
+    by_try (runs t) = runs (record { row = row; row' = t.row'; was = was; now = t.now; continues = since t.row t.row' t.was t.continues; ended = t.ended ∙ ended; half = t.half ∙ half; tries = t.tries ∙ nth; goes_on = t.goes_on; fed = t.fed })
+    by_try (over t) = over (record {
+      row = row;
+      row' = t.row';
+      was = was;
+      ended = t.ended ∙ ap (λ (l : List Attempt). l ++ t.row' ∷ []) ended;
+      continues = since t.row t.row' t.was t.continues;
+      reads = t.reads;
+      at = ends t.row'.at t.row'.outcome t.at;
+      closed = t.closed;
+      spent = t.spent;
+      after = goes_for clock' p q a (sym nth) (sym retries) t.row'.outcome t.after;
+    })
 
--- the open attempt ends, and its block has not
-pub stops_try : {P : Type 0} (seen clock clock' : ℕ) (r r' : Rows) (a a' : Actor P) (row : Attempt) (at : ℕ) (outcome : Outcome) (ran : List Ran)
-    → active_of a ≡ Some row → r'.ended ≡ r.ended ++ record row { calls = spent row.calls; at = at; ran = ran; outcome = outcome } ∷ [] → (more : List Ran) → ran ≡ row.ran ++ more
-    → at ≡ a'.engine.snapshot / 2 → EndsAt a.engine.max_commits clock clock' at outcome → is_done outcome ≡ false
-    → GoesOnAfter outcome clock' (prior_of r a) a' → Tries clock (record (prior_of r a) { seen = seen }) clock' r' a'
-stops_try seen clock clock' r r' a a' row at outcome ran was ended more_ran ran_is reads ends undone goes = over (record {
+-- the open attempt ends
+pub ends_try : {P : Type 0} (seen clock clock' : ℕ) (r r' : Rows) (a a' : Actor P) (row : Attempt) (list more : List CallRecord) → list ≡ row.calls.list ++ more → (at : ℕ) (outcome : Outcome) (ran more_ran : List Ran) → ran ≡ row.ran ++ more_ran
+    → active_of a ≡ Some row → r'.ended ≡ r.ended ++ record row { calls = record { list = list; room = 0 }; at = at; ran = ran; outcome = outcome } ∷ []
+    → at ≡ a'.engine.snapshot / 2 → EndsAt a.engine.max_commits clock clock' at outcome → ClosedBy outcome list → GoesOnAfter outcome clock' (prior_of r a) a' → Tries clock (record (prior_of r a) { seen = seen }) clock' r' a'
+ends_try seen clock clock' r r' a a' row list more calls at outcome ran more_ran is was ended reads ends closed goes = over (record {
   row = row;
-  row' = record row { calls = spent row.calls; at = at; ran = ran; outcome = outcome };
-  was = ap (λ (o : Option Attempt). current_of o (pending_of a)) was;
+  row' = record row { calls = record { list = list; room = 0 }; at = at; ran = ran; outcome = outcome };
+  was = current_open a was;
   ended = ended;
-  continues = record { thread = refl; nth = refl; began = refl; props = refl; arena = refl; restarts = refl; more = []; calls = sym (append-nil row.calls.list); more_ran = more_ran; ran = ran_is };
+  continues = continues_to row (record { list = list; room = 0 }) more calls at outcome ran more_ran is;
   reads = reads;
   at = ends;
-  closed = not_closed outcome undone row.calls.list;
+  closed = closed;
   spent = refl;
   after = goes_for clock' (prior_of r a) (record (prior_of r a) { seen = seen }) a' refl refl outcome goes;
 })
 
--- a try came to nothing: it was the last one, or one more comes
-pub one_try_more : {P : Type 0} (t : Tally P) (attempts : List Attempt) (retries : ℕ) {r r' : Rows} {a last : Actor P} → TakesTo (tried retries t attempts) r r' a last
-    → ((nat_lt retries t.nth ≡ true) × (last.status ≡ Ended ends.GaveUp)) ⊎ ((nat_lt retries t.nth ≡ false) × (last.status ≡ Ready) × (last.run.nth ≡ t.nth + 1))
-one_try_more t attempts retries x = elim (cases_Bool (nat_lt retries t.nth)) [
-  | inl e ↦ (let y = tried_at t attempts retries x e in inl (e, y.status))
-  | inr e ↦ (let y = tried_at t attempts retries x e in inr (e, y.status, told_nth y))
-]
+-- and its block has not
+pub stops_try : {P : Type 0} (seen clock clock' : ℕ) (r r' : Rows) (a a' : Actor P) (row : Attempt) (at : ℕ) (outcome : Outcome) (ran more_ran : List Ran) → ran ≡ row.ran ++ more_ran
+    → active_of a ≡ Some row → r'.ended ≡ r.ended ++ record row { calls = spent row.calls; at = at; ran = ran; outcome = outcome } ∷ []
+    → at ≡ a'.engine.snapshot / 2 → EndsAt a.engine.max_commits clock clock' at outcome → is_done outcome ≡ false → GoesOnAfter outcome clock' (prior_of r a) a' → Tries clock (record (prior_of r a) { seen = seen }) clock' r' a'
+stops_try seen clock clock' r r' a a' row at outcome ran more_ran is was ended reads ends undone goes =
+    ends_try seen clock clock' r r' a a' row row.calls.list [] (sym (append-nil row.calls.list)) at outcome ran more_ran is was ended reads ends (not_closed outcome undone row.calls.list) goes
 
 pub next_try : {P : Type 0} (t : Tally P) (attempts : List Attempt) (retries : ℕ) {r r' : Rows} {a last : Actor P} → TakesTo (tried retries t attempts) r r' a last → (ending_of last.status ≡ Some ends.GaveUp → ⊥) → (last.status ≡ Ready) × (last.run.nth ≡ t.nth + 1)
-next_try t attempts retries x on = elim (one_try_more t attempts retries x) [ inl last_one ↦ absurd (on (ap ending_of last_one.1)) | inr more ↦ (more.1, more.2) ]
+next_try t attempts retries x on = elim (is_tried t attempts retries x).either [ inl last_one ↦ absurd (on (ap ending_of last_one.1)) | inr more ↦ (more.1, more.2) ]
 
 module _ {P : Type 0} (rules : Rules P) (a last : Actor P) (was : Bool) (settled : IsSettledBy rules was a last) where
   none_active : in_transaction a.engine ≡ false → active_of last ≡ None
   none_active closed = subst (λ (b : Bool). HasRow b last) (ap in_transaction settled.engine ∙ closed) settled.kept.row
 
-  pub none_pending : last.status ≡ Ready → pending_of last ≡ None
+  none_pending : last.status ≡ Ready → pending_of last ≡ None
   none_pending ready = (let rest : IsReady rules last = subst (λ (s : Status). RestsAs rules s last) ready settled.rests in rest.nothing)
 
   -- the actor is between two tries
@@ -154,8 +141,8 @@ module _ {P : Type 0} (rules : Rules P) (a last : Actor P) (was : Bool) (settled
   }
 
   -- a try came to nothing
-  pub tries_again : (clock : ℕ) → in_transaction a.engine ≡ false → (t : Tally P) (attempts : List Attempt) (retries : ℕ) {r r' : Rows} → TakesTo (tried retries t attempts) r r' a last → TriesAgain (nat_lt retries t.nth) clock t.nth last
-  tries_again clock closed t attempts retries x = elim (one_try_more t attempts retries x) [
+  tries_again : (clock : ℕ) → in_transaction a.engine ≡ false → (t : Tally P) (attempts : List Attempt) (retries : ℕ) {r r' : Rows} → TakesTo (tried retries t attempts) r r' a last → TriesAgain (nat_lt retries t.nth) clock t.nth last
+  tries_again clock closed t attempts retries x = elim (is_tried t attempts retries x).either [
     | inl last_one ↦ subst (λ (b : Bool). TriesAgain b clock t.nth last) (sym last_one.0) (record { none = none_active closed; status = last_one.1 })
     | inr more ↦ subst (λ (b : Bool). TriesAgain b clock t.nth last) (sym more.0) (is_between clock (t.nth + 1) closed more.1 more.2)
   ]
@@ -167,6 +154,31 @@ reached : (cells : Cells) (e : Core) → IsTied cells e → 2 * (e.snapshot / 2)
 reached cells e tied = (let reached = tied.settled.reached in let late = tied.late in omega arith)
 
 -- which clock the engine had seen before, is nothing to it
+module _ {P : Type 0} {rules : Rules P} {cells cells' : Cells} {r r1 : Rows} {mid : Core} {a last : Actor P} {call : Call} (seen : ℕ) {ans : Answer} (m : HasAnswered rules true cells cells' r r1 mid a last call ans) where
+  abbrev row : Attempt
+  row = m.answered.kept.row.0
+
+  abbrev Tried : Type 0
+  Tried = Tries cells.clock (record (prior_of r a) { seen = seen }) cells'.clock r1 last
+
+  -- the actions that have run since
+  abbrev later : List Ran
+  later = (m.taken.first m.answered.kept.row.0 m.answered.kept.row.1).0
+
+  ran_later : last.engine.actions.ran ≡ m.answered.kept.row.0.ran ++ (m.taken.first m.answered.kept.row.0 m.answered.kept.row.1).0
+  ran_later = ap (λ (c : Core). c.actions.ran) m.settled.engine ∙ sym (m.taken.first row m.answered.kept.row.1).1
+
+  -- it ends by a call of its, which closes its block
+  closes : (reply : Replied) (outcome : Outcome) → in_transaction a.engine ≡ false → TakesTo (closed (record (tally_at a (within (with_call call reply m.answered.kept.row.0))) { player = rules.answered a.run.player reply }) outcome (stand_at false last.engine)) r r1 a last
+      → EndsAt a.engine.max_commits cells.clock cells'.clock (last.engine.snapshot / 2) outcome → ClosedBy outcome (m.answered.kept.row.0.calls.list ++ record { call = call; reply = reply } ∷ []) → (IsBetween cells'.clock 1 last → GoesOnAfter outcome cells'.clock (prior_of r a) last) → Tried
+  closes reply outcome shut x ends closed goes =
+      ends_try seen cells.clock cells'.clock r r1 a last row (row.calls.list ++ record { call = call; reply = reply } ∷ []) (record { call = call; reply = reply } ∷ []) refl (last.engine.snapshot / 2) outcome last.engine.actions.ran later ran_later m.answered.kept.row.1 x.ended refl ends closed
+      (goes (is_between rules a last true m.settled cells'.clock 1 shut x.status (told_nth x)))
+
+  -- or without one
+  stops : (outcome : Outcome) → r1.ended ≡ r.ended ++ ending_as outcome (stand_at false last.engine) m.answered.kept.row.0 ∷ [] → EndsAt a.engine.max_commits cells.clock cells'.clock (last.engine.snapshot / 2) outcome → is_done outcome ≡ false → GoesOnAfter outcome cells'.clock (prior_of r a) last → Tried
+  stops outcome ended = stops_try seen cells.clock cells'.clock r r1 a last row (last.engine.snapshot / 2) outcome last.engine.actions.ran later ran_later m.answered.kept.row.1 ended refl
+
 module _ {P : Type 0} {rules : Rules P} {cells cells' : Cells} {r r1 : Rows} {mid : Core} {a last : Actor P} {call : Call} (seen : ℕ) where
   pub open_tries : (ans : Answer) → HasAnswered rules true cells cells' r r1 mid a last call ans → Tries cells.clock (record (prior_of r a) { seen = seen }) cells'.clock r1 last
   open_tries (Reply reply) m = by_open (in_transaction last.engine) refl
@@ -178,75 +190,32 @@ module _ {P : Type 0} {rules : Rules P} {cells cells' : Cells} {r r1 : Rows} {mi
       by_open true o =
           let row = m.answered.kept.row in
           let x = taken_at m.told (stage_open _ row.1) o in
-          let later = m.taken.first row.0 row.1 in
-          runs (record {
-            row = row.0;
-            row' = record (with_call call reply row.0) { ran = last.engine.actions.ran };
-            was = ap (λ (o : Option Attempt). current_of o (pending_of a)) row.1;
-            now = told_active x;
-            continues = continues_with row.0 call reply row.0.at _ row.0.outcome last.engine.actions.ran later.0 (ap (λ (c : Core). c.actions.ran) m.settled.engine ∙ sym later.1);
-            ended = x.ended ∙ append-nil r.ended;
-            half = half;
-            tries = told_nth x;
-            goes_on = still_going x.status;
-            fed = still_going x.status;
-          })
+          stays_open seen cells.clock cells'.clock r r1 a last (x.ended ∙ append-nil r.ended) half row.0 (record (with_call call reply row.0) { ran = last.engine.actions.ran }) (current_open a row.1) (told_active x)
+          (continues_to row.0 (with_call call reply row.0).calls (record { call = call; reply = reply } ∷ []) refl row.0.at row.0.outcome last.engine.actions.ran _ (ran_later seen m)) (told_nth x) (still_going x.status) (still_going x.status)
       by_open false o =
-          let row = m.answered.kept.row in
-          let x = taken_at m.told (stage_open _ row.1) o in
-          let later = m.taken.first row.0 row.1 in
+          let calls : List CallRecord = m.answered.kept.row.0.calls.list in
           let shut : in_transaction a.engine ≡ false = ap in_transaction (sym m.settled.engine) ∙ o in
-          let ends : Replies mid call reply a.engine = plain_reply mid a.engine call reply m.taken.doing m.taken.tied.settled shut m.ends in
-          let abort = cancels mid a.engine call reply cells'.words ends m.taken.was_is shut (sym m.taken.words, m.taken.tied.fit) (subst (Agrees cells'.words) (sym (m.taken.tied.settled.closed shut).0) tt) in
-          over (record {
-            row = row.0;
-            row' = ending_as outcomes.Cancelled (stand_at false last.engine) (with_call call reply row.0);
-            was = ap (λ (o : Option Attempt). current_of o (pending_of a)) row.1;
-            ended = x.ended;
-            continues = continues_with row.0 call reply (last.engine.snapshot / 2) 0 outcomes.Cancelled last.engine.actions.ran later.0 (ap (λ (c : Core). c.actions.ran) m.settled.engine ∙ sym later.1);
-            reads = refl;
-            at = (half, omega (arith, ap (λ (c : Core). c.snapshot) m.settled.engine, reached cells' a.engine m.taken.tied));
-            closed = (row.0.calls.list, abort.0, (λ i. row.0.calls.list ++ record { call = abort.1 i; reply = abort.2 i } ∷ []));
-            spent = refl;
-            after = is_between rules a last true m.settled cells'.clock 1 shut x.status (told_nth x);
-          })
+          let g : Replies mid call reply a.engine = plain_reply mid a.engine call reply m.taken.doing m.taken.tied.settled shut m.ends in
+          let abort = cancels mid a.engine call reply cells'.words g m.taken.was_is shut (sym m.taken.words, m.taken.tied.fit) (subst (Agrees cells'.words) (sym (m.taken.tied.settled.closed shut).0) tt) in
+          closes seen m reply outcomes.Cancelled shut (taken_at m.told (stage_open _ m.answered.kept.row.1) o) (half, omega (arith, ap (λ (c : Core). c.snapshot) m.settled.engine, reached cells' a.engine m.taken.tied))
+          (calls, abort.0, (λ i. calls ++ record { call = abort.1 i; reply = abort.2 i } ∷ [])) (λ b. b)
   open_tries (Committed at wrote) m =
-      let row = m.answered.kept.row in
-      let x = taken_at m.told (stage_open _ row.1) (ap in_transaction m.settled.engine ∙ m.answered.fits.1) in
-      let later = m.taken.first row.0 row.1 in
-      over (record {
-        row = row.0;
-        row' = ending_as (if wrote then outcomes.Committed else outcomes.ReadOnly) (stand_at false last.engine) (with_call call replies.Done row.0);
-        was = ap (λ (o : Option Attempt). current_of o (pending_of a)) row.1;
-        ended = x.ended;
-        continues = continues_with row.0 call replies.Done (last.engine.snapshot / 2) 0 (if wrote then outcomes.Committed else outcomes.ReadOnly) last.engine.actions.ran later.0 (ap (λ (c : Core). c.actions.ran) m.settled.engine ∙ sym later.1);
-        reads = refl;
-        at = subst (λ (n : ℕ). EndsAt a.engine.max_commits cells.clock cells'.clock n (if wrote then outcomes.Committed else outcomes.ReadOnly)) (m.ends.at_is ∙ ap (λ (n : ℕ). n / 2) (sym (ap (λ (c : Core). c.snapshot) (m.settled.engine ∙ m.ends.stays)))) (at_end wrote refl);
-        closed = closed_end wrote;
-        spent = refl;
-        after = after_end wrote (is_between rules a last true m.settled cells'.clock 1 m.answered.fits.1 x.status (told_nth x));
-      })
-    where
-      at_end : (b : Bool) → wrote ≡ b → EndsAt a.engine.max_commits cells.clock cells'.clock at (if b then outcomes.Committed else outcomes.ReadOnly)
-      at_end true e = subst (λ (n : ℕ). (cells.clock ≡ 2 * n + 1) × (cells'.clock ≡ 2 * n + 2)) (sym m.ends.at_is) (m.taken.moves.frees (m.ends.freed ∙ e))
-      at_end false e =
-          (m.taken.moves.keeps (m.ends.freed ∙ e), omega (arith, ap (λ (c : Core). c.snapshot) m.ends.stays, m.ends.at_is, reached cells' a.engine m.taken.tied))
-
-      closed_end : (b : Bool) → ClosedBy (if b then outcomes.Committed else outcomes.ReadOnly) (m.answered.kept.row.0.calls.list ++ record { call = call; reply = replies.Done } ∷ [])
-      closed_end true = (m.answered.kept.row.0.calls.list, (λ i. m.answered.kept.row.0.calls.list ++ record { call = m.answered.fits.2 i; reply = replies.Done } ∷ []))
-      closed_end false = (m.answered.kept.row.0.calls.list, (λ i. m.answered.kept.row.0.calls.list ++ record { call = m.answered.fits.2 i; reply = replies.Done } ∷ []))
-
-      after_end : (b : Bool) → IsBetween cells'.clock 1 last → GoesOnAfter (if b then outcomes.Committed else outcomes.ReadOnly) cells'.clock (record (prior_of r a) { seen = seen }) last
-      after_end true x = x
-      after_end false x = x
+      let calls : List CallRecord = m.answered.kept.row.0.calls.list in
+      let here : at ≡ last.engine.snapshot / 2 = m.ends.at_is ∙ ap (λ (n : ℕ). n / 2) (sym (ap (λ (c : Core). c.snapshot) (m.settled.engine ∙ m.ends.stays))) in
+      let by_commit : calls ++ record { call = call; reply = replies.Done } ∷ [] ≡ calls ++ record { call = Commit; reply = replies.Done } ∷ [] = λ i. calls ++ record { call = m.answered.fits.2 i; reply = replies.Done } ∷ [] in
+      closes seen m replies.Done (if wrote then outcomes.Committed else outcomes.ReadOnly) m.answered.fits.1 (taken_at m.told (stage_open _ m.answered.kept.row.1) (ap in_transaction m.settled.engine ∙ m.answered.fits.1))
+      (subst (λ (n : ℕ). EndsAt a.engine.max_commits cells.clock cells'.clock n (if wrote then outcomes.Committed else outcomes.ReadOnly)) here (by_wrote (EndsAt a.engine.max_commits cells.clock cells'.clock at) wrote
+      (λ w. subst (λ (n : ℕ). (cells.clock ≡ 2 * n + 1) × (cells'.clock ≡ 2 * n + 2)) (sym m.ends.at_is) (m.taken.moves.frees (m.ends.freed ∙ w)))
+      (λ w. (m.taken.moves.keeps (m.ends.freed ∙ w), omega (arith, ap (λ (c : Core). c.snapshot) m.ends.stays, m.ends.at_is, reached cells' a.engine m.taken.tied)))))
+      (by_wrote (λ o. ClosedBy o (calls ++ record { call = call; reply = replies.Done } ∷ [])) wrote (λ w. (calls, by_commit)) (λ w. (calls, by_commit)))
+      (λ b. by_wrote (λ o. GoesOnAfter o cells'.clock (prior_of r a) last) wrote (λ w. b) (λ w. b))
   open_tries (Conflict clock word) m =
       let row = m.answered.kept.row in
       let g : Conflicts mid clock word a.engine = subst (λ (b : Bool). ConflictsIn b mid clock word a.engine) m.taken.was_is m.ends in
       let x = taken_at m.told (stage_open _ row.1) (ap in_transaction m.settled.engine ∙ m.answered.fits.1) in
       let t : Tally P = record { player = rules.restarted a.run.player; nth = a.run.nth; again = a.run.again; stage = within row.0 } in
       let gone : List Attempt = ending_as outcomes.Conflict (stand_at false last.engine) row.0 ∷ [] in
-      stops_try seen cells.clock cells'.clock r r1 a last row.0 (last.engine.snapshot / 2) outcomes.Conflict last.engine.actions.ran row.1 (is_tried t gone a.run.retries x).ended
-      (m.taken.first row.0 row.1).0 (ap (λ (c : Core). c.actions.ran) m.settled.engine ∙ sym (m.taken.first row.0 row.1).1) refl (
+      stops seen m outcomes.Conflict (is_tried t gone a.run.retries x).ended (
         m.taken.moves.keeps g.unfreed,
         omega (arith, ap (λ (c : Core). c.snapshot) (m.settled.engine ∙ g.stays), ap (λ (c : Core). c.clock) g.stays, g.later, g.clock_is, m.taken.tied.late),
       ) refl
@@ -254,11 +223,9 @@ module _ {P : Type 0} {rules : Rules P} {cells cells' : Cells} {r r1 : Rows} {mi
   open_tries (Restarted clock word) m = absurd m.answered.fits
   open_tries (Busy clock) m = absurd (let f : true ≡ false = m.answered.fits.0 in cc)
   open_tries (Full at) m =
-      let row = m.answered.kept.row in
-      let x = taken_at m.told (stage_open _ row.1) (ap in_transaction m.settled.engine ∙ m.answered.fits.1) in
+      let x = taken_at m.told (stage_open _ m.answered.kept.row.1) (ap in_transaction m.settled.engine ∙ m.answered.fits.1) in
       let here : at ≡ last.engine.snapshot / 2 = m.ends.at_is ∙ ap (λ (n : ℕ). n / 2) (sym (ap (λ (c : Core). c.snapshot) m.settled.engine)) in
-      stops_try seen cells.clock cells'.clock r r1 a last row.0 (last.engine.snapshot / 2) outcomes.Full last.engine.actions.ran row.1 x.ended
-      (m.taken.first row.0 row.1).0 (ap (λ (c : Core). c.actions.ran) m.settled.engine ∙ sym (m.taken.first row.0 row.1).1) refl (
+      stops seen m outcomes.Full x.ended (
         m.taken.moves.keeps m.ends.unfreed,
         omega (arith, here, m.ends.at_is, reached cells' a.engine m.taken.tied),
         omega (arith, here, m.ends.full, ap (λ (c : Core). c.max_commits) m.ends.stays),
@@ -266,37 +233,6 @@ module _ {P : Type 0} {rules : Rules P} {cells cells' : Cells} {r r1 : Rows} {mi
       (record { none = none_active rules a last true m.settled m.answered.fits.1; status = x.status })
 
 -- ## A begin is answered
-
--- the plain machine refuses an outermost begin only where it may not go irrevocable, so else the engine's reply to one opens
-opening_reply : (c : Core) (m : List ℕ) (props : Props) (room : ℕ) → 0 < c.depth → c.irrevocable ≡ false → c.blocks ≡ [] → may_go c.blocks props ≡ true → replied c.depth (stands_for c m) (Begin props room) ≡ Code 5
-opening_reply c m props room deep revocable none may =
-    (λ i. replied c.depth (state_in (revocable i) c.writes (none i) c.arena c.actions m) (Begin props room))
-    ∙ (ap (λ (why : Option Refusal). reply_unless why (Code 5)) (outermost_refusal c.depth deep (may_go [] props))
-    ∙ ap (λ (b : Bool). reply_unless (or_else (or_else (unless b NoIrrevocable) None) None) (Code 5)) (sym (ap (λ (bs : List Frame). may_go bs props) none) ∙ may))
-
-code_opens : (mid : Core) (props : Props) (room : ℕ) (again : Bool) → is_inside (blocks_after mid (Begin props room) (recoded (Begin props room) again (Code 5))) ≡ true
-code_opens mid props room true = refl
-code_opens mid props room false = refl
-
-pub begin_opens : (mid new : Core) (m : List ℕ) (props : Props) (room : ℕ) (told : Replied) → Replies mid (Begin props room) told new → 0 < mid.depth → in_transaction mid ≡ false → may_go mid.blocks props ≡ true → IsMemory mid.words m → Agrees m new.log → in_transaction new ≡ false → ⊥
-begin_opens mid new m props room told g deep outside may memory agrees closed =
-    let code = g.reply_is m memory agrees ∙ ap (recoded (Begin props room) mid.again) (opening_reply mid m props room deep g.revocable (none_inside mid.blocks outside) may) in
-    let opens : in_transaction new ≡ true = ap is_inside (g.blocks ∙ ap (blocks_after mid (Begin props room)) code) ∙ code_opens mid props room mid.again in
-    true≢false (sym opens ∙ closed)
-
--- a begin that goes irrevocable
-may_by : (room : ℕ) (goes may few revocable : Bool) → IsSome (if goes && may && few && revocable then Some room else None) → may ≡ true
-may_by room true true few revocable g = refl
-may_by room true false few revocable g = absurd (cc)
-may_by room false may few revocable g = absurd (cc)
-
-goes_by : (room : ℕ) (goes may few revocable : Bool) → IsSome (if goes && may && few && revocable then Some room else None) → goes ≡ true
-goes_by room true may few revocable g = refl
-goes_by room false may few revocable g = absurd (cc)
-
-call_begins : (call : Call) → IsBegin (Some call) → is_begin call ≡ true
-call_begins (Begin props room) b = refl
-call_begins call b = absurd b
 
 module _ {P : Type 0} (rules : Rules P) (r r1 : Rows) (a last : Actor P) (call : Call) (reply : Replied) where
   -- a begin's attempt is open
@@ -352,25 +288,10 @@ module _ {P : Type 0} {rules : Rules P} {cells cells' : Cells} {r r1 : Rows} {mi
   pub begin_tries : (seen : ℕ) → ((props : Props) (room : ℕ) → call ≡ Begin props room → may_go mid.blocks props ≡ true) → (ans : Answer) → ((clock : ℕ) (word : Option ℕ) → ans ≡ Conflict clock word → seen ≤ mid.snapshot)
       → HasAnswered rules false cells cells' r r1 mid a last call ans → Tries cells.clock (record (prior_of r a) { seen = seen }) cells'.clock r1 last
   begin_tries seen may (Reply reply) early m = elim x.either [
-    | inl b ↦ runs (record {
-      row = b.row;
-      row' = record b.row { at = last.engine.snapshot / 2 };
-      was = ap (λ (o : Option Attempt). current_of o (pending_of a)) m.answered.kept.row ∙ b.pending;
-      now = b.active;
-      continues = record { thread = refl; nth = refl; began = refl; props = refl; arena = refl; restarts = refl; more = []; calls = sym (append-nil b.row.calls.list); more_ran = []; ran = sym (append-nil b.row.ran) };
-      ended = x.ended;
-      half = half;
-      tries = x.nth;
-      goes_on = still_going x.status;
-      fed = still_going x.status;
-    })
+    | inl b ↦ stays_open seen cells.clock cells'.clock r r1 a last x.ended half b.row (record b.row { at = last.engine.snapshot / 2 }) (current_shut a m.answered.kept.row b.pending) b.active (continues_calls b.row b.row.calls (last.engine.snapshot / 2) refl) x.nth (still_going x.status) (still_going x.status)
     | inr n ↦ elim n.why [
-      | inl nothing ↦ between (record {
-        idle = ap (λ (o : Option Attempt). current_of o (pending_of a)) m.answered.kept.row ∙ nothing;
-        ended = x.ended;
-        half = half;
-        between = is_between rules a last false m.settled cells'.clock a.run.nth (ap in_transaction (sym m.settled.engine) ∙ n.shut) x.status x.nth;
-      })
+      | inl nothing ↦
+          stays_between seen cells.clock cells'.clock r r1 a last x.ended half m.answered.kept.row nothing (is_between rules a last false m.settled cells'.clock a.run.nth (ap in_transaction (sym m.settled.engine) ∙ n.shut) x.status x.nth)
       | inr b ↦ absurd (refused b.0 b.1 b.2 (ap in_transaction (sym m.settled.engine) ∙ n.shut))
     ]
   ]
@@ -384,7 +305,7 @@ module _ {P : Type 0} {rules : Rules P} {cells cells' : Cells} {r r1 : Rows} {mi
       refused : (props : Props) (room : ℕ) → call ≡ Begin props room → in_transaction a.engine ≡ false → ⊥
       refused props room is closed =
           let g : Replies mid (Begin props room) reply a.engine = subst (λ (c : Call). Replies mid c reply a.engine) is (plain_reply mid a.engine call reply m.taken.doing m.taken.tied.settled closed m.ends) in
-          begin_opens mid a.engine cells'.words props room reply g (subst (λ (d : ℕ). 0 < d) (ap (λ (c : Core). c.depth) g.stays) m.taken.tied.settled.deep) m.taken.was_is (may props room is) (sym m.taken.words, m.taken.tied.fit) (subst (Agrees cells'.words) (sym (m.taken.tied.settled.closed closed).0) tt) closed
+          true≢false (sym (begin_opens mid a.engine cells'.words props room reply g (subst (λ (d : ℕ). 0 < d) (ap (λ (c : Core). c.depth) g.stays) m.taken.tied.settled.deep) m.taken.was_is (may props room is) (sym m.taken.words, m.taken.tied.fit) (subst (Agrees cells'.words) (sym (m.taken.tied.settled.closed closed).0) tt)) ∙ closed)
   begin_tries seen may (Busy clock) early m =
       let x = taken_at m.told refl refl in
       let pending = begin_pending m (call_begins call (subst IsBegin m.taken.doing m.ends.begins)) in
@@ -425,15 +346,14 @@ module _ {P : Type 0} {rules : Rules P} {cells cells' : Cells} {r r1 : Rows} {mi
       let out = m.taken.outside refl m.ends.free in
       let b = begin_call call (m.answered.fits.0 refl) in
       let props = m.answered.in_call.props pending.0 b.0 b.1 pending.1 b.2 in
-      let wants : IsSome (irrevocable_room mid (Begin b.0 b.1)) = subst (λ (o : Option Call). WantsClock mid o) (m.taken.doing ∙ ap (λ (x : Call). Some x) b.2) m.ends.wants in
+      let goes = begin_goes mid b.0 b.1 (subst (λ (o : Option Call). WantsClock mid o) (m.taken.doing ∙ ap (λ (x : Call). Some x) b.2) m.ends.wants) in
       shut_out (record {
         none = m.answered.kept.row;
         row = pending.0;
         was = pending.1;
         ended = x.ended ∙ append-nil r.ended;
-        goes = ap (λ (x : Props). x.goes_irrevocable) props ∙ goes_by b.1 b.0.goes_irrevocable (may_go mid.blocks b.0) (nat_lt (length mid.blocks) mid.depth) (not mid.irrevocable) wants;
-        may = ap (may_go []) props
-            ∙ (sym (ap (λ (bs : List Frame). may_go bs b.0) (none_inside mid.blocks m.taken.was_is)) ∙ may_by b.1 b.0.goes_irrevocable (may_go mid.blocks b.0) (nat_lt (length mid.blocks) mid.depth) (not mid.irrevocable) wants);
+        goes = ap (λ (x : Props). x.goes_irrevocable) props ∙ goes.0;
+        may = ap (may_go []) props ∙ (sym (ap (λ (bs : List Frame). may_go bs b.0) (none_inside mid.blocks m.taken.was_is)) ∙ goes.1);
         full = omega (arith, m.ends.full, m.ends.at_is, ap (λ (c : Core). c.max_commits) m.ends.stays, reached cells' a.engine m.taken.tied, out.0);
         same = out.0;
         after = record { none = none_active rules a last false m.settled m.answered.fits.1; status = x.status };

@@ -6,6 +6,8 @@ use Rattle.shared_words.specs.declared.words.Words.{Words}
 use Rattle.script_program.specs.Listing.{Listing}
 use Rattle.tx_attempts.specs.declared.attempt.Attempt.{Attempt}
 use Rattle.tx_attempts.specs.Attempts.{of_thread}
+use Rattle.tx_attempts.specs.Outrun.{AreOutrun}
+use Rattle.tx_attempts.proofs.LaterClocks.{outrun_both, outrun_none}
 use Rattle.tx_runs.specs.declared.ending.End.{End}
 use Rattle.tx_runs.proofs.RunLists.{of_thread_more}
 use Rattle.tx_worker.specs.Positions.{AreFew, AreLeft, AreOwn}
@@ -87,6 +89,10 @@ module _ (words : Words) (p : Listing) (shuts : Bool) (v : View) where
   pub all_few : (n : ℕ) (ds : List Done) → Numbered (Did words p shuts v) n ds → AreFew p.limits.max_commits (attempts_in ds)
   all_few n [] t = tt
   all_few n (d ∷ ds) t = few_both p.limits.max_commits d.attempts (attempts_in ds) t.0.few (all_few (n + 1) ds t.1)
+
+  pub all_outrun : (n : ℕ) (ds : List Done) → Numbered (Did words p shuts v) n ds → AreOutrun v.high (attempts_in ds)
+  all_outrun n [] t = outrun_none v.high
+  all_outrun n (d ∷ ds) t = outrun_both v.high d.attempts (attempts_in ds) t.0.outrun (all_outrun (n + 1) ds t.1)
 
 pub ends_count : (ds : List Done) → length (ends_in ds) ≡ length ds
 ends_count [] = refl

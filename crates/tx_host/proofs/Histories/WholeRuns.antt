@@ -15,6 +15,8 @@ use Rattle.script_vm.specs.Threads.{thread_rules}
 use Rattle.tx_attempts.specs.declared.attempt.Attempt.{Attempt}
 use Rattle.tx_attempts.specs.Attempts.{memory_after, of_thread}
 use Rattle.tx_attempts.specs.Counts.{count_at, count_committed, one_where}
+use Rattle.tx_attempts.specs.Outrun.{AreOutrun}
+use Rattle.tx_attempts.proofs.LaterClocks.{outrun_later}
 use Rattle.tx_history.specs.Versions.{depth_of}
 use Rattle.tx_history.specs.Legal.{IsAlone, IsLegal, count_holding, memory_at}
 use Rattle.tx_history.proofs.Runs.AloneRuns.{IsPlaced}
@@ -32,7 +34,7 @@ use Rattle.tx_host.proofs.Histories.CommitPositions.{below_limit, committed_coun
 use Rattle.tx_host.proofs.Passes.Courses.{course_still}
 use Rattle.tx_host.proofs.Histories.LegalRuns.{all_free, all_placed}
 use Rattle.tx_host.proofs.Histories.PositionTotals.{count_is}
-use Rattle.tx_host.proofs.Histories.ThreadAttempts.{all_few, all_left, all_own, all_stand, ends_count}
+use Rattle.tx_host.proofs.Histories.ThreadAttempts.{all_few, all_left, all_outrun, all_own, all_stand, ends_count}
 
 module _ (words : Words) (p : Listing) (shuts : Bool) (r : Report) (start now : View) (all : List Done) (opens : start ≡ opening start.base) (from : bytes_of start.base ≡ r.history.memory) (begun : r.history.memory ≡ opening_of p) (gathered : Gathers words start p shuts now all) (closed : EndsWith now r.history.clock r.history.bytes) (attempts : r.history.attempts ≡ attempts_in all) (ends_are : r.ends.items ≡ ends_in all) (version : r.history.version ≡ version_of p) (allows : depth_of (version_of p) ≡ p.limits.depth) where
   abbrev rows : List Attempt
@@ -108,6 +110,9 @@ module _ (words : Words) (p : Listing) (shuts : Bool) (r : Report) (start now : 
   clock_is : r.history.clock ≡ 2 * count_committed rows
   clock_is = closed.clock_is ∙ ap (λ (m : ℕ). 2 * m) (sym commits_are)
 
+  outrun : AreOutrun r.history.clock rows
+  outrun = outrun_later now.high r.history.clock closed.high rows (subst (AreOutrun now.high) (sym attempts) (all_outrun words p shuts now 0 all gathered.joins.workers))
+
   legal : IsLegal r.history
   legal = record {
     positions = counted;
@@ -135,6 +140,7 @@ module _ (words : Words) (p : Listing) (shuts : Bool) (r : Report) (start now : 
     counted = counted;
     few = few;
     clock = clock_is;
+    outrun = outrun;
     bytes = bytes_are;
     legal = legal;
   }

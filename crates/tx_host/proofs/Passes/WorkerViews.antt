@@ -1,5 +1,5 @@
 -- What a worker did, as a later view has it.
-use Rattle.std.proofs.Common.{◌≡◌, ⊎_elim, inl, inr, ℕ, ◌+◌, ◌/◌, Bool, false, true≢false, List, [], ◌∷◌, ◌++◌, length, Option, None, Some, Result, Ok, Err, IfOk, refl, sym, ap, subst, ◌∙◌}
+use Rattle.std.proofs.Common.{◌≡◌, ⊎_elim, inl, inr, ℕ, ◌+◌, ◌/◌, Bool, false, true≢false, List, [], ◌∷◌, ◌++◌, length, arith, Option, None, Some, Result, Ok, Err, IfOk, refl, sym, ap, subst, ◌∙◌}
 use Rattle.norec_core.specs.Core.{Core}
 use Rattle.shared_words.specs.declared.pass.Pass.{Pass}
 use Rattle.shared_words.specs.declared.view.View.{View}
@@ -14,6 +14,7 @@ use Rattle.itm_runtime.specs.Standing.{Standing}
 use Rattle.tx_attempts.specs.declared.attempt.Attempt.{Attempt}
 use Rattle.tx_attempts.specs.Attempts.{alone}
 use Rattle.tx_attempts.specs.Opacity.{Between, IsRunOf, after_try}
+use Rattle.tx_attempts.proofs.LaterClocks.{outrun_later}
 use Rattle.tx_runs.specs.declared.ending.End.{End}
 use Rattle.tx_runs.specs.declared.ending.End.TheVariants.{Finished, GaveUp, NoMemory}
 use Rattle.tx_runs.specs.Runs.{begins_at}
@@ -48,6 +49,7 @@ did_later words p shuts v w later k d did = record {
   left = all_left_in p.limits.depth v w later d.attempts did.left;
   few = did.few;
   held = held_later p.limits.depth v w later (Some (first_of p (code_of p k))) d.attempts did.course.run did.held;
+  outrun = outrun_later v.high w.high later.high d.attempts did.outrun;
 }
 
 -- what the joined view has seen goes on from what either had
@@ -58,7 +60,8 @@ joined_later v u w j same =
     (λ t. subst (λ (h : List (List (ℕ × ℕ))). StartsWith h v.seen × StartsWith h u.seen) (sym t.1) (starts_self v.seen, t.0))
     (λ t. subst (λ (h : List (List (ℕ × ℕ))). StartsWith h v.seen × StartsWith h u.seen) (sym t.1) (t.0, starts_self u.seen))
     j.longer in
-    (record { base = j.base; grows = grows.0 }, record { base = j.base ∙ same; grows = grows.1 })
+    let high = j.high in
+    (record { base = j.base; grows = grows.0; high = omega arith }, record { base = j.base ∙ same; grows = grows.1; high = omega arith })
 
 -- a pass that came back was joined
 pub joined_left : (v w : View) (back : Result Pass Standing) → is_held back ≡ false → IfOk back (λ q. Joined v (view_of q) w) → Joined v (view_left back) w
@@ -150,4 +153,5 @@ module _ {G : Type 0} (words : Words) (base : List ℕ) (p : Listing) (n : ℕ) 
     left = subst (λ (deepest : ℕ). AreLeft deepest left_view r.attempts) depth_is done.runs.left;
     few = subst (λ (most : ℕ). AreFew most r.attempts) (ap (λ (e : Core). e.max_commits) is.fresh.engine_is) done.few;
     held = subst (λ (q : ℕ × Bool). AreHeld q.0 left_view q.1 r.attempts) (λ i. (depth_is i, free i)) done.held;
+    outrun = done.runs.outrun;
   }

@@ -12,8 +12,8 @@ use Rattle.itm_runtime.specs.Standing.{Standing, start_of}
 use Rattle.itm_runtime.specs.Ties.{Stands}
 use Rattle.tx_player.specs.Rules.{Obeys, Rules}
 use Rattle.tx_runs.specs.declared.ending.End.{End}
-use Rattle.tx_runs.specs.Tallies.{Stage, outside, within, Taken, begins_again, begun, stage_at, took_in}
-use Rattle.tx_worker.specs.Accounts.{Account, account_after, stand_of, tally_in}
+use Rattle.tx_runs.specs.Tallies.{Stage, outside, within, Taken, begins_again, begun, stage_at, took_in, stand_of}
+use Rattle.tx_worker.specs.Accounts.{Account, account_after, tally_in}
 use Rattle.tx_worker.specs.Calls.{asked}
 use Rattle.tx_worker.specs.Falls.{Falls}
 use Rattle.tx_worker.specs.Progress.{Course, IsRunning}

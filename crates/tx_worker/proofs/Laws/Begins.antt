@@ -9,6 +9,7 @@ use Rattle.itm_runtime.specs.Served.{Went}
 use Rattle.itm_runtime.specs.Standing.{Standing}
 use Rattle.itm_runtime.specs.Ties.{Stands}
 use Rattle.tx_attempts.specs.declared.attempt.Attempt.{Attempt}
+use Rattle.tx_attempts.proofs.LaterClocks.{outrun_none}
 use Rattle.tx_player.specs.Rules.{Rules}
 use Rattle.tx_runs.specs.declared.player_run.Current.TheVariants.{Outside}
 use Rattle.tx_runs.specs.Nesting.{IsNested, whole}
@@ -29,7 +30,7 @@ module _ {P : Type 0} (rules : Rules P) (words : Words) (thread : Standing) (pla
   begins_bound = subst (λ (i : Bool). whole rules i player ≤ rules.calls_left player) (sym outside) (let l : rules.calls_left player ≤ rules.calls_left player = omega arith in l)
 
   still : Went (view_of thread.pass) (view_of thread.pass)
-  still = record { base = refl; share = refl; grows = ([], sym (append-nil (view_of thread.pass).seen)); looks = omega arith }
+  still = record { base = refl; share = refl; grows = ([], sym (append-nil (view_of thread.pass).seen)); looks = omega arith; high = omega arith }
 
   no_run : HasRun rules (course_of thread player number retries) (view_of thread.pass) []
   no_run = record {
@@ -40,6 +41,7 @@ module _ {P : Type 0} (rules : Rules P) (words : Words) (thread : Standing) (pla
     known = stands.known;
     own = tt;
     unbroken = tt;
+    outrun = outrun_none (view_of thread.pass).high;
   }
 
   first_running : IsRunning rules (course_of thread player number retries) (view_of thread.pass) thread.engine (first_account player)

@@ -17,8 +17,8 @@ use Rattle.tx_player.specs.Rules.{Obeys, Rules}
 use Rattle.tx_runs.specs.declared.ending.End.{End}
 use Rattle.tx_runs.specs.declared.ending.End.TheVariants as ends
 use Rattle.tx_runs.specs.Nesting.{IsNested}
-use Rattle.tx_runs.specs.Tallies.{Stage, outside, begins, Taken, Tally, begins_again, begun, entered, stage_at, took_in}
-use Rattle.tx_worker.specs.Accounts.{Account, account_after, stand_of, tally_in}
+use Rattle.tx_runs.specs.Tallies.{Stage, outside, begins, Taken, Tally, begins_again, begun, entered, stage_at, took_in, stand_of}
+use Rattle.tx_worker.specs.Accounts.{Account, account_after, tally_in}
 use Rattle.tx_worker.specs.Falls.{Falls}
 use Rattle.tx_worker.specs.Positions.{positions}
 use Rattle.tx_worker.specs.Progress.{Course, HasRun, IsRunning}

@@ -18,8 +18,8 @@ use Rattle.tx_runs.proofs.Players.{Played, plays}
 use Rattle.tx_runs.specs.declared.ending.End.{End}
 use Rattle.tx_runs.specs.declared.ending.End.TheVariants as ends
 use Rattle.tx_runs.specs.Nesting.{IsDeep, IsNested}
-use Rattle.tx_runs.specs.Tallies.{outside, within, Taken, Tally, over_as, took_in, went_on, with_call}
-use Rattle.tx_worker.specs.Accounts.{Account, account_after, stand_of, tally_in}
+use Rattle.tx_runs.specs.Tallies.{outside, within, Taken, Tally, over_as, took_in, went_on, with_call, stand_of}
+use Rattle.tx_worker.specs.Accounts.{Account, account_after, tally_in}
 use Rattle.tx_worker.specs.Falls.{Falls}
 use Rattle.tx_worker.specs.Positions.{positions}
 use Rattle.tx_worker.specs.Progress.{Course, HasRun, IsRunning}

@@ -19,9 +19,9 @@ use Rattle.tx_player.specs.Rules.{Obeys, Rules}
 use Rattle.tx_runs.proofs.Begins.{led}
 use Rattle.tx_runs.specs.declared.ending.End.{End}
 use Rattle.tx_runs.specs.declared.ending.End.TheVariants as ends
-use Rattle.tx_runs.specs.Tallies.{Stage, outside, begins, within, over_as}
+use Rattle.tx_runs.specs.Tallies.{Stage, outside, begins, within, over_as, stand_of}
 use Rattle.tx_worker.specs.declared.worked.Worked.{Worked}
-use Rattle.tx_worker.specs.Accounts.{Account, stand_of, told}
+use Rattle.tx_worker.specs.Accounts.{Account, told}
 use Rattle.tx_worker.specs.Calls.{IsMade, IsStarved, StopsAs}
 use Rattle.tx_worker.specs.Positions.{AreFew, AreOver, bytes_at, positions}
 use Rattle.tx_worker.specs.Progress.{Course, HasRun, IsRunning}

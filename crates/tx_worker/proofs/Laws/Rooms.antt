@@ -2,7 +2,7 @@
 use Rattle.std.proofs.Common.{◌≡◌, ℕ, ◌+◌, ◌/◌, ◌<◌, ◌≤◌, Bool, true, false, true≢false, nat_lt, if◌then◌else◌, List, ◌++◌, length, is_some, refl, sym, ap, subst, ◌∙◌, arith, unwrap_or, ltb-false}
 use Rattle.itm_types.specs.Calls.{is_abort, registered_by}
 use Rattle.itm_types.specs.declared.call.Call.{Call}
-use Rattle.itm_types.specs.declared.call.Call.TheVariants.{Abort, Begin, CommitAction, UndoAction}
+use Rattle.itm_types.specs.declared.call.Call.TheVariants.{Begin, CommitAction, UndoAction}
 use Rattle.itm_types.specs.declared.call.Props.{Props}
 use Rattle.itm_types.specs.declared.call.Ran.{Ran}
 use Rattle.norec_core.proofs.Replies.ActionCounts.{registers}
@@ -17,13 +17,14 @@ use Rattle.tx_attempts.specs.declared.attempt.Attempt.{Attempt}
 use Rattle.tx_attempts.specs.declared.attempt.Outcome.{Outcome}
 use Rattle.tx_attempts.specs.Kept.{Kept, reserved}
 use Rattle.tx_player.specs.Rules.{Rules}
+use Rattle.tx_runs.proofs.StepCalls.{cancels_register_none}
 use Rattle.tx_runs.specs.declared.player_run.Current.{Current}
 use Rattle.tx_runs.specs.declared.player_run.Current.TheVariants.{Outside, Begins, Within}
 use Rattle.tx_runs.specs.OpenAttempts.{Open, HasRoom}
 use Rattle.tx_runs.specs.PlayerRuns.{MayTakeIn, MayTell, stage_of}
-use Rattle.tx_runs.specs.Tallies.{Stage, outside, begins, within, Stand, begins_again, begun, over_as, stage_at}
+use Rattle.tx_runs.specs.Tallies.{Stage, outside, begins, within, Stand, begins_again, begun, over_as, stage_at, stand_of}
 use Rattle.tx_worker.specs.declared.worker.Worker.{Worker}
-use Rattle.tx_worker.specs.Accounts.{account_of, stand_of}
+use Rattle.tx_worker.specs.Accounts.{account_of}
 use Rattle.tx_worker.specs.Progress.{Course, IsRunning}
 use Rattle.tx_worker.specs.Workers.{Bounds, IsAsked, IsReadyFor, IsRoomier, again_for, view_in}
 use Rattle.tx_worker.proofs.Machines.PlainActions.{served_ran, served_runs}
@@ -64,11 +65,6 @@ pub room_after : (call : Call) (before after room : ℕ) → before ≤ room →
 room_after (CommitAction action) before after room few more l = (let m = more refl in omega arith)
 room_after (UndoAction action) before after room few more l = (let m = more refl in omega arith)
 room_after call before after room few more l = omega arith
-
--- a cancel registers none
-cancels_none : (call : Call) → is_abort call ≡ true → registers call ≡ 0
-cancels_none (Abort outer) is = refl
-cancels_none call is = absurd (cc)
 
 -- ## The same attempt with more room
 
@@ -128,7 +124,7 @@ module _ {P : Type 0} {rules : Rules P} {words : Words} {c : Course P} {b : Boun
     open_cancels (Reply r) served now less = by_abort (is_abort call) refl
       where
         by_abort : (a : Bool) → is_abort call ≡ a → length e.actions.ran ≤ o.cancels
-        by_abort true is = (let places = ready.2.cancels is in let most = runs.2 in let none = cancels_none call is in omega arith)
+        by_abort true is = (let places = ready.2.cancels is in let most = runs.2 in let none = cancels_register_none call is in omega arith)
         by_abort false is = (let ran = ap length (served_ran s (view_in new) e k.works.same.stands inside r served is now) in let had = ap length ran_is in absurd (omega arith))
     open_cancels (Committed at wrote) served now less = absurd (true≢false (sym now ∙ served.tells.closes.closed))
     open_cancels (Conflict clock word) served now less = absurd (true≢false (sym now ∙ served.tells.closes.closed))

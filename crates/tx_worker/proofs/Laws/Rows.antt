@@ -27,9 +27,9 @@ use Rattle.tx_runs.specs.declared.player_run.Current.{Current}
 use Rattle.tx_runs.specs.declared.player_run.Current.TheVariants.{Outside, Begins, Within}
 use Rattle.tx_runs.specs.OpenAttempts.{Open}
 use Rattle.tx_runs.specs.PlayerRuns.{KeepsPlaces, MayStop, MayTell, stage_of, tally_of}
-use Rattle.tx_runs.specs.Tallies.{Stage, outside, begins, within, Stand, Taken, Tally, begins_again, over_as, replied, sent_back, stage_with, took_in, went_on, with_call}
+use Rattle.tx_runs.specs.Tallies.{Stage, outside, begins, within, Stand, Taken, Tally, begins_again, over_as, replied, sent_back, stage_with, took_in, went_on, with_call, stand_of}
 use Rattle.tx_worker.specs.declared.worker.Worker.{Worker}
-use Rattle.tx_worker.specs.Accounts.{Account, account_after, account_of, stand_of}
+use Rattle.tx_worker.specs.Accounts.{Account, account_after, account_of}
 use Rattle.tx_worker.specs.Calls.{IsMade, StopsAs, asked}
 use Rattle.tx_worker.specs.Falls.{Falls}
 use Rattle.tx_worker.specs.Positions.{AreFew, AreOver}

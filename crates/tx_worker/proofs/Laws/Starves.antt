@@ -21,9 +21,9 @@ use Rattle.tx_runs.specs.declared.player_run.Current.{Current}
 use Rattle.tx_runs.specs.declared.player_run.Current.TheVariants.{Outside, Begins, Within}
 use Rattle.tx_runs.specs.OpenAttempts.{Open}
 use Rattle.tx_runs.specs.PlayerRuns.{MayStop, MayTell, stage_of}
-use Rattle.tx_runs.specs.Tallies.{Stage, outside, begins, within, over_as}
+use Rattle.tx_runs.specs.Tallies.{Stage, outside, begins, within, over_as, stand_of}
 use Rattle.tx_worker.specs.declared.worker.Worker.{Worker}
-use Rattle.tx_worker.specs.Accounts.{Account, account_of, stand_of}
+use Rattle.tx_worker.specs.Accounts.{Account, account_of}
 use Rattle.tx_worker.specs.Positions.{AreFew, AreOver}
 use Rattle.tx_worker.specs.Progress.{Course}
 use Rattle.tx_worker.specs.Workers.{Bounds, HasPlaces, IsHungry, IsRoomier, IsSame, IsStopped, bounds_of}

@@ -103,7 +103,7 @@ module _ {P : Type 0} {rules : Rules P} (laws : Obeys rules) (c : Course P) (s :
     run_closed =
         run_ended laws c t s.view v s.engine running inside went final is_try
         (λ is. record { seen = (closes.leaves is).0; leaves = (closes.leaves is).1 ∙ ap (λ (x : State). x.memory) (sym left_last) })
-        (known (is_committed outcome) refl) refl refl refl refl
+        (known (is_committed outcome) refl) refl refl refl refl (λ lost. absurd (true≢false (sym closes.done ∙ ap is_done lost)))
 
     now_closed : now_at rules c v (t.ended ++ final ∷ []) ≡ Some (record { player = rules.answered t.player r; arena = e.arena; again = false; tries = 0 })
     now_closed =

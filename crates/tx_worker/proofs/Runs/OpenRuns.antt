@@ -1,5 +1,5 @@
 -- A run whose open attempt is over, or is told as it stands.
-use Rattle.std.proofs.Common.{◌≡◌, ℕ, suc, ◌≤◌, Bool, true, false, if◌then◌else◌, List, [], ◌∷◌, ◌++◌, length, Some, refl, sym, true≢false, ap, subst, ◌∙◌, arith, append-nil}
+use Rattle.std.proofs.Common.{◌≡◌, ℕ, suc, ◌*◌, ◌<◌, ◌≤◌, Bool, true, false, if◌then◌else◌, List, [], ◌∷◌, ◌++◌, length, Some, refl, sym, true≢false, ap, subst, ◌∙◌, arith, append-nil}
 use Rattle.itm_types.specs.declared.call.Call.{Call}
 use Rattle.itm_types.specs.declared.call.Ran.{Ran}
 use Rattle.itm_types.specs.declared.call.Reply.{Reply as Replied}
@@ -88,15 +88,15 @@ module _ {P : Type 0} {rules : Rules P} (laws : Obeys rules) (c : Course P) (t :
 
   -- the run with it
   pub run_ended : (a : Attempt) → IsTryAt rules c.depth (length v.seen) (bytes_at v) (running.inside inside).between (Some (running.inside inside).try.of_block.start) a → (is_committed a.outcome ≡ true → IsLeft c.depth v a) → known_by a ≤ length v.seen
-      → a.began ≡ (running.inside inside).row.began → a.thread ≡ (running.inside inside).row.thread → a.nth ≡ (running.inside inside).row.nth → a.restarts ≡ (running.inside inside).row.restarts
+      → a.began ≡ (running.inside inside).row.began → a.thread ≡ (running.inside inside).row.thread → a.nth ≡ (running.inside inside).row.nth → a.restarts ≡ (running.inside inside).row.restarts → (a.outcome ≡ outcomes.Conflict → 2 * a.at < v.high)
       → HasRun rules c v (t.ended ++ a ∷ []) × (now_at rules c v (t.ended ++ a ∷ []) ≡ after_try rules c.depth (bytes_at v) (running.inside inside).between (Some (running.inside inside).try.of_block.start) a)
-  run_ended a try left known began thread nth restarts =
+  run_ended a try left known began thread nth restarts outrun =
       let h = running.inside inside in
       let now = run_later rules c u v went t.ended running.has_run in
       let tries = running.tries in
       let same = h.nth in
       let here : IsTryAt rules c.depth (length v.seen) (bytes_at v) h.between (begins_at rules c.depth h.between) a = subst (λ (o : _). IsTryAt rules c.depth (length v.seen) (bytes_at v) h.between o a) (sym h.try.of_block.begins) try in
-      let more = run_with rules c v t.ended h.between a now.0 (now.1 ∙ h.now_is) here left (let k = h.known in let same = began in omega arith) known (thread ∙ h.thread) (omega arith) (restarts ∙ h.try.restarts) in
+      let more = run_with rules c v t.ended h.between a now.0 (now.1 ∙ h.now_is) here left (let k = h.known in let same = began in omega arith) known (thread ∙ h.thread) (omega arith) (restarts ∙ h.try.restarts) outrun in
       (more.0, more.1 ∙ ap (λ (o : _). after_try rules c.depth (bytes_at v) h.between o a) h.try.of_block.begins)
 
   -- ## Without a commit
@@ -106,17 +106,17 @@ module _ {P : Type 0} {rules : Rules P} (laws : Obeys rules) (c : Course P) (t :
     told_at = ended_at outcome k ran (running.inside inside).row
 
     pub stop_ended : EndsAs outcome (stands_for e (stood e.irrevocable u (memory_of v k))) → ran ≡ ran_of outcome (stands_for e (stood e.irrevocable u (memory_of v k)))
-        → (running.inside inside).row.began ≤ k → k ≤ length v.seen
+        → (running.inside inside).row.began ≤ k → k ≤ length v.seen → (outcome ≡ outcomes.Conflict → 2 * k < v.high)
         → (outcome ≡ outcomes.Full → LacksClock rules c.depth (rules.answered (running.inside inside).try.of_block.start.player (begin_code (running.inside inside).between.again)) (running.inside inside).row (bytes_at v k))
         → HasRun rules c v (t.ended ++ ended_at outcome k ran (running.inside inside).row ∷ [])
         × (now_at rules c v (t.ended ++ ended_at outcome k ran (running.inside inside).row ∷ []) ≡ after_try rules c.depth (bytes_at v) (running.inside inside).between (Some (running.inside inside).try.of_block.start) (ended_at outcome k ran (running.inside inside).row))
-    stop_ended ends ran_is older newer full =
+    stop_ended ends ran_is older newer outrun full =
         let h = running.inside inside in
         let none = not_committed outcome undone in
         let stands = stood_led (memory_of v k) read in
         run_ended (ended_at outcome k ran h.row)
         (try_of_room laws c.depth (length v.seen) (bytes_at v) h.between h.try.of_block.start (record h.row { at = k; ran = ran; outcome = outcome }) 0 (try_stops laws c.depth h.try.of_block (length v.seen) (bytes_at v) k outcome ran undone (made_open (memory_of v k) read) (subst (EndsAs outcome) stands ends) older newer (ran_is ∙ ap (ran_of outcome) stands) full))
-        (λ committed. absurd (true≢false (sym committed ∙ none))) (subst (λ (b : Bool). (if b then suc k else k) ≤ length v.seen) (sym none) newer) refl refl refl refl
+        (λ committed. absurd (true≢false (sym committed ∙ none))) (subst (λ (b : Bool). (if b then suc k else k) ≤ length v.seen) (sym none) newer) refl refl refl refl outrun
 
     pub stop_mine : v.mine ≡ u.mine → v.mine ≡ c.view.mine ++ positions (t.ended ++ ended_at outcome k ran (running.inside inside).row ∷ [])
     stop_mine same = same ∙ (running.mine ∙ ap (λ (ps : List ℕ). c.view.mine ++ ps) (sym (positions_same t.ended (ended_at outcome k ran (running.inside inside).row) (not_committed outcome undone))))

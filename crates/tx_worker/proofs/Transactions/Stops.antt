@@ -4,13 +4,12 @@ use Rattle.itm_types.specs.Memory.{Agrees, IsMemory}
 use Rattle.itm_model.specs.Machine.{after, reply, undone}
 use Rattle.itm_model.specs.State.{State}
 use Rattle.user_actions.specs.Actions.{Actions}
-use Rattle.norec_core.proofs.Replies.ActionCounts.{given_up_actions, undone_actions}
 use Rattle.norec_core.proofs.Engines.Blocks.{none_inside}
 use Rattle.norec_core.specs.declared.answer.Answer.{Answer}
 use Rattle.norec_core.specs.declared.answer.Answer.TheVariants.{Conflict, Full}
 use Rattle.norec_core.specs.Phases.{Idle}
 use Rattle.norec_core.specs.Core.{Core, in_transaction, rolled_back}
-use Rattle.norec_core.specs.Stands.{stands_for, state_in, state_over}
+use Rattle.norec_core.specs.Stands.{stands_for}
 use Rattle.norec_core.specs.Undoing.{after_undoing}
 use Rattle.shared_words.specs.declared.view.View.{View}
 use Rattle.itm_runtime.proofs.Steps.CallsInHand.{is_memory}
@@ -21,6 +20,7 @@ use Rattle.tx_attempts.specs.Opacity.{LacksClock, after_try, answered_all, begin
 use Rattle.tx_attempts.specs.declared.attempt.CallRecord.{CallRecord}
 use Rattle.tx_attempts.specs.declared.attempt.Outcome.TheVariants as outcomes
 use Rattle.tx_player.specs.Rules.{Obeys, Rules}
+use Rattle.tx_runs.proofs.GivenUp.{given_up_as}
 use Rattle.tx_runs.proofs.Players.{nested_outside}
 use Rattle.tx_runs.proofs.Tries.{lacks_clock}
 use Rattle.tx_runs.specs.Nesting.{IsNested}
@@ -34,17 +34,10 @@ use Rattle.tx_worker.specs.Progress.{Course, HasRun, IsRunning, MayRead, now_at,
 use Rattle.tx_worker.specs.Accounts.{Account}
 use Rattle.tx_worker.proofs.Shapes.{ended_at, tried}
 
--- ## The actions that have run
-
--- a transaction that is given up leaves those of the plain machine
-given_up_as : (old new : Core) (m : List ℕ) → old.holds ≡ false → old.irrevocable ≡ false → new ≡ after_undoing old → new.actions.ran ≡ (undone (stands_for old m)).actions.ran
-given_up_as old new m free revocable is =
-    ap (λ (c : Core). c.actions.ran) is ∙ (ap (λ (a : Actions). a.ran) (given_up_actions old free)
-    ∙ (sym (ap (λ (a : Actions). a.ran) (undone_actions old.blocks old.arena m (state_over old.writes old.blocks old.arena old.actions m)))
-    ∙ ap (λ (b : Bool). (undone (state_in b old.writes old.blocks old.arena old.actions m)).actions.ran) (sym revocable)))
+-- ## Where nothing was looked at
 
 still_went : (v : View) → Went v v
-still_went v = record { base = refl; share = refl; grows = ([], sym (append-nil v.seen)); looks = omega arith }
+still_went v = record { base = refl; share = refl; grows = ([], sym (append-nil v.seen)); looks = omega arith; high = omega arith }
 
 -- ## By an answer
 
@@ -79,7 +72,7 @@ module _ {P : Type 0} {rules : Rules P} (laws : Obeys rules) (c : Course P) (s :
         let late = served.tells.closes.late inside in
         let began = (running.inside inside).try.began in
         stop_ended laws c t s.view v s.engine running inside served.went (e.snapshot / 2) outcomes.Conflict e.actions.ran refl conflict_read
-        (stands_open s.engine m inside, stands_mode s.engine m ∙ served.tells.revocable) (ran_undone (Conflict clock word) served served.tells.revocable served.tells.undone) (omega arith) served.tells.closes.seen (λ f. absurd (cc))
+        (stands_open s.engine m inside, stands_mode s.engine m ∙ served.tells.revocable) (ran_undone (Conflict clock word) served served.tells.revocable served.tells.undone) (omega arith) served.tells.closes.seen (λ lost. (let later = served.tells.later in let clock = served.tells.clock_is in let known = stands.over.high in omega arith)) (λ f. absurd (cc))
 
     conflict_mine : v.mine ≡ c.view.mine ++ positions (t.ended ++ ended_at outcomes.Conflict (e.snapshot / 2) e.actions.ran (running.inside inside).row ∷ [])
     conflict_mine = stop_mine laws c t s.view v s.engine running inside served.went (e.snapshot / 2) outcomes.Conflict e.actions.ran refl conflict_read served.mine
@@ -149,7 +142,7 @@ module _ {P : Type 0} {rules : Rules P} (laws : Obeys rules) (c : Course P) (s :
         let late = served.tells.closes.late inside in
         let began = (running.inside inside).try.began in (
           (stop_ended laws c t s.view v s.engine running inside served.went (e.snapshot / 2) outcomes.Full e.actions.ran refl full_read (stands_open s.engine m inside, stands_mode s.engine m ∙ full_revocable)
-              (ran_undone (Full at) served full_revocable served.tells.undone) (omega arith) (omega arith) (λ f. lacks)).0,
+              (ran_undone (Full at) served full_revocable served.tells.undone) (omega arith) (omega arith) (λ lost. absurd (cc)) (λ f. lacks)).0,
           stop_mine laws c t s.view v s.engine running inside served.went (e.snapshot / 2) outcomes.Full e.actions.ran refl full_read served.mine,
           omega arith,
         )
@@ -171,7 +164,7 @@ module _ {P : Type 0} {rules : Rules P} (laws : Obeys rules) (c : Course P) (s :
       let count = (before.reads inside).count in
       let seen = ap (λ (x : View). length x.seen) same in (
         (stop_ended laws c t s.view v s.engine running inside went (e.snapshot / 2) outcomes.NoMemory e.actions.ran refl read (stands_open s.engine m inside, stands_mode s.engine m ∙ revocable)
-            (given_up_as s.engine e m free revocable is) (omega arith) (omega arith) (λ f. absurd (cc))).0,
+            (given_up_as s.engine e m free revocable is) (omega arith) (omega arith) (λ lost. absurd (cc)) (λ f. absurd (cc))).0,
         stop_mine laws c t s.view v s.engine running inside went (e.snapshot / 2) outcomes.NoMemory e.actions.ran refl read (ap (λ (x : View). x.mine) same),
       )
 
@@ -184,7 +177,7 @@ module _ {P : Type 0} {rules : Rules P} (laws : Obeys rules) (c : Course P) (s :
       let read = may_here s.view s.engine before inside in
       let count = (before.reads inside).count in (
         (stop_ended laws c t s.view s.view s.engine running inside (still_went s.view) (s.engine.snapshot / 2) outcomes.Unfinished h.row.ran refl read (stands_open s.engine m inside)
-            (h.try.ran ∙ ap (λ (x : Actions). x.ran) (sym (stands_actions s.engine m))) h.try.began (omega arith) (λ f. absurd (cc))).0,
+            (h.try.ran ∙ ap (λ (x : Actions). x.ran) (sym (stands_actions s.engine m))) h.try.began (omega arith) (λ lost. absurd (cc)) (λ f. absurd (cc))).0,
         stop_mine laws c t s.view s.view s.engine running inside (still_went s.view) (s.engine.snapshot / 2) outcomes.Unfinished h.row.ran refl read refl,
       )
 

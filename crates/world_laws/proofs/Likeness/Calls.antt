@@ -7,9 +7,7 @@ use Rattle.norec_core.specs.Core.{irrevocable_room}
 use Rattle.norec_core.specs.Moves.{IsCalled}
 use Rattle.norec_core.proofs.Replies.Outcomes.{called_once, resumed_once}
 use Rattle.norec_world.specs.LocalWork.{TakesIn, Calls}
-use Rattle.norec_world.specs.Records.{asked_stage, begun_by}
-use Rattle.tx_attempts.specs.Kept.{reserved}
-use Rattle.tx_runs.specs.Tallies.{outside, begins, within}
+use Rattle.tx_runs.specs.Tallies.{Tally, came}
 use Rattle.world_laws.specs.Alike.{AreAlike}
 use Rattle.world_laws.proofs.Likeness.Answers.{GoAlike, told_alike, told_same}
 
@@ -53,39 +51,29 @@ module _ {P : Type 0} (rules : Rules P) (cells : Cells) (r s r' s' : Rows) (a b 
 
 -- ## A call
 
-module _ {P : Type 0} (clock : ℕ) (a b : Actor P) (k : AreAlike a b) where
-  begun_same : (call : Call) → begun_by clock a call ≡ begun_by clock b call
-  begun_same (Begin props room) = λ i. begins (begun (k.thread i) (k.tally i).nth (clock / 2) props (k.engine i).arena (unwrap_or (irrevocable_room (k.engine i) (Begin props room)) 0))
-  begun_same call = refl
-
-  stage_same : (call : Call) (s : Stage) → asked_stage clock a call s ≡ asked_stage clock b call s
-  stage_same call outside = begun_same call
-  stage_same call (begins row) = refl
-  stage_same call (within row) = λ i. within (record row { calls = reserved row.calls (unwrap_or (irrevocable_room (k.engine i) call) 0 + 1) })
-
 module _ {P : Type 0} (rules : Rules P) (clock : ℕ) (r s r' s' : Rows) (a b a' b' : Actor P) (k : AreAlike a b)
     (f : Calls rules clock r a r' a') (g : Calls rules clock s b s' b') where
   request_same : f.call ≡ g.call
   request_same = let e : Some f.call ≡ Some g.call = sym f.next_is ∙ ((λ i. rules.next_call (k.tally i).player) ∙ g.next_is) in cc
 
-  called : IsCalled a.engine f.call (begins_again (in_transaction a.engine) a.run.again f.call) g.what g.asked.engine
-  called = subst (λ (c : Call). IsCalled a.engine c (begins_again (in_transaction a.engine) a.run.again c) g.what g.asked.engine) (sym request_same)
-      (subst (λ (x : Bool). IsCalled a.engine g.call (begins_again (in_transaction a.engine) x g.call) g.what g.asked.engine) (λ i. (sym k.tally i).again)
-      (subst (λ (e : Core). IsCalled e g.call (begins_again (in_transaction e) b.run.again g.call) g.what g.asked.engine) (sym k.engine) g.asks.called))
+  called : IsCalled a.engine f.call (begins_again (stage_of a.run.current) a.run.again f.call) g.what g.asked.engine
+  called = subst (λ (c : Call). IsCalled a.engine c (begins_again (stage_of a.run.current) a.run.again c) g.what g.asked.engine) (sym request_same)
+      (subst (λ (t : Tally P). IsCalled a.engine g.call (begins_again t.stage t.again g.call) g.what g.asked.engine) (sym k.tally)
+      (subst (λ (e : Core). IsCalled e g.call (begins_again (stage_of b.run.current) b.run.again g.call) g.what g.asked.engine) (sym k.engine) g.asks.called))
 
   outcome : (f.what ≡ g.what) × (f.asked.engine ≡ g.asked.engine)
-  outcome = called_once a.engine f.call (begins_again (in_transaction a.engine) a.run.again f.call) f.what g.what f.asked.engine g.asked.engine f.asks.called called
+  outcome = called_once a.engine f.call (begins_again (stage_of a.run.current) a.run.again f.call) f.what g.what f.asked.engine g.asked.engine f.asks.called called
 
   -- the tally once the call has come
-  asked_tally : (x : Actor P) (y : Rows) (x' : Actor P) (y' : Rows) (h : Calls rules clock y x y' x') → tally_of h.asked.run ≡ record (tally_of x.run) { stage = asked_stage clock x h.call (stage_of x.run.current) }
+  asked_tally : (x : Actor P) (y : Rows) (x' : Actor P) (y' : Rows) (h : Calls rules clock y x y' x') → tally_of h.asked.run ≡ came x.run.thread (clock / 2) x.engine.arena (unwrap_or (irrevocable_room x.engine h.call) 0) (tally_of x.run) h.call
   asked_tally x y x' y' h = λ i. record { player = (h.asks.run i).player; nth = (h.asks.run i).nth; again = (h.asks.run i).again; stage = h.asks.stage i }
 
   asked_alike : AreAlike f.asked g.asked
   asked_alike = record {
     thread = (λ i. (f.asks.run i).thread) ∙ (k.thread ∙ (λ i. (sym g.asks.run i).thread));
     retries = (λ i. (f.asks.run i).retries) ∙ (k.retries ∙ (λ i. (sym g.asks.run i).retries));
-    tally = asked_tally a r a' r' f ∙ ((λ i. record (tally_of a.run) { stage = stage_same clock a b k f.call (stage_of a.run.current) i })
-        ∙ ((λ i. record (k.tally i) { stage = asked_stage clock b (request_same i) (k.tally i).stage }) ∙ sym (asked_tally b s b' s' g)));
+    tally = asked_tally a r a' r' f
+        ∙ ((λ i. came (k.thread i) (clock / 2) (k.engine i).arena (unwrap_or (irrevocable_room (k.engine i) (request_same i)) 0) (k.tally i) (request_same i)) ∙ sym (asked_tally b s b' s' g));
     engine = outcome.1;
     status = f.ready ∙ sym g.ready;
   }

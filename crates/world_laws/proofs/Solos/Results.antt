@@ -251,9 +251,9 @@ module _ {P : Type 0} (rules : Rules P) (laws : Obeys rules) (w : World P) (comm
     stands_so ended some =
         let t = (tied.players 0 p a player_here here).inside (row_open (in_transaction a.engine) a row row_kept some) in
         let place : t.0 ≡ between x.before = same_Some _ _ (sym t.2 ∙ led (row ∷ []) x ended) in
-        let start : t.4.start ≡ y.start = same_Some _ _ (sym t.4.begins ∙ (ap (λ (b : Between P). begin_of rules w.depth b.player b.arena) place ∙ y.comes)) in
+        let start : t.4.block.start ≡ y.start = same_Some _ _ (sym t.4.block.begins ∙ (ap (λ (b : Between P). begin_of rules w.depth b.player b.arena) place ∙ y.comes)) in
         let same : t.1 ≡ row = same_Some _ _ (sym t.3 ∙ some) in
-        t.4.player ∙ (λ i. player_then rules.answered (rules.answered (start i).player (begin_code (place i).again)) (same i).calls.list)
+        t.4.block.player ∙ (λ i. player_then rules.answered (rules.answered (start i).player (begin_code (place i).again)) (same i).calls.list)
 
   -- ## By how it stands
 

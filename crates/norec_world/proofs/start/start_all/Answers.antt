@@ -1,9 +1,5 @@
-use Rattle.norec_world.specs.Rows.{rows_in}
 use Rattle.std.proofs.Common.{rules, ◌≡◌, ◌≢◌, ◌+◌, ◌<◌, ◌≤◌, ℕ, zero, suc, Some, [], ◌∷◌, ◌++◌, inl, inr, slice_get, drop, replicate, List, length, length-append, ap, sym, subst, refl, ◌∙◌, arith}
-use Rattle.norec_world.proofs.Common.{same_Some, Actor, AreActors, HasStarted, IsFirst, MAX_ACTORS, RunsFrom, bytes_of, ending_in, first_of, opening, slice_index_or, append-nil}
-use Rattle.norec_world.proofs.Runs.Others.{other_runs, laid_first}
-use Rattle.norec_world.proofs.Tries.TryChains.{fed_joined}
-use Rattle.norec_world.proofs.Events.SoundOthers.{actors_joined, joined_place}
+use Rattle.norec_world.proofs.{Actor, AreActors, HasStarted, IsFirst, MAX_ACTORS, RunsFrom, actors_joined, append-nil, bytes_of, ending_in, fed_joined, first_of, joined_place, laid_first, opening, other_runs, rows_in, same_Some, slice_index_or}
 use Rattle.norec_world.proofs.start.start_all.Goals as goal
 
 -- the next one of a list

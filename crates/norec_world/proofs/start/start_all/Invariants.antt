@@ -1,6 +1,4 @@
-use Rattle.norec_world.specs.Rows.{rows_in}
-use Rattle.std.proofs.Common.{◌≡◌, ℕ, ◌+◌, ◌≤◌, [], length, slice_get, drop, replicate, All, Some}
-use Rattle.norec_world.proofs.Common.{Actor, AreActors, HasStarted, IsFirst, MAX_ACTORS, NoMemory, RunsFrom, bytes_of, ending_in, first_of, opening}
+use Rattle.norec_world.proofs.{Actor, AreActors, HasStarted, IsFirst, MAX_ACTORS, NoMemory, RunsFrom, bytes_of, ending_in, first_of, opening, rows_in, ◌≡◌, ℕ, ◌+◌, ◌≤◌, [], length, slice_get, drop, replicate, All, Some}
 use Rattle.norec_world.proofs.start.start_all.Given as goal
 
 abbrev pub invariant-loop-player : goal.invariant-loop-player

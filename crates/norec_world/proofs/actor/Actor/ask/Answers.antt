@@ -1,17 +1,5 @@
-use Rattle.norec_world.specs.Stages.{count_in}
-use Rattle.norec_world.specs.Records.{Asks}
-use Rattle.norec_world.proofs.Tries.Stages.{others_same}
 use Rattle.std.proofs.Common.{◌≡◌, ◌≤◌, ◌/◌, ◌+◌, ◌∙◌, ℕ, Option, Some, unwrap_or, false, refl, sym, ap, subst, arith, rules, true≢false}
-use Rattle.tx_attempts.specs.Kept.{reserved}
-use Rattle.norec_core.specs.Core.{irrevocable_room}
-use Rattle.norec_engine.specs.NextSteps.{next_in}
-use Rattle.norec_world.specs.ActionRoom.{IsRefused, MayRunOn}
-use Rattle.norec_world.specs.Sound.{IsUnasked, IsAsked}
-use Rattle.norec_world.specs.Rows.{rows_in}
-use Rattle.tx_runs.specs.declared.player_run.Current.TheVariants.{Within, Begins}
-use Rattle.norec_world.proofs.Common.{Actor, begun, Begin, Call, Core, is_begin}
-use Rattle.norec_world.proofs.Rooms.ActionRoom.{starves_begin}
-use Rattle.norec_world.proofs.Rooms.AskingActors.{acts_begin, acts_outside, acts_within, asked_begin, asked_outside, asked_within, no_begin, not_within, on_err, on_err_still, others_begun, others_within, refused_outside, refused_within, told_begin, told_outside, told_within, unasked_outside, unasked_within, kept_room, asked_room, shut_outside, out_outside}
+use Rattle.norec_world.proofs.{Actor, AsksOf as Asks, Begin, Begins, Call, Core, IsAsked, IsRefused, IsUnasked, MayRunOn, Within, acts_begin, acts_outside, acts_within, asked_begin, asked_outside, asked_room, asked_within, begun, count_in, irrevocable_room, is_begin, kept_room, next_in, no_begin, not_within, on_err, on_err_still, others_begun, others_same, others_within, out_outside, refused_outside, refused_within, reserved, rows_in, shut_outside, starves_begin, told_begin, told_outside, told_within, unasked_outside, unasked_within}
 use Rattle.norec_world.proofs.actor.Actor.ask.Goals as goal
 
 -- ## Within an attempt
@@ -24,33 +12,29 @@ pub returns-in_err-prepare-clause-refused : goal.returns-in_err-prepare-clause-r
 returns-in_err-prepare-clause-refused g c =
     on_err c.from_residual.result (refused_within c.requires.sound c.requires.ready c.in-Within.open c.prepare.new.attempt c.in-Within.is c.prepare.ensures.kept.0 c.prepare.ensures.kept.1 c.in-Within.open.row.calls refl c.in_err-prepare.ensures.err (λ h. kept_room c.requires.sound c.requires.ready c.in-Within.open c.prepare.new.attempt c.in-Within.is c.prepare.ensures.kept.0 c.prepare.ensures.kept.1))
 
-pub returns-in-Within-clause-acts : goal.returns-in-Within-clause-acts
-returns-in-Within-clause-acts g c =
-    acts_within c.requires.sound c.requires.ready c.in-Within.open c.prepare.new.attempt c.in-Within.is c.prepare.ensures.kept.0 c.prepare.ensures.kept.1 c.args.call.now c.in_ok-prepare.ensures.calls c.requires.asks
-    c.call_into.new.self c.call_into.new.answer c.call_into.result c.in_ok-prepare.ensures.places c.call_into.ensures
-
-pub returns-in-Within-clause-asked : goal.returns-in-Within-clause-asked
-returns-in-Within-clause-asked g c =
-    asked_within c.requires.sound c.requires.ready c.in-Within.open c.prepare.new.attempt c.in-Within.is c.prepare.ensures.kept.0 c.prepare.ensures.kept.1 c.args.call.now c.in_ok-prepare.ensures.calls c.requires.asks
-    c.call_into.new.self c.call_into.new.answer c.call_into.result
-
-pub returns-in-Within-clause-told : goal.returns-in-Within-clause-told
-returns-in-Within-clause-told g c =
-    told_within c.requires.sound c.requires.ready c.in-Within.open c.prepare.new.attempt c.in-Within.is c.prepare.ensures.kept.0 c.prepare.ensures.kept.1 c.args.call.now c.in_ok-prepare.ensures.calls c.requires.asks
-    c.args.memory.now.clock c.call_into.new.self c.call_into.new.answer c.call_into.result c.call_into.ensures
-
-pub returns-in-Within-clause-others : goal.returns-in-Within-clause-others
-returns-in-Within-clause-others g c = others_within c.requires.sound c.requires.ready c.in-Within.open c.prepare.new.attempt c.in-Within.is c.prepare.ensures.kept.0 c.prepare.ensures.kept.1 c.call_into.new.self
-
-pub returns-in-Within-clause-unasked : goal.returns-in-Within-clause-unasked
-returns-in-Within-clause-unasked g c =
-    on_err_still c.args.self.now.engine c.call_into.new.self c.args.call.now false c.call_into.new.answer (λ e. IsUnasked g.P.Player c.args.self.now (record c.args.self.now { run = record c.args.self.now.run { current = Within c.prepare.new.attempt }; engine = e })) c.call_into.result c.call_into.ensures
-    (unasked_within c.requires.sound c.requires.ready c.in-Within.open c.prepare.new.attempt c.in-Within.is c.prepare.ensures.kept.0 c.prepare.ensures.kept.1 (reserved c.in-Within.open.row.calls (unwrap_or (irrevocable_room c.args.self.now.engine c.args.call.now) 0 + 1)) refl c.in_ok-prepare.ensures.calls)
-
-pub returns-in-Within-clause-refused : goal.returns-in-Within-clause-refused
-returns-in-Within-clause-refused g c =
-    on_err_still c.args.self.now.engine c.call_into.new.self c.args.call.now false c.call_into.new.answer (λ e. IsRefused (record c.args.self.now { run = record c.args.self.now.run { current = Within c.prepare.new.attempt }; engine = e })) c.call_into.result c.call_into.ensures
-    (refused_within c.requires.sound c.requires.ready c.in-Within.open c.prepare.new.attempt c.in-Within.is c.prepare.ensures.kept.0 c.prepare.ensures.kept.1 (reserved c.in-Within.open.row.calls (unwrap_or (irrevocable_room c.args.self.now.engine c.args.call.now) 0 + 1)) refl c.in_ok-prepare.ensures.calls (asked_room c.requires.sound c.requires.ready c.in-Within.open c.prepare.new.attempt c.in-Within.is c.prepare.ensures.kept.0 c.prepare.ensures.kept.1 c.args.call.now))
+pub returns-in-Within : goal.returns-in-Within
+returns-in-Within g c =
+    let a = c.args.self.now in
+    let call = c.args.call.now in
+    let o = c.in-Within.open in
+    let o' = c.prepare.new.attempt in
+    let new = c.call_into.new.self in
+    let calls = reserved o.row.calls (unwrap_or (irrevocable_room a.engine call) 0 + 1) in
+    let At : Core → Actor g.row.P.Denot = λ e. record a { run = record a.run { current = Within o' }; engine = e } in
+    record {
+      acts = acts_within c.requires.sound c.requires.ready o o' c.in-Within.is c.prepare.ensures.kept.0 c.prepare.ensures.kept.1 call c.in_ok-prepare.ensures.calls c.requires.asks new c.call_into.new.answer c.call_into.result c.in_ok-prepare.ensures.places c.call_into.ensures;
+      asked = asked_within c.requires.sound c.requires.ready o o' c.in-Within.is c.prepare.ensures.kept.0 c.prepare.ensures.kept.1 call c.in_ok-prepare.ensures.calls c.requires.asks new c.call_into.new.answer c.call_into.result;
+      told = told_within c.requires.sound c.requires.ready o o' c.in-Within.is c.prepare.ensures.kept.0 c.prepare.ensures.kept.1 call c.in_ok-prepare.ensures.calls c.requires.asks c.args.memory.now.clock new c.call_into.new.answer c.call_into.result c.call_into.ensures;
+      unasked = on_err_still a.engine new call false c.call_into.new.answer (λ e. IsUnasked g.P.Player a (At e)) c.call_into.result c.call_into.ensures
+          (unasked_within c.requires.sound c.requires.ready o o' c.in-Within.is c.prepare.ensures.kept.0 c.prepare.ensures.kept.1 calls refl c.in_ok-prepare.ensures.calls);
+      refused = on_err_still a.engine new call false c.call_into.new.answer (λ e. IsRefused (At e)) c.call_into.result c.call_into.ensures
+          (refused_within c.requires.sound c.requires.ready o o' c.in-Within.is c.prepare.ensures.kept.0 c.prepare.ensures.kept.1 calls refl c.in_ok-prepare.ensures.calls (asked_room c.requires.sound c.requires.ready o o' c.in-Within.is c.prepare.ensures.kept.0 c.prepare.ensures.kept.1 call));
+      grows = search rules;
+      short = search rules;
+      ended = search rules;
+      place = search rules;
+      others = others_within c.requires.sound c.requires.ready o o' c.in-Within.is c.prepare.ensures.kept.0 c.prepare.ensures.kept.1 new;
+    }
 
 -- ## Outside a transaction
 

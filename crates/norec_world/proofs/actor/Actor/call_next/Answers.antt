@@ -1,21 +1,7 @@
-use Rattle.tx_runs.specs.Tallies.{begins, outside, within}
-use Rattle.norec_world.specs.Records.{stand_of}
-use Rattle.norec_world.specs.Stages.{with_room}
-use Rattle.tx_runs.specs.Tallies.{Stand, over_as}
-use Rattle.tx_runs.specs.declared.player_run.PlayerRun.{PlayerRun}
-use Rattle.norec_core.specs.Proceeds.{IsSettled}
-use Rattle.norec_engine.specs.NextSteps.{next_in}
-use Rattle.norec_world.specs.ActionRoom.{MayRunOn, IsBacked}
-use Rattle.norec_world.proofs.Rooms.CallRoom.{used_up}
 use Rattle.std.proofs.Common.{◌≡◌, ℕ, true, Option, None, Some, refl, sym, ap, subst, ◌∙◌, ◌++◌}
-use Rattle.norec_world.proofs.Common.{Answer, Answers, Asks, Core, IsTied, Starves, StatusIs, Step, Waits, after_undoing, in_transaction, Actor, Outcome, Stage, tally_of, stage_of}
+use Rattle.norec_world.proofs.{Actor, Answer, Answers, Asks, Core, IsBacked, IsSettled, IsTied, MayRunOn, Outcome, PlayerRun, Stage, Stand, Starves, StatusIs, Step, Waits, after_undoing, answer_falls, call_taken, call_worked, calling, due, finish_worked, idle_still, in_transaction, next_in, others_place, others_twice, over_as, rests, rows_in, stage_of, stand_of, starve_worked, tally_of, used_up, with_room}
+use Rattle.tx_runs.specs.Tallies.{begins, outside, within}
 use Rattle.tx_attempts.specs.declared.attempt.Outcome.TheVariants as outcomes
-use Rattle.norec_world.proofs.Tries.Stages.{others_place, others_twice}
-use Rattle.norec_world.specs.Rows.{rows_in}
-use Rattle.norec_world.proofs.Engines.SoundSteps.{call_falls, call_taken, calling, rests}
-use Rattle.norec_world.proofs.Engines.TiedEngines.{idle_still}
-use Rattle.norec_world.proofs.Engines.Intakes.{due}
-use Rattle.norec_world.proofs.Events.WorkChains.{call_worked, finish_worked, starve_worked}
 use Rattle.norec_world.proofs.actor.Actor.call_next.Goals as goal
 
 -- what the engine gave, by what it told
@@ -63,7 +49,7 @@ returns-in-Ok-None-clause-worked g c =
 pub returns-in-Ok-None-clause-falls : goal.returns-in-Ok-None-clause-falls
 returns-in-Ok-None-clause-falls g c =
     let m = calling c.requires.sound c.requires.ready (as_answer c.ask.new.answer c.in-Ok-None.field-0-is) c.in-Ok-None.ensures.asked c.in-Ok-None.ensures.told c.ask.ensures.place in
-    call_falls m (c.settle.ensures.recorded (in_transaction c.args.self.now.engine) (due (call_taken m))).done
+    answer_falls m (c.settle.ensures.recorded (in_transaction c.args.self.now.engine) (due (call_taken m))).done
 
 pub returns-in-Err-clause-worked : goal.returns-in-Err-clause-worked
 returns-in-Err-clause-worked g c =

@@ -1,7 +1,4 @@
-use Rattle.norec_world.specs.Rows.{rows_in}
-use Rattle.std.proofs.Common.{◌≡◌, sym, subst, ◌∙◌}
-use Rattle.norec_world.proofs.Common.{Answers, Call, Ready, Status, Waits}
-use Rattle.norec_world.specs.Sound.{WritesDown}
+use Rattle.norec_world.proofs.{Answers, Call, Ready, Status, Waits, WritesDown, rows_in, ◌≡◌, sym, subst, ◌∙◌}
 use Rattle.norec_world.proofs.actor.Actor.end_call.Goals as goal
 
 pub returns-in-Waits-clause-recorded : goal.returns-in-Waits-clause-recorded

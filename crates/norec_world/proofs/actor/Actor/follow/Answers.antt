@@ -1,5 +1,4 @@
-use Rattle.std.proofs.Common.{sym, ◌∙◌}
-use Rattle.norec_world.proofs.Tries.ToldTries.{told_here}
+use Rattle.norec_world.proofs.{told_here, sym, ◌∙◌}
 use Rattle.norec_world.proofs.actor.Actor.follow.Goals as goal
 
 pub returns-then-now-from : goal.returns-then-now-from

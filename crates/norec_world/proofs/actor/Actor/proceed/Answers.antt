@@ -1,8 +1,4 @@
-use Rattle.norec_world.specs.Rows.{rows_in}
-use Rattle.std.proofs.Common.{◌≡◌, None, Option, ap, sym, subst}
-use Rattle.norec_engine.specs.NextSteps.{next_in}
-use Rattle.norec_world.proofs.Common.{Answer, Answers, Next, Ready, Step}
-use Rattle.norec_world.specs.Sound.{WritesDown}
+use Rattle.norec_world.proofs.{Answer, Answers, Next, Ready, Step, WritesDown, next_in, rows_in, ◌≡◌, None, Option, ap, sym, subst}
 use Rattle.norec_world.proofs.actor.Actor.proceed.Goals as goal
 
 -- where there is no next step, the answer comes

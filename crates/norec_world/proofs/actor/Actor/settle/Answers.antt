@@ -1,14 +1,6 @@
-use Rattle.norec_world.specs.ActionRoom.{IsActing}
-use Rattle.std.proofs.Common.{◌≡◌, ◌/◌, ◌++◌, ◌∙◌, sym, ap, refl, subst, Bool, List}
-use Rattle.itm_types.specs.declared.call.Ran.{Ran}
-use Rattle.tx_runs.specs.PlayerRuns.{KeepsPlaces}
-use Rattle.norec_world.specs.Rows.{rows_in}
-use Rattle.norec_world.specs.Records.{status_after}
+use Rattle.norec_world.proofs.{Actor, Answers, Ended, IsActing, IsAnswered, IsSettledBy, Ran, Records, Status, Taken, no_restart, others_taken, recorded_acting, room_less, rows_in, settles, stand_of, status_after, tally_of, took_in, ◌≡◌, ◌/◌, ◌++◌, ◌∙◌, sym, ap, refl, subst, Bool, List}
 use Rattle.norec_world.specs.Sound.{IsRecorded}
-use Rattle.norec_world.proofs.Engines.PlayerLaws.{no_restart, settles}
-use Rattle.norec_world.proofs.Rooms.RecordedRoom.{recorded_acting}
-use Rattle.norec_world.proofs.Tries.Stages.{others_taken, room_less}
-use Rattle.norec_world.proofs.Common.{Actor, Answers, Ended, IsAnswered, IsSettledBy, Records, Status, Taken, stand_of, tally_of, took_in}
+use Rattle.tx_runs.specs.PlayerRuns.{KeepsPlaces}
 use Rattle.norec_world.proofs.actor.Actor.settle.Goals.{After-take_in-end}
 use Rattle.norec_world.proofs.actor.Actor.settle.Goals as goal
 
@@ -40,11 +32,7 @@ module _ (g : _) (c : After-take_in-end g) (status : Status) (is : status ≡ st
   acting = recorded_acting g.P.Player (rows_in c.args.ended.now) (rows_in c.take_in-end.new.ended) c.args.self.now Last c.args.call c.requires.acts refl (subst (λ (ran : List Ran). KeepsPlaces ran c.args.self.now.run.current c.take_in-end.new.self.current) c.due.ensures c.take_in-end.ensures.places) c.requires.answered.0 c.args.answer c.requires.answered.1 told (settled c.requires.answered.0 c.requires.answered.1).kept.row
 
   recorded : (was : Bool) → IsAnswered g.P.Player was c.args.self.now c.args.call c.args.answer → IsRecorded g.P.Player was (rows_in c.args.ended.now) c.args.self.now c.args.call (Answers c.args.answer) (rows_in c.take_in-end.new.ended) Last
-  recorded was d = record {
-    done = settled was d;
-    tells = told;
-    others = others_taken d.kept told c.take_in-end.ensures.same.0 (room_less c.args.ended.now c.take_in-end.new.ended Told.over (told.takes.ended) c.take_in-end.ensures.capacity);
-  }
+  recorded was d = assumption (settled was d, told, others_taken d.kept told c.take_in-end.ensures.same.0 (room_less c.args.ended.now c.take_in-end.new.ended Told.over (told.takes.ended) c.take_in-end.ensures.capacity))
 
 pub returns-in-Some-clause-acts : goal.returns-in-Some-clause-acts
 returns-in-Some-clause-acts g c = acting g (goal.at.returns-in-Some-clause-acts g c).After-take_in-end (Ended c.in-Some.end) (ap status_after (sym c.in-Some.is))

@@ -1,18 +1,5 @@
-use Rattle.std.proofs.Common.{◌≡◌, ◌∙◌, ◌++◌, ◌/◌, List, Vec, refl, sym, ap, subst, arith, true, ℕ, vec_capacity, false}
-use Rattle.std.specs.declared.alloc.Global.{Global}
-use Rattle.itm_types.specs.declared.call.Ran.{Ran}
-use Rattle.tx_attempts.specs.declared.attempt.Outcome.TheVariants.{NoMemory}
-use Rattle.tx_runs.specs.declared.player_run.Current.{Current}
-use Rattle.tx_runs.specs.declared.player_run.Current.TheVariants.{Outside, Begins, Within}
-use Rattle.tx_runs.specs.PlayerRuns.{MayStop, stage_of}
-use Rattle.tx_runs.specs.Tallies.{Stand, over_as}
-use Rattle.norec_world.specs.ActionRoom.{IsRefused}
-use Rattle.norec_world.specs.Rows.{rows_in}
-use Rattle.norec_world.specs.Stages.{ends_in}
-use Rattle.norec_world.proofs.Common.{Actor, Attempt, Core, IsTied, after_undoing, in_transaction, open_in, count_in}
-use Rattle.norec_world.proofs.Engines.TiedEngines.{tied_undone}
-use Rattle.norec_world.proofs.Rooms.LaterActions.{given_up_free, given_up_later, given_up_most}
-use Rattle.norec_world.proofs.Tries.Stages.{others_same, others_stopped, room_less}
+use Rattle.norec_world.proofs.{Actor, Attempt, Begins, Core, Current, IsRefused, IsTied, Outside, Ran, Stand, Within, after_undoing, count_in, ends_in, given_up_free, given_up_later, given_up_most, in_transaction, open_in, others_same, others_stopped, over_as, room_less, rows_in, stage_of, tied_undone, ◌≡◌, ◌∙◌, ◌++◌, ◌/◌, List, Vec, refl, sym, ap, subst, arith, true, ℕ, vec_capacity, false}
+use Rattle.{std.specs.declared.alloc.Global.Global, tx_attempts.specs.declared.attempt.Outcome.TheVariants.NoMemory, tx_runs.specs.PlayerRuns.MayStop}
 use Rattle.norec_world.proofs.actor.Actor.starve.Goals.{in-Done, in_default}
 use Rattle.norec_world.proofs.actor.Actor.starve.Goals as goal
 

@@ -1,21 +1,7 @@
 use Rattle.std.proofs.Common.{◌≡◌, ℕ, ◌/◌, Some, ap, refl, subst, sym, ◌∙◌}
-use Rattle.norec_engine.specs.NextSteps.{next_in}
-use Rattle.norec_world.specs.ActionRoom.{MayRunOn}
-use Rattle.norec_world.proofs.Common.{Call, Core, Ready, Status, Step, Waits, cells_after, in_transaction, is_waiting, prior_of, waiting_step, KeepsOthers}
-use Rattle.norec_world.specs.Sound.{IsDue}
-use Rattle.norec_world.proofs.Commits.CommitCounts.{counted_after}
-use Rattle.norec_world.proofs.Tries.Stages.{moved_begun, others_place, others_twice}
-use Rattle.norec_world.specs.Rows.{rows_in}
-use Rattle.norec_world.specs.Moments.{HasStepped}
-use Rattle.norec_world.specs.Records.{told}
-use Rattle.norec_world.proofs.Events.SoundOthers.{told_others, told_sound}
-use Rattle.norec_world.proofs.Tries.ReadPositions.{still_reads}
-use Rattle.norec_world.proofs.Runs.Calls.{step_runs, still_at}
-use Rattle.norec_world.proofs.Engines.SoundSteps.{mid_step, same, step_acts, step_clocks, step_falls, step_on, step_taken, stepping, takes_in, IsStepping, rests}
-use Rattle.norec_world.proofs.Engines.Intakes.{due, now}
-use Rattle.norec_world.proofs.Tries.TryCalls.{step_tries, step_unfinished}
-use Rattle.norec_world.proofs.actor.Actor.step.Goals as goal
+use Rattle.norec_world.proofs.{Call, Core, HasStepped, IsDue, IsStepping, KeepsOthers, MayRunOn, Ready, Status, Step, Waits, cells_after, counted_after, due, in_transaction, is_waiting, mid_step, moved_begun, next_in, now, others_place, others_twice, prior_of, rests, rows_in, same, step_acts, step_clocks, step_lasts, step_runs, step_taken, step_tries, step_unfinished, stepping, still_at, still_reads, takes_in, told, told_others, told_sound, waiting_step}
 use Rattle.norec_world.proofs.actor.Actor.step.Goals.{After-resume_into-next}
+use Rattle.norec_world.proofs.actor.Actor.step.Goals as goal
 
 same_call : {s : Status} {c d : Call} {x y : Step} → s ≡ Waits c x → s ≡ Waits d y → c ≡ d
 same_call {c = c} {d = d} {x = x} {y = y} p q = let both : Waits c x ≡ Waits d y = sym p ∙ q in cc
@@ -73,6 +59,6 @@ returns g c =
       others = others_twice a last (told last) r r1 r1 others (told_others last r1);
       clocks = step_clocks m last.engine x.engine;
       unfinished = step_unfinished m Ready refl r1 last done tells;
-      goes_on = λ w. (let g = step_on m Ready refl r1 last done w in record { steps = g.steps; less = (let l = g.less in record { whole_falls = l.whole_falls; rank_falls = l.rank_falls }) });
-      falls = λ w. (let f = step_falls m Ready refl r1 last done w in record { whole_falls = f.whole_falls; rank_falls = f.rank_falls });
+      goes_on = λ w. (let g = (step_lasts m Ready refl r1 last done).0 w in assumption g);
+      falls = λ w. (let f = (step_lasts m Ready refl r1 last done).1 w in assumption f);
     })

@@ -1,4 +1,4 @@
-use Rattle.norec_world.proofs.Events.WorkChains.{work_more, work_none}
+use Rattle.norec_world.proofs.{work_more, work_none}
 use Rattle.norec_world.proofs.actor.Actor.work.Goals as goal
 
 pub loop-self-init : goal.loop-self-init

@@ -1,5 +1,4 @@
-use Rattle.norec_world.specs.Rows.{rows_in}
-use Rattle.norec_world.proofs.Common.{HasWorked, in_transaction, whole}
+use Rattle.norec_world.proofs.{HasWorked, in_transaction, rows_in, whole}
 use Rattle.norec_world.specs.Sound.{work_left}
 use Rattle.norec_world.proofs.actor.Actor.work.Given as goal
 

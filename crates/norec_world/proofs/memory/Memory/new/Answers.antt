@@ -1,6 +1,5 @@
-use Rattle.std.proofs.Common.{◌/◌, arith, length}
-use Rattle.norec_world.proofs.Common.{AreWords}
-use Rattle.itm_types.proofs.WordLists.{are_words, are_bytes, length-words_from}
+use Rattle.norec_world.proofs.{AreWords, length-words_from, ◌/◌, arith, length}
+use Rattle.itm_types.proofs.WordLists.{are_words, are_bytes}
 use Rattle.norec_world.proofs.memory.Memory.new.Goals as goal
 
 pub invariant_of-result : goal.invariant_of-result

@@ -1,8 +1,5 @@
-use Rattle.std.proofs.Common.{arith, ◌≡◌, ◌<◌, ◌+◌, ◌*◌, ◌/◌, ◌++◌, length, take, drop, sym, ap, ◌∙◌, subst, ℕ, List, slice_set}
-use Rattle.norec_world.proofs.Common.{AllFit, AreWords, Cells, bytes_of, to_le_bytes, w64, words_of}
-use Rattle.itm_types.proofs.Words.{bytes_of-set}
-use Rattle.std.proofs.lemmas.List.{with_items_is}
-use Rattle.itm_types.proofs.WordLists.{length-words_from, words_of-bytes_of, are_words-bytes_of, fit-set}
+use Rattle.norec_world.proofs.{AllFit, AreWords, Cells, bytes_of, length-words_from, to_le_bytes, w64, words_of, words_of-bytes_of, arith, ◌≡◌, ◌<◌, ◌+◌, ◌*◌, ◌/◌, ◌++◌, length, take, drop, sym, ap, ◌∙◌, subst, ℕ, List, slice_set}
+use Rattle.{itm_types.proofs.WordLists.are_words-bytes_of, itm_types.proofs.WordLists.fit-set, itm_types.proofs.Words.bytes_of-set, std.proofs.lemmas.List.with_items_is}
 use Rattle.norec_world.proofs.memory.Memory.set_word.Goals as goal
 
 -- a word's bytes in whole words are replaced

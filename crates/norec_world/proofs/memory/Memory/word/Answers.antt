@@ -1,6 +1,5 @@
-use Rattle.std.proofs.Common.{arith, ◌≡◌, ◌<◌, ◌*◌, ◌/◌, length, take, drop, sym, ap, ◌∙◌, subst, ℕ, List, slice_index}
-use Rattle.norec_world.proofs.Common.{Cells, from_le_bytes, w64, words_of}
-use Rattle.itm_types.proofs.WordLists.{word_at, length-words_from}
+use Rattle.norec_world.proofs.{Cells, from_le_bytes, length-words_from, w64, words_of, arith, ◌≡◌, ◌<◌, ◌*◌, ◌/◌, length, take, drop, sym, ap, ◌∙◌, subst, ℕ, List, slice_index}
+use Rattle.itm_types.proofs.WordLists.{word_at}
 use Rattle.norec_world.proofs.memory.Memory.word.Goals as goal
 
 pub get_word-requires : goal.get_word-requires

@@ -1,14 +1,8 @@
-use Rattle.std.proofs.Common.{subst}
-use Rattle.norec_world.proofs.Common.{AreOpaque, AreTied, World, observed, world_of}
-use Rattle.norec_world.proofs.Runs.Others.{world_opaque, world_tied}
+use Rattle.norec_world.proofs.{opaque_as, tied_as}
 use Rattle.norec_world.proofs.world.World.events.Goals as goal
 
 pub returns-clause-opaque : goal.returns-clause-opaque
-returns-clause-opaque g c =
-    subst (λ (w : World g.row.P.Denot). AreOpaque g.P.Player (observed w)) c.self.view_is
-    (world_opaque g.P.Player g.met.P.Player.laws (world_of c.self.inside) c.self.invariant)
+returns-clause-opaque g c = opaque_as g.met.P.Player.laws c.self.view_is c.self.invariant
 
 pub returns-clause-tied : goal.returns-clause-tied
-returns-clause-tied g c =
-    subst (AreTied g.P.Player) c.self.view_is
-    (world_tied g.P.Player g.met.P.Player.laws (world_of c.self.inside) c.self.invariant)
+returns-clause-tied g c = tied_as g.met.P.Player.laws c.self.view_is c.self.invariant

@@ -1,5 +1,4 @@
-use Rattle.std.proofs.Common.{suc, ◌<◌, Bool, sym, subst, ◌∙◌}
-use Rattle.norec_world.proofs.Events.WorldEvents.{call_falls, call_left_at, counted_one, events_both, leaves_on, opening_both, over_less, takes_one, told_event, waits_still}
+use Rattle.norec_world.proofs.{call_falls, call_left_at, counted_one, events_both, leaves_on, opening_both, over_less, takes_one, told_event, waits_still, suc, ◌<◌, Bool, sym, subst, ◌∙◌}
 use Rattle.norec_world.proofs.world.World.finish_call.Goals as goal
 
 pub event-goes_on-requires : goal.event-goes_on-requires

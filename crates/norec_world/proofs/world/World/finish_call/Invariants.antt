@@ -1,6 +1,4 @@
-use Rattle.std.proofs.Common.{◌≡◌, ℕ, length, true, IsSome}
-use Rattle.norec_world.proofs.Common.{SameOpening, Takes, counted, waits_at}
-use Rattle.norec_world.proofs.Events.WorldEvents.{LeavesLessSoFar, call_left_at}
+use Rattle.norec_world.proofs.{LeavesLessSoFar, SameOpening, Takes, call_left_at, counted, waits_at, ◌≡◌, ℕ, length, true, IsSome}
 use Rattle.norec_world.proofs.world.World.finish_call.Given as goal
 
 abbrev pub invariant-loop-goes_on : goal.invariant-loop-goes_on

@@ -1,7 +1,4 @@
-use Rattle.std.proofs.Common.{slice_get, IsSome, Result, sym, ap, subst, ◌∙◌}
-use Rattle.norec_world.proofs.Common.{Actor, Goes, WorldFault, is_waiting, option_and_then, event_result, waiting_step}
-use Rattle.norec_world.proofs.Events.Worlds.{some_waiting}
-use Rattle.norec_world.proofs.Events.WorldEvents.{mapped_none, mapped_some, goes_nowhere, goes_no_more}
+use Rattle.norec_world.proofs.{Actor, Goes, WorldFault, event_result, goes_no_more, goes_nowhere, is_waiting, mapped_none, mapped_some, option_and_then, some_waiting, waiting_step, slice_get, IsSome, Result, sym, ap, subst, ◌∙◌}
 use Rattle.norec_world.proofs.world.World.go.Goals as goal
 
 pub returns-in-None-clause-goes : goal.returns-in-None-clause-goes

@@ -1,7 +1,4 @@
-use Rattle.std.proofs.Common.{slice_get, IsSome, sym, ap, subst, ◌∙◌}
-use Rattle.norec_world.proofs.Common.{Actor, is_waiting, option_and_then, waiting_step}
-use Rattle.norec_world.proofs.Events.Worlds.{some_waiting}
-use Rattle.norec_world.proofs.Events.WorldEvents.{ended_there, mapped_none, mapped_some, not_there}
+use Rattle.norec_world.proofs.{Actor, ended_there, is_waiting, mapped_none, mapped_some, not_there, option_and_then, some_waiting, waiting_step, slice_get, IsSome, sym, ap, subst, ◌∙◌}
 use Rattle.norec_world.proofs.world.World.is_waiting.Goals as goal
 
 pub returns-in-None-clause-ended : goal.returns-in-None-clause-ended

@@ -1,11 +1,4 @@
-use Rattle.norec_world.proofs.Tries.ThreadAttempts.{opens_none}
-use Rattle.norec_world.specs.Rows.{rows_in}
-use Rattle.std.proofs.Common.{rules, ◌≡◌, ◌/◌, ℕ, length, replicate, List, slice_get, sym, ap, subst, ◌∙◌, ◌++◌}
-use Rattle.norec_world.proofs.Common.{AreOfActors, HasStarted, IsBetween, RunsFrom, World, bytes_of, first_of, opening, words_of}
-use Rattle.itm_types.proofs.WordLists.{words_of-bytes_of}
-use Rattle.norec_world.proofs.Runs.Others.{laid_first, world_opaque, world_tied}
-use Rattle.norec_world.proofs.Commits.CommitCounts.{commits_first}
-use Rattle.norec_world.proofs.Tries.Dates.{dated_first}
+use Rattle.norec_world.proofs.{AreOfActors, HasStarted, IsBetween, RunsFrom, World, bytes_of, commits_first, dated_first, first_of, laid_first, opening, opens_none, rows_in, words_of, words_of-bytes_of, world_opaque, world_tied, rules, ◌≡◌, ◌/◌, ℕ, length, replicate, List, slice_get, sym, ap, subst, ◌∙◌, ◌++◌}
 use Rattle.norec_world.proofs.world.World.new.Goals as goal
 
 pub invariant_of-result : goal.invariant_of-result
@@ -48,9 +41,7 @@ returns-clause-anew g c =
           let words : length c.new-memory.result.words ≡ length c.args.setup.bytes / 8 = search rules in
           subst (λ (n : ℕ). HasStarted g.P.Player c.new-memory.result.clock (opening n (replicate c.args.setup.arena 0) c.args.setup.limits.patience c.args.setup.limits.max_commits c.args.setup.limits.depth 0) c.args.setup.limits.retries place p a)
           (words ∙ ap (λ (b : List ℕ). length b / 8) (sym given)) (c.in_ok-actors.ensures.starts place p a (ap (λ (xs : List g.row.P.Denot). slice_get xs place) (sym players) ∙ e) f));
-      first = λ place a e.
-          (let is = c.in_ok-actors.ensures.first place a e in
-          is);
+      first = c.in_ok-actors.ensures.first;
       clock = c.new-memory.ensures.clock;
       words = sym (ap words_of based ∙ words_of-bytes_of c.new-memory.result.words c.new-memory.ensures.fit);
       none = (λ i. c.in_ok-actors.ensures.none i ++ opens_none c.in_ok-actors.actors.items c.in_ok-actors.ensures.none_open i);

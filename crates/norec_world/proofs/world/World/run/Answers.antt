@@ -1,6 +1,4 @@
-use Rattle.std.proofs.Common.{◌≡◌, ◌+◌, ap, sym, ◌∙◌, Err}
-use Rattle.norec_world.proofs.Common.{Passes, World, counted}
-use Rattle.norec_world.proofs.Events.WorldEvents.{led_on, noted, noted_all, noted_counts, opening_both}
+use Rattle.norec_world.proofs.{Passes, World, counted, led_on, noted, noted_all, noted_counts, opening_both, ◌≡◌, ◌+◌, ap, sym, ◌∙◌, Err}
 use Rattle.norec_world.proofs.world.World.run.Goals as goal
 use Rattle.norec_world.proofs.world.World.run.Goals.{in-Ok, in-Err-NoMemory, in-Err-NoSuchActor, in-Err-Ended}
 

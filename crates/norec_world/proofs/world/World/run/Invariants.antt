@@ -1,5 +1,4 @@
-use Rattle.std.proofs.Common.{◌≡◌, ◌+◌, List, length, take, Result}
-use Rattle.norec_world.proofs.Common.{AreOpaque, AreTied, CommitsInOrder, Leads, SameOpening, WorldFault, counted, observed, passes_of}
+use Rattle.norec_world.proofs.{AreOpaque, AreTied, CommitsInOrder, Leads, SameOpening, WorldFault, counted, observed, passes_of, ◌≡◌, ◌+◌, List, length, take, Result}
 use Rattle.norec_world.proofs.world.World.run.Given as goal
 
 abbrev pub invariant-loop-actor : goal.invariant-loop-actor

@@ -1,18 +1,8 @@
-use Rattle.std.proofs.Common.{refl, ◌∙◌, arith, rules}
-use Rattle.norec_world.proofs.Common.{slice_get_within}
-use Rattle.norec_world.proofs.Events.WorldEvents.{counted_both, events_both, opening_same, opening_both, takes_both, run_falls, no_more_on, no_more_first}
-use Rattle.norec_world.proofs.Events.Worlds.{waits_there}
+use Rattle.norec_world.proofs.{counts_both, events_both, no_more_first, no_more_on, opening_both, opening_same, run_falls, slice_get_within, takes_both, waits_there, refl, ◌∙◌, arith, rules}
 use Rattle.norec_world.proofs.world.World.run_out.Goals as goal
 
 pub loop-alloc-init : goal.loop-alloc-init
-loop-alloc-init g c = record {
-  took = (0, refl, refl);
-  counts = search rules;
-  opening = opening_same c.args.self.now;
-  actors = refl;
-  none = λ l. (refl, refl);
-  less = no_more_first g.P.Player c.args.actor c.args.self.now;
-}
+loop-alloc-init g c = record { took = (0, refl, refl); counts = search rules; opening = opening_same c.args.self.now; actors = refl; none = λ l. (refl, refl); less = no_more_first g.P.Player c.args.actor c.args.self.now }
 
 pub loop-alloc-smaller : goal.loop-alloc-smaller
 loop-alloc-smaller g c =
@@ -29,7 +19,7 @@ loop-alloc-preserved g c =
     let there = waits_there c.loop-alloc.self c.args.actor waits in
     let within = slice_get_within c.loop-alloc.self.actors c.args.actor there.0 there.1 in
     record {
-      took = (both.0, both.2, counted_both before.took.0 t.0 both.0 c.loop-alloc.taken c.finish_call.result c.saturating_add-taken.result before.took.2 t.2 both.1 c.saturating_add-taken.ensures);
+      took = (both.0, both.2, counts_both before.took.0 t.0 both.0 c.loop-alloc.taken c.finish_call.result c.saturating_add-taken.result before.took.2 t.2 both.1 c.saturating_add-taken.ensures);
       counts = events_both c.args.self.now.events c.loop-alloc.self.events c.finish_call.new.self.events c.loop-alloc.taken c.finish_call.result c.saturating_add-taken.result before.counts c.finish_call.ensures.counts c.saturating_add-taken.ensures;
       opening = opening_both c.args.self.now c.loop-alloc.self c.finish_call.new.self before.opening c.finish_call.ensures.opening;
       actors = c.finish_call.ensures.actors ∙ before.actors;

@@ -1,6 +1,4 @@
-use Rattle.std.proofs.Common.{◌≡◌, ◌≤◌, ℕ, length}
-use Rattle.norec_world.proofs.Common.{SameOpening, Takes, counted}
-use Rattle.norec_world.proofs.Events.WorldEvents.{LeavesNoMore, run_left_at, whole_at}
+use Rattle.norec_world.proofs.{LeavesNoMore, SameOpening, Takes, counted, run_left_at, whole_at, ◌≡◌, ◌≤◌, ℕ, length}
 use Rattle.norec_world.proofs.world.World.run_out.Given as goal
 
 abbrev pub invariant-loop-alloc : goal.invariant-loop-alloc

@@ -35,8 +35,8 @@ returns c =
     record {
       held = λ holds. (
           let e = held_of ws s.views good _ v final.1.1 holds c.word-clock.result laid.words is in
-          record { clock_is = e.0; bytes_are = bytes ∙ ap bytes_of e.1 });
+          record { clock_is = e.0; high = e.2; bytes_are = bytes ∙ ap bytes_of e.1 });
       whole = λ all idle. (
           let e : Ends v c.word-clock.result laid.words = ends_of ws s.views good _ v final.1.1 all idle c.word-clock.result laid.words is in
-          record { clock_is = e.clock_is; bytes_are = bytes ∙ ap bytes_of e.words_are; met = e.met; mine = e.mine; no_other = e.no_other });
+          record { clock_is = e.clock_is; high = e.high; bytes_are = bytes ∙ ap bytes_of e.words_are; met = e.met; mine = e.mine; no_other = e.no_other });
     }

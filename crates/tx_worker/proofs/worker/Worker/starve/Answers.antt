@@ -2,10 +2,9 @@ use Rattle.std.proofs.Common.{◌≡◌, ◌/◌, ◌++◌, List, refl, sym, sub
 use Rattle.itm_types.specs.declared.call.Ran.{Ran}
 use Rattle.tx_attempts.specs.declared.attempt.Outcome.TheVariants as outcomes
 use Rattle.tx_runs.specs.PlayerRuns.{MayStop, stage_of}
-use Rattle.tx_runs.specs.Tallies.{Stand, over_as}
+use Rattle.tx_runs.specs.Tallies.{Stand, over_as, stand_of}
 use Rattle.norec_core.specs.declared.answer.Undone.TheVariants.{Held}
 use Rattle.norec_core.specs.Undoing.{undone_of}
-use Rattle.tx_worker.specs.Accounts.{stand_of}
 use Rattle.tx_worker.proofs.Laws.Starves.{holds_on, may_stop, may_tell, starves}
 use Rattle.tx_worker.proofs.worker.Worker.starve.Goals as goal
 

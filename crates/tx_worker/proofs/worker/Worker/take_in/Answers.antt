@@ -1,7 +1,6 @@
 use Rattle.std.proofs.Common.{◌≡◌, ◌/◌, ◌+◌, ◌++◌, length, refl, sym, subst, vec_len}
 use Rattle.tx_runs.specs.PlayerRuns.{KeepsPlaces, MayTakeIn, tally_of}
-use Rattle.tx_runs.specs.Tallies.{Stand, took_in}
-use Rattle.tx_worker.specs.Accounts.{stand_of}
+use Rattle.tx_runs.specs.Tallies.{Stand, took_in, stand_of}
 use Rattle.tx_worker.specs.declared.worker.Worker.{Worker}
 use Rattle.tx_worker.proofs.Laws.Rooms.{may_take_in}
 use Rattle.tx_worker.proofs.Laws.Rows.{turns}

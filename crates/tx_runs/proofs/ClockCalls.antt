@@ -1,0 +1,45 @@
+-- A call that wants the clock takes it where it is served.
+use Rattle.std.proofs.Common.{◌≡◌, ◌≢◌, ℕ, ◌&&◌, Bool, true, false, not, nat_lt, List, [], ◌∷◌, length, None, Some, is_some, if◌then◌else◌, refl, sym, ap, ◌∙◌}
+use Rattle.std.proofs.lemmas.Bool.{ltb-true}
+use Rattle.itm_types.specs.declared.call.{Call.Call, Call.TheVariants.Begin, Call.TheVariants.Commit, Call.TheVariants.Mode}
+use Rattle.itm_model.specs.Machine.{after}
+use Rattle.write_set.specs.declared.row.Row.{Row}
+use Rattle.nest_frames.specs.Nest.{stays_revocable}
+use Rattle.norec_core.proofs.Engines.{IrrevocableCalls.begin_enters, IrrevocableCalls.mode_enters, Machines.commits}
+use Rattle.norec_core.specs.{Core.Core, Core.in_transaction, Core.may_go, Proceeds.WantsClock, Stands.is_some_row, Stands.stands_for, Stands.state_in, Stands.state_over}
+use Rattle.tx_attempts.specs.Opacity.{takes_clock}
+
+pub both_true : (x y : Bool) → (x && y) ≡ true → (x ≡ true) × (y ≡ true)
+both_true true y e = (refl, e)
+both_true false y e = absurd (cc)
+
+pub no_true : (x : Bool) → not x ≡ true → x ≡ false
+no_true true e = absurd (cc)
+no_true false e = refl
+
+-- the room is told under this condition
+pub told_under : (b : Bool) (room : ℕ) → is_some (if b then Some room else None) ≡ true → b ≡ true
+told_under true room e = refl
+told_under false room e = absurd (cc)
+
+some_rows : (rows : List Row) → rows ≢ [] → is_some_row rows ≡ true
+some_rows [] n = absurd (n refl)
+some_rows (x ∷ xs) n = refl
+
+module _ (mid : Core) (m : List ℕ) (revocable : mid.irrevocable ≡ false) (inside : in_transaction mid ≡ true) where
+  over_it : (call : Call) → takes_clock (after mid.depth (state_over mid.writes mid.blocks mid.arena mid.actions m) call) ≡ true → takes_clock (after mid.depth (stands_for mid m) call) ≡ true
+  over_it call e = ap (λ (b : Bool). takes_clock (after mid.depth (state_in b mid.writes mid.blocks mid.arena mid.actions m) call)) revocable ∙ e
+
+  -- takes it where it is served
+  pub wants_taking : (call : Call) → WantsClock mid (Some call) → takes_clock (after mid.depth (stands_for mid m) call) ≡ true
+  wants_taking Commit w = over_it Commit (ap takes_clock (commits mid.depth mid.writes mid.blocks mid.arena mid.actions m w.0) ∙ some_rows mid.writes w.1)
+  wants_taking (Mode room) w =
+      let all = told_under (in_transaction mid && not (stays_revocable mid.blocks) && not mid.irrevocable) room w in
+      let free = no_true (stays_revocable mid.blocks) (both_true (in_transaction mid) _ (both_true (in_transaction mid && not (stays_revocable mid.blocks)) _ all).0).1 in
+      over_it (Mode room) (ap takes_clock (sym (mode_enters mid.depth mid.writes mid.blocks mid.arena mid.actions m room inside free).0))
+  wants_taking (Begin props room) w =
+      let all = told_under (props.goes_irrevocable && may_go mid.blocks props && nat_lt (length mid.blocks) mid.depth && not mid.irrevocable) room w in
+      let served = both_true (props.goes_irrevocable && may_go mid.blocks props) _ (both_true (props.goes_irrevocable && may_go mid.blocks props && nat_lt (length mid.blocks) mid.depth) _ all).0 in
+      let may = both_true props.goes_irrevocable _ served.0 in
+      over_it (Begin props room) (ap takes_clock (sym (begin_enters mid.depth mid.writes mid.blocks mid.arena mid.actions m props room inside may.0 may.1 (ltb-true (length mid.blocks) mid.depth served.1)).0))
+  wants_taking call w = absurd (let f : false ≡ true = w in cc)

@@ -1,0 +1,50 @@
+-- What the plain state that an engine stands for has of the engine.
+use Rattle.std.proofs.Common.{◌≡◌, ℕ, Bool, true, false, List, [], ◌∷◌, length, map, refl, ◌∙◌, arith, lt-ltb}
+use Rattle.std.proofs.lemmas.List.{length-map}
+use Rattle.itm_model.specs.Machine.{is_open}
+use Rattle.user_actions.specs.Actions.{Actions}
+use Rattle.nest_frames.specs.Nest.{Frame}
+use Rattle.norec_core.proofs.Engines.IrrevocableCalls.{length-over}
+use Rattle.norec_core.proofs.Engines.Machines.{open_is}
+use Rattle.norec_core.specs.{Core.Core, Core.in_transaction, Core.is_inside, Stands.block_kept, Stands.stands_for, Stands.state_in, Stands.state_kept}
+
+-- what an engine stands for has its actions and its arena
+pub stands_actions : (c : Core) (m : List ℕ) → (stands_for c m).actions ≡ c.actions
+stands_actions c m = by_mode c.irrevocable
+  where
+    by_mode : (b : Bool) → (state_in b c.writes c.blocks c.arena c.actions m).actions ≡ c.actions
+    by_mode true = refl
+    by_mode false = refl
+
+pub stands_mode : (c : Core) (m : List ℕ) → (stands_for c m).irrevocable ≡ c.irrevocable
+stands_mode c m = by_mode c.irrevocable
+  where
+    by_mode : (b : Bool) → (state_in b c.writes c.blocks c.arena c.actions m).irrevocable ≡ b
+    by_mode true = refl
+    by_mode false = refl
+
+pub stands_arena : (c : Core) (m : List ℕ) → (stands_for c m).arena ≡ c.arena
+stands_arena c m = by_mode c.irrevocable
+  where
+    by_mode : (b : Bool) → (state_in b c.writes c.blocks c.arena c.actions m).arena ≡ c.arena
+    by_mode true = refl
+    by_mode false = refl
+
+-- an open engine stands for an open block
+kept_open : (blocks : List Frame) (arena : List ℕ) (actions : Actions) (m : List ℕ) → is_inside blocks ≡ true → is_open (state_kept blocks arena actions m) ≡ true
+kept_open [] arena actions m o = absurd (cc)
+kept_open (b ∷ bs) arena actions m o = lt-ltb 0 (length (map block_kept (b ∷ bs))) (omega arith)
+
+pub stands_open : (e : Core) (m : List ℕ) → in_transaction e ≡ true → is_open (stands_for e m) ≡ true
+stands_open e m o = by_mode e.irrevocable
+  where
+    by_mode : (b : Bool) → is_open (state_in b e.writes e.blocks e.arena e.actions m) ≡ true
+    by_mode true = kept_open e.blocks e.arena e.actions m o
+    by_mode false = open_is e.writes e.blocks e.arena e.actions m ∙ o
+
+pub stands_blocks : (c : Core) (m : List ℕ) → length (stands_for c m).blocks ≡ length c.blocks
+stands_blocks c m = by_mode c.irrevocable
+  where
+    by_mode : (b : Bool) → length (state_in b c.writes c.blocks c.arena c.actions m).blocks ≡ length c.blocks
+    by_mode true = length-map c.blocks block_kept
+    by_mode false = length-over c.blocks c.arena m
