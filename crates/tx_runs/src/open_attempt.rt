@@ -135,6 +135,7 @@ impl OpenAttempt {
     }
 
     /// The attempt as it ends, at this position, with these actions, of which it has the first ones already.
+    #[inline(always)]
     pub(crate) fn end(self, outcome: Outcome, at: u64, ran: &[Ran]) -> Attempt
         requires first { IsBeginningOf self.row.ran ran.now }
         requires room { length ran.now ≤ self.ends }

@@ -66,6 +66,7 @@ impl<P: Player> PlayerRun<P> {
     }
 
     /// The attempt that an outermost begin is to open, with room for so many calls and as many actions.
+    #[inline(always)]
     pub fn attempt(
         &self,
         alloc: Global,
@@ -194,6 +195,7 @@ impl<P: Player> PlayerRun<P> {
     }
 
     /// The begin is over: the attempt is open, or the begin was refused.
+    #[inline(always)]
     fn begun(&mut self, is_open: bool, at: u64)
         requires { (o : Open) × (self.old.current ≡ Begins o) }
         ensures taken { (o : Open) (s : Stand) → self.old.current ≡ Begins o → s.is_open ≡ is_open → s.at ≡ at
@@ -211,6 +213,7 @@ impl<P: Player> PlayerRun<P> {
     }
 
     /// The block has ended, and the next one is tried for the first time.
+    #[inline(always)]
     fn close(&mut self, ended: &mut Vec<Attempt>, outcome: Outcome, at: u64, ran: &[Ran])
         requires room { MayStop at ran.now self.old.current }
         requires place { MayTell self.old.current ended.old }
@@ -229,6 +232,7 @@ impl<P: Player> PlayerRun<P> {
 
     /// The open attempt is over, at this position, with these actions that have run in it; one that is to be opened is not
     /// told.
+    #[inline(always)]
     pub fn stop(&mut self, ended: &mut Vec<Attempt>, outcome: Outcome, at: u64, ran: &[Ran])
         requires room { MayStop at ran.now self.old.current }
         requires place { MayTell self.old.current ended.old }
@@ -244,6 +248,7 @@ impl<P: Player> PlayerRun<P> {
     }
 
     /// The block is tried again, where it may be.
+    #[inline(always)]
     fn retry(&mut self) -> Option<End>
         requires { (self.old.nth ≤ self.old.retries + 1) × (self.old.retries ≤ MAX_RETRIES) }
         ensures end { result ≡ (if nat_lt self.old.retries self.old.nth then Some GaveUp else None) }
