@@ -6,6 +6,7 @@ ghost use Rattle.user_actions.specs.Actions.{total};
 ghost use Rattle.norec_core.specs.Proceeds.{IsUndone};
 ghost use Rattle.norec_core.specs.Restarts.{IsRestart};
 ghost use Rattle.norec_core.specs.Undoing.{after_undoing, undone_of};
+ghost use Rattle.norec_engine.specs.RestartingCalls.{can_restart};
 ghost use Rattle.shared_words.specs.Passes.{Owns, view_of, cells_of};
 ghost use Rattle.itm_runtime.specs.Ties.{Stands};
 ghost use Rattle.itm_runtime.specs.CallResults.{IsAnswered, Returns};
@@ -230,6 +231,14 @@ impl Thread {
         ensures { result ≡ irrevocable_room self.now.engine call.now }
     {
         self.engine.irrevocable_room(call)
+    }
+
+    /// Whether the innermost block may go back to its begin by the call: it is within another one, a restart is left, and the
+    /// call reads shared bytes or takes the clock.
+    pub fn can_restart(&self, call: &Call) -> bool
+        ensures { result ≡ can_restart self.now.engine call.now }
+    {
+        self.engine.can_restart(call)
     }
 
     /// How many actions there are in all: those that are registered, and those that have come to run. Takes no memory.

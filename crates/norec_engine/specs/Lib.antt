@@ -2,3 +2,4 @@ pub mod Modes
 pub mod NextSteps
 pub mod FastCalls
 pub mod WholeReads
+pub mod RestartingCalls

@@ -6,10 +6,12 @@ ghost use Rattle.norec_core.specs.Core.{in_transaction, opening, irrevocable_roo
 ghost use Rattle.norec_core.specs.Proceeds.{IsUndone, Fits};
 ghost use Rattle.norec_data.specs.View.{phase_of};
 ghost use Rattle.norec_engine.specs.Modes.{IsSoundIn};
+ghost use Rattle.norec_engine.specs.RestartingCalls.{can_restart};
 ghost use Rattle.norec_core.specs.Undoing.{undone_of, after_undoing};
 ghost use Rattle.norec_engine.specs.NextSteps.{next_in, ComesInto};
 ghost use Rattle.norec_core.specs.Moves.{IsResumed};
 
+use crate::restarting::may_validate;
 use crate::turns;
 use crate::turns::take;
 use itm_types::{
@@ -258,6 +260,18 @@ impl Engine {
         } else {
             norec_revocable::irrevocable_room(&self.state, call)
         }
+    }
+
+    /// Whether the innermost block may go back to its begin by the call: it is within another one, a restart is left, and the
+    /// call reads shared bytes or takes the clock.
+    #[inline(always)]
+    pub fn can_restart(&self, call: &Call) -> bool
+        ensures { result ≡ can_restart self.now call.now }
+    {
+        self.state.restarted < self.state.limits.restarts
+            && !self.irrevocable
+            && self.state.frames.depth() > 1
+            && may_validate(call)
     }
 
     /// The thread's private bytes.

@@ -5,6 +5,7 @@
 mod engine;
 mod fast_path;
 mod next;
+mod restarting;
 mod turns;
 
 pub use engine::Engine;

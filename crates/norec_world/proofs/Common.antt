@@ -58,7 +58,7 @@ pub use Rattle.norec_world.specs.Records.{Asks as AsksOf, ReadsAt, Records, stat
 pub use Rattle.norec_world.specs.Rows.{AreFrom, AreOpen, AreUnfinished, Rows, rows_in}
 pub use Rattle.norec_world.specs.Runs.{IsBeforeTry, IsInTry, IsRun, ReadsFrom, RunsFrom, StillRuns}
 pub use Rattle.norec_world.specs.Sound.{AnswerFits, BeginsAt, Falls, GoesOn, HasLess, HasRow, IsAnswered, IsAsked, IsDone, IsDue, IsKept, IsNoMore, IsReady, IsSettledBy, IsSound, IsTied, IsUnasked, IsWaiting, rank, RestsAs, run_left, StatusIs, steps_left, WritesDown}
-pub use Rattle.norec_world.specs.Stages.{active_of, AllOf, begun_in, cancels_in, count_all, count_in, count_of, ends_in, KeepsOthers, moved_to, open_in, pending_of, with_open, with_room}
+pub use Rattle.norec_world.specs.Stages.{active_of, AllOf, begun_in, cancels_in, count_all, count_in, count_of, ends_in, KeepsOthers, moved_to, open_in, pending_of, points_in, with_open, with_room}
 pub use Rattle.norec_world.specs.Starts.{HasStarted, IsFirst}
 pub use Rattle.norec_world.specs.Status.{ending_of, is_ready, is_waiting, waiting_step}
 pub use Rattle.norec_world.specs.Tied.{AreTied}
@@ -100,6 +100,7 @@ pub use Rattle.tx_runs.specs.declared.ending.End.TheVariants.{Finished, GaveUp, 
 pub use Rattle.tx_runs.specs.declared.player_run.Current.{Current}
 pub use Rattle.tx_runs.specs.declared.player_run.Current.TheVariants.{Begins, Outside, Within}
 pub use Rattle.tx_runs.specs.declared.player_run.PlayerRun.{PlayerRun}
+pub use Rattle.tx_runs.specs.declared.savepoint.Savepoint.{Savepoint}
 pub use Rattle.user_actions.specs.Actions.{Actions, total}
 pub use Rattle.write_set.specs.Rows.{overlay}
 pub use Rattle.write_set.specs.declared.row.Row.{Row}

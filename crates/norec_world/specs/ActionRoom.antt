@@ -1,12 +1,15 @@
 -- The actions of an actor's transaction: which of them have run, and the places for those that are to run. And the places for its calls.
 use Rattle.std.specs.Prelude.{◌≡◌, ℕ, ◌+◌, ◌-◌, ◌<◌, ◌≤◌, ◌||◌, max, if◌then◌else◌, Bool, true, false, [], length, is_some, Option, None, Some, unwrap_or}
-use Rattle.itm_types.specs.Calls.{is_abort, registered_by}
+use Rattle.itm_types.specs.Calls.{is_abort, is_begin, registered_by}
 use Rattle.user_actions.specs.Actions.{total}
 use Rattle.norec_core.specs.Core.{Core, irrevocable_room, in_transaction}
 use Rattle.itm_types.specs.declared.call.Call.{Call}
+use Rattle.norec_engine.specs.RestartingCalls.{can_restart}
 use Rattle.norec_core.specs.declared.answer.Next.{Next}
 use Rattle.norec_core.specs.declared.answer.Next.TheVariants.{Step, Answer}
 use Rattle.tx_attempts.specs.declared.attempt.Attempt.{Attempt}
+use Rattle.tx_runs.specs.declared.player_run.Current.{Current}
+use Rattle.tx_runs.specs.declared.player_run.Current.TheVariants.{Begins, Outside, Within}
 use Rattle.norec_world.specs.declared.actor.Actor.{Actor}
 use Rattle.norec_world.specs.declared.actor.Status.{Status}
 use Rattle.norec_world.specs.declared.actor.Status.TheVariants.{Ready, Waits, Ended}
@@ -36,6 +39,31 @@ promised e = if e.irrevocable then e.room else 0
 abbrev pub wanted : Core → ℕ
 wanted e = unwrap_or (goes_in e e.doing) 0
 
+-- the bytes of the arena, where the innermost block may run again by the call
+abbrev pub arena_ahead : Core → Call → Option ℕ
+arena_ahead e call = if can_restart e call then Some (length e.arena) else None
+
+-- how many inner blocks the call opens at most
+abbrev pub opened_by : Call → ℕ
+opened_by call = if is_begin call then 1 else 0
+
+-- each call that the list has a place for may begin a block, and so may the call in progress: there is a place for where it began
+abbrev pub NestsBy : Call → Current → Type 0
+NestsBy call Outside = Unit {0}
+NestsBy call (Begins o) = o.row.calls.room ≤ o.deep
+NestsBy call (Within o) = length o.points + o.row.calls.room + opened_by call ≤ o.deep + 1
+
+-- likewise between two calls
+abbrev pub NestsReady : Current → Type 0
+NestsReady Outside = Unit {0}
+NestsReady (Begins o) = Unit {0}
+NestsReady (Within o) = length o.points + o.row.calls.room ≤ o.deep
+
+abbrev pub NestsAs : Status → Current → Type 0
+NestsAs Ready c = NestsReady c
+NestsAs (Waits call step) c = NestsBy call c
+NestsAs (Ended end) c = Unit {0}
+
 -- the actions of the open transaction
 abbrev pub counted : Core → ℕ
 counted e = if in_transaction e then total e.actions else 0
@@ -56,6 +84,10 @@ module _ {P : Type 0} where
   abbrev pub HasRoomFor : Core → Actor P → Type 0
   HasRoomFor e a = is_held e ≡ true → 0 < e.room → (counted e + e.room ≤ ends_in a.run.current) × (counted e + e.room ≤ cancels_in a.run.current)
 
+  -- no block of the actor's open attempt, if it has one, has run again
+  abbrev pub NeverRestarts : Actor P → Type 0
+  NeverRestarts a = (row : Attempt) → active_of a ≡ Some row → row.restarts ≡ []
+
   -- the actor's open attempt, if it has one, has the actions that have run
   abbrev pub HasAll : Actor P → Type 0
   HasAll a = (row : Attempt) → active_of a ≡ Some row → row.ran ≡ a.engine.actions.ran
@@ -72,9 +104,9 @@ module _ {P : Type 0} where
   abbrev pub HasCancelPlaces : Actor P → Type 0
   HasCancelPlaces a = in_transaction a.engine ≡ true → (row : Attempt) → active_of a ≡ Some row → length row.ran < length a.engine.actions.ran → length a.engine.actions.ran ≤ cancels_in a.run.current
 
-  -- none has run in an attempt that is to be opened
+  -- none has run in an attempt that is to be opened, and no block
   abbrev pub StartsEmpty : Actor P → Type 0
-  StartsEmpty a = (row : Attempt) → pending_of a ≡ Some row → row.ran ≡ []
+  StartsEmpty a = (row : Attempt) → pending_of a ≡ Some row → (row.ran ≡ []) × (row.restarts ≡ [])
 
   -- there are none where the transaction has just begun
   abbrev pub BeginsEmpty : Actor P → Type 0
@@ -97,24 +129,28 @@ module _ {P : Type 0} where
   -- between two calls, or in one
   pub record IsActing (a : Actor P) : Type 0 where
     pub all : HasAll a
+    pub whole : NeverRestarts a
     pub places : HasPlaces a
     pub pending : StartsEmpty a
     pub status : NoCancel a.status
     pub room : HasRoomFor a.engine a
     pub backed : IsBacked a a.status
     pub asks : AsksAs a a.status
+    pub nests : NestsAs a.status a.run.current
 
   -- memory was refused to a call of it
   pub record IsRefused (a : Actor P) : Type 0 where
     pub all : HasAll a
+    pub whole : NeverRestarts a
     pub places : HasPlaces a
     pub nothing : pending_of a ≡ None
     pub room : HasRoomFor a.engine a
     pub backed : (row : Attempt) → active_of a ≡ Some row → a.engine.irrevocable ≡ true → row.calls.room ≤ max (promised a.engine) 1
 
-  -- a call is answered, and nothing is recorded of that yet
-  pub record MayRun (a : Actor P) : Type 0 where
+  -- the call is answered, and nothing is recorded of that yet
+  pub record MayRun (a : Actor P) (call : Call) : Type 0 where
     pub first : HasFirst a
+    pub whole : NeverRestarts a
     pub places : HasPlaces a
     pub cancel_places : HasCancelPlaces a
     pub pending : StartsEmpty a
@@ -125,8 +161,9 @@ module _ {P : Type 0} where
     pub place : (row : Attempt) → active_of a ≡ Some row → 0 < row.calls.room
     pub adds : in_transaction a.engine ≡ true → (row : Attempt) → active_of a ≡ Some row → row.calls.room - 1 ≤ promised a.engine
     pub opens : in_transaction a.engine ≡ true → (row : Attempt) → pending_of a ≡ Some row → row.calls.room ≤ promised a.engine
+    pub nests : NestsBy call a.run.current
 
   -- what the engine gave for the call is to be recorded
   abbrev pub MayRunOn : Actor P → Call → Next → Type 0
   MayRunOn a call (Step step) = IsActing (record a { status = Waits call step })
-  MayRunOn a call (Answer answer) = MayRun a
+  MayRunOn a call (Answer answer) = MayRun a call

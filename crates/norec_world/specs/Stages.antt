@@ -4,6 +4,7 @@ use Rattle.itm_types.specs.declared.limits.TheConstants.{MAX_ACTORS}
 use Rattle.tx_attempts.specs.declared.attempt.Attempt.{Attempt}
 use Rattle.tx_runs.specs.declared.player_run.Current.{Current}
 use Rattle.tx_runs.specs.declared.player_run.Current.TheVariants.{Outside, Begins, Within}
+use Rattle.tx_runs.specs.declared.savepoint.Savepoint.{Savepoint}
 use Rattle.tx_runs.specs.PlayerRuns.{stage_of}
 use Rattle.tx_runs.specs.Tallies.{Stage, outside, begins, within}
 use Rattle.norec_world.specs.declared.actor.Actor.{Actor}
@@ -15,13 +16,19 @@ use Rattle.norec_world.specs.Rows.{Rows}
 abbrev pub open_in : Stage → Option Attempt
 open_in outside = None
 open_in (begins row) = None
-open_in (within row) = Some row
+open_in (within row points) = Some row
+
+-- where the inner blocks of the open one began, the innermost first
+abbrev pub points_in : Stage → List Savepoint
+points_in outside = []
+points_in (begins row) = []
+points_in (within row points) = points
 
 -- the one that the begin in progress is to open
 abbrev pub begun_in : Stage → Option Attempt
 begun_in outside = None
 begun_in (begins row) = Some row
-begun_in (within row) = None
+begun_in (within row points) = None
 
 -- of an actor
 abbrev pub active_of : {P : Type 0} → Actor P → Option Attempt
@@ -40,7 +47,7 @@ moved_to at (Within o) = Within (record o { row = record o.row { at = at } })
 abbrev pub with_room : ℕ → Stage → Stage
 with_room room outside = outside
 with_room room (begins row) = begins row
-with_room room (within row) = within (record row { calls = record row.calls { room = room } })
+with_room room (within row points) = within (record row { calls = record row.calls { room = room } }) points
 
 -- the open attempts of these actors, by actor
 abbrev pub with_open : Option Attempt → List Attempt → List Attempt
@@ -69,7 +76,7 @@ cancels_in (Within o) = o.cancels
 abbrev pub count_in : Stage → ℕ
 count_in outside = 0
 count_in (begins row) = 1
-count_in (within row) = 1
+count_in (within row points) = 1
 
 abbrev pub count_of : {P : Type 0} → Actor P → ℕ
 count_of a = count_in (stage_of a.run.current)

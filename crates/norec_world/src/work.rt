@@ -115,16 +115,18 @@ impl<P: Player> Actor<P> {
     #[inline(always)]
     pub(crate) fn settle(&mut self, ended: &mut Vec<Attempt>, call: Call, answer: Answer)
         requires answered { MayRecord P.Player self.old call (Answers answer) }
-        requires acts { MayRun self.old }
+        requires acts { MayRun self.old call }
         requires place { count_of self.old ≤ (rows_in ended.old).room }
         ensures acts { IsActing self.new }
         ensures recorded { WritesDown P.Player (rows_in ended.old) self.old call (Answers answer) (rows_in ended.new) self.new }
     {
         let is_open = self.engine.is_open();
         let at = self.engine.snapshot() / 2;
+        let ran = self.engine.due();
+        let arena = self.engine.arena().bytes();
         let end = self
             .run
-            .take_in(ended, call, answer, is_open, at, self.engine.due());
+            .take_in(ended, call, answer, is_open, at, ran, arena);
         if let Some(end) = end {
             self.status = Status::Ended(end);
         }

@@ -3,7 +3,7 @@ use Rattle.std.proofs.Common.{◌≡◌, ℕ, zero, suc, ◌<◌, Bool, true, fa
 use Rattle.std.specs.Prelude.{nat_lt, ◌==◌, if◌then◌else◌, slice_get}
 use Rattle.std.proofs.lemmas.List.{take-append-le}
 use Rattle.std.proofs.lemmas.Option.{slice_get_within}
-use Rattle.std.proofs.lemmas.Bool.{eq-eqb, ltb-false, ltb-true, ne_eqb}
+use Rattle.std.proofs.lemmas.Bool.{eq-eqb, lt-ltb, ltb-false, ltb-true, ne_eqb}
 use Rattle.itm_model.specs.State.{State}
 use Rattle.itm_model.specs.Machine.{after}
 use Rattle.itm_model.specs.Runs.{Breaks, later, state_after}
@@ -11,7 +11,7 @@ use Rattle.tx_player.specs.Rules.{Rules}
 use Rattle.tx_attempts.specs.declared.attempt.Again.{Again}
 use Rattle.tx_attempts.specs.declared.attempt.CallRecord.{CallRecord}
 use Rattle.tx_attempts.specs.Alone.{IsAlone, state_then}
-use Rattle.tx_attempts.specs.Restarts.{AreAgain, AtEach, IsAgain, IsInnerBegin, again_at, arena_set, breaks_in, breaks_of, run_on, with_again}
+use Rattle.tx_attempts.specs.Restarts.{AreAgain, AtEach, IsAgain, IsInnerBegin, again_at, arena_set, before, breaks_in, breaks_of, run_on, with_again}
 use Rattle.tx_attempts.proofs.AloneCalls.{state_snoc}
 
 -- ## With no record
@@ -77,7 +77,7 @@ module _ (a : Again) where
       by_place true e last = rw e (ap (λ (o : Option Again). if r.kept == n then Some r else o) last)
       by_place false e last = rw (e, ne_eqb r.kept n (λ f. (let g = ltb-false r.kept a.kept e in omega arith))) last
 
-  alike_before : (does : Option Again → State → State) (rs : List Again) → AreAlike a.kept (by does rs) (by does (with_again a rs))
+  pub alike_before : (does : Option Again → State → State) (rs : List Again) → AreAlike a.kept (by does rs) (by does (with_again a rs))
   alike_before does rs n l u s = ap (λ (o : Option Again). does o s) (sym (again_before n u rs))
 
   -- where the calls up to its begin lead is where they led, once it has run again
@@ -127,6 +127,16 @@ none_past size from calls (r ∷ rest) n l h =
     let first = h.0 in
     let there = is_within calls first.place (slice_get calls first.place) refl first.begins in
     rw (ne_eqb r.kept n (λ e. (let k = first.kept in omega arith))) (none_past size r.kept calls rest n l h.2)
+
+-- so each stands before the next one
+pub all_before : (size from : ℕ) (calls : List CallRecord) (rs : List Again) → AreAgain size from calls rs → before (suc (length calls)) rs ≡ rs
+all_before size from calls [] h = refl
+all_before size from calls (r ∷ rest) h =
+    let first = h.0 in
+    let there = is_within calls first.place (slice_get calls first.place) refl first.begins in
+    let k = first.kept in
+    ap (λ (b : Bool). if b then r ∷ before (suc (length calls)) rest else before (suc (length calls)) rest) (lt-ltb r.kept (suc (length calls)) (omega arith))
+    ∙ ap (λ (xs : List Again). r ∷ xs) (all_before size r.kept calls rest h.2)
 
 -- so one call more leads on from where they led
 more_by : (does : Option Again → State → State) (size deepest : ℕ) (rs : List Again) (s : State) (xs : List CallRecord) (x : CallRecord) → AreAgain size 0 xs rs

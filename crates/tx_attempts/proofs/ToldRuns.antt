@@ -10,7 +10,7 @@ use Rattle.itm_types.specs.declared.call.Refusal.{Refusal}
 use Rattle.itm_types.specs.declared.copy.CopyPair.{CopyPair}
 use Rattle.itm_types.specs.declared.copy.CopyPair.TheVariants.{Out, In, Within}
 use Rattle.itm_model.specs.State.{Block, Saved, State}
-use Rattle.itm_model.specs.Machine.{after, after_unless, answer, back_from, closed_actions, closed_in, closed_irrevocable, effect, is_clear, is_open, made_irrevocable, opened, or_else, pushed, refusal, reply, reply_unless, rolled_back, source_bytes, source_range, standing, target_range, target_written, undone_from, unless, with_action}
+use Rattle.itm_model.specs.Machine.{after, after_unless, answer, back_from, closed_actions, closed_in, closed_irrevocable, effect, is_clear, is_open, made_irrevocable, opened, or_else, outside, pushed, refusal, reply, reply_unless, rolled_back, source_bytes, source_range, standing, target_range, target_written, undone, undone_from, unless, with_action}
 use Rattle.user_actions.specs.Actions.{as_commit, as_undo}
 use Rattle.itm_types.specs.declared.call.ActionKind.TheVariants as kinds
 use Rattle.itm_types.specs.declared.call.Refusal.TheVariants.{Overlap}
@@ -48,6 +48,10 @@ adds_undone (b ∷ bs) s =
     let first = adds_rolled bs b.saved s in
     let rest = adds_undone bs (rolled_back s bs b.saved) in
     (first.0 ++ rest.0, λ ran. ap (λ (t : State). undone_from t bs) (first.1 ran) ∙ (rest.1 (ran ++ first.0) ∙ ap (telling (undone_from (rolled_back s bs b.saved) bs)) (append_assoc ran first.0 rest.0)))
+
+-- every open block is rolled back
+pub adds_given_up : (s : State) → Adds undone s
+adds_given_up s = (let f = adds_undone s.blocks s in (f.0, λ ran. f.1 ran))
 
 adds_back : (blocks : List Block) (s : State) → Adds (λ t. back_from t blocks) s
 adds_back [] s = none_added (λ t. t) s (λ ran. refl)
@@ -172,3 +176,16 @@ opened_by true props s i e = rw i (λ k. made_irrevocable (record (pushed s prop
     none : [] ≡ s.actions.ran
     none = sym e
 opened_by false props s i e = (let none = sym e in λ k. record (pushed s props) { actions = record s.actions { ran = none k } })
+
+pub opened_told : (memory arena : List ℕ) (props : Props) → telling (opened memory arena props) [] ≡ opened memory arena props
+opened_told memory arena props = opened_by props.goes_irrevocable props (outside memory arena) refl refl
+
+-- calls that are made alone as it was for the engine are so as it is told, and lead to the same but for that
+module _ {P : Type 0} (rules : Rules P) (deepest : ℕ) (rs : List Again) (p : P) (memory arena : List ℕ) (props : Props) (xs : List CallRecord) (h : IsAlone rules deepest (breaks_in rs) p (opened memory arena props) xs) where
+  pub told_alone : IsAlone rules deepest (breaks_of rs) p (opened memory arena props) xs
+  told_alone = subst (λ (s : State). IsAlone rules deepest (breaks_of rs) p s xs) (opened_told memory arena props) (alone_told rules deepest (breaks_of rs) (breaks_in rs) (records_match rs) p (opened memory arena props) [] xs h)
+
+  pub told_state : (told : List Ran) × (state_then deepest (breaks_of rs) (opened memory arena props) xs ≡ telling (state_then deepest (breaks_in rs) (opened memory arena props) xs) told)
+  told_state =
+      let t = state_told rules deepest (breaks_of rs) (breaks_in rs) (records_match rs) p (opened memory arena props) [] xs h in
+      (t.0, ap (λ (s : State). state_then deepest (breaks_of rs) s xs) (sym (opened_told memory arena props)) ∙ t.1)

@@ -1,6 +1,7 @@
 //! What the tries of transactions did.
 
-use crate::lists::{Bytes, Calls, RanActions, Restarts};
+use crate::lists::{Bytes, Calls, RanActions};
+use crate::restarts::Restarts;
 use itm_types::{Call, Props, Reply};
 
 /// How an attempt stands.

@@ -3,6 +3,10 @@
 
 mod attempt;
 mod lists;
+mod restarts;
+mod undone;
 
 pub use attempt::{Again, Attempt, CallRecord, Outcome};
-pub use lists::{Attempts, Bytes, Calls, RanActions, Restarts};
+pub use lists::{Attempts, Bytes, Calls, RanActions};
+pub use restarts::{AgainRoom, Restarts};
+pub use undone::{count_undone, undone_before};

@@ -1,9 +1,8 @@
 //! Lists that contracts compare by what stands in them.
 
-ghost use Rattle.std.specs.Prelude.{◌≡◌, ◌<◌, ◌≤◌, ◌+◌, ◌∷◌, [], ◌++◌, length, vec_len, vec_capacity, IfOk, OnErr, OnOk};
-ghost use Rattle.tx_attempts.specs.Beginnings.{IsBeginningOf};
+ghost use Rattle.std.specs.Prelude.{◌≡◌, ◌<◌, ◌≤◌, ◌+◌, ◌∷◌, [], ◌++◌, length, take, vec_len, vec_capacity, IfOk, OnErr, OnOk};
 
-use crate::attempt::{Again, Attempt, CallRecord};
+use crate::attempt::{Attempt, CallRecord};
 use itm_types::Ran;
 use std::alloc::{AllocError, Global};
 use std::marker::Model;
@@ -130,6 +129,13 @@ impl Calls {
         self.room -= 1;
     }
 
+    /// The first ones alone, so many. What is promised still is.
+    pub fn cut(&mut self, kept: usize)
+        ensures { self.new ≡ record self.old { list = take kept self.old.list } }
+    {
+        self.items.truncate(kept);
+    }
+
     /// No place is promised any more.
     pub fn give_up_room(&mut self)
         ensures { self.new ≡ spent self.old }
@@ -222,80 +228,36 @@ impl RanActions {
         Ok(())
     }
 
-    /// All of these, of which the first ones are there already. There is room for them in `spare`, to which they move.
-    pub fn grow(&mut self, spare: &mut Vec<Ran>, all: &[Ran])
-        requires first { IsBeginningOf self.old all.now }
+    /// These come behind it. There is room for all in `spare`, to which they move.
+    pub fn grow(&mut self, spare: &mut Vec<Ran>, more: &[Ran])
         requires empty { spare.old.items ≡ [] }
-        requires room { length self.old < length all.now → length all.now ≤ vec_capacity spare.old }
-        ensures all { self.new ≡ all.now }
+        requires room { 0 < length more.now → length self.old + length more.now ≤ vec_capacity spare.old }
+        ensures all { self.new ≡ self.old ++ more.now }
         ensures empty { spare.new.items ≡ [] }
     {
-        if self.items.len() < all.len() {
-            copy_all(spare, all);
+        if !more.is_empty() {
+            copy_all(spare, &self.items);
+            copy_all(spare, more);
             mem::swap(spare, &mut self.items);
             spare.clear();
         }
     }
+
+    /// The first ones alone, so many.
+    pub fn cut(&mut self, kept: usize)
+        ensures { self.new ≡ take kept self.old }
+    {
+        self.items.truncate(kept);
+    }
 }
 
 /// Puts copies of these behind what is there.
-fn copy_all(ran: &mut Vec<Ran>, more: &[Ran])
-    requires room { length ran.old.items + length more.now ≤ vec_capacity ran.old }
-    ensures { ran.new.items ≡ ran.old.items ++ more.now }
+pub(crate) fn copy_all<T: Copy>(list: &mut Vec<T>, more: &[T])
+    requires room { length list.old.items + length more.now ≤ vec_capacity list.old }
+    ensures items { list.new.items ≡ list.old.items ++ more.now }
+    ensures room { vec_capacity list.new ≡ vec_capacity list.old }
 {
-    for action in more {
-        ran.push_reserved(*action);
-    }
-}
-
-/// Inner blocks that ran again, by the calls up to their begins. Nearly always there are none, so they are kept apart: an
-/// attempt is moved about, and has one word for them.
-#[derive(Debug, Drop)]
-pub struct Restarts {
-    items: Option<Box<Vec<Again>>>,
-}
-
-impl Model for Restarts {
-    ghost use Rattle.std.specs.Prelude.{List};
-    ghost use Rattle.tx_attempts.specs.declared.attempt.Again.{Again};
-    ghost use Rattle.tx_attempts.specs.Kept.{blocks_again};
-
-    ghost Value = { List Again };
-
-    ghost view = { λ r. blocks_again r.items };
-}
-
-impl Restarts {
-    ghost use Rattle.itm_model.specs.Runs.{unbroken};
-    ghost use Rattle.tx_attempts.specs.Restarts.{breaks_of};
-
-    /// None: a run with these is one that is never broken off. Takes no memory.
-    pub fn none() -> Self
-        ensures none { result ≡ [] }
-        ensures whole { breaks_of result ≡ unbroken }
-    {
-        Restarts { items: None }
-    }
-
-    /// These. Takes memory only where there are any.
-    pub fn from_vec(alloc: Global, items: Vec<Again>) -> Result<Self, AllocError>
-        ensures all { IfOk result (λ restarts. restarts ≡ items.items) }
-        ensures short { OnErr result (0 < length items.items) }
-    {
-        if items.is_empty() {
-            return Ok(Restarts::none());
-        }
-        Ok(Restarts {
-            items: Some(Box::new(alloc, items)?),
-        })
-    }
-
-    pub fn as_slice(&self) -> &[Again]
-        ensures { result.now ≡ self.now }
-    {
-        match &self.items {
-            Some(items) => items.as_slice(),
-            None => &[],
-        }
+    for item in more {
+        list.push_reserved(*item);
     }
 }

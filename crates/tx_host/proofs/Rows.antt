@@ -12,19 +12,20 @@ use Rattle.tx_attempts.specs.declared.attempt.Outcome.TheVariants as outcomes
 use Rattle.tx_player.specs.Rules.{Rules}
 use Rattle.tx_runs.specs.declared.ending.End.{End}
 use Rattle.tx_runs.specs.declared.ending.End.TheVariants.{Finished, GaveUp, NoMemory}
+use Rattle.tx_runs.specs.declared.savepoint.Savepoint.{Savepoint}
 use Rattle.tx_runs.specs.Tallies.{Stage, Stand, Taken, Tally, begins, outside, over_as, replied, sent_back, took_in, tried, went_on, within, stand_of}
 use Rattle.tx_worker.specs.Accounts.{Account}
 use Rattle.tx_worker.specs.Calls.{StopsAs, asked}
 use Rattle.tx_host.specs.Rows.{EndsWhere, IsLast}
 
-went_on_end : {P : Type 0} (open_still : Bool) (t : Tally P) (row : Attempt) (s : Stand) → (went_on open_still t row s).end ≡ None
-went_on_end true t row s = refl
-went_on_end false t row s = refl
+went_on_end : {P : Type 0} (open_still : Bool) (t : Tally P) (row : Attempt) (points : List Savepoint) (s : Stand) → (went_on open_still t row points s).end ≡ None
+went_on_end true t row points s = refl
+went_on_end false t row points s = refl
 
 replied_end : {P : Type 0} (stage : Stage) (t : Tally P) (call : Call) (reply : Replied) (s : Stand) → (replied stage t call reply s).end ≡ None
 replied_end outside t call reply s = refl
 replied_end (begins row) t call reply s = refl
-replied_end (within row) t call reply s = went_on_end s.is_open t _ s
+replied_end (within row points) t call reply s = went_on_end s.is_open t _ _ s
 
 none_is_some : (o : Option End) (end : End) → o ≡ None → o ≡ Some end → ⊥
 none_is_some o end n e = cc

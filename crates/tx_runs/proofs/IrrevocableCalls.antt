@@ -52,7 +52,7 @@ not_true : (b : Bool) → not b ≡ true → b ≡ false
 not_true true e = absurd (cc)
 not_true false e = refl
 
-from_irrevocable : (s : State) → (irrevocable_from s).irrevocable ≡ true
+pub from_irrevocable : (s : State) → (irrevocable_from s).irrevocable ≡ true
 from_irrevocable s = by_mode s.irrevocable refl
   where
     by_mode : (b : Bool) → s.irrevocable ≡ b → (if b then s else made_irrevocable s).irrevocable ≡ true

@@ -16,3 +16,16 @@ pub mod EngineReplies
 pub mod IrrevocableCalls
 pub mod GivenUp
 pub mod StepCalls
+pub mod BlocksAgain
+pub mod GoingBack
+pub mod TriesTold
+pub mod BlocksStill
+pub mod CallsAlone
+pub mod BlocksBegun
+pub mod TriesGoOn
+pub mod TriesReply
+pub mod TriesHeld
+pub mod TriesBegin
+pub mod TriesStep
+pub mod RestartLists
+pub mod Ranks

@@ -14,6 +14,7 @@ use Rattle.tx_attempts.specs.Alone.{player_then}
 use Rattle.tx_attempts.specs.Restarts.{open_after, open_by}
 use Rattle.tx_attempts.proofs.AloneCalls.{player_snoc}
 use Rattle.tx_runs.specs.Nesting.{HasBlocks}
+use Rattle.tx_runs.specs.OpenBegins.{IsAt, Knows}
 use Rattle.tx_runs.proofs.Players.{is_opened}
 
 take_whole : (xs : List CallRecord) (x : CallRecord) → take (suc (length xs)) (xs ++ x ∷ []) ≡ xs ++ x ∷ []
@@ -21,24 +22,13 @@ take_whole [] x = refl
 take_whole (y ∷ ys) x = ap (λ (zs : List CallRecord). y ∷ zs) (take_whole ys x)
 
 module _ {P : Type 0} (rules : Rules P) (first : P) where
-  -- of each of these begins, the innermost first and the first of them within so many calls, the player goes back to where the calls up to it lead
-  abbrev pub Knows : List CallRecord → ℕ → P → List ℕ → Type 0
-  Knows made most p [] = Unit {0}
-  Knows made most p (k ∷ rest) = (k ≤ most) × (rules.at_block p (suc (suc (length rest))) ≡ player_then rules.answered first (take k made)) × Knows made k p rest
-
-  -- these calls led the player to where it is, in its outermost block, with the inner blocks open that have these begins
-  pub record IsAt (made : List CallRecord) (p : P) (begins : List ℕ) : Type 0 where
-    pub player : p ≡ player_then rules.answered first made
-    pub depth : rules.depth p ≡ suc (length begins)
-    pub knows : Knows made (length made) p begins
-
   -- it is so just after the begin of the outermost block was accepted
-  pub none_begun : Obeys rules → (p : P) (c : Call) (r : Reply) → first ≡ rules.answered p r → rules.next_call p ≡ Some c → rules.depth p ≡ 0 → 0 < depth_after (rules.depth p) c r → IsAt [] first []
+  pub none_begun : Obeys rules → (p : P) (c : Call) (r : Reply) → first ≡ rules.answered p r → rules.next_call p ≡ Some c → rules.depth p ≡ 0 → 0 < depth_after (rules.depth p) c r → IsAt rules first [] first []
   none_begun laws p c r is asks none some =
       let o = is_opened (rules.depth p) c r (omega arith) in
       record { player = refl; depth = ap rules.depth is ∙ (laws.nests p c r asks ∙ (o.now ∙ ap suc none)); knows = tt }
 
-  knows_more : (made : List CallRecord) (few many : ℕ) (p : P) (begins : List ℕ) → few ≤ many → Knows made few p begins → Knows made many p begins
+  knows_more : (made : List CallRecord) (few many : ℕ) (p : P) (begins : List ℕ) → few ≤ many → Knows rules first made few p begins → Knows rules first made many p begins
   knows_more made few many p [] l k = tt
   knows_more made few many p (n ∷ rest) l k = ((let within = k.0 in omega arith), k.1, k.2)
 
@@ -46,7 +36,7 @@ module _ {P : Type 0} (rules : Rules P) (first : P) where
 
   module _ (made : List CallRecord) (x : CallRecord) (p q : P) (now : ℕ) (here : q ≡ player_then rules.answered first (made ++ x ∷ []))
       (law : (d : ℕ) → 0 < d → d ≤ now → rules.at_block q d ≡ (if nat_lt (rules.depth p) d then rules.answered p (Code 5) else rules.at_block p d)) where
-    still : (most : ℕ) (begins : List ℕ) → most ≤ length made → suc (length begins) ≤ rules.depth p → suc (length begins) ≤ now → Knows made most p begins → Knows (made ++ x ∷ []) most q begins
+    still : (most : ℕ) (begins : List ℕ) → most ≤ length made → suc (length begins) ≤ rules.depth p → suc (length begins) ≤ now → Knows rules first made most p begins → Knows rules first (made ++ x ∷ []) most q begins
     still most [] few l u k = tt
     still most (n ∷ rest) few l u k =
         let within = k.0 in
@@ -58,8 +48,8 @@ module _ {P : Type 0} (rules : Rules P) (first : P) where
           still n rest all (omega arith) (omega arith) k.2,
         )
 
-    opened : (begins : List ℕ) → rules.depth p ≡ suc (length begins) → now ≡ suc (suc (length begins)) → q ≡ rules.answered p (Code 5) → Knows made (length made) p begins
-        → Knows (made ++ x ∷ []) (length (made ++ x ∷ [])) q (suc (length made) ∷ begins)
+    opened : (begins : List ℕ) → rules.depth p ≡ suc (length begins) → now ≡ suc (suc (length begins)) → q ≡ rules.answered p (Code 5) → Knows rules first made (length made) p begins
+        → Knows rules first (made ++ x ∷ []) (length (made ++ x ∷ [])) q (suc (length made) ∷ begins)
     opened begins d n is k = (
       (let more = length-append made (x ∷ []) in omega arith),
       law (suc (suc (length begins))) (omega arith) (omega arith)
@@ -70,19 +60,19 @@ module _ {P : Type 0} (rules : Rules P) (first : P) where
 
     -- what is to be known then
     abbrev Then : List ℕ → Type 0
-    Then begins = Knows (made ++ x ∷ []) (length (made ++ x ∷ [])) q begins × (now ≡ suc (length begins))
+    Then begins = Knows rules first (made ++ x ∷ []) (length (made ++ x ∷ [])) q begins × (now ≡ suc (length begins))
 
-    kept : (most : ℕ) (begins : List ℕ) → most ≤ length made → suc (length begins) ≤ rules.depth p → now ≡ suc (length begins) → Knows made most p begins → Then begins
+    kept : (most : ℕ) (begins : List ℕ) → most ≤ length made → suc (length begins) ≤ rules.depth p → now ≡ suc (length begins) → Knows rules first made most p begins → Then begins
     kept most begins few d n k = (knows_more (made ++ x ∷ []) most (length (made ++ x ∷ [])) q begins (let more = length-append made (x ∷ []) in omega arith) (still most begins few d (omega arith) k), n)
 
-    same : (begins : List ℕ) → rules.depth p ≡ suc (length begins) → now ≡ rules.depth p → Knows made (length made) p begins → Then begins
+    same : (begins : List ℕ) → rules.depth p ≡ suc (length begins) → now ≡ rules.depth p → Knows rules first made (length made) p begins → Then begins
     same begins d n k = kept (length made) begins (omega arith) (omega arith) (n ∙ d) k
 
-    closed : (begins : List ℕ) → rules.depth p ≡ suc (length begins) → now + 1 ≡ rules.depth p → 0 < now → Knows made (length made) p begins → Then (drop 1 begins)
+    closed : (begins : List ℕ) → rules.depth p ≡ suc (length begins) → now + 1 ≡ rules.depth p → 0 < now → Knows rules first made (length made) p begins → Then (drop 1 begins)
     closed [] d n u k = absurd (omega arith)
     closed (m ∷ rest) d n u k = (let within = k.0 in kept m rest within (omega arith) (omega arith) k.2)
 
-    step_by : (b c : Bool) (o : Option Bool) (r : Reply) (begins : List ℕ) → rules.depth p ≡ suc (length begins) → Knows made (length made) p begins → now ≡ depth_by b c o (rules.depth p) r → 0 < now
+    step_by : (b c : Bool) (o : Option Bool) (r : Reply) (begins : List ℕ) → rules.depth p ≡ suc (length begins) → Knows rules first made (length made) p begins → now ≡ depth_by b c o (rules.depth p) r → 0 < now
         → (b ≡ true → is_code r ≡ true → q ≡ rules.answered p (Code 5)) → Then (open_by b c o (suc (length made)) begins r)
     step_by true c o (Code n) begins d k is u five = (opened begins d (omega arith) (five refl refl) k, omega arith)
     step_by true c o Done begins d k is u five = same begins d is k
@@ -100,8 +90,8 @@ module _ {P : Type 0} (rules : Rules P) (first : P) where
     step_by false false None r begins d k is u five = same begins d is k
 
   -- one call more within the outermost block, where a begin that is accepted is told that its block is entered
-  pub one_more : Obeys rules → (made : List CallRecord) (p : P) (begins : List ℕ) (x : CallRecord) → IsAt made p begins → rules.next_call p ≡ Some x.call → 0 < depth_after (rules.depth p) x.call x.reply
-      → (is_begin x.call ≡ true → is_code x.reply ≡ true → x.reply ≡ Code 5) → IsAt (made ++ x ∷ []) (rules.answered p x.reply) (open_after (suc (length made)) begins x)
+  pub one_more : Obeys rules → (made : List CallRecord) (p : P) (begins : List ℕ) (x : CallRecord) → IsAt rules first made p begins → rules.next_call p ≡ Some x.call → 0 < depth_after (rules.depth p) x.call x.reply
+      → (is_begin x.call ≡ true → is_code x.reply ≡ true → x.reply ≡ Code 5) → IsAt rules first (made ++ x ∷ []) (rules.answered p x.reply) (open_after (suc (length made)) begins x)
   one_more laws made p begins x at asks within five =
       let here : rules.answered p x.reply ≡ player_then rules.answered first (made ++ x ∷ []) = ap (λ (y : P). rules.answered y x.reply) at.player ∙ sym (player_snoc rules.answered first made x) in
       let next = step_by made x p (rules.answered p x.reply) (depth_after (rules.depth p) x.call x.reply) here (laws.begins p x.call x.reply asks)
@@ -112,7 +102,7 @@ module _ {P : Type 0} (rules : Rules P) (first : P) where
 
   -- what is known of the begins up to one stays
   cut : (made : List CallRecord) (k : ℕ) (p q : P) (d : ℕ) → ((e : ℕ) → 0 < e → e ≤ d → rules.at_block q e ≡ rules.at_block p e) → (most : ℕ) (begins : List ℕ) → most ≤ k → suc (length begins) ≤ d
-      → Knows made most p begins → Knows (take k made) most q begins
+      → Knows rules first made most p begins → Knows rules first (take k made) most q begins
   cut made k p q d around most [] few l h = tt
   cut made k p q d around most (n ∷ rest) few l h =
       let within = h.0 in
@@ -123,7 +113,7 @@ module _ {P : Type 0} (rules : Rules P) (first : P) where
       )
 
   -- where the innermost block goes back to its begin, the player is where the calls up to it lead, and it knows what it knew there
-  pub goes_back : (made : List CallRecord) (p : P) (k : ℕ) (rest : List ℕ) → HasBlocks rules p → IsAt made p (k ∷ rest) → IsAt (take k made) (rules.at_block p (rules.depth p)) (k ∷ rest)
+  pub goes_back : (made : List CallRecord) (p : P) (k : ℕ) (rest : List ℕ) → HasBlocks rules p → IsAt rules first made p (k ∷ rest) → IsAt rules first (take k made) (rules.at_block p (rules.depth p)) (k ∷ rest)
   goes_back made p k rest has at =
       let depth = at.depth in
       let within = at.knows.0 in

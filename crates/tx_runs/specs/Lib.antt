@@ -1,3 +1,4 @@
+pub mod Savepoints
 pub mod Nesting
 pub mod Outcomes
 pub mod Runs
@@ -5,3 +6,7 @@ pub mod Unbroken
 pub mod Tallies
 pub mod OpenAttempts
 pub mod PlayerRuns
+pub mod OpenBegins
+pub mod OpenTries
+pub mod Restarts
+pub mod Ranks

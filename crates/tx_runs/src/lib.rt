@@ -5,9 +5,12 @@
 mod ending;
 mod open_attempt;
 mod outcome;
+mod places;
 mod player_run;
+mod savepoint;
 
 pub use ending::End;
 pub use open_attempt::OpenAttempt;
 pub use outcome::{ahead_of, outcome_of};
 pub use player_run::{Current, PlayerRun};
+pub use savepoint::Savepoint;

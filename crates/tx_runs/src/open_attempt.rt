@@ -1,56 +1,57 @@
 //! The attempt that is under way.
 
-ghost use Rattle.std.specs.Prelude.{◌≡◌, ◌+◌, ◌^◌, ◌<◌, ◌≤◌, length, IfOk, OnOk, OnErr};
+ghost use Rattle.std.specs.Prelude.{◌≡◌, ◌+◌, ◌^◌, ◌<◌, ◌≤◌, [], true, length, None, IfOk, OnOk, OnErr};
 ghost use Rattle.tx_attempts.specs.declared.attempt.Outcome.TheVariants.{Unfinished};
-ghost use Rattle.tx_attempts.specs.Beginnings.{IsBeginningOf};
 ghost use Rattle.tx_attempts.specs.Kept.{reserved};
+ghost use Rattle.itm_types.specs.Calls.{is_begin};
+ghost use Rattle.tx_attempts.specs.Restarts.{ran_on};
 ghost use Rattle.tx_runs.specs.Tallies.{Stand, ending_as, with_call};
-ghost use Rattle.tx_runs.specs.OpenAttempts.{HasPlacesFor, LacksPlaces};
+ghost use Rattle.tx_runs.specs.OpenAttempts.{BeganBy, HasPlacesFor, IsBacked, LacksPlaces, no_rooms, open_of, told_in};
+ghost use Rattle.tx_runs.specs.Savepoints.{cut_back, savepoints_after};
 
+use crate::places::{Places, takes_places};
+use crate::savepoint::Savepoint;
 use itm_types::{Call, Ran, Reply};
 use std::alloc::{AllocError, Global};
 use std::marker::Model;
-use tx_attempts::{Attempt, CallRecord, Outcome};
+use tx_attempts::{Attempt, CallRecord, Outcome, count_undone, undone_before};
 
 /// The attempt that is under way, with the room that is made ahead for its calls and actions.
 #[derive(Drop)]
 pub struct OpenAttempt {
     row: Attempt,
-    /// Room for the actions that have run once it ends.
-    end_room: Vec<Ran>,
-    /// Room for those that have run once a cancel is done, where it stays open.
-    cancel_room: Vec<Ran>,
+    /// Nearly always it has no inner block and no action, so what serves those is kept apart: an attempt is moved about, and has
+    /// one word for it.
+    places: Option<Box<Places>>,
+    alloc: Global,
 }
 
 impl Model for OpenAttempt {
-    ghost use Rattle.std.specs.Prelude.{◌≡◌, [], vec_capacity};
+    ghost use Rattle.std.specs.Prelude.{◌≡◌};
     ghost use Rattle.tx_attempts.specs.declared.attempt.Outcome.TheVariants.{Unfinished};
-    ghost use Rattle.tx_runs.specs.OpenAttempts.{Open};
+    ghost use Rattle.tx_runs.specs.OpenAttempts.{Open, open_of, rooms_in};
 
     ghost Value = { Open };
 
-    ghost view = { λ o. record { row = o.row; ends = vec_capacity o.end_room; cancels = vec_capacity o.cancel_room } };
+    ghost view = { λ o. open_of o.row (rooms_in o.places) };
 
-    ghost invariant = { λ o. (o.end_room.items ≡ []) × (o.cancel_room.items ≡ []) × (o.row.outcome ≡ Unfinished) };
+    ghost invariant = { λ o. o.row.outcome ≡ Unfinished };
 }
 
 impl OpenAttempt {
-    /// This attempt, which has not ended, with room for so many actions.
+    /// This attempt, which has not ended, with room for so many inner blocks and as many actions.
     #[inline(always)]
     pub fn new(alloc: Global, row: Attempt, ahead: usize) -> Result<Self, AllocError>
         requires { row.outcome ≡ Unfinished }
         ensures row { IfOk result (λ o. o.row ≡ row) }
-        ensures room { IfOk result (λ o. (ahead ≤ o.ends) × (ahead ≤ o.cancels)) }
+        ensures points { IfOk result (λ o. o.points ≡ []) }
+        ensures room { IfOk result (λ o. (ahead ≤ o.ends) × (ahead ≤ o.cancels) × (ahead ≤ o.deep)) }
     {
-        let mut end_room = Vec::new(alloc);
-        end_room.reserve(ahead)?;
-        let mut cancel_room = Vec::new(alloc);
-        cancel_room.reserve(ahead)?;
-        Ok(OpenAttempt {
-            row,
-            end_room,
-            cancel_room,
-        })
+        let mut places = None;
+        if ahead > 0 {
+            places = Some(Box::new(alloc, Places::with_room(alloc, ahead)?)?);
+        }
+        Ok(OpenAttempt { row, places, alloc })
     }
 
     /// The attempt, as it stands.
@@ -68,25 +69,49 @@ impl OpenAttempt {
         self.row.at = at;
     }
 
-    /// Makes room for what comes of a call, where there are so many actions: for its entry, for the action that it
-    /// registers or for those that a cancel runs, and where it makes the transaction irrevocable for so many calls more and
-    /// as many actions. Where memory is refused the attempt is as it was.
-    #[inline(always)]
-    pub fn prepare(&mut self, call: &Call, actions: usize, ahead: usize) -> Result<(), AllocError>
-        requires few { (actions < 2 ^ 63) × (ahead < 2 ^ 32) }
-        ensures calls { OnOk result (self.new.row ≡ record self.old.row { calls = reserved self.old.row.calls (ahead + 1) }) }
-        ensures places { OnOk result (HasPlacesFor call.now actions ahead self.new) }
-        ensures err { OnErr result (self.new.row ≡ self.old.row) }
-        ensures short { OnErr result (LacksPlaces call.now actions ahead self.old) }
-        ensures kept { (self.old.ends ≤ self.new.ends) × (self.old.cancels ≤ self.new.cancels) }
+    /// Its begin was accepted: it is open, and reads at this position.
+    pub(crate) fn enter(&mut self, at: u64)
+        ensures { self.new ≡ record self.old { row = record self.old.row { at = at }; points = [] } }
     {
-        self.prepare_actions(call, actions, ahead)?;
-        self.row.calls.reserve(ahead + 1)
+        self.row.at = at;
+        if let Some(places) = &mut self.places {
+            places.clear();
+        }
     }
 
-    /// Room for the actions that the call may leave, and for so many more. A read, a write and a commit leave none.
+    /// Makes room for what comes of a call, where there are so many actions: for its entry, for the block that it begins, for
+    /// the action that it registers or for those that a cancel runs, and where it makes the transaction irrevocable for so many
+    /// calls more, as many blocks and as many actions. Where the innermost block may run again by it, `arena` has as many bytes as the arena,
+    /// and there is room for what is told of that. Where memory is refused the attempt is as it was.
     #[inline(always)]
-    fn prepare_actions(
+    pub fn prepare(
+        &mut self,
+        call: &Call,
+        actions: usize,
+        ahead: usize,
+        arena: Option<usize>,
+    ) -> Result<(), AllocError>
+        requires few { (actions < 2 ^ 63) × (ahead < 2 ^ 32) }
+        requires records { length self.old.row.restarts < 2 ^ 32 }
+        ensures calls { OnOk result (self.new.row ≡ record self.old.row { calls = reserved self.old.row.calls (ahead + 1) }) }
+        ensures places { OnOk result (HasPlacesFor call.now actions ahead arena self.new) }
+        ensures err { OnErr result (self.new.row ≡ self.old.row) }
+        ensures short { OnErr result (LacksPlaces call.now actions ahead arena self.old) }
+        ensures points { self.new.points ≡ self.old.points }
+        ensures kept { (self.old.ends ≤ self.new.ends) × (self.old.cancels ≤ self.new.cancels) × (self.old.deep ≤ self.new.deep) }
+    {
+        self.prepare_places(call, actions, ahead)?;
+        if let Some(bytes) = arena {
+            self.prepare_again(bytes, actions)?;
+        }
+        self.row.calls.reserve(ahead + 1)?;
+        Ok(())
+    }
+
+    /// Room for the block that the call begins, for the actions that it may leave, and for so many more. A read, a write and a
+    /// commit leave none.
+    #[inline(always)]
+    fn prepare_places(
         &mut self,
         call: &Call,
         actions: usize,
@@ -94,62 +119,133 @@ impl OpenAttempt {
     ) -> Result<(), AllocError>
         requires few { (actions < 2 ^ 63) × (ahead < 2 ^ 32) }
         ensures row { self.new.row ≡ self.old.row }
-        ensures places { OnOk result (HasPlacesFor call.now actions ahead self.new) }
-        ensures short { OnErr result (LacksPlaces call.now actions ahead self.old) }
-        ensures kept { (self.old.ends ≤ self.new.ends) × (self.old.cancels ≤ self.new.cancels) }
+        ensures places { OnOk result (HasPlacesFor call.now actions ahead None self.new) }
+        ensures short { OnErr result ((arena : _) → LacksPlaces call.now actions ahead arena self.old) }
+        ensures same { (self.new.points ≡ self.old.points) × (self.new.again ≡ self.old.again) }
+        ensures kept { (self.old.ends ≤ self.new.ends) × (self.old.cancels ≤ self.new.cancels) × (self.old.deep ≤ self.new.deep) }
     {
-        match call {
-            Call::CommitAction(_) | Call::UndoAction(_) => self.end_room.reserve(actions + 1)?,
-            Call::Abort { .. } => self.cancel_room.reserve(actions)?,
-            _ => {}
+        if !takes_places(call, actions, ahead) {
+            return Ok(());
         }
-        if ahead > 0 {
-            self.end_room.reserve(actions + ahead)?;
-            self.cancel_room.reserve(actions + ahead)?;
+        let mut places = self.take_places()?;
+        let made = places.prepare(call, actions, ahead);
+        self.places = Some(places);
+        made
+    }
+
+    /// Room for a block that runs again, from an arena of so many bytes, where so many actions may have run.
+    fn prepare_again(&mut self, arena: usize, actions: usize) -> Result<(), AllocError>
+        requires few { length self.old.row.restarts < 2 ^ 32 }
+        ensures backed { OnOk result (IsBacked arena actions self.new) }
+        ensures same { OnOk result (self.new ≡ record self.old { again = self.new.again }) }
+        ensures err { OnErr result (self.new ≡ self.old) }
+    {
+        let records = self.row.restarts.as_slice().len() + 1;
+        let alloc = self.alloc;
+        let mut places = self.take_places()?;
+        let made = places.prepare_again(alloc, records, arena, actions);
+        self.places = Some(places);
+        made
+    }
+
+    /// Its places, to be put back; new ones where it has none.
+    fn take_places(&mut self) -> Result<Box<Places>, AllocError>
+        ensures row { self.new.row ≡ self.old.row }
+        ensures taken { IfOk result (λ places. self.old ≡ open_of self.old.row places.value) }
+        ensures err { OnErr result ((self.new ≡ self.old) × (self.old ≡ open_of self.old.row no_rooms)) }
+    {
+        match self.places.take() {
+            Some(places) => Ok(places),
+            None => Ok(Box::new(self.alloc, Places::new(self.alloc))?),
         }
-        Ok(())
     }
 
     /// The call has this reply.
     #[inline(always)]
     pub(crate) fn add(&mut self, call: Call, reply: Reply)
-        requires { 0 < self.old.row.calls.room }
-        ensures { self.new ≡ record self.old { row = with_call call reply self.old.row } }
+        requires entry { 0 < self.old.row.calls.room }
+        requires place { is_begin call ≡ true → length self.old.points < self.old.deep }
+        ensures { self.new ≡ record self.old { row = with_call call reply self.old.row; points = savepoints_after self.old.points self.old.row (record { call = call; reply = reply }) } }
     {
+        if let Some(places) = &mut self.places {
+            let point = Savepoint {
+                kept: self.row.calls.as_slice().len() + 1,
+                ran: self.row.ran.as_slice().len(),
+            };
+            places.nest(point, &call, &reply);
+        }
         self.row.calls.push(CallRecord { call, reply });
     }
 
-    /// These are the actions that have run, of which it has the first ones already. It stays open. Nearly always none has
-    /// run since.
+    /// These actions have come to run in its transaction in all. It stays open. Nearly always none has run since.
     #[inline(always)]
-    pub(crate) fn run(&mut self, ran: &[Ran])
-        requires first { IsBeginningOf self.old.row.ran ran.now }
-        requires room { length self.old.row.ran < length ran.now → length ran.now ≤ self.old.cancels }
-        ensures row { self.new.row ≡ record self.old.row { ran = ran.now } }
-        ensures ends { self.new.ends ≡ self.old.ends }
-        ensures kept { self.old.row.ran ≡ ran.now → self.new.cancels ≡ self.old.cancels }
+    pub(crate) fn run(&mut self, due: &[Ran])
+        requires told { told_in self.old.row ≤ length due.now }
+        requires room { told_in self.old.row < length due.now → length due.now ≤ self.old.cancels }
+        ensures row { self.new.row ≡ record self.old.row { ran = ran_on self.old.row.ran self.old.row.restarts due.now } }
+        ensures same { (self.new.points ≡ self.old.points) × (self.new.ends ≡ self.old.ends) × (self.new.deep ≡ self.old.deep) }
+        ensures kept { told_in self.old.row ≡ length due.now → self.new.cancels ≡ self.old.cancels }
     {
-        if self.row.ran.as_slice().len() < ran.len() {
-            self.row.ran.grow(&mut self.cancel_room, ran);
+        if due.is_empty() {
+            return;
+        }
+        let told = told(&self.row);
+        if told < due.len() {
+            if let Some(places) = &mut self.places {
+                places.run(&mut self.row.ran, &due[told..]);
+            }
         }
     }
 
-    /// The attempt as it ends, at this position, with these actions, of which it has the first ones already.
+    /// Its innermost block, where one is open within the outermost, runs again from this arena: what it did is taken out, and
+    /// told in a record. These actions have come to run in its transaction in all.
+    pub(crate) fn renew(&mut self, arena: &[u8], due: &[Ran])
+        requires told { told_in self.old.row ≤ length due.now }
+        requires began { BeganBy self.old.points self.old.row (length due.now) }
+        requires backed { IsBacked (length arena.now) (length due.now) self.old }
+        ensures row { self.new.row ≡ cut_back self.old.points arena.now due.now self.old.row }
+        ensures same { (self.new.points ≡ self.old.points) × (self.new.ends ≡ self.old.ends) × (self.new.cancels ≡ self.old.cancels) × (self.new.deep ≡ self.old.deep) }
+    {
+        if let Some(places) = &mut self.places {
+            if let (Some(point), Some(room)) = (places.innermost(), places.take_again()) {
+                let began = point.ran + undone_before(self.row.restarts.as_slice(), point.kept);
+                self.row
+                    .restarts
+                    .add(room, point.kept, arena, &due[began..]);
+                self.row.calls.cut(point.kept);
+                self.row.ran.cut(point.ran);
+            }
+        }
+    }
+
+    /// The attempt as it ends, at this position, where these actions have come to run in all.
     #[inline(always)]
-    pub(crate) fn end(self, outcome: Outcome, at: u64, ran: &[Ran]) -> Attempt
-        requires first { IsBeginningOf self.row.ran ran.now }
-        requires room { length ran.now ≤ self.ends }
-        ensures { (is_open : _) → result ≡ ending_as outcome (record { is_open = is_open; at = at; ran = ran.now }) self.row }
+    pub(crate) fn end(self, outcome: Outcome, at: u64, due: &[Ran]) -> Attempt
+        requires told { told_in self.row ≤ length due.now }
+        requires room { length due.now ≤ self.ends }
+        ensures { (is_open arena : _) → result ≡ ending_as outcome (record { is_open = is_open; at = at; ran = due.now; arena = arena }) self.row }
     {
         let OpenAttempt {
             mut row,
-            mut end_room,
-            cancel_room: _,
+            places,
+            alloc: _,
         } = self;
-        row.ran.grow(&mut end_room, ran);
+        if let Some(mut places) = places {
+            let told = told(&row);
+            places.run_last(&mut row.ran, &due[told..]);
+        }
         row.calls.give_up_room();
         row.at = at;
         row.outcome = outcome;
         row
     }
+}
+
+/// How many of the actions that have come to run are told.
+#[inline(always)]
+fn told(row: &Attempt) -> usize
+    requires { told_in row.now < 2 ^ 64 }
+    ensures { result ≡ told_in row.now }
+{
+    row.ran.as_slice().len() + count_undone(row.restarts.as_slice())
 }

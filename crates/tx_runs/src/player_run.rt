@@ -1,6 +1,6 @@
 //! A player among the tries of its blocks.
 
-ghost use Rattle.std.specs.Prelude.{◌≡◌, ◌+◌, ◌<◌, ◌≤◌, ◌++◌, false, nat_lt, if◌then◌else◌, List, Option, None, Some, IfOk, length, vec_len, vec_capacity};
+ghost use Rattle.std.specs.Prelude.{◌≡◌, ◌+◌, ◌<◌, ◌≤◌, ◌++◌, false, true, nat_lt, if◌then◌else◌, List, Option, None, Some, IfOk, length, vec_len, vec_capacity};
 ghost use Rattle.itm_types.specs.declared.limits.TheConstants.{MAX_RETRIES};
 ghost use Rattle.norec_core.specs.declared.answer.Answer.TheVariants.{Restarted};
 ghost use Rattle.tx_attempts.specs.Kept.{spent};
@@ -9,8 +9,9 @@ ghost use Rattle.tx_runs.specs.declared.player_run.Current.{Current};
 ghost use Rattle.tx_runs.specs.declared.player_run.Current.TheVariants.{Outside, Begins, Within};
 ghost use Rattle.itm_types.specs.declared.call.Ran.{Ran};
 ghost use Rattle.tx_runs.specs.OpenAttempts.{Open};
-ghost use Rattle.tx_runs.specs.PlayerRuns.{current_with, stage_of, tally_of, KeepsPlaces, MayTakeIn, MayStop, MayTell};
-ghost use Rattle.tx_runs.specs.Tallies.{Stand, begun, closed, entered, over_as, replied};
+ghost use Rattle.tx_runs.specs.PlayerRuns.{current_with, stage_of, tally_of, KeepsPlaces, MayGoBack, MayTakeIn, MayStop, MayTell};
+ghost use Rattle.itm_types.specs.Calls.{is_begin};
+ghost use Rattle.tx_runs.specs.Tallies.{Stand, begun, closed, entered, gone_back, over_as, replied};
 
 use crate::ending::End;
 use crate::open_attempt::OpenAttempt;
@@ -65,7 +66,7 @@ impl<P: Player> PlayerRun<P> {
         }
     }
 
-    /// The attempt that an outermost begin is to open, with room for so many calls and as many actions.
+    /// The attempt that an outermost begin is to open, with room for so many calls, as many inner blocks and as many actions.
     #[inline(always)]
     pub fn attempt(
         &self,
@@ -76,7 +77,7 @@ impl<P: Player> PlayerRun<P> {
         ahead: usize,
     ) -> Result<OpenAttempt, AllocError>
         ensures row { IfOk result (λ o. o.row ≡ begun self.now.thread self.now.nth began props arena.now ahead) }
-        ensures room { IfOk result (λ o. (ahead ≤ o.ends) × (ahead ≤ o.cancels)) }
+        ensures room { IfOk result (λ o. (ahead ≤ o.ends) × (ahead ≤ o.cancels) × (ahead ≤ o.deep)) }
     {
         let row = Attempt {
             thread: self.thread,
@@ -104,23 +105,24 @@ impl<P: Player> PlayerRun<P> {
         is_open: bool,
         at: u64,
         ran: &[Ran],
+        arena: &[u8],
     ) -> Option<End>
         requires tries { (self.old.nth ≤ self.old.retries + 1) × (self.old.retries ≤ MAX_RETRIES) }
-        requires whole { (clock word : _) → answer ≡ Restarted clock word → ⊥ }
-        requires room { MayTakeIn (record { is_open = is_open; at = at; ran = ran.now }) self.old.current }
+        requires again { (clock word : _) → answer ≡ Restarted clock word → (0 < P.Player.depth self.old.player) × MayGoBack (record { is_open = is_open; at = at; ran = ran.now; arena = arena.now }) self.old.current }
+        requires room { MayTakeIn call (record { is_open = is_open; at = at; ran = ran.now; arena = arena.now }) self.old.current }
         requires place { MayTell self.old.current ended.old }
-        ensures taken { let taken = took_in P.Player self.old.retries (tally_of self.old) call answer (record { is_open = is_open; at = at; ran = ran.now }) in
+        ensures taken { let taken = took_in P.Player self.old.retries (tally_of self.old) call answer (record { is_open = is_open; at = at; ran = ran.now; arena = arena.now }) in
             (tally_of self.new ≡ taken.tally) × (ended.new.items ≡ ended.old.items ++ taken.over) × (result ≡ taken.end) }
         ensures same { (self.new.thread ≡ self.old.thread) × (self.new.retries ≡ self.old.retries) }
         ensures capacity { vec_capacity ended.new ≡ vec_capacity ended.old }
         ensures len { vec_len ended.new ≡ vec_len ended.old + length (took_in P.Player self.old.retries (tally_of self.old) call answer
-            (record { is_open = is_open; at = at; ran = ran.now })).over }
+            (record { is_open = is_open; at = at; ran = ran.now; arena = arena.now })).over }
         ensures places { KeepsPlaces ran.now self.old.current self.new.current }
     {
         match answer {
             Answer::Reply(reply) => {
                 self.player.answer(&reply);
-                self.replied(ended, call, reply, is_open, at, ran);
+                self.replied(ended, call, reply, is_open, at, ran, arena);
                 None
             }
             Answer::Committed { at: _, wrote } => {
@@ -144,7 +146,10 @@ impl<P: Player> PlayerRun<P> {
                 self.stop(ended, Outcome::Full, at, ran);
                 Some(End::GaveUp)
             }
-            Answer::Restarted { .. } => unreachable!(),
+            Answer::Restarted { .. } => {
+                self.renew(ran, arena);
+                None
+            }
         }
     }
 
@@ -158,15 +163,16 @@ impl<P: Player> PlayerRun<P> {
         is_open: bool,
         at: u64,
         ran: &[Ran],
+        arena: &[u8],
     )
-        requires room { MayTakeIn (record { is_open = is_open; at = at; ran = ran.now }) self.old.current }
+        requires room { MayTakeIn call (record { is_open = is_open; at = at; ran = ran.now; arena = arena.now }) self.old.current }
         requires place { MayTell self.old.current ended.old }
-        ensures taken { let taken = replied (stage_of self.old.current) (tally_of self.old) call reply (record { is_open = is_open; at = at; ran = ran.now }) in
+        ensures taken { let taken = replied (stage_of self.old.current) (tally_of self.old) call reply (record { is_open = is_open; at = at; ran = ran.now; arena = arena.now }) in
             (tally_of self.new ≡ taken.tally) × (ended.new.items ≡ ended.old.items ++ taken.over) }
         ensures same { (self.new.thread ≡ self.old.thread) × (self.new.retries ≡ self.old.retries) }
         ensures capacity { vec_capacity ended.new ≡ vec_capacity ended.old }
         ensures len { vec_len ended.new ≡ vec_len ended.old + length (replied (stage_of self.old.current) (tally_of self.old) call reply
-            (record { is_open = is_open; at = at; ran = ran.now })).over }
+            (record { is_open = is_open; at = at; ran = ran.now; arena = arena.now })).over }
         ensures places { KeepsPlaces ran.now self.old.current self.new.current }
     {
         match &mut self.current {
@@ -186,11 +192,25 @@ impl<P: Player> PlayerRun<P> {
     /// The call has this reply in the open attempt.
     #[inline(always)]
     fn add(&mut self, call: Call, reply: Reply)
-        requires { (o : Open) → self.old.current ≡ Within o → 0 < o.row.calls.room }
+        requires room { (o : Open) → self.old.current ≡ Within o → (0 < o.row.calls.room) × (is_begin call ≡ true → length o.points < o.deep) }
         ensures { self.new ≡ record self.old { current = current_with call reply self.old.current } }
     {
         if let Current::Within(open) = &mut self.current {
             open.add(call, reply);
+        }
+    }
+
+    /// The innermost block runs again from this arena, and the player goes back to just after its begin.
+    fn renew(&mut self, ran: &[Ran], arena: &[u8])
+        requires deep { 0 < P.Player.depth self.old.player }
+        requires room { (is_open at : _) → MayGoBack (record { is_open = is_open; at = at; ran = ran.now; arena = arena.now }) self.old.current }
+        ensures taken { (is_open at : _) → tally_of self.new ≡ gone_back P.Player (tally_of self.old) (stage_of self.old.current) (record { is_open = is_open; at = at; ran = ran.now; arena = arena.now }) }
+        ensures same { (self.new.thread ≡ self.old.thread) × (self.new.retries ≡ self.old.retries) }
+        ensures places { KeepsPlaces ran.now self.old.current self.new.current }
+    {
+        if let Current::Within(open) = &mut self.current {
+            open.renew(arena, ran);
+            self.player.restart_block();
         }
     }
 
@@ -205,7 +225,7 @@ impl<P: Player> PlayerRun<P> {
     {
         if let Current::Begins(mut open) = mem::replace(&mut self.current, Current::Outside) {
             if is_open {
-                open.move_to(at);
+                open.enter(at);
                 self.again = true;
                 self.current = Current::Within(open);
             }
@@ -217,13 +237,13 @@ impl<P: Player> PlayerRun<P> {
     fn close(&mut self, ended: &mut Vec<Attempt>, outcome: Outcome, at: u64, ran: &[Ran])
         requires room { MayStop at ran.now self.old.current }
         requires place { MayTell self.old.current ended.old }
-        ensures taken { (is_open : _) → let taken = closed (tally_of self.old) outcome (record { is_open = is_open; at = at; ran = ran.now }) in
+        ensures taken { (is_open arena : _) → let taken = closed (tally_of self.old) outcome (record { is_open = is_open; at = at; ran = ran.now; arena = arena }) in
             (tally_of self.new ≡ taken.tally) × (ended.new.items ≡ ended.old.items ++ taken.over) }
         ensures outside { self.new.current ≡ Outside }
         ensures same { (self.new.thread ≡ self.old.thread) × (self.new.retries ≡ self.old.retries) }
         ensures capacity { vec_capacity ended.new ≡ vec_capacity ended.old }
-        ensures len { (is_open : _) → vec_len ended.new ≡ vec_len ended.old + length (closed (tally_of self.old) outcome
-            (record { is_open = is_open; at = at; ran = ran.now })).over }
+        ensures len { (is_open arena : _) → vec_len ended.new ≡ vec_len ended.old + length (closed (tally_of self.old) outcome
+            (record { is_open = is_open; at = at; ran = ran.now; arena = arena })).over }
     {
         self.stop(ended, outcome, at, ran);
         self.nth = 1;
@@ -237,10 +257,10 @@ impl<P: Player> PlayerRun<P> {
         requires room { MayStop at ran.now self.old.current }
         requires place { MayTell self.old.current ended.old }
         ensures run { self.new ≡ record self.old { current = Outside } }
-        ensures over { (is_open : _) → ended.new.items ≡ ended.old.items ++ over_as outcome (record { is_open = is_open; at = at; ran = ran.now }) (stage_of self.old.current) }
+        ensures over { (is_open arena : _) → ended.new.items ≡ ended.old.items ++ over_as outcome (record { is_open = is_open; at = at; ran = ran.now; arena = arena }) (stage_of self.old.current) }
         ensures capacity { vec_capacity ended.new ≡ vec_capacity ended.old }
-        ensures len { (is_open : _) → vec_len ended.new ≡ vec_len ended.old + length (over_as outcome
-            (record { is_open = is_open; at = at; ran = ran.now }) (stage_of self.old.current)) }
+        ensures len { (is_open arena : _) → vec_len ended.new ≡ vec_len ended.old + length (over_as outcome
+            (record { is_open = is_open; at = at; ran = ran.now; arena = arena }) (stage_of self.old.current)) }
     {
         if let Current::Within(open) = mem::replace(&mut self.current, Current::Outside) {
             ended.push_reserved(open.end(outcome, at, ran));

@@ -1,5 +1,5 @@
 -- A player's run on a thread as a row of calls, each with its answer and with what the answer made of the run.
-use Rattle.std.specs.Prelude.{◌≡◌, ◌⊎◌, ℕ, zero, suc, ◌/◌, ◌<◌, Bool, true, false, ◌++◌, Option, None, Some, is_some, unwrap_or}
+use Rattle.std.specs.Prelude.{◌≡◌, ◌⊎◌, ℕ, zero, suc, ◌/◌, ◌<◌, Bool, true, false, List, ◌++◌, Option, None, Some, is_some, unwrap_or}
 use Rattle.itm_types.specs.Calls.{is_abort, is_begin, registered_by}
 use Rattle.itm_types.specs.declared.call.Call.{Call}
 use Rattle.norec_core.specs.declared.answer.Answer.{Answer}
@@ -14,6 +14,7 @@ use Rattle.tx_attempts.specs.declared.attempt.Outcome.TheVariants as outcomes
 use Rattle.tx_player.specs.Rules.{Rules}
 use Rattle.tx_runs.specs.declared.ending.End.{End}
 use Rattle.tx_runs.specs.declared.ending.End.TheVariants.{Finished, GaveUp, NoMemory}
+use Rattle.tx_runs.specs.declared.savepoint.Savepoint.{Savepoint}
 use Rattle.tx_runs.specs.Tallies.{outside, within, Tally, begins_again, came, over_as, took_in, stand_of}
 use Rattle.tx_worker.specs.Accounts.{Account, account_after, tally_in}
 
@@ -27,7 +28,7 @@ module _ {P : Type 0} (rules : Rules P) where
     pub call : Call
     pub asks : rules.next_call a.player ≡ Some call
     pub begins : a.stage ≡ outside → is_begin call ≡ true
-    pub short : (row : Attempt) → a.stage ≡ within row → IsShort s.engine call row
+    pub short : (row : Attempt) (points : List Savepoint) → a.stage ≡ within row points → IsShort s.engine call row
     pub pass : s'.pass ≡ s.pass
     pub engine : s'.engine ≡ after_undoing s.engine
     pub held : s.engine.irrevocable ≡ true → a' ≡ a

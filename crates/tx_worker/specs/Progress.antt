@@ -18,6 +18,7 @@ use Rattle.tx_runs.specs.Nesting.{IsNested}
 use Rattle.tx_runs.specs.Runs.{run_after, IsOfBlock, LeadsTo}
 use Rattle.tx_runs.specs.Unbroken.{AreUnbroken}
 use Rattle.tx_worker.specs.Positions.{bytes_at, positions, AreLeft, AreSince, known_after, AreOwn}
+use Rattle.tx_runs.specs.declared.savepoint.Savepoint.{Savepoint}
 use Rattle.tx_runs.specs.Tallies.{outside, within}
 use Rattle.tx_worker.specs.Accounts.{Account}
 
@@ -80,7 +81,8 @@ module _ {P : Type 0} (rules : Rules P) where
   pub record IsInside (c : Course P) (v : View) (e : Core) (t : Account P) : Type 0 where
     pub between : Between P
     pub row : Attempt
-    pub stage_is : t.stage ≡ within row
+    pub points : List Savepoint
+    pub stage_is : t.stage ≡ within row points
     pub now_is : now_at c v t.ended ≡ Some between
     pub try : IsTry c.depth between row t.player v e
     pub again : t.again ≡ true

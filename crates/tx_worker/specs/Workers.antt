@@ -1,5 +1,5 @@
 -- A worker between two calls, and one that has stopped.
-use Rattle.std.specs.Prelude.{◌≡◌, ℕ, ◌/◌, ◌<◌, ◌≤◌, Bool, true, false, Option, None, Some, unwrap_or, Vec, vec_len, vec_capacity}
+use Rattle.std.specs.Prelude.{◌≡◌, ℕ, ◌+◌, ◌/◌, ◌<◌, ◌≤◌, Bool, true, false, if◌then◌else◌, List, length, Option, None, Some, unwrap_or, Vec, vec_len, vec_capacity}
 use Rattle.std.specs.declared.alloc.Global.{Global}
 use Rattle.itm_types.specs.declared.limits.TheConstants.{MAX_RETRIES}
 use Rattle.itm_types.specs.Calls.{is_begin}
@@ -7,6 +7,7 @@ use Rattle.itm_types.specs.declared.call.Call.{Call}
 use Rattle.itm_types.specs.declared.call.Call.TheVariants.{Begin}
 use Rattle.norec_core.specs.declared.answer.Answer.{Answer}
 use Rattle.norec_core.specs.Core.{Core, in_transaction, irrevocable_room}
+use Rattle.norec_engine.specs.RestartingCalls.{can_restart}
 use Rattle.user_actions.specs.Actions.{total}
 use Rattle.shared_words.specs.declared.view.View.{View}
 use Rattle.shared_words.specs.declared.words.Words.{Words}
@@ -20,6 +21,7 @@ use Rattle.tx_runs.specs.declared.player_run.Current.{Current}
 use Rattle.tx_runs.specs.declared.player_run.Current.TheVariants.{Outside, Begins, Within}
 use Rattle.tx_runs.specs.OpenAttempts.{HasPlacesFor}
 use Rattle.tx_runs.specs.PlayerRuns.{MayStop, MayTell, stage_of, tally_of}
+use Rattle.tx_runs.specs.declared.savepoint.Savepoint.{Savepoint}
 use Rattle.tx_runs.specs.Tallies.{begins_again, outside, within, stand_of}
 use Rattle.tx_player.specs.Rules.{Rules}
 use Rattle.tx_worker.specs.declared.worker.Worker.{Worker}
@@ -40,6 +42,10 @@ bounds_of e = record { max_commits = e.max_commits; patience = e.patience; depth
 
 -- ## Room
 
+-- the bytes of the arena, where the innermost block may run again by the call
+abbrev pub arena_ahead : Core → Call → Option ℕ
+arena_ahead e call = if can_restart e call then Some (length e.arena) else None
+
 -- there is a place for the open attempt among those that have ended, and in it for each action that may still run
 abbrev pub HasPlaces : Core → Vec Attempt Global → Current → Type 0
 HasPlaces e ended Outside = Unit {0}
@@ -50,7 +56,19 @@ HasPlaces e ended (Within o) = (vec_len ended < vec_capacity ended) × (total e.
 abbrev pub IsReadyFor : Core → Call → ℕ → Vec Attempt Global → Current → Type 0
 IsReadyFor e call ahead ended Outside = Unit {0}
 IsReadyFor e call ahead ended (Begins o) = vec_len ended < vec_capacity ended
-IsReadyFor e call ahead ended (Within o) = (vec_len ended < vec_capacity ended) × (total e.actions ≤ o.ends) × HasPlacesFor call (total e.actions) ahead o
+IsReadyFor e call ahead ended (Within o) = (vec_len ended < vec_capacity ended) × (total e.actions ≤ o.ends) × HasPlacesFor call (total e.actions) ahead (arena_ahead e call) o
+
+-- each call that the open attempt has room for finds a place for a block that it begins
+abbrev pub HasBlockPlaces : Current → Type 0
+HasBlockPlaces Outside = Unit {0}
+HasBlockPlaces (Begins o) = Unit {0}
+HasBlockPlaces (Within o) = 0 < o.row.calls.room → length o.points + o.row.calls.room ≤ o.deep
+
+-- and so it is once the next call has come
+abbrev pub KeepsBlockPlaces : Current → Type 0
+KeepsBlockPlaces Outside = Unit {0}
+KeepsBlockPlaces (Begins o) = o.row.calls.room ≤ o.deep
+KeepsBlockPlaces (Within o) = 1 < o.row.calls.room → length o.points + o.row.calls.room ≤ o.deep
 
 -- a begin is told whether an earlier try of its block got past it, where it is to open an attempt
 abbrev pub again_for : Current → Bool → Call → Bool
@@ -61,7 +79,7 @@ again_for (Within o) again call = false
 
 -- the same open attempt, perhaps with more room; or none is open still, though one may be about to be opened
 abbrev pub IsRoomier : Current → Current → Type 0
-IsRoomier (Within o) (Within o') = (o'.row ≡ record o.row { calls = record o.row.calls { room = o'.row.calls.room } })
+IsRoomier (Within o) (Within o') = (o'.row ≡ record o.row { calls = record o.row.calls { room = o'.row.calls.room } }) × (o'.points ≡ o.points)
 IsRoomier Outside Outside = Unit {0}
 IsRoomier Outside (Begins o') = Unit {0}
 IsRoomier old new = ⊥
@@ -86,6 +104,7 @@ module _ {P : Type 0} where
   pub record IsPrepared (words : Words) (rules : Rules P) (old : Worker P) (call : Call) (new : Worker P) : Type 0 where
     pub came : tally_of new.run ≡ asked words rules old.run.thread old.run.retries old.thread (account_of old) call
     pub ready : IsReadyFor old.thread.engine call (unwrap_or (irrevocable_room old.thread.engine call) 0) new.ended new.run.current
+    pub blocks : KeepsBlockPlaces new.run.current
     pub thread : new.run.thread ≡ old.run.thread
     pub retries : new.run.retries ≡ old.run.retries
     pub ended : new.ended.items ≡ old.ended.items
@@ -96,13 +115,14 @@ module _ {P : Type 0} where
     pub roomy : HasPlaces old.thread.engine new.ended new.run.current
     pub ended : new.ended.items ≡ old.ended.items
     pub begins : stage_of old.run.current ≡ outside → is_begin call ≡ true
-    pub short : (row : Attempt) → stage_of old.run.current ≡ within row → IsShort old.thread.engine call row
+    pub short : (row : Attempt) (points : List Savepoint) → stage_of old.run.current ≡ within row points → IsShort old.thread.engine call row
 
 module _ {P : Type 0} (rules : Rules P) where
   pub record IsWorking (words : Words) (c : Course P) (b : Bounds) (w : Worker P) : Type 0 where
     pub same : IsSame words c b w
     pub running : IsRunning rules c (view_in w) w.thread.engine (account_of w)
     pub roomy : HasPlaces w.thread.engine w.ended w.run.current
+    pub blocks : HasBlockPlaces w.run.current
 
   -- its player's next call is answered, and nothing has come of that yet
   pub record IsAsked (words : Words) (c : Course P) (b : Bounds) (old : Worker P) (call : Call) (answer : Answer) (new : Worker P) : Type 0 where

@@ -1,6 +1,6 @@
 //! One thread's player with its transactions.
 
-ghost use Rattle.std.specs.Prelude.{◌≡◌, ◌/◌, ◌<◌, Bool, false, Some, unwrap_or, IsOk, OnOk, OnErr, vec_len, vec_capacity};
+ghost use Rattle.std.specs.Prelude.{◌≡◌, ◌/◌, ◌<◌, ◌≤◌, Bool, false, Some, unwrap_or, IsOk, OnOk, OnErr, vec_len, vec_capacity};
 ghost use Rattle.norec_core.specs.Core.{irrevocable_room};
 ghost use Rattle.shared_words.specs.Passes.{Owns};
 ghost use Rattle.shared_words.specs.declared.words.Words.{Words as WordsValue};
@@ -9,7 +9,7 @@ ghost use Rattle.tx_runs.specs.OpenAttempts.{Open};
 ghost use Rattle.tx_runs.specs.PlayerRuns.{MayStop, MayTell};
 ghost use Rattle.tx_runs.specs.Tallies.{begun, stand_of};
 ghost use Rattle.tx_worker.specs.Accounts.{account_of, told};
-ghost use Rattle.tx_worker.specs.Workers.{Bounds, IsPrepared, IsUnprepared, again_for};
+ghost use Rattle.tx_worker.specs.Workers.{Bounds, IsPrepared, IsUnprepared, again_for, arena_ahead};
 ghost use Rattle.tx_worker.specs.Works.{Parts};
 
 use crate::gate::Gate;
@@ -98,7 +98,8 @@ impl<P: Player> Worker<P> {
         match &mut self.run.current {
             Current::Within(open) => {
                 let ahead = ahead_of(self.thread.irrevocable_room(call));
-                open.prepare(call, self.thread.actions(), ahead)
+                let arena = arena_ahead(&self.thread, call);
+                open.prepare(call, self.thread.actions(), ahead, arena)
             }
             Current::Begins(_) => Ok(()),
             Current::Outside => match call {
@@ -113,7 +114,8 @@ impl<P: Player> Worker<P> {
         ensures same { self.new ≡ record self.old { run = record self.old.run { current = self.new.run.current }; ended = self.new.ended } }
         ensures ended { self.new.ended.items ≡ self.old.ended.items }
         ensures begins { OnOk result ((o : Open) × (self.new.run.current ≡ Current.Begins o) × (o.row ≡ begun self.old.run.thread self.old.run.nth
-            (self.old.thread.engine.clock / 2) props self.old.thread.engine.arena (unwrap_or (irrevocable_room self.old.thread.engine call.now) 0))) }
+            (self.old.thread.engine.clock / 2) props self.old.thread.engine.arena (unwrap_or (irrevocable_room self.old.thread.engine call.now) 0))
+            × (o.row.calls.room ≤ o.deep)) }
         ensures place { OnOk result (vec_len self.new.ended < vec_capacity self.new.ended) }
         ensures still { OnErr result (self.new.run.current ≡ self.old.run.current) }
     {
@@ -160,6 +162,7 @@ impl<P: Player> Worker<P> {
             is_open,
             at,
             self.thread.due(),
+            self.thread.arena().bytes(),
         );
         self.tell(sink, told);
         end
@@ -227,6 +230,18 @@ impl<P: Player> Worker<P> {
             end,
             pass: pass_of(thread),
         }
+    }
+}
+
+/// How many bytes the arena has, where the innermost block may run again by the call.
+#[inline(always)]
+fn arena_ahead(thread: &Thread, call: &Call) -> Option<usize>
+    ensures { result ≡ arena_ahead thread.now.engine call.now }
+{
+    if thread.can_restart(call) {
+        Some(thread.arena().bytes().len())
+    } else {
+        None
     }
 }
 

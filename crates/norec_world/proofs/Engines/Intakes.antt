@@ -1,7 +1,9 @@
 -- The moment that a step and a call of the player share: the engine has taken in a value or a call, and what it gave is recorded next.
 use Rattle.std.proofs.Common.{◌≡◌, ◌≢◌, ◌⊎◌, None, ◌+◌, ◌*◌, ◌/◌, Bool, true, false, [], refl, ap, subst, ◌∙◌, sym, length, Some, ◌<◌, ◌≤◌, inl, inr, arith, ℕ}
 use Rattle.norec_world.proofs.Common.{Actor, Answer, AnswerFits, Answers, Asks, Attempt, BeginsAt, Call, Cells, Core, End, Ended, Ends, HasRow, IsActing, IsAnswered, IsAtOnce, IsDone, IsDue, IsKept, IsNested, IsSettledBy, IsSound, IsTied, IsWaiting, IsWithin, Next, Proceeds, Ready, Records, RestsAs, Rows, Rules, Status, StatusIs, Step, Tells, Waits, active_of, asked, cases_Bool, count_of, ending_of, frees, in_transaction, is_ready, pending_of, rests, wanted}
-use Rattle.norec_world.{proofs.Engines.TiedEngines.answer_fits, proofs.Tries.Stages.row_same, specs.ActionRoom.HasFirst, specs.Sound.IsInCall}
+use Rattle.norec_world.{proofs.Engines.TiedEngines.answer_fits, proofs.Tries.Stages.row_same, specs.ActionRoom.HasFirst, specs.ActionRoom.NeverRestarts, specs.Sound.IsInCall}
+use Rattle.tx_attempts.proofs.RanOn.{ran_on_none}
+use Rattle.tx_attempts.specs.Restarts.{ran_on}
 
 pub ready_of : (s : Status) → is_ready s ≡ true → s ≡ Ready
 ready_of Ready e = refl
@@ -30,6 +32,7 @@ module _ {P : Type 0} (rules : Rules P) where
     pub within : IsWithin a.engine
     pub kept : IsKept was a
     pub first : HasFirst a
+    pub whole : NeverRestarts a
     pub nested : IsNested rules was a.run.player
     pub depth : rules.depth a.run.player ≡ length mid.blocks
     pub in_call : IsInCall rules was a call
@@ -79,6 +82,12 @@ module _ {P : Type 0} {rules : Rules P} {was : Bool} {cells cells' : Cells} {r :
 
   pub half_same : {r1 : Rows} {last : Actor P} {answer : Answer} → HasAnswered rules was cells cells' r r1 mid a last call answer → frees answer ≡ false → cells'.clock / 2 ≡ cells.clock / 2
   half_same m none = m.taken.moves.keeps (unfreed m none)
+
+  -- what is told as run of an open attempt is all that has come to run
+  pub told_all : {r1 : Rows} {last : Actor P} {answer : Answer} → HasAnswered rules was cells cells' r r1 mid a last call answer → (row : Attempt) → active_of a ≡ Some row → ran_on row.ran row.restarts last.engine.actions.ran ≡ last.engine.actions.ran
+  told_all m row e =
+      let same = ap (λ (c : Core). c.actions.ran) m.settled.engine in
+      ap (ran_on row.ran row.restarts) same ∙ (ran_on_none row.ran row.restarts a.engine.actions.ran (m.taken.whole row e) (m.taken.first row e) ∙ sym same)
 
   pub due : {what : Next} → HasTaken rules was cells cells' r mid a call what → IsDue rules was a call what
   due {what = Asks step} m = m.ready

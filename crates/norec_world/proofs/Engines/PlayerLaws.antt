@@ -1,9 +1,10 @@
 -- The player's laws, over one answer: its depth, where it goes back to, and how much is left to do; and what comes of the answer once it is recorded.
 use Rattle.std.proofs.Common.{◌≡◌, ℕ, ◌+◌, ◌*◌, ◌/◌, ◌<◌, ◌≤◌, Bool, true, false, Some, refl, ap, subst, ◌∙◌, arith, ◌-◌, nat_lt, [], Option, None, is_some, sym, ltb-false, List, length}
 use Rattle.norec_world.proofs.Common.{Actor, Answer, Attempt, Busy, Call, Committed, Conflict, Current, Done, End, Ended, Falls, Full, GaveUp, HasRow, IsAnswered, IsDeep, IsNested, IsRestart, IsSettledBy, Obeys, Ready, Records, Replied, Reply, Restarted, Rows, Rules, Stage, Status, Taken, TakesTo, begun_in, depth_after, in_transaction, open_in, over_as, pending_of, sent_back, stage_of, status_after, whole, with_call}
-use Rattle.norec_world.proofs.Tries.Stages.{stage_begun, stage_open, stage_out, stand_at, taken_at, tally_at, told_again, told_nth, told_player, told_stage, tried_as, tried_at}
+use Rattle.norec_world.proofs.Tries.Stages.{stage_begun, stage_open, stage_out, stand_at, taken_at, tally_at, told_again, told_nth, told_player, told_stage, within_at, tried_as, tried_at}
 use Rattle.norec_world.specs.Sound.{tries_left}
-use Rattle.tx_runs.{proofs.Players.Played, proofs.Players.block_same, proofs.Players.nested_outside, proofs.Players.plays, proofs.Players.rank_less, proofs.Players.rank_same, specs.Tallies.begins, specs.Tallies.outside, specs.Tallies.within}
+use Rattle.tx_attempts.specs.Restarts.{ran_on}
+use Rattle.tx_runs.{proofs.Players.Played, proofs.Players.block_same, proofs.Players.nested_outside, proofs.Players.plays, proofs.Players.rank_less, proofs.Players.rank_same, specs.Tallies.begins, specs.Tallies.outside}
 pub use Rattle.tx_runs.proofs.EngineDepths.{deep_of, was_open}
 use Rattle.tx_attempts.specs.declared.attempt.Outcome.TheVariants as outcomes
 
@@ -103,7 +104,7 @@ module _ {P : Type 0} (rules : Rules P) (laws : Obeys rules) (a : Actor P) (call
     replied_inside : {r r' : Rows} (reply : Replied) → IsAnswered rules true a call (Reply reply) → Records rules r r' a last call (Reply reply) → (b : Bool) → in_transaction a.engine ≡ b → IsSettledBy rules true a last
     replied_inside reply d t true o =
         let row = d.kept.row in
-        settled_as true (taken_at t (stage_open _ row.1) (open_now o)) (λ e. after_reply true true o reply d a.run.again last.run.current (record (with_call call reply row.0) { ran = last.engine.actions.ran }, ap open_in e, row.2, row.3) (ap begun_in e))
+        settled_as true (taken_at t (stage_open _ row.1) (open_now o)) (λ e. after_reply true true o reply d a.run.again last.run.current (record (with_call call reply row.0) { ran = ran_on row.0.ran row.0.restarts last.engine.actions.ran }, ap open_in e, row.2, row.3) (ap begun_in e))
     replied_inside reply d t false o = settled_as true (taken_at t (stage_open _ d.kept.row.1) (open_now o)) (after_close d reply o d.fits.0 last.run.current)
 
     replied_outside : {r r' : Rows} (reply : Replied) → IsAnswered rules false a call (Reply reply) → Records rules r r' a last call (Reply reply) → (p : Option Attempt) → pending_of a ≡ p → (b : Bool) → in_transaction a.engine ≡ b → IsSettledBy rules false a last
@@ -124,8 +125,8 @@ module _ {P : Type 0} (rules : Rules P) (laws : Obeys rules) (a : Actor P) (call
         settled_as true (taken_at t (stage_open _ d.kept.row.1) (open_now d.fits.1)) (after_close d Done d.fits.1 ((λ i. depth_after (d.fits.3 i) (d.fits.2 i) Done) ∙ sym none) last.run.current)
     settles false (Committed at wrote) d t = absurd (let f : false ≡ true = d.fits.0 in cc)
     settles true (Conflict clock word) d t =
-        settled_try true d (rules.restarted a.run.player) _ (d.nested.begun refl) refl d.fits.1 (within d.kept.row.0) (nat_lt a.run.retries a.run.nth) refl
-        (tried_at (record { player = rules.restarted a.run.player; nth = a.run.nth; again = a.run.again; stage = within d.kept.row.0 }) _ a.run.retries (taken_at t (stage_open _ d.kept.row.1) (open_now d.fits.1)) refl)
+        settled_try true d (rules.restarted a.run.player) _ (d.nested.begun refl) refl d.fits.1 (within_at a d.kept.row.0) (nat_lt a.run.retries a.run.nth) refl
+        (tried_at (record { player = rules.restarted a.run.player; nth = a.run.nth; again = a.run.again; stage = within_at a d.kept.row.0 }) _ a.run.retries (taken_at t (stage_open _ d.kept.row.1) (open_now d.fits.1)) refl)
     settles {r} {r'} false (Conflict clock word) d t = by_pending (pending_of a) refl
       where
         by_stage : (s : Stage) → stage_of a.run.current ≡ s → sent_back rules s a.run.player ≡ a.run.player → IsSettledBy rules false a last

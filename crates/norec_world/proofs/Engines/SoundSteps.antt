@@ -8,6 +8,7 @@ use Rattle.norec_world.proofs.Engines.TiedEngines.{IsMid, hands, held_even, hold
 use Rattle.norec_world.{proofs.Engines.NoRestarts.not_restarted, proofs.Rooms.ActionRoom.gave_acting, proofs.Rooms.ActionRoom.registers_none, proofs.Rooms.HeldRoom.same_room, proofs.Rooms.LaterActions.first_here, proofs.Tries.Stages.asked_begun, proofs.Tries.Stages.asked_open, proofs.Tries.Stages.row_same, specs.LocalWork.SameActor, specs.LocalWork.TakesIn}
 use Rattle.norec_core.{proofs.Engines.KeptFields.most_same, specs.Keeps.Keeps, specs.Order.snapshot_from, specs.Proceeds.most, specs.declared.call_parts.Opening.Opening}
 use Rattle.norec_core.specs.Phases as at
+use Rattle.norec_world.specs.ActionRoom.{NestsAs, NeverRestarts}
 
 -- ## The clock over a step
 
@@ -154,6 +155,7 @@ module _ {P : Type 0} {rules : Rules P} {cells : Cells} {r : Rows} {old : Actor 
         row_same (in_transaction old.engine) old (record old { engine = new; status = status }) refl refl k.row,
         k,
         first,
+        m.sound.acts.whole,
         waits.nested,
         waits.depth ∙ ap length (sym same.blocks),
         in_call_of new status waits.in_call,
@@ -177,7 +179,7 @@ module _ {P : Type 0} {rules : Rules P} {cells : Cells} {r : Rows} {old : Actor 
       let same_actions : (handed_to old.engine (Some m.step) (found cells m.step)).actions ≡ old.engine.actions = same.actions in
       let inside : in_transaction (handed_to old.engine (Some m.step) (found cells m.step)) ≡ in_transaction old.engine = ap is_inside same.blocks in
       gave_acting (record old { engine = new; status = status }) (handed_to old.engine (Some m.step) (found cells m.step)) call (in_transaction old.engine) inside (row_same (in_transaction old.engine) old (record old { engine = new; status = status }) refl refl m.sound.kept.row) (same.doing ∙ waits.doing)
-      (λ row e. acts.all row e ∙ ap (λ (x : _). x.ran) (sym same_actions))
+      (λ row e. acts.all row e ∙ ap (λ (x : _). x.ran) (sym same_actions)) acts.whole (subst (λ (s : Status). NestsAs s old.run.current) m.waiting acts.nests)
       (λ row e. (let p = acts.places row e in let n = registers_none call plain.1 in let t = ap total same_actions in omega arith)) (λ row e abort. absurd (let both : false ≡ true = sym plain.0 ∙ abort in cc)) acts.pending
       (same_room old.engine (handed_to old.engine (Some m.step) (found cells m.step)) old (sym same.depth) (sym same.blocks) (sym same.irrevocable) (sym same.doing) (sym same.room) (sym same.actions) acts.room)
       (λ row e. (let p = subst (IsBacked old) m.waiting acts.backed row e in let least = p.least in let most = p.most in let w = same_wants in let n = promised_same (handed_to old.engine (Some m.step) (found cells m.step)) old.engine same.irrevocable same.room in record { least = omega arith; most = omega arith }))
@@ -290,6 +292,7 @@ module _ {P : Type 0} {rules : Rules P} {cells : Cells} {r0 r : Rows} {old a : A
       λ some shut. (let went_on = asks_step mid a.engine what called.proceeds some in begun_call a.engine some called.asks old.engine call again (sym (ap is_inside went_on.0) ∙ shut) went_on.1 went_on.0 called.order) in
       let outside : in_transaction old.engine ≡ false → mid.holds ≡ false → (cells.clock ≡ cells.clock) × ((mid.clock ≡ cells.clock) ⊎ IsAtOnce what) = λ o free. (refl, inr called.at_once) in
       let first = first_here a mid a.engine call what (in_transaction old.engine) refl m.asked.kept.row refl called.proceeds (λ row e. (let was = asked_row row e in ap (λ (x : Attempt). x.ran) was.2 ∙ m.sound.acts.all was.0 was.1)) in
+      let never : NeverRestarts a = λ row e. (let was = asked_row row e in ap (λ (x : Attempt). x.restarts) was.2 ∙ m.sound.acts.whole was.0 was.1) in
       assumption (
         called.proceeds,
         m.sound.tied.words,
@@ -297,6 +300,7 @@ module _ {P : Type 0} {rules : Rules P} {cells : Cells} {r0 r : Rows} {old a : A
         called.count,
         m.asked.kept,
         first,
+        never,
         subst (IsNested rules (in_transaction old.engine)) (sym player_same) ready.nested,
         ap rules.depth player_same ∙ ready.depth,
         m.asked.in_call,

@@ -45,7 +45,7 @@ told_others a r = others_same a (told a) r r refl (let n = moved_count (a.engine
 count_one : (s : Stage) → count_in s ≤ 1
 count_one outside = (let z : 0 ≤ 1 = omega arith in z)
 count_one (begins row) = (let z : 1 ≤ 1 = omega arith in z)
-count_one (within row) = (let z : 1 ≤ 1 = omega arith in z)
+count_one (within row points) = (let z : 1 ≤ 1 = omega arith in z)
 
 count_le : {P : Type 0} (actors : List (Actor P)) → count_all actors ≤ length actors
 count_le [] = (let z : 0 ≤ 0 = omega arith in z)

@@ -1,18 +1,18 @@
 -- What an engine gives for a call leaves room for the actions that have run.
-use Rattle.std.proofs.Common.{◌≡◌, ◌+◌, ◌/◌, ◌<◌, ◌≤◌, Bool, true, false, true≢false, [], length, is_some, Result, Ok, Err, IfOk, OnErr, Some, None, Option, refl, sym, ap, subst, ◌∙◌, inl, inr, arith}
+use Rattle.std.proofs.Common.{◌≡◌, ℕ, ◌+◌, ◌/◌, ◌<◌, ◌≤◌, Bool, true, false, true≢false, [], length, is_some, Result, Ok, Err, IfOk, OnErr, Some, None, Option, refl, sym, ap, subst, ◌∙◌, inl, inr, arith}
 use Rattle.itm_types.specs.Calls.{registered_by}
 use Rattle.norec_world.proofs.Tries.Stages.{moved_begun, moved_cancels, moved_ends, moved_open, row_open, row_shut}
-use Rattle.norec_world.specs.ActionRoom.{PromisesAs, StartsEmpty}
+use Rattle.norec_world.specs.ActionRoom.{NestsAs, NestsBy, NeverRestarts, PromisesAs, StartsEmpty}
 use Rattle.norec_world.proofs.Rooms.CallRoom.{leaves_backed, promised_same, wanted_same}
 use Rattle.norec_world.proofs.Rooms.HeldRoom.{LeavesRoom, leaves_room, same_room}
-use Rattle.norec_world.proofs.Common.{Actor, Answer, Answers, Asks, AsksAs, AsksFor, Attempt, Call, ComesInto, Core, Ended, Ends, HasPlace, HasRoomFor, HasRow, IsActing, IsRestart, IsSettled, LeavesActions, MayRunOn, Next, NoCancel, Proceeds, Ran, Ready, Status, Step, Waits, active_of, came, cancels_in, cases_Bool, ends_in, in_transaction, is_abort, is_begin, is_held, next_in, none-some, pending_of, registers, rests, told, total, wanted}
+use Rattle.norec_world.proofs.Common.{Actor, Answer, Answers, Asks, AsksAs, AsksFor, Attempt, Call, ComesInto, Core, Current, Ended, Ends, HasPlace, HasRoomFor, HasRow, IsActing, IsRestart, IsSettled, LeavesActions, MayRunOn, Next, NoCancel, Outside, Proceeds, Ran, Ready, Status, Step, Waits, active_of, came, cancels_in, cases_Bool, ends_in, in_transaction, is_abort, is_begin, is_held, moved_to, next_in, none-some, pending_of, registers, rests, told, total, wanted}
 use Rattle.norec_world.proofs.Rooms.LaterActions.{first_here}
 use Rattle.norec_world.proofs.Engines.NoRestarts.{not_at_once}
 pub use Rattle.tx_runs.proofs.StepCalls.{registers_none}
 use Rattle.tx_runs.proofs.StepCalls.{cancels_register_none, gave_plainly, starves_shut}
 
 module _ {P : Type 0} (a : Actor P) (mid : Core) (call : Call) (was : Bool) (o : in_transaction mid ≡ was) (has : HasRow was a) (doing : mid.doing ≡ Some call)
-    (all : (row : Attempt) → active_of a ≡ Some row → row.ran ≡ mid.actions.ran)
+    (all : (row : Attempt) → active_of a ≡ Some row → row.ran ≡ mid.actions.ran) (whole : NeverRestarts a) (nests : NestsBy call a.run.current)
     (places : (row : Attempt) → active_of a ≡ Some row → total mid.actions + registers call ≤ ends_in a.run.current)
     (cancel : (row : Attempt) → active_of a ≡ Some row → is_abort call ≡ true → total mid.actions ≤ cancels_in a.run.current)
     (pending : StartsEmpty a) (room : HasRoomFor mid a) (backed : (row : Attempt) → active_of a ≡ Some row → HasPlace mid row)
@@ -27,12 +27,14 @@ module _ {P : Type 0} (a : Actor P) (mid : Core) (call : Call) (was : Bool) (o :
       let n = wanted_on g in
       record {
         all = λ row e. all row e ∙ ap (λ (x : _). x.ran) (sym same);
+        whole = whole;
         places = λ row e. (let p = places row e in let n = ap total same in omega arith);
         pending = pending;
         status = other;
         room = same_room mid a.engine a (sym (ap (λ (c : Core). c.depth) g.stays)) (sym (ap (λ (c : Core). c.blocks) g.stays)) (sym (ap (λ (c : Core). c.irrevocable) g.stays)) (sym (ap (λ (c : Core). c.doing) g.stays)) (sym (ap (λ (c : Core). c.room) g.stays)) (sym same) room;
         backed = λ row e. (let p = backed row e in let least = p.least in let most = p.most in let m = promised_same a.engine mid (ap (λ (c : Core). c.irrevocable) g.stays) (ap (λ (c : Core). c.room) g.stays) in record { least = omega arith; most = omega arith });
         asks = record { pending = λ row e. asks row e ∙ sym n; backed = (let k = ap (λ (c : Core). c.room) g.stays in omega arith) };
+        nests = nests;
       }
     where
       wanted_on : AsksFor mid step a.engine → wanted a.engine ≡ wanted mid
@@ -61,6 +63,7 @@ module _ {P : Type 0} (a : Actor P) (mid : Core) (call : Call) (was : Bool) (o :
     pub answered_acting : MayRunOn a call (Answers answer)
     answered_acting = record {
       first = first_here a mid a.engine call (Answers answer) was o has doing g all;
+      whole = whole;
       places = λ row e. (let p = places row e in let m = (acts.runs (was_open row e)).most in omega arith);
       cancel_places = cancel_place;
       pending = pending;
@@ -71,6 +74,7 @@ module _ {P : Type 0} (a : Actor P) (mid : Core) (call : Call) (was : Bool) (o :
       place = λ row e. (let some = (backed row e).least in omega arith);
       adds = λ now row e. (leaves_backed mid a.engine call answer doing reserved settled g stays now).adds row.calls.room (backed row e).most;
       opens = λ now row e. (leaves_backed mid a.engine call answer doing reserved settled g stays now).opens row.calls.room (asks row e);
+      nests = nests;
     }
 
   -- whatever it gave, but for a block that went back to its begin alone
@@ -83,15 +87,17 @@ module _ {P : Type 0} (a : Actor P) (mid : Core) (call : Call) (was : Bool) (o :
 
 -- ## An actor that has no open attempt, and one whose attempt is changed
 
-pub none_acting : {P : Type 0} (a : Actor P) → active_of a ≡ None → StartsEmpty a → NoCancel a.status → is_held a.engine ≡ false → AsksAs a a.status → IsActing a
-none_acting a none pending status free asks = record {
+pub none_acting : {P : Type 0} (a : Actor P) → active_of a ≡ None → StartsEmpty a → NoCancel a.status → is_held a.engine ≡ false → AsksAs a a.status → NestsAs a.status a.run.current → IsActing a
+none_acting a none pending status free asks nests = record {
   all = λ row e. absurd (none-some row (sym none ∙ e));
+  whole = λ row e. absurd (none-some row (sym none ∙ e));
   places = λ row e. absurd (none-some row (sym none ∙ e));
   pending = pending;
   status = status;
   room = λ held some. absurd (true≢false (sym held ∙ free));
   backed = λ row e. absurd (none-some row (sym none ∙ e));
   asks = asks;
+  nests = nests;
 }
 
 -- what is promised is of the room of the calls alone
@@ -108,6 +114,14 @@ asks_as a a' pending engine (Waits call step) x = record {
 }
 asks_as a a' pending engine (Ended end) x = tt
 
+-- places are no matter of where the engine reads
+nests_moved : (at : ℕ) (s : Status) (c : Current) → NestsAs s c → NestsAs s (moved_to at c)
+nests_moved at Ready Outside n = tt
+nests_moved at (Waits call step) Outside n = tt
+nests_moved at Ready c n = n
+nests_moved at (Waits call step) c n = n
+nests_moved at (Ended end) c n = tt
+
 -- told where its engine reads
 pub told_acting : {P : Type 0} (a : Actor P) → IsActing a → IsActing (told a)
 told_acting a acts =
@@ -116,27 +130,29 @@ told_acting a acts =
     let cancels = moved_cancels at a.run.current in
     record {
       all = λ row e. (let w = moved_open at a.run.current row e in ap (λ (x : Attempt). x.ran) w.2 ∙ acts.all w.0 w.1);
+      whole = λ row e. (let w = moved_open at a.run.current row e in ap (λ (x : Attempt). x.restarts) w.2 ∙ acts.whole w.0 w.1);
       places = λ row e. (let w = moved_open at a.run.current row e in let p = acts.places w.0 w.1 in omega arith);
       pending = λ row e. acts.pending row (sym (moved_begun at a.run.current) ∙ e);
       status = acts.status;
       room = λ held some. (let both = acts.room held some in ((let x = both.0 in omega arith), (let x = both.1 in omega arith)));
       backed = λ row e. (let w = moved_open at a.run.current row e in promises_as a.engine a.status w.0 row (ap (λ (x : Attempt). x.calls.room) w.2) (acts.backed w.0 w.1));
       asks = asks_as a (told a) (moved_begun at a.run.current) refl a.status acts.asks;
+      nests = nests_moved at a.status a.run.current acts.nests;
     }
 
 -- ## A call goes to the engine
 
 -- there is room for what comes of it, which the result tells
 pub called_acting : {P E : Type 0} (answer : Answer) (a : Actor P) (old : Core) (call : Call) (again was : Bool) (o : in_transaction (came old call again) ≡ was) (has : HasRow was a)
-    → ((row : Attempt) → active_of a ≡ Some row → row.ran ≡ (came old call again).actions.ran)
+    → ((row : Attempt) → active_of a ≡ Some row → row.ran ≡ (came old call again).actions.ran) → NeverRestarts a → NestsBy call a.run.current
     → ((row : Attempt) → active_of a ≡ Some row → total (came old call again).actions + registers call ≤ ends_in a.run.current)
     → ((row : Attempt) → active_of a ≡ Some row → is_abort call ≡ true → total (came old call again).actions ≤ cancels_in a.run.current)
     → StartsEmpty a → HasRoomFor (came old call again) a → ((row : Attempt) → active_of a ≡ Some row → HasPlace (came old call again) row) → ((row : Attempt) → pending_of a ≡ Some row → row.calls.room ≡ wanted (came old call again)) → wanted (came old call again) ≤ (came old call again).room
     → (in_transaction (came old call again) ≡ false → ((came old call again).actions.commits ≡ []) × ((came old call again).actions.undos ≡ []))
     → (result : Result (Option Step) E) → ComesInto old call again result answer a.engine → IfOk result (λ what. MayRunOn a call (next_in what answer))
-called_acting answer a old call again was o has all places cancel pending room backed wants reserved shut (Ok what) e =
-    gave_acting a (came old call again) call was o has refl all places cancel pending room backed wants reserved e.settled (next_in what answer) e.proceeds (not_at_once (next_in what answer) e.at_once) shut (gave_plainly (came old call again) a.engine old call again (next_in what answer) e.proceeds e.order e.asks)
-called_acting answer a old call again was o has all places cancel pending room backed wants reserved shut (Err x) e = tt
+called_acting answer a old call again was o has all whole nests places cancel pending room backed wants reserved shut (Ok what) e =
+    gave_acting a (came old call again) call was o has refl all whole nests places cancel pending room backed wants reserved e.settled (next_in what answer) e.proceeds (not_at_once (next_in what answer) e.at_once) shut (gave_plainly (came old call again) a.engine old call again (next_in what answer) e.proceeds e.order e.asks)
+called_acting answer a old call again was o has all whole nests places cancel pending room backed wants reserved shut (Err x) e = tt
 
 pub starves_begin : {E : Type 0} (c new : Core) (call : Call) (answer : Answer) → IsSettled c → (result : Result (Option Step) E) → ComesInto c call false result answer new → OnErr result (in_transaction c ≡ false → is_begin call ≡ true)
 starves_begin c new call answer s (Ok what) m = tt

@@ -2,16 +2,18 @@
 pub use Rattle.tx_runs.proofs.Tries.{no_begin}
 use Rattle.tx_runs.proofs.StepCalls.{wants_none, places_for}
 use Rattle.tx_runs.proofs.OpenRooms.{again_none, begins_none, outside_current, reserved_least, reserved_most}
-use Rattle.std.proofs.Common.{◌≡◌, ℕ, ◌+◌, ◌/◌, ◌≤◌, max, not, Bool, true, false, true≢false, [], append-nil, Result, Ok, Err, IfOk, OnErr, Option, None, Some, is_some, unwrap_or, refl, sym, ap, subst, ◌∙◌, arith, if◌then◌else◌}
+use Rattle.std.proofs.Common.{◌≡◌, inl, inr, ℕ, zero, suc, ◌+◌, ◌/◌, ◌<◌, ◌≤◌, max, length, not, Bool, true, false, true≢false, [], append-nil, Result, Ok, Err, IfOk, OnErr, Option, None, Some, is_some, unwrap_or, refl, sym, ap, subst, ◌∙◌, arith, if◌then◌else◌}
 use Rattle.norec_core.specs.Moves.{IsCalled}
-use Rattle.tx_runs.specs.OpenAttempts.{HasPlacesFor, Open}
+use Rattle.norec_world.specs.ActionRoom.{NestsAs, NestsBy, NestsReady, arena_ahead, opened_by}
+use Rattle.tx_runs.specs.OpenAttempts.{HasPlacesFor, LacksPlaces, Open}
 use Rattle.tx_runs.specs.Tallies.{begins, outside}
 use Rattle.norec_world.proofs.Engines.NoRestarts.{not_at_once}
+use Rattle.norec_world.specs.LocalWork.{IsShort}
 use Rattle.norec_world.specs.Records.{Asks as AsksOf}
-use Rattle.norec_world.proofs.Common.{Actor, Answer, Attempt, Begin, Begins, Call, Cells, ComesInto, Core, Current, HasPlace, HasRow, IsAsked, IsBacked, IsKept, IsRefused, IsSound, IsUnasked, KeepsOthers, Kept, MAX_ACTORS, MayRunOn, Next, Props, Ready, Rows, Rules, Stage, Step, Within, active_of, begins_again, begun, came, cancels_in, count_in, ends_in, asks_no_room, in_transaction, irrevocable_room, is_begin, next_in, none-some, open_in, promised, reserved, same_Some, stage_of, total, with_room, within}
+use Rattle.norec_world.proofs.Common.{Actor, Answer, Attempt, Begin, Begins, Call, Cells, ComesInto, Core, Current, HasPlace, HasRow, IsAsked, IsBacked, IsKept, IsRefused, IsSound, IsUnasked, KeepsOthers, Kept, MAX_ACTORS, MayRunOn, Next, Props, Ready, Rows, Rules, Savepoint, Stage, Status, Step, Within, active_of, begins_again, begun, came, cancels_in, cases_Bool, count_in, ends_in, asks_no_room, in_transaction, irrevocable_room, is_begin, next_in, none-some, open_in, promised, reserved, same_Some, stage_of, total, with_room, within}
 use Rattle.norec_world.proofs.Engines.SoundSteps.{rests}
 use Rattle.norec_world.proofs.Rooms.ActionRoom.{called_acting, gave_acting}
-use Rattle.norec_world.proofs.Rooms.CallRoom.{backed_came, promised_came, wanted_came}
+use Rattle.norec_world.proofs.Rooms.CallRoom.{backed_came, promised_came, short_of_room, wanted_came}
 use Rattle.norec_world.proofs.Rooms.HeldRoom.{came_room}
 use Rattle.norec_world.proofs.Tries.Stages.{asked_at, others_same, row_is_of, row_open, row_same, row_shut, row_unfinished, stage_out}
 
@@ -28,9 +30,24 @@ pub on_err : {A E T : Type 0} (result : Result A E) → T → OnErr result T
 on_err (Ok what) t = tt
 on_err (Err x) t = t
 
+-- with a place for the block that the call begins, and for those of as many calls as it asks for
+nests_for : (call : Call) (points room room' deep ahead : ℕ) → points + room ≤ deep → room' ≤ max room (ahead + 1) → (is_begin call ≡ true → points < deep) → (0 < ahead → points + ahead < deep) → points + room' + opened_by call ≤ deep + 1
+nests_for call points room room' deep ahead fits few one_more more = elim (cases_Bool (is_begin call)) [
+  | inl is ↦ (let one : opened_by call ≡ 1 = ap (λ (b : Bool). if b then 1 else 0) is in let place = one_more is in by_ahead ahead few more one place)
+  | inr other ↦ (let none : opened_by call ≡ 0 = ap (λ (b : Bool). if b then 1 else 0) other in by_none ahead few more none)
+]
+  where
+    by_ahead : (n : ℕ) → room' ≤ max room (n + 1) → (0 < n → points + n < deep) → opened_by call ≡ 1 → points < deep → points + room' + opened_by call ≤ deep + 1
+    by_ahead zero few more one place = omega arith
+    by_ahead (suc n) few more one place = (let m = more (omega arith) in omega arith)
+
+    by_none : (n : ℕ) → room' ≤ max room (n + 1) → (0 < n → points + n < deep) → opened_by call ≡ 0 → points + room' + opened_by call ≤ deep + 1
+    by_none zero few more none = omega arith
+    by_none (suc n) few more none = (let m = more (omega arith) in omega arith)
+
 -- ## Within an attempt
 
-module _ {P : Type 0} {rules : Rules P} {cells : Cells} {r : Rows} {a : Actor P} (sound : IsSound rules cells r a) (ready : a.status ≡ Ready) (o o' : Open) (is : a.run.current ≡ Within o) (ends : o.ends ≤ o'.ends) (cancels : o.cancels ≤ o'.cancels) where
+module _ {P : Type 0} {rules : Rules P} {cells : Cells} {r : Rows} {a : Actor P} (sound : IsSound rules cells r a) (ready : a.status ≡ Ready) (o o' : Open) (is : a.run.current ≡ Within o) (ends : o.ends ≤ o'.ends) (cancels : o.cancels ≤ o'.cancels) (deep : o.deep ≤ o'.deep) (points : o'.points ≡ o.points) where
   abbrev New : Core → Actor P
   New e = record a { run = record a.run { current = Within o' }; engine = e }
 
@@ -39,6 +56,10 @@ module _ {P : Type 0} {rules : Rules P} {cells : Cells} {r : Rows} {a : Actor P}
 
   inside : in_transaction a.engine ≡ true
   inside = row_open (in_transaction a.engine) a o.row sound.kept.row here
+
+  -- each of its calls has a place for the block that it begins
+  here_nests : length o.points + o.row.calls.room ≤ o.deep
+  here_nests = subst NestsReady is (subst (λ (s : Status). NestsAs s a.run.current) ready sound.acts.nests)
 
   -- what it promises
   pub kept_room : o.row.calls.room ≤ max (promised a.engine) 1
@@ -62,7 +83,7 @@ module _ {P : Type 0} {rules : Rules P} {cells : Cells} {r : Rows} {a : Actor P}
     pub unasked_within : IsUnasked rules a (New a.engine)
     unasked_within = record {
       actor = refl;
-      stage = (k.room, ap within (row ∙ (λ i. record o.row { calls = record { list = list i; room = k.room } })) ∙ ap (with_room k.room) (ap stage_of (sym is)));
+      stage = (k.room, (λ i. within ((row ∙ (λ j. record o.row { calls = record { list = list j; room = k.room } })) i) (points i)) ∙ ap (with_room k.room) (ap stage_of (sym is)));
     }
 
     has_row : (e : Core) → HasRow true (New e)
@@ -74,14 +95,21 @@ module _ {P : Type 0} {rules : Rules P} {cells : Cells} {r : Rows} {a : Actor P}
     all_within : (x : Attempt) → Some o'.row ≡ Some x → x.ran ≡ a.engine.actions.ran
     all_within x e = ap (λ (y : Attempt). y.ran) (sym (same_Some _ _ e) ∙ row) ∙ sound.acts.all o.row here
 
+    whole_within : (x : Attempt) → Some o'.row ≡ Some x → x.restarts ≡ []
+    whole_within x e = ap (λ (y : Attempt). y.restarts) (sym (same_Some _ _ e) ∙ row) ∙ sound.acts.whole o.row here
+
     pub refused_within : (a.engine.irrevocable ≡ true → k.room ≤ max (promised a.engine) 1) → IsRefused (New a.engine)
     refused_within few = record {
       all = all_within;
+      whole = whole_within;
       places = λ x e. (let p = sound.acts.places o.row here in let s = same_ends in omega arith);
       nothing = refl;
       room = λ held some. (let both = sound.acts.room held some in let s = same_ends in let t = same_cancels in ((let x = both.0 in omega arith), (let x = both.1 in omega arith)));
       backed = λ x e h. (let f = few h in let n = ap (λ (y : Attempt). y.calls.room) (sym (same_Some _ _ e) ∙ row) in omega arith);
     }
+
+  pub short_within : (call : Call) → LacksPlaces call (total a.engine.actions) (unwrap_or (irrevocable_room a.engine call) 0) (arena_ahead a.engine call) o → IsShort a call
+  short_within call = short_of_room a call o is inside sound.tied.restarts sound.acts.room here_nests
 
   pub others_within : (e : Core) → KeepsOthers a r (New e) r
   others_within e = (let one = ap (λ (c : Current). count_in (stage_of c)) is in others_same a (New e) r r refl (omega arith) refl (omega arith))
@@ -101,12 +129,19 @@ module _ {P : Type 0} {rules : Rules P} {cells : Cells} {r : Rows} {a : Actor P}
         let p = promised_came a.engine call false in
         record { least = omega arith; most = omega arith }
 
-    pub acts_within : (e : Core) {E : Type 0} (answer : Answer) (result : Result (Option Step) E) → HasPlacesFor call (total a.engine.actions) Ahead o' → ComesInto a.engine call false result answer e → IfOk result (λ what. MayRunOn (New e) call (next_in what answer))
+    nests_within : HasPlacesFor call (total a.engine.actions) Ahead (arena_ahead a.engine call) o' → NestsBy call (Within o')
+    nests_within places =
+        let room = ap (λ (x : Attempt). x.calls.room) row in
+        let most = reserved_most o.row.calls Ahead o.row.calls.room (omega arith) in
+        let long = ap (length {A = Savepoint}) points in
+        nests_for call (length o'.points) o.row.calls.room o'.row.calls.room o'.deep Ahead (omega (arith, here_nests)) (omega arith) places.begins places.ahead_begins
+
+    pub acts_within : (e : Core) {E : Type 0} (answer : Answer) (result : Result (Option Step) E) → HasPlacesFor call (total a.engine.actions) Ahead (arena_ahead a.engine call) o' → ComesInto a.engine call false result answer e → IfOk result (λ what. MayRunOn (New e) call (next_in what answer))
     acts_within e answer result places comes =
         let s = same_ends in
         let t = same_cancels in
         called_acting answer (New e) a.engine call false true inside (has_row (reserved o.row.calls (Ahead + 1)) refl row e)
-        (all_within (reserved o.row.calls (Ahead + 1)) refl row)
+        (all_within (reserved o.row.calls (Ahead + 1)) refl row) (whole_within (reserved o.row.calls (Ahead + 1)) refl row) (nests_within places)
         (λ x f. places_for call (total a.engine.actions) o.ends o'.ends (let p = sound.acts.places o.row here in omega arith) ends places.ends)
         (λ x f. places.cancels) (λ x f. absurd (cc))
         (came_room a.engine call false a (New e) sound.acts.room (omega arith) (omega arith)
@@ -124,7 +159,7 @@ module _ {P : Type 0} {rules : Rules P} {cells : Cells} {r : Rows} {a : Actor P}
     pub told_within : (clock : ℕ) (e : Core) {E : Type 0} (answer : Answer) (result : Result (Option Step) E) → ComesInto a.engine call false result answer e → IfOk result (λ what. AsksOf clock r r a (New e) call (next_in what answer))
     told_within clock e answer (Err x) comes = tt
     told_within clock e answer (Ok what) comes = record {
-      stage = ap within row ∙ ap (asked_at clock a call) (ap stage_of (sym is));
+      stage = (λ i. within (row i) (points i)) ∙ ap (asked_at clock a call) (ap stage_of (sym is));
       run = refl;
       ended = refl;
       called = subst (λ (b : Bool). IsCalled a.engine call b (next_in what answer) e) (ap (λ (c : Current). begins_again (stage_of c) a.run.again call) (sym is)) comes;
@@ -146,6 +181,7 @@ module _ {P : Type 0} {rules : Rules P} {cells : Cells} {r : Rows} {a : Actor P}
   pub refused_outside : IsRefused a
   refused_outside = record {
     all = λ x e. absurd (none-some x (sym none ∙ e));
+    whole = λ x e. absurd (none-some x (sym none ∙ e));
     places = λ x e. absurd (none-some x (sym none ∙ e));
     nothing = (rests sound ready).nothing;
     room = sound.acts.room;
@@ -187,14 +223,15 @@ module _ {P : Type 0} {rules : Rules P} {cells : Cells} {r : Rows} {a : Actor P}
       pub acts_outside : {E : Type 0} (answer : Answer) (result : Result (Option Step) E) → ComesInto a.engine call false result answer e → IfOk result (λ what. MayRunOn Same call (next_in what answer))
       acts_outside answer result comes =
           called_acting answer Same a.engine call false (in_transaction a.engine) refl (row_same (in_transaction a.engine) a Same refl refl sound.kept.row)
-          (λ x f. absurd (none-some x (sym none ∙ f))) (λ x f. absurd (none-some x (sym none ∙ f))) (λ x f. absurd (none-some x (sym none ∙ f))) (λ x f. absurd (none-some x (sym (rests sound ready).nothing ∙ f)))
+          (λ x f. absurd (none-some x (sym none ∙ f))) (λ x f. absurd (none-some x (sym none ∙ f))) (subst (NestsBy call) (sym (outside_current a.run.current out_outside)) tt)
+          (λ x f. absurd (none-some x (sym none ∙ f))) (λ x f. absurd (none-some x (sym none ∙ f))) (λ x f. absurd (none-some x (sym (rests sound ready).nothing ∙ f)))
           (came_room a.engine call false a Same sound.acts.room (omega arith) (omega arith) (λ some. absurd (let wants = wants_none a.engine call other shut_outside in omega arith)))
           (λ x f. absurd (none-some x (sym none ∙ f))) (λ x f. absurd (none-some x (sym (rests sound ready).nothing ∙ f))) (backed_came a.engine call false) (λ over. (let s = sound.tied.settled.closed shut_outside in (s.2, s.3))) result comes
 
   -- a begin, whose attempt has the room that it asks for
   module _ (props : Props) (room : ℕ) (asks : rules.next_call a.run.player ≡ Some (Begin props room)) (e : Core) (o : Open) (clock : ℕ)
       (row : o.row ≡ begun a.run.thread a.run.nth (clock / 2) props a.engine.arena (unwrap_or (irrevocable_room a.engine (Begin props room)) 0))
-      (ends : unwrap_or (irrevocable_room a.engine (Begin props room)) 0 ≤ o.ends) (cancels : unwrap_or (irrevocable_room a.engine (Begin props room)) 0 ≤ o.cancels) where
+      (ends : unwrap_or (irrevocable_room a.engine (Begin props room)) 0 ≤ o.ends) (cancels : unwrap_or (irrevocable_room a.engine (Begin props room)) 0 ≤ o.cancels) (deep : unwrap_or (irrevocable_room a.engine (Begin props room)) 0 ≤ o.deep) where
     abbrev Begun : Actor P
     Begun = record a { run = record a.run { current = Begins o }; engine = e }
 
@@ -222,8 +259,8 @@ module _ {P : Type 0} {rules : Rules P} {cells : Cells} {r : Rows} {a : Actor P}
     pub acts_begin : (what : Next) → IsCalled a.engine (Begin props room) a.run.again what e → MayRunOn Begun (Begin props room) what
     acts_begin what comes =
         let same = ap (λ (b : Bool). if b then total a.engine.actions else 0) shut_outside in
-        gave_acting Begun (came a.engine (Begin props room) a.run.again) (Begin props room) false shut_outside refl refl (λ x f. absurd (cc)) (λ x f. absurd (cc)) (λ x f abort. absurd (cc))
-        (λ x f. ap (λ (y : Attempt). y.ran) (sym (same_Some _ _ f) ∙ row))
+        gave_acting Begun (came a.engine (Begin props room) a.run.again) (Begin props room) false shut_outside refl refl (λ x f. absurd (cc)) (λ x f. absurd (cc)) (let n = ap (λ (y : Attempt). y.calls.room) row in omega arith) (λ x f. absurd (cc)) (λ x f abort. absurd (cc))
+        (λ x f. (let same = sym (same_Some _ _ f) ∙ row in (ap (λ (y : Attempt). y.ran) same, ap (λ (y : Attempt). y.restarts) same)))
         (came_room a.engine (Begin props room) a.run.again a Begun sound.acts.room (let none_ends = ap ends_in (outside_current a.run.current out_outside) in omega arith) (let none_cancels = ap cancels_in (outside_current a.run.current out_outside) in omega arith) (λ some. (omega arith, omega arith)))
         (λ x f. absurd (cc)) (λ x f. ap (λ (y : Attempt). y.calls.room) (sym (same_Some _ _ f) ∙ row) ∙ sym (wanted_came a.engine (Begin props room) a.run.again))
         (backed_came a.engine (Begin props room) a.run.again) comes.settled what comes.proceeds (not_at_once what comes.at_once) (λ over. (let s = sound.tied.settled.closed shut_outside in (s.2, s.3))) (λ step is. (refl, refl))

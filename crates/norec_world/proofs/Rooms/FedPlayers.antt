@@ -4,10 +4,10 @@ use Rattle.norec_world.specs.PlayerRooms.{going_room}
 use Rattle.norec_core.proofs.Replies.ReplyCases.{Ways}
 use Rattle.tx_runs.proofs.EngineReplies.{engine_may}
 use Rattle.tx_runs.proofs.TookIn.{OpensBy}
-use Rattle.norec_world.proofs.Tries.Stages.{begun_shut, open_by, row_open, row_shut, busy_player, conflict_player, reply_player, sent_same, stage_open, told_player}
+use Rattle.norec_world.proofs.Tries.Stages.{begun_shut, open_by, row_open, row_shut, busy_player, conflict_player, reply_player, sent_same, stage_open, told_player, within_at}
 use Rattle.norec_world.proofs.Rooms.CallRoom.{wanted_as}
 use Rattle.norec_world.proofs.Engines.Intakes.{HasAnswered, HasTaken}
-use Rattle.norec_world.proofs.Common.{IsDeep, begun_in, open_in, stand_of, Actor, Answer, Asks, Attempt, Begin, Busy, Call, Cells, ComesTo, Committed, Conflict, Core, Done, EndsWithin, Full, MayReply, Mode, Replied, Reply, Restarted, Rows, Rules, Step, TellsRoom, Waits, active_of, in_transaction, irrevocable_room, may_go, reply_cases, stage_of, wanted, within}
+use Rattle.norec_world.proofs.Common.{IsDeep, begun_in, open_in, points_in, stand_of, Actor, Answer, Asks, Attempt, Begin, Busy, Call, Cells, ComesTo, Committed, Conflict, Core, Done, EndsWithin, Full, MayReply, Mode, Replied, Reply, Restarted, Rows, Rules, Step, TellsRoom, Waits, active_of, in_transaction, irrevocable_room, may_go, reply_cases, stage_of, wanted}
 
 -- ## Room
 
@@ -71,7 +71,7 @@ module _ {P : Type 0} {rules : Rules P} {was : Bool} {cells cells' : Cells} {r :
     comes_on (Conflict clock word) t = by_was was t
       where
         by_was : (b : Bool) → HasAnswered rules b cells cells' r r1 mid a last call (Conflict clock word) → (k : ℕ) × ComesTo rules k p last.run.player
-        by_was true t = (suc n, (a.run.player, comes, inr (t.answered.nested.deep, conflict_player t.told (within t.answered.kept.row.0) (stage_open _ t.answered.kept.row.1))))
+        by_was true t = (suc n, (a.run.player, comes, inr (t.answered.nested.deep, conflict_player t.told (within_at a t.answered.kept.row.0) (stage_open _ t.answered.kept.row.1))))
         by_was false t = comes_still rules p last.run.player a.run.player n comes (conflict_player t.told (stage_of a.run.current) refl ∙ sent_same rules (stage_of a.run.current) a.run.player t.answered.kept.row)
     comes_on (Restarted clock word) t = absurd t.answered.fits
     comes_on (Busy clock) t = comes_still rules p last.run.player a.run.player n comes (busy_player t.told)
@@ -91,14 +91,14 @@ module _ {P : Type 0} {rules : Rules P} {was : Bool} {cells cells' : Cells} {r :
         let m = subst (λ (y : Answer). HasAnswered rules was cells cells' r r1 mid a last call y) x.is t in
         subst (EndsWithin rules row.calls.room) (sym (reply_player x.reply m.told)) (by_case x.reply m x.either (reply_cases mid a.engine call x.reply m.taken.doing m.ends))
       where
-        by_case : (reply : Replied) → HasAnswered rules was cells cells' r r1 mid a last call (Reply reply) → OpensBy (stage_of a.run.current) call reply (stand_of last.engine) row → Ways mid a.engine call reply → EndsWithin rules row.calls.room (rules.answered a.run.player reply)
+        by_case : (reply : Replied) → HasAnswered rules was cells cells' r r1 mid a last call (Reply reply) → OpensBy (stage_of a.run.current) call (Reply reply) (stand_of last.engine) row (points_in (stage_of last.run.current)) → Ways mid a.engine call reply → EndsWithin rules row.calls.room (rules.answered a.run.player reply)
         by_case reply m y (inl w) = absurd (true≢false (sym held ∙ (ap (λ (c : Core). c.irrevocable) w.stays ∙ w.revocable)))
-        by_case reply m (inl y) (inr (inl w)) = (let place = m.taken.place y.0 (ap open_in y.1) in let room = ap (λ (x : Attempt). x.calls.room) y.2 in entered_left reply m w.goes row.calls.room (omega arith))
+        by_case reply m (inl y) (inr (inl w)) = (let place = m.taken.place y.0 (ap open_in y.2) in let room = ap (λ (x : Attempt). x.calls.room) y.3 in entered_left reply m w.goes row.calls.room (omega arith))
         by_case reply m (inr y) (inr (inl w)) = (let room = ap (λ (x : Attempt). x.calls.room) y.2 ∙ m.taken.pending y.0 (ap begun_in y.1) in entered_left reply m w.goes row.calls.room (omega arith))
         by_case reply m (inl y) (inr (inr w)) =
-            let here = ap open_in y.1 in
+            let here = ap open_in y.2 in
             let deep = subst (λ (b : Bool). IsDeep b (rules.depth a.run.player)) (row_open was a y.0 m.answered.kept.row here) m.answered.nested.deep in
-            subst (λ (k : ℕ). EndsWithin rules k (rules.answered a.run.player reply)) (sym (ap (λ (x : Attempt). x.calls.room) y.2)) (less_within rules y.0.calls.room a.run.player call reply (within_room w.irrevocable y.0 here) deep m.answered.in_call.asks (reply_may reply m))
+            subst (λ (k : ℕ). EndsWithin rules k (rules.answered a.run.player reply)) (sym (ap (λ (x : Attempt). x.calls.room) y.3)) (less_within rules y.0.calls.room a.run.player call reply (within_room w.irrevocable y.0 here) deep m.answered.in_call.asks (reply_may reply m))
         by_case reply m (inr y) (inr (inr w)) = absurd (true≢false (sym w.irrevocable ∙ shut (m.taken.was_is ∙ row_shut was a m.answered.kept.row (begun_shut _ (ap begun_in y.1)))))
 
     -- it is answered

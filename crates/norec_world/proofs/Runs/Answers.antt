@@ -1,10 +1,10 @@
 -- An actor's run, once an answer is recorded.
 use Rattle.std.proofs.Common.{◌≡◌, ℕ, ◌/◌, ◌%◌, ◌<◌, ◌≤◌, Bool, true, false, List, [], ◌∷◌, ◌++◌, Option, None, Some, refl, sym, true≢false, ap, subst, ◌∙◌, arith, inl, inr}
-use Rattle.norec_world.proofs.Common.{Actor, Agrees, Answers, Attempt, Between, Call, Cells, ComesTo, Core, End, Enters, GaveUp, IsBeforeTry, IsInTry, IsMadeAlone, IsRun, IsRunOf, IsTied, IsTryAt, LeadsTo, NoMemory, Obeys, Replied, RepliesHeld, Reply, Rows, Rules, RunsFrom, State, TellsRoom, active_of, after_try, alone, alone_led, append-nil, breaks_of, bytes_at, bytes_of, ending_of, in_transaction, is_open, none-some, of_thread, opened, pending_of, reply as plainly, recoded, reply_cases, run_after, run_with, stands_for, state_then, told_plainly, with_call, words_at}
+use Rattle.norec_world.proofs.Common.{Actor, Agrees, Answers, Attempt, Between, Call, Cells, ComesTo, Core, End, Enters, GaveUp, IsBeforeTry, IsInTry, IsMadeAlone, IsRun, IsRunOf, IsTied, IsTryAt, LeadsTo, NoMemory, Obeys, Replied, RepliesHeld, Reply, Rows, Rules, RunsFrom, State, TellsRoom, active_of, after_try, alone, alone_led, append-nil, breaks_of, bytes_at, bytes_of, ending_of, in_transaction, is_open, none-some, of_thread, opened, pending_of, reply as plainly, recoded, reply_cases, run_after, run_with, stands_for, state_then, told_plainly, with_call, words_at, Ran}
 use Rattle.norec_world.proofs.Tries.Stages.{stage_open, taken_at, told_active, told_again, told_nth, told_player}
 use Rattle.tx_runs.proofs.RunLists.{of_thread_own}
 use Rattle.norec_world.proofs.Commits.SeenMemories.{HasSeen, memory_at, same_at}
-use Rattle.norec_world.proofs.Engines.Intakes.{HasAnswered, half_same}
+use Rattle.norec_world.proofs.Engines.Intakes.{HasAnswered, half_same, told_all}
 use Rattle.norec_world.proofs.Tries.OpenTries.{made_held, made_so, stands_led, try_holds, try_replies}
 use Rattle.norec_world.proofs.Engines.HeldCalls.{HasHeld}
 
@@ -159,7 +159,7 @@ module _ {P : Type 0} {rules : Rules P} (laws : Obeys rules) {first : Between P}
         let ended : r1.ended ≡ r.ended = x.ended ∙ append-nil r.ended in
         let row : Attempt = record (with_call call reply t.1) { ran = last.engine.actions.ran } in
         open_run rules first mid.depth base (run_same rules first mid.depth base n r.ended r1.ended a.run.thread last.run.thread ended m.settled.thread run.run) opened_now t.0 row
-        ((λ i. now_at rules first mid.depth base (ended i) (m.settled.thread i)) ∙ t.2) (told_active x)
+        ((λ i. now_at rules first mid.depth base (ended i) (m.settled.thread i)) ∙ t.2) (told_active x ∙ ap (λ (l : List Ran). Some (record (with_call call reply t.1) { ran = l })) (told_all m t.1 t.3))
         (subst (λ (xs : List Attempt). IsInTry rules mid.depth (words_at mid.depth base xs (cells.clock / 2)) t.0 row last.run.player last.engine) (sym ended)
         (subst (λ (c : Core). IsInTry rules mid.depth position t.0 (record (with_call call reply t.1) { ran = c.actions.ran }) last.run.player c) (sym m.settled.engine)
         (subst (λ (q : P). IsInTry rules mid.depth position t.0 (record (with_call call reply t.1) { ran = a.engine.actions.ran }) q a.engine) (sym (told_player x)) now_tried)))

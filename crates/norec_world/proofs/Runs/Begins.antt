@@ -13,7 +13,7 @@ use Rattle.norec_world.proofs.Tries.OpenTries.{IsToOpen, begin_leaves, try_begin
 
 -- where no attempt was open none is over
 pub none_over : (outcome : Outcome) (stand : Stand) (s : Stage) → open_in s ≡ None → over_as outcome stand s ≡ []
-none_over outcome stand (within row) none = absurd (none-some row (sym none))
+none_over outcome stand (within row points) none = absurd (none-some row (sym none))
 none_over outcome stand s none = refl
 
 module _ {P : Type 0} (rules : Rules P) (laws : Obeys rules) where

@@ -5,7 +5,7 @@ use Rattle.norec_world.proofs.Tries.ReadPositions.{still_reads}
 use Rattle.tx_runs.proofs.GivenUp.{given_up_as}
 use Rattle.std.proofs.Common.{unwrap_or, ◌≡◌, ℕ, ◌/◌, ◌<◌, ◌≤◌, ◌&&◌, Bool, true, false, not, List, [], ◌∷◌, ◌++◌, ◌+◌, Some, refl, sym, true≢false, ap, subst, ◌∙◌, arith, None, inl, inr}
 use Rattle.std.proofs.lemmas.Bool.{and_right, not_from_true}
-use Rattle.norec_world.proofs.Common.{Actor, AreCounted, AreLaid, Attempt, Begin, Between, Call, Cells, ComesTo, Commit, Core, Ended, EndsWithin, HasRow, Idle, IsBeforeTry, IsDeep, IsDone, IsHeld, IsInTry, IsNested, IsRun, IsSettled, IsSound, LeadsTo, Next, Obeys, PlayerRun, Props, Ready, Rows, Rules, RunsFrom, Sees, Stage, Starves, Status, Step, StillRuns, Tells, active_of, append-nil, begins_again, begins_at, begun_in, bytes_at, cases_Bool, cond-false, cond-true, ending_as, ending_of, found, handed_is, handed_to, in_transaction, irrevocable_room, is_inside, may_go, open_in, over_as, pending_of, reserved, rolled_back, same_Some, shut_revocable, stage_of, stand_of, told, with_room, words_at}
+use Rattle.norec_world.proofs.Common.{Actor, AreCounted, AreLaid, Attempt, Begin, Between, Call, Cells, ComesTo, Commit, Core, Ended, EndsWithin, HasRow, Idle, IsBeforeTry, IsDeep, IsDone, IsHeld, IsInTry, IsNested, IsRun, IsSettled, IsSound, LeadsTo, Next, Obeys, PlayerRun, Props, Ready, Rows, Rules, RunsFrom, Sees, Stage, Starves, Status, Step, StillRuns, Tells, active_of, append-nil, begins_again, begins_at, begun_in, bytes_at, cases_Bool, cond-false, cond-true, ending_as, ending_of, found, handed_is, handed_to, in_transaction, irrevocable_room, is_inside, may_go, open_in, over_as, pending_of, reserved, rolled_back, same_Some, shut_revocable, stage_of, stand_of, told, with_room, words_at, Ran}
 use Rattle.tx_attempts.specs.declared.attempt.Outcome.TheVariants as outcomes
 use Rattle.tx_runs.specs.declared.ending.End.TheVariants as ends
 use Rattle.norec_world.proofs.Tries.Stages.{asked_at, asked_begun, moved_begun, moved_open, moved_row, row_is_of, stage_open, stage_out, told_active, told_player}
@@ -18,6 +18,7 @@ use Rattle.norec_world.proofs.Engines.HeldCalls.{held_same}
 use Rattle.norec_world.proofs.Engines.TiedEngines.{limit_same}
 use Rattle.norec_world.proofs.Commits.SeenMemories.{HasSeen, call_seen, step_seen}
 use Rattle.norec_world.proofs.Engines.Intakes.{recorded, now, still_going}
+use Rattle.norec_world.proofs.Rooms.LaterActions.{starved_all}
 use Rattle.norec_world.proofs.Rooms.FedPlayers.{HasLeft, answered_left, more_within, none_within, waits_left}
 use Rattle.norec_world.proofs.Runs.Answers.{RunOf, before_as, idle_from, now_at, open_run, run_on, run_same, top}
 use Rattle.norec_world.proofs.Runs.Endings.{stop_run}
@@ -171,7 +172,8 @@ module _ {P : Type 0} {rules : Rules P} (laws : Obeys rules) {cells : Cells} {r0
     starve_run true o =
         let t = runs.runs.inside o in
         let stops = (s.stops revocable).ended ∙ (ap (λ (st : Stage). r0.ended ++ over_as outcomes.NoMemory (stand_of last.engine) st) (stage_open _ t.3)
-        ∙ ap (λ (c : Core). r0.ended ++ record (ending_as outcomes.NoMemory (stand_of last.engine) t.1) { at = c.snapshot / 2 } ∷ []) gone) in
+        ∙ (ap (λ (l : List Ran). r0.ended ++ record (ending_as outcomes.NoMemory (stand_of last.engine) t.1) { ran = l } ∷ []) (starved_all old last t.1 (sound.acts.whole t.1 t.3) (sound.acts.all t.1 t.3) (free ∙ revocable) s.engine)
+        ∙ ap (λ (c : Core). r0.ended ++ record (ending_as outcomes.NoMemory (stand_of last.engine) t.1) { at = c.snapshot / 2; ran = last.engine.actions.ran } ∷ []) gone)) in
         (stop_run laws r1 old last Commit still_seen runs.runs (cells.clock / 2) (let l : cells.clock / 2 ≤ cells.clock / 2 = omega arith in l)
         (bytes_stay laid more ended) o (old.engine.snapshot / 2) outcomes.NoMemory last.engine.actions.ran refl (λ x y i. (y, i)) s.same.thread (row_is_of (in_transaction old.engine) old t.1 sound.kept.row t.3) stops
         t.4.began still_seen.late (runs.sees.logged o) revocable (given_up_as old.engine last.engine (words_at old.engine.depth base r0.ended (old.engine.snapshot / 2)) (free ∙ revocable) revocable s.engine) (λ f. absurd (cc))).0

@@ -1,24 +1,24 @@
 -- An actor's run, once its attempt has ended.
 use Rattle.std.proofs.Common.{◌≡◌, ℕ, ◌/◌, ◌≤◌, Bool, true, false, if◌then◌else◌, List, [], ◌∷◌, ◌++◌, map, Option, Some, refl, sym, true≢false, ap, subst, ◌∙◌, arith, inl, inr}
-use Rattle.norec_world.proofs.Common.{Actions, Actor, Agrees, Answers, Attempt, Between, Call, CallRecord, Cells, ClosedBy, Commit, Committed, Conflict, Conflicts, ConflictsIn, Core, Done, EndsAs, Full, IsRun, LacksClock, Next, Obeys, Outcome, Ran, Replied, Reply, Rows, Rules, State, TakesTo, Tally, WantsClock, active_of, after, after_try, alone, alone_led, answered_all, backed, begin_code, begun_in, by_wrote, bytes_at, bytes_of, cancels, cases_Bool, closed as closed_by, ending_as, ending_of, false_from_ne_true, in_transaction, is_done, is_open, plain_reply, reply as plainly, recoded, spent, stands_for, state_in, takes_clock, told_plainly, try_stops, with_call, within, words_at}
+use Rattle.norec_world.proofs.Common.{Actions, Actor, Agrees, Answers, Attempt, Between, Call, CallRecord, Cells, ClosedBy, Commit, Committed, Conflict, Conflicts, ConflictsIn, Core, Done, EndsAs, Full, IsRun, LacksClock, Next, Obeys, Outcome, Ran, Replied, Reply, Rows, Rules, State, TakesTo, Tally, WantsClock, active_of, after, after_try, alone, alone_led, answered_all, backed, begin_code, begun_in, by_wrote, bytes_at, bytes_of, cancels, cases_Bool, closed as closed_by, ending_as, ending_of, false_from_ne_true, in_transaction, is_done, is_open, plain_reply, reply as plainly, recoded, spent, stands_for, state_in, takes_clock, told_plainly, try_stops, with_call, words_at}
 use Rattle.itm_model.specs.Machine.{undone}
 use Rattle.norec_core.specs.Held.{ComesTo}
 use Rattle.tx_attempts.specs.Opacity.{ran_of}
 use Rattle.tx_attempts.specs.declared.attempt.Outcome.TheVariants as outcomes
-use Rattle.norec_world.proofs.Tries.Stages.{is_tried, row_is_of, stage_open, stand_at, taken_at, tally_at, told_again, told_nth, told_pending, told_player}
+use Rattle.norec_world.proofs.Tries.Stages.{is_tried, row_is_of, stage_open, stand_at, taken_at, tally_at, told_again, told_nth, told_pending, told_player, within_at}
 use Rattle.tx_runs.proofs.EngineReplies.{cancelled}
 use Rattle.norec_world.proofs.Engines.HeldCalls.{CommitsTo, HasHeld, commits_over, stands_actions, stands_arena, stands_mode, wants_taking}
 use Rattle.norec_world.proofs.Runs.Answers.{Made, RunOf, ended_run, gave_run, led, made_at, made_last, now_at, rests_run, stands_at}
 use Rattle.norec_world.proofs.Commits.SeenMemories.{HasSeen, memory_at}
 use Rattle.norec_world.proofs.Engines.OpenEngines.{stands_open}
-use Rattle.norec_world.proofs.Engines.Intakes.{HasAnswered}
+use Rattle.norec_world.proofs.Engines.Intakes.{HasAnswered, told_all}
 use Rattle.norec_world.proofs.Tries.TryEnds.{next_try}
 use Rattle.tx_runs.proofs.PlainCalls.{commit_reply}
 use Rattle.tx_runs.proofs.Tries.{closing_after, closing_left, lacks_clock, try_closes, try_of_room}
 
 -- the attempt once it has committed
 abbrev pub committed_row : Bool → ℕ → Core → Call → Attempt → Attempt
-committed_row wrote at e call row = record (ending_as (if wrote then outcomes.Committed else outcomes.ReadOnly) (stand_at false e) (with_call call Done row)) { at = at }
+committed_row wrote at e call row = record (ending_as (if wrote then outcomes.Committed else outcomes.ReadOnly) (stand_at false e) (with_call call Done row)) { at = at; ran = e.actions.ran }
 
 module _ {P : Type 0} {rules : Rules P} (laws : Obeys rules) {first : Between P} {base : List ℕ} {cells cells' : Cells} {r : Rows} (r1 : Rows) {mid : Core} (a last : Actor P) (call : Call)
     (seen : HasSeen mid.depth base cells cells' r mid a.engine) (run : IsRun rules first mid.depth base (cells.clock / 2) r (record a { engine = mid }))
@@ -38,7 +38,7 @@ module _ {P : Type 0} {rules : Rules P} (laws : Obeys rules) {first : Between P}
   -- it is made alone on the memory of this position, and ends the block
   module _ (reply : Replied) (at : ℕ) (outcome : Outcome) (done : is_done outcome ≡ true) (made : Made laws r1 a last call seen run inside (bytes_at mid.depth base r1.ended at)) (asks : rules.next_call a.run.player ≡ Some call)
       (replied : reply ≡ plainly mid.depth (led laws r1 a last call seen run inside (bytes_at mid.depth base r1.ended at)) call) (mine : (run.inside inside).1.thread ≡ a.run.thread) where
-    closed_runs : TakesTo (closed_by (record (tally_at a (within (with_call call reply (run.inside inside).1))) { player = rules.answered a.run.player reply }) outcome (stand_at false last.engine)) r r1 a last
+    closed_runs : TakesTo (closed_by (record (tally_at a (within_at a (with_call call reply (run.inside inside).1))) { player = rules.answered a.run.player reply }) outcome (stand_at false last.engine)) r r1 a last
         → r1.ended ≡ r.ended ++ record (run.inside inside).1 { calls = record { list = (run.inside inside).1.calls.list ++ record { call = call; reply = reply } ∷ []; room = 0 }; at = at; ran = a.engine.actions.ran; outcome = outcome } ∷ []
         → last.run.thread ≡ a.run.thread → in_transaction last.engine ≡ false → (run.inside inside).1.began ≤ at → at ≤ cells.clock / 2 → EndsAs outcome (after mid.depth (led_at at) call) → ClosedBy outcome ((run.inside inside).1.calls.list ++ record { call = call; reply = reply } ∷ [])
         → a.engine.actions.ran ≡ ran_of outcome (after mid.depth (led_at at) call) → (after mid.depth (led_at at) call).arena ≡ last.engine.arena → IsRun rules first mid.depth base n' r1 last
@@ -107,8 +107,9 @@ module _ {P : Type 0} {rules : Rules P} (laws : Obeys rules) {first : Between P}
     commit_ended =
         let here : at ≡ a.engine.snapshot / 2 = m.ends.at_is ∙ ap (λ (c : Core). c.snapshot / 2) (sym m.ends.stays) in
         (taken_at m.told (stage_open _ (run.inside inside).3) shut_now).ended
+        ∙ (ap (λ (l : List Ran). r.ended ++ record (committed_row wrote (last.engine.snapshot / 2) last.engine call row) { ran = l } ∷ []) (told_all m row (run.inside inside).3)
         ∙ (ap (λ (c : Core). r.ended ++ committed_row wrote (c.snapshot / 2) c call row ∷ []) m.settled.engine
-        ∙ ap (λ (n : ℕ). r.ended ++ committed_row wrote n a.engine call row ∷ []) (sym here))
+        ∙ ap (λ (n : ℕ). r.ended ++ committed_row wrote n a.engine call row ∷ []) (sym here)))
 
     -- what a writer leaves are the words as they are
     pub commit_memory : wrote ≡ true → (alone mid.depth (bytes_at mid.depth base r1.ended at) (committed_row wrote at a.engine call (run.inside inside).1)).memory ≡ bytes_of cells'.words
@@ -152,7 +153,11 @@ module _ {P : Type 0} {rules : Rules P} (laws : Obeys rules) {first : Between P}
         let early = t.4.began in
         let x = taken_at m.told (stage_open _ t.3) shut in
         closed_runs reply k outcomes.Cancelled refl (made_at laws r1 a last call seen run inside g.revocable k newer (seen.still inside) (sym (still k newer))) m.answered.in_call.asks replied (row_is_of true a t.1 m.answered.kept.row t.3)
-        x (x.ended ∙ ap (λ (c : Core). r.ended ++ ending_as outcomes.Cancelled (stand_at false c) (with_call call reply t.1) ∷ []) m.settled.engine) m.settled.thread shut (omega arith) newer
+        x
+        (x.ended
+        ∙ (ap (λ (l : List Ran). r.ended ++ record (ending_as outcomes.Cancelled (stand_at false last.engine) (with_call call reply t.1)) { ran = l } ∷ []) (told_all m t.1 t.3)
+        ∙ ap (λ (c : Core). r.ended ++ record (ending_as outcomes.Cancelled (stand_at false c) (with_call call reply t.1)) { ran = c.actions.ran } ∷ []) m.settled.engine))
+        m.settled.thread shut (omega arith) newer
         (subst (λ (s : State). (is_open (after mid.depth s call) ≡ false) × ((after mid.depth s call).wrote ≡ false)) stands (cancelled mid a.engine call reply words g closed nothing.1 mem none))
         (t.1.calls.list, aborts.0, (λ i. t.1.calls.list ++ record { call = aborts.1 i; reply = aborts.2 i } ∷ []))
         (ap (λ (x : Actions). x.ran) (sym (stands_actions a.engine words)) ∙ ap (λ (s : State). s.actions.ran) state)
@@ -196,10 +201,11 @@ module _ {P : Type 0} {rules : Rules P} (laws : Obeys rules) {first : Between P}
         let g : Conflicts mid clock word a.engine = subst (λ (b : Bool). ConflictsIn b mid clock word a.engine) inside m.ends in
         let t = run.inside inside in
         let shut : in_transaction last.engine ≡ false = ap in_transaction m.settled.engine ∙ m.answered.fits.1 in
-        let tally : Tally P = record { player = rules.restarted a.run.player; nth = a.run.nth; again = a.run.again; stage = within t.1 } in
+        let tally : Tally P = record { player = rules.restarted a.run.player; nth = a.run.nth; again = a.run.again; stage = within_at a t.1 } in
         let gone : List Attempt = ending_as outcomes.Conflict (stand_at false last.engine) t.1 ∷ [] in
         let x = taken_at m.told (stage_open _ t.3) shut in
         let d = is_tried tally gone a.run.retries x in
+        let ended = d.ended ∙ ap (λ (l : List Ran). r.ended ++ record (ending_as outcomes.Conflict (stand_at false last.engine) t.1) { ran = l } ∷ []) (told_all m t.1 t.3) in
         let mine = row_is_of true a t.1 m.answered.kept.row t.3 in
         let k : ℕ = last.engine.snapshot / 2 in
         let snapshot : last.engine.snapshot ≡ mid.snapshot = ap (λ (c : Core). c.snapshot) (m.settled.engine ∙ g.stays) in
@@ -211,8 +217,8 @@ module _ {P : Type 0} {rules : Rules P} (laws : Obeys rules) {first : Between P}
         let words : List ℕ = words_at mid.depth base r.ended k in
         let undone_is = g.undone words (memory_at seen k newer) in
         let ran_is : last.engine.actions.ran ≡ (undone (stands_for mid words)).actions.ran = ap (λ (c : Core). c.actions.ran) m.settled.engine ∙ (ap (λ (x : Actions). x.ran) (sym (stands_actions a.engine words)) ∙ ap (λ (x : State). x.actions.ran) undone_is) in
-        let over = stop_run k outcomes.Conflict last.engine.actions.ran refl (λ x o i. (o, i)) m.settled.thread mine d.ended (omega arith) newer agrees revocable ran_is (λ f. absurd (cc)) in
-        let state = stop_left k outcomes.Conflict last.engine.actions.ran refl (λ x o i. (o, i)) m.settled.thread mine d.ended (omega arith) newer agrees revocable in
+        let over = stop_run k outcomes.Conflict last.engine.actions.ran refl (λ x o i. (o, i)) m.settled.thread mine ended (omega arith) newer agrees revocable ran_is (λ f. absurd (cc)) in
+        let state = stop_left k outcomes.Conflict last.engine.actions.ran refl (λ x o i. (o, i)) m.settled.thread mine ended (omega arith) newer agrees revocable in
         let player : rules.restarted (answered_all rules.answered (rules.answered t.4.block.start.player (begin_code t.0.again)) (map (λ (x : CallRecord). x.reply) t.1.calls.list)) ≡ last.run.player = ap rules.restarted (sym t.4.block.player) ∙ sym d.player in
         let left : State = alone mid.depth (bytes_at mid.depth base r1.ended k) (record t.1 { calls = spent t.1.calls; at = k; ran = last.engine.actions.ran; outcome = outcomes.Conflict }) in
         let arena : (undone left).arena ≡ last.engine.arena =
@@ -229,7 +235,9 @@ module _ {P : Type 0} {rules : Rules P} (laws : Obeys rules) {first : Between P}
         let shut : in_transaction last.engine ≡ false = ap in_transaction m.settled.engine ∙ m.answered.fits.1 in
         let x = taken_at m.told (stage_open _ t.3) shut in
         let here : at ≡ last.engine.snapshot / 2 = m.ends.at_is ∙ ap (λ (c : Core). c.snapshot / 2) (sym m.settled.engine) in
-        let ended = x.ended ∙ ap (λ (n : ℕ). r.ended ++ record (ending_as outcomes.Full (stand_at false last.engine) t.1) { at = n } ∷ []) (sym here) in
+        let ended = x.ended
+        ∙ (ap (λ (l : List Ran). r.ended ++ record (ending_as outcomes.Full (stand_at false last.engine) t.1) { ran = l } ∷ []) (told_all m t.1 t.3)
+        ∙ ap (λ (n : ℕ). r.ended ++ record (ending_as outcomes.Full (stand_at false last.engine) t.1) { at = n; ran = last.engine.actions.ran } ∷ []) (sym here)) in
         let mine = row_is_of true a t.1 m.answered.kept.row t.3 in
         let revocable = revocable_of held (λ s reply never. never) in
         let agrees = subst (λ (k : ℕ). Agrees (words_at mid.depth base r.ended k) mid.log) (sym m.ends.at_is) (seen.still inside) in

@@ -1,6 +1,6 @@
 -- A value or a call was taken in, and what the engine gave is recorded: the actor's run goes on, and the words are still those that the commits left.
 use Rattle.std.proofs.Common.{◌≡◌, ℕ, suc, ◌+◌, ◌/◌, ◌≤◌, ◌==◌, Bool, true, false, List, [], ◌∷◌, ◌++◌, Option, None, Some, refl, sym, true≢false, ap, subst, ◌∙◌, arith, eq-eqb, append-nil, inl, inr}
-use Rattle.norec_world.proofs.Common.{Actions, Actor, Agrees, Answer, Answers, AreCounted, AreLaid, Asks, Attempt, Between, Busy, Call, Cells, Committed, Conflict, Core, Full, HasRow, IsDone, IsHeld, IsRun, Loaded, Next, NoMemory, Obeys, Replied, Reply, Restarted, Rows, Rules, Sees, StandsIn, State, Step, Tells, Waits, active_of, after, alone, alone_led, backed, bytes_at, committed_at, cond-true, ending_of, frees, in_transaction, is_open, memory_left, opened, reply_cases, rests, same_Some, stands_for, state_whole, with_call, words_at}
+use Rattle.norec_world.proofs.Common.{Actions, Actor, Agrees, Answer, Answers, AreCounted, AreLaid, Asks, Attempt, Between, Busy, Call, Cells, Committed, Conflict, Core, Full, HasRow, IsDone, IsHeld, IsRun, Loaded, Next, NoMemory, Obeys, Replied, Reply, Restarted, Rows, Rules, Sees, StandsIn, State, Step, Tells, Waits, active_of, after, alone, alone_led, backed, bytes_at, committed_at, cond-true, ending_of, frees, in_transaction, is_open, memory_left, opened, reply_cases, rests, same_Some, stands_for, state_whole, with_call, words_at, Ran}
 use Rattle.norec_world.proofs.Tries.OpenTries.{try_asks}
 use Rattle.norec_world.proofs.Commits.LaidWords.{laid_more, laid_on}
 use Rattle.norec_world.proofs.Commits.Memories.{bytes_stay, found_later, none_next}
@@ -11,7 +11,7 @@ use Rattle.norec_world.proofs.Tries.Stages.{open_by, stage_open, taken_at, told_
 use Rattle.norec_world.proofs.Engines.OpenEngines.{stands_open}
 use Rattle.norec_world.proofs.Runs.Begins.{begin_holds, shut_runs}
 use Rattle.norec_world.proofs.Commits.SeenMemories.{HasSeen, memory_at}
-use Rattle.norec_world.proofs.Engines.Intakes.{HasAnswered, HasTaken, answered, still_going, clock_grows, half_same, unfreed}
+use Rattle.norec_world.proofs.Engines.Intakes.{HasAnswered, HasTaken, answered, still_going, clock_grows, half_same, told_all, unfreed}
 use Rattle.norec_world.proofs.Tries.AnswerEndings.{not_starved}
 
 module _ {P : Type 0} (rules : Rules P) (first : Between P) (deepest : ℕ) (base : List ℕ) where
@@ -185,7 +185,7 @@ module _ {P : Type 0} {rules : Rules P} (laws : Obeys rules) {first : Between P}
             let half = half_same m refl in
             let x = taken_at m.told (stage_open _ t.3) (ap in_transaction m.settled.engine ∙ inside) in
             let more : Attempt = record (with_call call reply t.1) { ran = last.engine.actions.ran } in
-            let same : more ≡ row = same_Some _ _ (sym (told_active x) ∙ active) in
+            let same : more ≡ row = same_Some _ _ (sym (told_active x ∙ ap (λ (l : List Ran). Some (record (with_call call reply t.1) { ran = l })) (told_all m t.1 t.3)) ∙ active) in
             let s = held_stands reply m held now in
             let memory : bytes_at mid.depth base r.ended (cells.clock / 2) ≡ bytes_at mid.depth base r1.ended (cells'.clock / 2) = λ i. bytes_at mid.depth base (sym (open_ended m inside) i) (sym half i) in
             subst (λ (x : Attempt). IsHeld mid.depth (bytes_at mid.depth base r1.ended (cells'.clock / 2)) cells'.words x a.engine) same

@@ -8,7 +8,7 @@ module _ {P : Type 0} {rules : Rules P} {cells cells' : Cells} {r : Rows} {mid :
   -- where it is still open, the answer was a reply: one call more in its row, or a begin's attempt
   answer_reads : {was : Bool} {r1 : Rows} {last : Actor P} (answer : Answer) → HasAnswered rules was cells cells' r r1 mid a last call answer → ReadsAt last
   answer_reads answer t row e = elim (open_by t.told row e).2.either [
-    | inl x ↦ ap (λ (x : Attempt). x.at) x.2 ∙ (stood x.0 (ap open_in x.1) ∙ ap (λ (c : Core). c.snapshot / 2) (sym t.settled.engine))
+    | inl x ↦ ap (λ (x : Attempt). x.at) x.3 ∙ (stood x.0 (ap open_in x.2) ∙ ap (λ (c : Core). c.snapshot / 2) (sym t.settled.engine))
     | inr x ↦ ap (λ (x : Attempt). x.at) x.2
   ]
 

@@ -1,15 +1,15 @@
 -- The stage of an actor's attempt, and what an answer makes of it.
-use Rattle.tx_runs.proofs.TookIn.{IsOpen, IsTaken, is_taken}
+use Rattle.tx_runs.proofs.TookIn.{IsTaken, OpensBy, is_taken}
 use Rattle.std.proofs.Common.{◌≡◌, ◌⊎◌, inl, inr, ℕ, ◌+◌, ◌-◌, ◌/◌, ◌<◌, ◌≤◌, Bool, true, false, nat_lt, if◌then◌else◌, List, [], ◌∷◌, ◌++◌, append_assoc, append-nil, length, Option, None, Some, unwrap_or, refl, sym, ap, subst, ◌∙◌, arith, Vec, Global, vec_capacity}
 use Rattle.std.proofs.lemmas.List.{length-append}
 use Rattle.tx_attempts.specs.declared.attempt.Outcome.TheVariants as outcomes
 use Rattle.tx_runs.specs.Tallies.{outside, begins, stage_at}
-use Rattle.norec_world.proofs.Common.{Actor, AllOf, Answer, Attempt, Begin, Busy, Call, Conflict, Core, Current, Ended, GaveUp, HasRow, IsKept, KeepsOthers, MAX_ACTORS, Outcome, Outside, PlayerRun, Props, Ready, Records, Replied, Reply, Rows, Rules, Stage, Stand, Taken, TakesTo, Tally, Within, active_of, begun, begun_in, cancels_in, count_in, count_of, ends_in, in_transaction, irrevocable_room, moved_to, none-some, open_in, over_as, pending_of, reserved, rows_in, same_Some, sent_back, stage_of, stand_of, status_after, tally_of, took_in, tried, within}
+use Rattle.norec_world.proofs.Common.{Actor, AllOf, Answer, Attempt, Begin, Busy, Call, Conflict, Core, Current, Ended, GaveUp, HasRow, IsKept, IsRestart, KeepsOthers, MAX_ACTORS, Outcome, Outside, PlayerRun, Props, Ready, Records, Replied, Reply, Restarted, Rows, Rules, Savepoint, Stage, Stand, Taken, TakesTo, Tally, Within, active_of, begun, begun_in, cancels_in, count_in, count_of, ends_in, in_transaction, irrevocable_room, moved_to, none-some, open_in, over_as, pending_of, points_in, reserved, rows_in, same_Some, sent_back, stage_of, stand_of, status_after, tally_of, took_in, tried, within}
 
 -- ## Stages
 
-pub stage_open : (s : Stage) {row : Attempt} → open_in s ≡ Some row → s ≡ within row
-stage_open (within x) e = cc
+pub stage_open : (s : Stage) {row : Attempt} → open_in s ≡ Some row → s ≡ within row (points_in s)
+stage_open (within x points) e = ap (λ (y : Attempt). within y points) (same_Some _ _ e)
 stage_open s e = absurd (cc)
 
 pub stage_begun : (s : Stage) {row : Attempt} → begun_in s ≡ Some row → s ≡ begins row
@@ -74,7 +74,7 @@ pub asked_open : {P : Type 0} (clock : ℕ) (a : Actor P) (call : Call) (s : Sta
 asked_open clock a (Begin props room) outside row e = absurd (cc)
 asked_open clock a call outside row e = absurd (cc)
 asked_open clock a call (begins x) row e = absurd (cc)
-asked_open clock a call (within x) row e = (x, refl, sym (same_Some _ _ e))
+asked_open clock a call (within x points) row e = (x, refl, sym (same_Some _ _ e))
 
 -- one that is to be opened is that of this begin
 pub asked_begun : {P : Type 0} (clock : ℕ) (a : Actor P) (call : Call) (s : Stage) (row : Attempt) → begun_in s ≡ None → begun_in (asked_at clock a call s) ≡ Some row
@@ -82,7 +82,7 @@ pub asked_begun : {P : Type 0} (clock : ℕ) (a : Actor P) (call : Call) (s : St
 asked_begun clock a (Begin props room) outside row none e = (props, room, refl, sym (same_Some _ _ e))
 asked_begun clock a call outside row none e = absurd (cc)
 asked_begun clock a call (begins x) row none e = absurd (cc)
-asked_begun clock a call (within x) row none e = absurd (cc)
+asked_begun clock a call (within x points) row none e = absurd (cc)
 
 -- ## The open attempt, where a transaction is open
 
@@ -111,13 +111,28 @@ module _ {P : Type 0} where
 
 -- ## An answer
 
+-- it was a reply, by which the attempt is open
+pub record IsOpen (g : Stage) (call : Call) (answer : Answer) (s : Stand) (row : Attempt) (points : List Savepoint) : Type 0 where
+  pub reply : Replied
+  pub is : answer ≡ Reply reply
+  pub either : OpensBy g call (Reply reply) s row points
+
+open_so : (g : Stage) (call : Call) (answer : Answer) (s : Stand) (row : Attempt) (points : List Savepoint) → (IsRestart answer → ⊥) → OpensBy g call answer s row points → IsOpen g call answer s row points
+open_so g call (Reply reply) s row points whole x = record { reply = reply; is = refl; either = x }
+open_so g call (Restarted clock word) s row points whole x = absurd (whole tt)
+open_so g call answer s row points whole x = absurd x
+
 abbrev pub stand_at : Bool → Core → Stand
-stand_at b e = record { is_open = b; at = e.snapshot / 2; ran = e.actions.ran }
+stand_at b e = record { is_open = b; at = e.snapshot / 2; ran = e.actions.ran; arena = e.arena }
 
 module _ {P : Type 0} where
   -- how the player stood, with this attempt
   abbrev pub tally_at : Actor P → Stage → Tally P
   tally_at a s = record { player = a.run.player; nth = a.run.nth; again = a.run.again; stage = s }
+
+  -- within this one, as its inner blocks are open
+  abbrev pub within_at : Actor P → Attempt → Stage
+  within_at a row = within row (points_in (stage_of a.run.current))
 
   -- what comes of the answer, where the stage is this one, and a transaction is open now or not
   pub taken_at : {rules : Rules P} {r r' : Rows} {a last : Actor P} {call : Call} {answer : Answer} → Records rules r r' a last call answer → {s : Stage} → stage_of a.run.current ≡ s → {b : Bool} → in_transaction last.engine ≡ b
@@ -173,7 +188,7 @@ module _ {P : Type 0} where
     where
       by_stage : (s : Stage) → stage_of a.run.current ≡ s → (b : Bool) → in_transaction last.engine ≡ b → last.run.player ≡ rules.answered a.run.player reply
       by_stage (begins row) e true o = told_player (taken_at t e o)
-      by_stage (within row) e true o = told_player (taken_at t e o)
+      by_stage (within row points) e true o = told_player (taken_at t e o)
       by_stage s e b o = told_player (taken_at t e o)
 
   pub conflict_player : {rules : Rules P} {r r' : Rows} {a last : Actor P} {call : Call} {clock : ℕ} {word : Option ℕ} → Records rules r r' a last call (Conflict clock word) → (s : Stage) → stage_of a.run.current ≡ s → last.run.player ≡ sent_back rules s a.run.player
@@ -185,24 +200,24 @@ module _ {P : Type 0} where
   -- whichever the answer was
   module _ {rules : Rules P} {r r' : Rows} {a last : Actor P} {call : Call} {answer : Answer} (t : Records rules r r' a last call answer) where
     pub taken_of : IsTaken (stage_of a.run.current) call answer (stand_of last.engine) (took_in rules a.run.retries (tally_of a.run) call answer (stand_of last.engine))
-    taken_of = is_taken call (stand_of last.engine) rules a.run.retries a.run.player a.run.nth a.run.again (stage_of a.run.current) answer t.whole
+    taken_of = is_taken call (stand_of last.engine) rules a.run.retries a.run.player a.run.nth a.run.again (stage_of a.run.current) answer
 
     -- no attempt is to be opened then
     pub none_begun : pending_of last ≡ None
-    none_begun = told_pending t.takes ∙ by_stage _ taken_of.begun
+    none_begun = told_pending t.takes ∙ by_stage _ (taken_of.begun (λ is row e. t.whole is))
       where
         by_stage : (s : Stage) → ((row : Attempt) → s ≡ begins row → ⊥) → begun_in s ≡ None
         by_stage (begins row) never = absurd (never row refl)
         by_stage s never = refl
 
     -- and an open one had its reply
-    pub open_by : (row : Attempt) → active_of last ≡ Some row → (r'.ended ≡ r.ended) × (last.status ≡ Ready) × IsOpen (stage_of a.run.current) call answer (stand_of last.engine) row
+    pub open_by : (row : Attempt) → active_of last ≡ Some row → (r'.ended ≡ r.ended) × (last.status ≡ Ready) × IsOpen (stage_of a.run.current) call answer (stand_of last.engine) row (points_in (stage_of last.run.current))
     open_by row e =
-        let x = taken_of.still row (stage_open _ (sym (told_active t.takes) ∙ e)) in
-        (t.takes.ended ∙ (ap (λ (l : List Attempt). r.ended ++ l) x.0 ∙ append-nil r.ended), t.takes.status ∙ ap status_after x.1, x.2)
+        let x = taken_of.still row (points_in (stage_of last.run.current)) (sym (told_stage t.takes) ∙ stage_open _ e) in
+        (t.takes.ended ∙ (ap (λ (l : List Attempt). r.ended ++ l) x.0 ∙ append-nil r.ended), t.takes.status ∙ ap status_after x.1, open_so _ call answer (stand_of last.engine) row (points_in (stage_of last.run.current)) t.whole x.2)
 
 pub sent_same : {P : Type 0} (rules : Rules P) (s : Stage) (p : P) → open_in s ≡ None → sent_back rules s p ≡ p
-sent_same rules (within row) p none = absurd (cc)
+sent_same rules (within row points) p none = absurd (cc)
 sent_same rules s p none = refl
 
 -- ## What is over
@@ -220,7 +235,7 @@ abbrev Mine : ℕ → Stage → Type 0
 Mine thread s = (row : Attempt) → open_in s ≡ Some row → row.thread ≡ thread
 
 over_own : (thread : ℕ) (outcome : Outcome) (stand : Stand) (s : Stage) → Mine thread s → IsOwn thread s outside (over_as outcome stand s)
-over_own thread outcome stand (within row) mine = record { mine = (mine row refl, tt); count = omega arith }
+over_own thread outcome stand (within row points) mine = record { mine = (mine row refl, tt); count = omega arith }
 over_own thread outcome stand s mine = record { mine = tt; count = omega arith }
 
 count_less : (s s' : Stage) → (s ≡ outside → s' ≡ outside) → count_in s' ≤ count_in s
@@ -228,22 +243,22 @@ count_less outside s' idle = (let none = ap count_in (idle refl) in omega arith)
 count_less s outside idle = omega arith
 count_less s s' idle = omega arith
 
-taken_own : {P : Type 0} {call : Call} {answer : Answer} {stand : Stand} (thread : ℕ) (s : Stage) (taken : Taken P) → IsTaken s call answer stand taken → Mine thread s → IsOwn thread s taken.tally.stage taken.over
-taken_own thread s taken x mine = elim x.over [
+taken_own : {P : Type 0} {call : Call} {answer : Answer} {stand : Stand} (thread : ℕ) (s : Stage) (taken : Taken P) → IsTaken s call answer stand taken → (IsRestart answer → ⊥) → Mine thread s → IsOwn thread s taken.tally.stage taken.over
+taken_own thread s taken x whole mine = elim x.over [
   | inl none ↦ (let less = count_less s taken.tally.stage x.idle in let n = ap (length {A = Attempt}) none in record { mine = subst (AllOf thread) (sym none) tt; count = omega arith })
   | inr y ↦
-      (let is : s ≡ within y.0 = y.2 in
+      (let is : s ≡ within y.0 y.1 = y.3 in
       let count = ap count_in is in
-      let n = ap (length {A = Attempt}) y.3 in
-      let out = by_stage taken.tally.stage refl (λ e. (let none : y.1 ∷ [] ≡ [] = sym y.3 ∙ e in cc)) in
+      let n = ap (length {A = Attempt}) y.4 in
+      let out = by_stage taken.tally.stage refl (λ e. (let none : y.2 ∷ [] ≡ [] = sym y.4 ∙ e in cc)) in
       let shut = ap count_in out in
-      record { mine = subst (AllOf thread) (sym y.3) (y.4 ∙ mine y.0 (ap open_in is), tt); count = omega arith })
+      record { mine = subst (AllOf thread) (sym y.4) (y.5 ∙ mine y.0 (ap open_in is), tt); count = omega arith })
 ]
   where
     by_stage : (now : Stage) → taken.tally.stage ≡ now → (taken.over ≡ [] → ⊥) → taken.tally.stage ≡ outside
     by_stage outside e some = e
-    by_stage (begins row) e some = absurd (x.begun row e)
-    by_stage (within row) e some = absurd (some (x.still row e).0)
+    by_stage (begins row) e some = absurd (x.begun (λ is row e. whole is) row e)
+    by_stage (within row points) e some = absurd (some (x.still row points e).0)
 
 -- ## Its work is its own
 
@@ -289,5 +304,5 @@ module _ {P : Type 0} where
       → r.room - length (took_in rules a.run.retries (tally_of a.run) call answer (stand_of last.engine)).over ≤ r'.room → KeepsOthers a r last r'
   others_taken {rules} {r} {r'} {a} {last} {call} {answer} {was} kept t thread room =
       let taken = took_in rules a.run.retries (tally_of a.run) call answer (stand_of last.engine) in
-      let own = taken_own a.run.thread (stage_of a.run.current) taken (taken_of t) (λ row e. row_is_of was a row kept.row e) in
+      let own = taken_own a.run.thread (stage_of a.run.current) taken (taken_of t) t.whole (λ row e. row_is_of was a row kept.row e) in
       others_own a last r r' taken.over thread t.takes.ended (subst (λ (s : Stage). IsOwn a.run.thread (stage_of a.run.current) s taken.over) (sym (told_stage t.takes)) own) room

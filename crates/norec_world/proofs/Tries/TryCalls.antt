@@ -1,7 +1,8 @@
 -- What a call of an actor, up to its first step, and a step of it do to its try.
 use Rattle.tx_runs.proofs.GivenUp.{given_up_later}
-use Rattle.std.proofs.Common.{unwrap_or, append-nil, List, ◌++◌, ◌≡◌, ℕ, ◌+◌, ◌/◌, ◌%◌, ◌≤◌, ◌==◌, if◌then◌else◌, Bool, true, false, Option, None, Some, refl, sym, ap, subst, ◌∙◌, arith}
-use Rattle.norec_world.proofs.Common.{Actor, Answer, Answers, Asks, Attempt, Begin, BeginsAt, Busy, Call, Cells, Conflict, Continues, Core, Ended, EndsAt, Full, HasRow, IsDone, IsSound, Kept, Next, Phase, PlayerRun, Props, Ran, Ready, Replied, Reply, Rows, Rules, Stage, Starves, Status, Step, Tells, Tries, Waits, active_of, begins, begun, begun_in, cond-true, ending_of, false_from_ne_true, found, handed_is, in_transaction, irrevocable_room, may_go, none-some, open_in, over_as, pending_of, prior_of, replied_outside, reserved, stage_of, stand_of, told, with_room}
+use Rattle.norec_world.proofs.Rooms.LaterActions.{starved_all}
+use Rattle.std.proofs.Common.{unwrap_or, append-nil, List, [], ◌∷◌, ◌++◌, ◌≡◌, ℕ, ◌+◌, ◌/◌, ◌%◌, ◌≤◌, ◌==◌, if◌then◌else◌, Bool, true, false, Option, None, Some, refl, sym, ap, subst, ◌∙◌, arith}
+use Rattle.norec_world.proofs.Common.{Actor, Answer, Answers, Asks, Attempt, Begin, BeginsAt, Busy, Call, Cells, Conflict, Continues, Core, Ended, EndsAt, Full, HasRow, IsDone, IsSound, Kept, Next, Phase, PlayerRun, Props, Ran, Ready, Replied, Reply, Rows, Rules, Stage, Starves, Status, Step, Tells, Tries, Waits, active_of, begins, begun, begun_in, cond-true, ending_of, false_from_ne_true, found, handed_is, in_transaction, irrevocable_room, may_go, none-some, open_in, over_as, pending_of, prior_of, replied_outside, reserved, stage_of, stand_of, told, with_room, ending_as}
 use Rattle.norec_world.proofs.Tries.Stages.{asked_at, asked_begun, stage_open, stage_out, told_nth, told_pending, told_stage}
 use Rattle.tx_attempts.specs.declared.attempt.Outcome.TheVariants as outcomes
 use Rattle.tx_runs.specs.declared.ending.End.TheVariants as ends
@@ -44,7 +45,9 @@ module _ {P : Type 0} (rules : Rules P)
           let late = sound.tied.late in
           let still = snapshot_still old.engine last.engine s.engine in
           stops_try old.engine.clock cells.clock cells.clock r0 r1 old last h.0 (last.engine.snapshot / 2) outcomes.NoMemory last.engine.actions.ran gone.0 (gone.1 ∙ ap (λ (z : List Ran). z ++ gone.0) (sym (sound.acts.all h.0 h.1))) h.1
-          (x.ended ∙ ap (λ (z : Stage). r0.ended ++ over_as outcomes.NoMemory (stand_of last.engine) z) (stage_open _ h.1)) refl
+          (x.ended
+          ∙ (ap (λ (z : Stage). r0.ended ++ over_as outcomes.NoMemory (stand_of last.engine) z) (stage_open _ h.1)
+          ∙ ap (λ (l : List Ran). r0.ended ++ record (ending_as outcomes.NoMemory (stand_of last.engine) h.0) { ran = l } ∷ []) (starved_all old last h.0 (sound.acts.whole h.0 h.1) (sound.acts.all h.0 h.1) ((rests sound ready).free ∙ i) s.engine))) refl
           (refl, omega arith) refl (record { none = ap open_in (told_stage x); status = s.status })
       by_row false true e i h = absurd (let open_then = (sound.tied.settled.holder (sound.tied.settled.irrevocable i).0).0 in let both : true ≡ false = sym open_then ∙ e in cc)
       by_row false false e i h =

@@ -3,13 +3,13 @@ use Rattle.tx_runs.specs.Tallies.{begins as begins_at}
 use Rattle.std.proofs.Common.{true≢false, inl, inr, ◌≡◌, ℕ, ◌+◌, ◌*◌, ◌/◌, ◌%◌, ◌<◌, ◌≤◌, Bool, true, false, nat_lt, if◌then◌else◌, is_some, List, [], ◌∷◌, ◌++◌, length, Option, None, Some, refl, sym, ap, subst, ◌∙◌, arith, append-nil, append_assoc, ◌⊎◌}
 use Rattle.norec_world.proofs.Engines.PlayerLaws.{deep_of, was_open}
 use Rattle.tx_runs.proofs.OutermostBegins.{begin_goes, begin_opens, call_begins}
-use Rattle.norec_world.proofs.Common.{Actor, Agrees, Answer, Attempt, Begin, Busy, Call, CallRecord, Cells, ClosedBy, Commit, Committed, Conflict, Conflicts, ConflictsIn, Continues, Core, EndsAt, Frame, Full, GoesOnAfter, HasRow, IsBegin, IsBetween, IsLost, IsReady, IsSettledBy, IsTied, Kept, Outcome, Prior, Props, Ran, Ready, Replied, Replies, Reply, Restarted, RestsAs, Rows, Rules, Status, TakesTo, Tally, Tries, TriesAgain, WantsClock, active_of, begin_call, begins, between, by_wrote, cancels, closed, current_of, ending_as, ending_of, in_transaction, is_begin, is_done, may_go, none-some, none_inside, outrun, over, pending_of, plain_reply, prior_of, runs, same_Some, shut_out, spent, tally_of, tried, turned_away, with_call, within}
+use Rattle.norec_world.proofs.Common.{Actor, Agrees, Answer, Attempt, Begin, Busy, Call, CallRecord, Cells, ClosedBy, Commit, Committed, Conflict, Conflicts, ConflictsIn, Continues, Core, EndsAt, Frame, Full, GoesOnAfter, HasRow, IsBegin, IsBetween, IsLost, IsReady, IsSettledBy, IsTied, Kept, Outcome, Prior, Props, Ran, Ready, Replied, Replies, Reply, Restarted, RestsAs, Rows, Rules, Status, TakesTo, Tally, Tries, TriesAgain, WantsClock, active_of, begin_call, begins, between, by_wrote, cancels, closed, current_of, ending_as, ending_of, in_transaction, is_begin, is_done, may_go, none-some, none_inside, outrun, over, pending_of, plain_reply, prior_of, runs, same_Some, shut_out, spent, tally_of, tried, turned_away, with_call}
 use Rattle.itm_types.specs.declared.call.Reply.TheVariants as replies
 use Rattle.tx_attempts.specs.declared.attempt.Outcome.TheVariants as outcomes
 use Rattle.tx_runs.specs.declared.ending.End.TheVariants as ends
 use Rattle.tx_runs.proofs.Tries.{not_closed}
-use Rattle.norec_world.proofs.Engines.Intakes.{HasAnswered, half_same, still_going}
-use Rattle.norec_world.proofs.Tries.Stages.{is_tried, tally_at, stage_begun, stage_open, stage_out, stand_at, taken_at, told_active, told_again, told_nth, told_pending, told_player}
+use Rattle.norec_world.proofs.Engines.Intakes.{HasAnswered, half_same, still_going, told_all}
+use Rattle.norec_world.proofs.Tries.Stages.{is_tried, tally_at, stage_begun, stage_open, stage_out, stand_at, taken_at, told_active, told_again, told_nth, told_pending, told_player, within_at}
 
 -- ## What stays as it is, and what ends with no call more
 
@@ -169,15 +169,17 @@ module _ {P : Type 0} {rules : Rules P} {cells cells' : Cells} {r r1 : Rows} {mi
   ran_later = ap (λ (c : Core). c.actions.ran) m.settled.engine ∙ sym (m.taken.first row m.answered.kept.row.1).1
 
   -- it ends by a call of its, which closes its block
-  closes : (reply : Replied) (outcome : Outcome) → in_transaction a.engine ≡ false → TakesTo (closed (record (tally_at a (within (with_call call reply m.answered.kept.row.0))) { player = rules.answered a.run.player reply }) outcome (stand_at false last.engine)) r r1 a last
+  closes : (reply : Replied) (outcome : Outcome) → in_transaction a.engine ≡ false → TakesTo (closed (record (tally_at a (within_at a (with_call call reply m.answered.kept.row.0))) { player = rules.answered a.run.player reply }) outcome (stand_at false last.engine)) r r1 a last
       → EndsAt a.engine.max_commits cells.clock cells'.clock (last.engine.snapshot / 2) outcome → ClosedBy outcome (m.answered.kept.row.0.calls.list ++ record { call = call; reply = reply } ∷ []) → (IsBetween cells'.clock 1 last → GoesOnAfter outcome cells'.clock (prior_of r a) last) → Tried
   closes reply outcome shut x ends closed goes =
-      ends_try seen cells.clock cells'.clock r r1 a last row (row.calls.list ++ record { call = call; reply = reply } ∷ []) (record { call = call; reply = reply } ∷ []) refl (last.engine.snapshot / 2) outcome last.engine.actions.ran later ran_later m.answered.kept.row.1 x.ended refl ends closed
+      ends_try seen cells.clock cells'.clock r r1 a last row (row.calls.list ++ record { call = call; reply = reply } ∷ []) (record { call = call; reply = reply } ∷ []) refl (last.engine.snapshot / 2) outcome last.engine.actions.ran later ran_later m.answered.kept.row.1
+      (x.ended ∙ ap (λ (l : List Ran). r.ended ++ record row { calls = record { list = row.calls.list ++ record { call = call; reply = reply } ∷ []; room = 0 }; at = last.engine.snapshot / 2; ran = l; outcome = outcome } ∷ []) (told_all m row m.answered.kept.row.1)) refl ends closed
       (goes (is_between rules a last true m.settled cells'.clock 1 shut x.status (told_nth x)))
 
   -- or without one
   stops : (outcome : Outcome) → r1.ended ≡ r.ended ++ ending_as outcome (stand_at false last.engine) m.answered.kept.row.0 ∷ [] → EndsAt a.engine.max_commits cells.clock cells'.clock (last.engine.snapshot / 2) outcome → is_done outcome ≡ false → GoesOnAfter outcome cells'.clock (prior_of r a) last → Tried
-  stops outcome ended = stops_try seen cells.clock cells'.clock r r1 a last row (last.engine.snapshot / 2) outcome last.engine.actions.ran later ran_later m.answered.kept.row.1 ended refl
+  stops outcome ended = stops_try seen cells.clock cells'.clock r r1 a last row (last.engine.snapshot / 2) outcome last.engine.actions.ran later ran_later m.answered.kept.row.1
+      (ended ∙ ap (λ (l : List Ran). r.ended ++ record row { calls = spent row.calls; at = last.engine.snapshot / 2; ran = l; outcome = outcome } ∷ []) (told_all m row m.answered.kept.row.1)) refl
 
 module _ {P : Type 0} {rules : Rules P} {cells cells' : Cells} {r r1 : Rows} {mid : Core} {a last : Actor P} {call : Call} (seen : ℕ) where
   pub open_tries : (ans : Answer) → HasAnswered rules true cells cells' r r1 mid a last call ans → Tries cells.clock (record (prior_of r a) { seen = seen }) cells'.clock r1 last
@@ -190,7 +192,8 @@ module _ {P : Type 0} {rules : Rules P} {cells cells' : Cells} {r r1 : Rows} {mi
       by_open true o =
           let row = m.answered.kept.row in
           let x = taken_at m.told (stage_open _ row.1) o in
-          stays_open seen cells.clock cells'.clock r r1 a last (x.ended ∙ append-nil r.ended) half row.0 (record (with_call call reply row.0) { ran = last.engine.actions.ran }) (current_open a row.1) (told_active x)
+          stays_open seen cells.clock cells'.clock r r1 a last (x.ended ∙ append-nil r.ended) half row.0 (record (with_call call reply row.0) { ran = last.engine.actions.ran }) (current_open a row.1)
+          (told_active x ∙ ap (λ (l : List Ran). Some (record (with_call call reply row.0) { ran = l })) (told_all m row.0 row.1))
           (continues_to row.0 (with_call call reply row.0).calls (record { call = call; reply = reply } ∷ []) refl row.0.at row.0.outcome last.engine.actions.ran _ (ran_later seen m)) (told_nth x) (still_going x.status) (still_going x.status)
       by_open false o =
           let calls : List CallRecord = m.answered.kept.row.0.calls.list in
@@ -213,7 +216,7 @@ module _ {P : Type 0} {rules : Rules P} {cells cells' : Cells} {r r1 : Rows} {mi
       let row = m.answered.kept.row in
       let g : Conflicts mid clock word a.engine = subst (λ (b : Bool). ConflictsIn b mid clock word a.engine) m.taken.was_is m.ends in
       let x = taken_at m.told (stage_open _ row.1) (ap in_transaction m.settled.engine ∙ m.answered.fits.1) in
-      let t : Tally P = record { player = rules.restarted a.run.player; nth = a.run.nth; again = a.run.again; stage = within row.0 } in
+      let t : Tally P = record { player = rules.restarted a.run.player; nth = a.run.nth; again = a.run.again; stage = within_at a row.0 } in
       let gone : List Attempt = ending_as outcomes.Conflict (stand_at false last.engine) row.0 ∷ [] in
       stops seen m outcomes.Conflict (is_tried t gone a.run.retries x).ended (
         m.taken.moves.keeps g.unfreed,

@@ -8,6 +8,7 @@ use Rattle.shared_words.specs.Views.{times}
 use Rattle.tx_attempts.specs.declared.attempt.Attempt.{Attempt}
 use Rattle.tx_attempts.specs.Attempts.{alone, committed_at, is_at, is_committed, memory_after, memory_left}
 use Rattle.tx_attempts.specs.Counts.{count_at, count_committed, one_where}
+use Rattle.tx_runs.proofs.ClockCalls.{both_true}
 use Rattle.tx_worker.specs.Positions.{AreFew, AreLeft, bytes_at, positions}
 
 -- ## How many
@@ -37,10 +38,6 @@ committed_count (x ∷ xs) = by_outcome (is_committed x.outcome) (committed_coun
     by_outcome false more = omega arith
 
 -- ## Below which limit
-
-both_true : (a b : Bool) → (a && b) ≡ true → (a ≡ true) × (b ≡ true)
-both_true true b e = (refl, e)
-both_true false b e = absurd (cc)
 
 pub few_both : (most : ℕ) (xs ys : List Attempt) → AreFew most xs → AreFew most ys → AreFew most (xs ++ ys)
 few_both most [] ys l m = m

@@ -10,6 +10,7 @@ use Rattle.tx_attempts.specs.Attempts.{of_thread}
 use Rattle.tx_history.specs.declared.history.Version.{Version}
 use Rattle.tx_history.specs.declared.history.Version.TheVariants.{One, Two, Three}
 use Rattle.tx_runs.specs.Unbroken.{AreUnbroken}
+use Rattle.tx_runs.proofs.RunLists.{there_is}
 use Rattle.tx_history.specs.Bounds.{AreLimited, HasArenaWidth, IsLimited, IsMemorySize}
 use Rattle.tx_history.specs.Legal.{memory_at}
 use Rattle.tx_history.specs.Versions.{MayTell, thread_limit}
@@ -21,11 +22,6 @@ use Rattle.tx_host.specs.Limits.{IsLimitedListing}
 use Rattle.tx_host.specs.Reports.{Ran, by_number, commits_of}
 use Rattle.tx_host.specs.Versions.{version_of}
 use Rattle.tx_host.proofs.Histories.ScriptWidths.{script_widths}
-
-there_is : {A : Type 0} (xs : List A) (i : ℕ) → i < length xs → (x : A) × (slice_get xs i ≡ Some x)
-there_is [] i l = absurd (omega arith)
-there_is (x ∷ xs) zero l = (x, refl)
-there_is (x ∷ xs) (suc i) l = there_is xs i (omega arith)
 
 -- what is so of each thread's attempts is so of all
 by_threads : (Q : Attempt → Type 0) (k n : ℕ) (all : List Attempt) → ((thread : ℕ) → thread < k + n → All Q (of_thread thread all)) → All Q (by_number k n all)

@@ -13,12 +13,9 @@ use Rattle.tx_history.specs.declared.history.Version.TheVariants.{One, Three}
 use Rattle.tx_history.specs.Depths.{depth_from}
 use Rattle.tx_history.specs.Versions.{depth_of, thread_limit}
 use Rattle.tx_history.proofs.SameDepths.{near_is, same_depth}
+use Rattle.tx_runs.proofs.ClockCalls.{both_true}
 use Rattle.tx_host.specs.Limits.{IsLimitedListing}
 use Rattle.tx_host.specs.Versions.{is_early, version_of}
-
-both_true : (x y : Bool) → (x && y) ≡ true → (x ≡ true) × (y ≡ true)
-both_true true y e = (refl, e)
-both_true false y e = absurd (true≢false (sym e))
 
 none_of : (x y z : Bool) → (x ≡ false) ⊎ (y ≡ false) ⊎ (z ≡ false) → (x && y && z) ≡ false
 none_of false y z e = refl

@@ -204,7 +204,7 @@ module _ {P : Type 0} {rules : Rules P} (laws : Obeys rules) (c : Course P) (s :
       each = λ m may. (tt, begins_over s v e before outside props room is r served now m may);
     }
 
-    pub opens : (ahead : ℕ) → IsRunning rules c v e (record t { player = rules.answered t.player r; again = true; stage = within (record (begun c.number t.nth (s.engine.clock / 2) props s.engine.arena ahead) { at = e.snapshot / 2 }) })
+    pub opens : (ahead : ℕ) → IsRunning rules c v e (record t { player = rules.answered t.player r; again = true; stage = within (record (begun c.number t.nth (s.engine.clock / 2) props s.engine.arena ahead) { at = e.snapshot / 2 }) [] })
     opens ahead =
         let nested = nested_outside running outside in
         let later = run_later rules c s.view v served.went t.ended running.has_run in
@@ -221,6 +221,7 @@ module _ {P : Type 0} {rules : Rules P} (laws : Obeys rules) (c : Course P) (s :
           inside = λ o. record {
             between = was.between;
             row = row ahead;
+            points = [];
             stage_is = refl;
             now_is = later.1 ∙ was.now_is;
             try = tries_block ahead;

@@ -56,14 +56,14 @@ module _ {P : Type 0} {rules : Rules P} (laws : Obeys rules) (words : Words) (c 
   by_mode : (i : Bool) → in_transaction s.engine ≡ i → Both Took
   by_mode true inside =
       let h = running.inside inside in
-      let served = served_at (within h.row) h.stage_is in
-      subst Both (took_so (within h.row) h.stage_is) (
+      let served = served_at (within h.row h.points) h.stage_is in
+      subst Both (took_so (within h.row h.points) h.stage_is) (
         λ none. (
-          inside_on laws c (start_at (within h.row)) a v e running stands answered.stands whole asks refl inside ahead answer served none,
-          subst (λ (i : Bool). Falls rules c.retries i (in_transaction e) a.nth (Took_at (within h.row)).tally.nth a.player (Took_at (within h.row)).tally.player) (sym inside)
-              (inside_falls laws c (start_at (within h.row)) a v e running stands answered.stands whole asks refl inside ahead answer served none),
+          inside_on laws c (start_at (within h.row h.points)) a v e running stands answered.stands whole asks refl inside ahead answer served none,
+          subst (λ (i : Bool). Falls rules c.retries i (in_transaction e) a.nth (Took_at (within h.row h.points)).tally.nth a.player (Took_at (within h.row h.points)).tally.player) (sym inside)
+              (inside_falls laws c (start_at (within h.row h.points)) a v e running stands answered.stands whole asks refl inside ahead answer served none),
         ),
-        λ end some. inside_over laws c (start_at (within h.row)) a v e running stands answered.stands whole asks refl inside ahead answer end served some,
+        λ end some. inside_over laws c (start_at (within h.row h.points)) a v e running stands answered.stands whole asks refl inside ahead answer end served some,
       )
   by_mode false shut =
       let o = running.outside shut in

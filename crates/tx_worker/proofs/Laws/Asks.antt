@@ -1,5 +1,5 @@
 -- A worker between its player's next call and what comes of it.
-use Rattle.std.proofs.Common.{◌≡◌, ℕ, ◌/◌, Bool, true, false, refl, sym, ap, subst, ◌∙◌, inr, Some, unwrap_or}
+use Rattle.std.proofs.Common.{◌≡◌, ℕ, ◌/◌, Bool, true, false, List, refl, sym, ap, subst, ◌∙◌, inr, Some, unwrap_or}
 use Rattle.itm_types.specs.Calls.{is_begin}
 use Rattle.itm_types.specs.declared.call.Call.{Call}
 use Rattle.itm_types.specs.declared.call.Call.TheVariants.{Begin}
@@ -16,6 +16,7 @@ use Rattle.tx_player.specs.Rules.{Rules}
 use Rattle.tx_runs.specs.declared.player_run.Current.{Current}
 use Rattle.tx_runs.specs.declared.player_run.Current.TheVariants.{Outside, Begins, Within}
 use Rattle.tx_runs.specs.declared.player_run.PlayerRun.{PlayerRun}
+use Rattle.tx_runs.specs.declared.savepoint.Savepoint.{Savepoint}
 use Rattle.tx_runs.specs.PlayerRuns.{stage_of}
 use Rattle.tx_runs.specs.Tallies.{outside, begins, within, Tally, begins_again, begun, stage_at}
 use Rattle.tx_worker.specs.declared.worker.Worker.{Worker}
@@ -45,15 +46,21 @@ roomier call row ahead Outside Outside never is = tt
 roomier call row ahead Outside (Begins o') never is = tt
 roomier call row ahead Outside (Within o') never is = absurd (by_call call is)
   where
-    by_call : (x : Call) → within o'.row ≡ stage_at outside x row ahead → ⊥
+    by_call : (x : Call) → within o'.row o'.points ≡ stage_at outside x row ahead → ⊥
     by_call (Begin props room) e = cc
     by_call x e = cc
 roomier call row ahead (Within o) Outside never is = absurd (cc)
 roomier call row ahead (Within o) (Begins o') never is = absurd (cc)
-roomier call row ahead (Within o) (Within o') never is = (let e = same _ is in e ∙ ap (λ (n : ℕ). record o.row { calls = record o.row.calls { room = n } }) (sym (ap (λ (x : Attempt). x.calls.room) e)))
+roomier call row ahead (Within o) (Within o') never is = (
+  (let e = same _ _ is in e ∙ ap (λ (n : ℕ). record o.row { calls = record o.row.calls { room = n } }) (sym (ap (λ (x : Attempt). x.calls.room) e))),
+  alike _ _ is,
+)
   where
-    same : (x : Attempt) → within o'.row ≡ within x → o'.row ≡ x
-    same x e = cc
+    same : (x : Attempt) (points : List Savepoint) → within o'.row o'.points ≡ within x points → o'.row ≡ x
+    same x points e = cc
+
+    alike : (x : Attempt) (points : List Savepoint) → within o'.row o'.points ≡ within x points → o'.points ≡ points
+    alike x points e = cc
 
 module _ {P : Type 0} {rules : Rules P} {words : Words} {c : Course P} {b : Bounds} {old mid : Worker P} {call : Call} (works : IsWorking rules words c b old) (asks : rules.next_call old.run.player ≡ Some call) (same : OnlyRoom old mid) (prepared : IsPrepared words rules old call mid) where
   abbrev opens : Props → Attempt
@@ -67,7 +74,7 @@ module _ {P : Type 0} {rules : Rules P} {words : Words} {c : Course P} {b : Boun
     where
       by_mode : (i : Bool) → in_transaction old.thread.engine ≡ i → i ≡ false
       by_mode false i = refl
-      by_mode true i = (let some : within (works.running.inside i).row ≡ outside = sym (works.running.inside i).stage_is ∙ none in absurd (cc))
+      by_mode true i = (let some : within (works.running.inside i).row (works.running.inside i).points ≡ outside = sym (works.running.inside i).stage_is ∙ none in absurd (cc))
 
   -- memory was refused to the call itself
   pub hungry_still : (new : Worker P) (again : Bool) → new ≡ record mid { thread = new.thread } → IsThreadStarved words mid.thread call new.thread → IsHungry rules words c b old call new
@@ -85,7 +92,7 @@ module _ {P : Type 0} {rules : Rules P} {words : Words} {c : Course P} {b : Boun
           roomy = subst (λ (x : Worker P). HasPlaces old.thread.engine x.ended x.run.current) (sym is) (places mid.run.current prepared.ready);
           ended = ap (λ (w : Worker P). w.ended.items) is ∙ prepared.ended;
           begins = λ none. by_begin (is_begin call) refl none;
-          short = λ row inside. inr (inr (inr (inr starves)));
+          short = λ row points inside. inr (inr (inr (inr starves)));
         };
       }
     where
@@ -111,6 +118,6 @@ module _ {P : Type 0} {rules : Rules P} {words : Words} {c : Course P} {b : Boun
       record {
         works = works;
         asks = asks;
-        prepared = subst (IsPrepared words rules old call) (sym is) (record { came = prepared.came; ready = prepared.ready; thread = prepared.thread; retries = prepared.retries; ended = prepared.ended });
+        prepared = subst (IsPrepared words rules old call) (sym is) (record { came = prepared.came; ready = prepared.ready; blocks = prepared.blocks; thread = prepared.thread; retries = prepared.retries; ended = prepared.ended });
         answered = subst (λ (x : Standing × Bool). IsAnswered words (start_of x.0 call x.1) answer new.thread.pass new.thread.engine) (λ i. ((same i).thread, again i)) a;
       }

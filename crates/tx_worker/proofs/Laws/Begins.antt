@@ -85,6 +85,7 @@ module _ {P : Type 0} (rules : Rules P) (words : Words) (thread : Standing) (pla
         };
         running = subst (IsRunning rules (course_of thread player number retries) (view_of thread.pass) thread.engine) first_is first_running;
         roomy = tt;
+        blocks = tt;
       },
       sym first_is,
     )

@@ -1,5 +1,5 @@
 -- A call of the open transaction, by its answer.
-use Rattle.std.proofs.Common.{◌≡◌, ◌⊎◌, ℕ, ◌+◌, ◌≤◌, Bool, true, false, true≢false, nat_lt, if◌then◌else◌, List, [], ◌++◌, length, Option, None, Some, refl, sym, subst, ◌∙◌, arith, inl, inr, append-nil, ltb-false}
+use Rattle.std.proofs.Common.{◌≡◌, ◌⊎◌, ℕ, ◌+◌, ◌/◌, ◌≤◌, Bool, true, false, true≢false, nat_lt, if◌then◌else◌, List, [], ◌∷◌, ◌++◌, length, Option, None, Some, refl, sym, ap, subst, ◌∙◌, arith, inl, inr, append-nil, ltb-false}
 use Rattle.std.proofs.lemmas.Bool.{ltb-true}
 use Rattle.itm_types.specs.declared.call.Call.{Call}
 use Rattle.itm_types.specs.declared.call.Reply.{Reply as Replied}
@@ -11,18 +11,26 @@ use Rattle.shared_words.specs.declared.view.View.{View}
 use Rattle.itm_runtime.specs.Served.{Served, Start}
 use Rattle.itm_runtime.specs.Ties.{Stands}
 use Rattle.tx_attempts.specs.declared.attempt.Attempt.{Attempt}
+use Rattle.tx_attempts.specs.declared.attempt.Outcome.{Outcome}
 use Rattle.tx_attempts.specs.declared.attempt.Outcome.TheVariants as outcomes
+use Rattle.itm_types.specs.declared.call.Ran.{Ran}
+use Rattle.tx_attempts.proofs.RanOn.{ran_on_none}
 use Rattle.tx_attempts.specs.Kept.{reserved}
+use Rattle.tx_attempts.specs.Restarts.{ran_on}
 use Rattle.tx_player.specs.Rules.{Obeys, Rules}
 use Rattle.tx_runs.proofs.Players.{Played, plays}
 use Rattle.tx_runs.specs.declared.ending.End.{End}
 use Rattle.tx_runs.specs.declared.ending.End.TheVariants as ends
 use Rattle.tx_runs.specs.Nesting.{IsDeep, IsNested}
+use Rattle.tx_runs.specs.declared.savepoint.Savepoint.{Savepoint}
+use Rattle.tx_runs.specs.Savepoints.{savepoints_after}
 use Rattle.tx_runs.specs.Tallies.{outside, within, Taken, Tally, over_as, took_in, went_on, with_call, stand_of}
 use Rattle.tx_worker.specs.Accounts.{Account, account_after, tally_in}
 use Rattle.tx_worker.specs.Falls.{Falls}
 use Rattle.tx_worker.specs.Positions.{positions}
 use Rattle.tx_worker.specs.Progress.{Course, HasRun, IsRunning}
+use Rattle.tx_worker.proofs.Machines.PlainActions.{served_runs}
+use Rattle.tx_worker.proofs.Shapes.{closed, ended_at, tried}
 use Rattle.tx_worker.proofs.Runs.Measures.{falls_close, falls_reply, falls_try}
 use Rattle.tx_worker.proofs.Transactions.Replies.{cancels, commits, stays}
 use Rattle.tx_worker.proofs.Transactions.Stops.{conflict_run, conflicts, full_run}
@@ -49,8 +57,18 @@ module _ {P : Type 0} {rules : Rules P} (laws : Obeys rules) (c : Course P) (s :
   abbrev pub row : Attempt
   row = record (running.inside inside).row { calls = reserved (running.inside inside).row.calls (ahead + 1) }
 
+  abbrev points : List Savepoint
+  points = (running.inside inside).points
+
   abbrev pub Took : Answer → Taken P
-  Took answer = took_in rules c.retries (record (tally_in a) { stage = within (record (running.inside inside).row { calls = reserved (running.inside inside).row.calls (ahead + 1) }) }) s.call answer (stand_of e)
+  Took answer = took_in rules c.retries (record (tally_in a) { stage = within (record (running.inside inside).row { calls = reserved (running.inside inside).row.calls (ahead + 1) }) (running.inside inside).points }) s.call answer (stand_of e)
+
+  -- all that has come to run is told
+  told_all : (answer : Answer) → Served s answer v e → ran_on (running.inside inside).row.ran (running.inside inside).row.restarts e.actions.ran ≡ e.actions.ran
+  told_all answer served =
+      let h = running.inside inside in
+      let r = served_runs s v e before inside served in
+      ran_on_none h.row.ran h.row.restarts e.actions.ran h.try.restarts (r.later, ap (λ (ran : List Ran). ran ++ r.later) h.try.ran ∙ sym r.ran)
 
   nested : IsNested rules true a.player
   nested = subst (λ (i : Bool). IsNested rules i a.player) inside running.nested
@@ -66,12 +84,18 @@ module _ {P : Type 0} {rules : Rules P} (laws : Obeys rules) (c : Course P) (s :
   untold x k = subst (λ (xs : List Attempt). IsRunning rules c v e (record { player = x.player; nth = x.nth; again = x.again; stage = x.stage; ended = xs })) (sym (append-nil a.ended)) k
 
   module _ (r : Replied) (served : Served s (Reply r) v e) where
+    abbrev points_now : List Savepoint
+    points_now = savepoints_after points row (record { call = s.call; reply = r })
+
     abbrev after_reply : Bool → Taken P
-    after_reply now = went_on now (record (tally_in a) { player = rules.answered a.player r; stage = within row }) (with_call s.call r row) (stand_of e)
+    after_reply now = went_on now (record (tally_in a) { player = rules.answered a.player r; stage = within row points }) (with_call s.call r row) (savepoints_after points row (record { call = s.call; reply = r })) (stand_of e)
 
     reply_on : (b : Bool) → in_transaction e ≡ b → IsRunning rules c v e (account_after a (after_reply b))
-    reply_on true now = untold (after_reply true).tally (stays laws c s a v e running before stands asks first_time inside r served _ now)
-    reply_on false shut = cancels laws c s a v e running before stands asks first_time inside r served shut
+    reply_on true now =
+        untold (after_reply true).tally
+        (subst (λ (ran : List Ran). IsRunning rules c v e (record { player = rules.answered a.player r; nth = a.nth; again = a.again; stage = within (record (with_call s.call r row) { ran = ran }) points_now; ended = a.ended })) (sym (told_all (Reply r) served))
+        (stays laws c s a v e running before stands asks first_time inside r served _ points_now now))
+    reply_on false shut = subst (λ (ran : List Ran). IsRunning rules c v e (closed a (rules.answered a.player r) (ended_at outcomes.Cancelled (e.snapshot / 2) ran (with_call s.call r row)))) (sym (told_all (Reply r) served)) (cancels laws c s a v e running before stands asks first_time inside r served shut)
 
     reply_falls : (b : Bool) → in_transaction e ≡ b → Falls rules c.retries true b a.nth (after_reply b).tally.nth a.player (after_reply b).tally.player
     reply_falls true now = falls_reply rules c.retries laws a.nth (played rules laws a.player s.call r asks true true nested (subst (λ (b : Bool). IsNested rules b (rules.answered a.player r)) now (reply_on true now).nested))
@@ -79,7 +103,9 @@ module _ {P : Type 0} {rules : Rules P} (laws : Obeys rules) (c : Course P) (s :
 
   module _ (at : ℕ) (wrote : Bool) (served : Served s (Committed at wrote) v e) where
     commit_on : IsRunning rules c v e (account_after a (Took (Committed at wrote)))
-    commit_on = commits laws c s a v e running before stands asks first_time inside at wrote served
+    commit_on =
+        subst (λ (ran : List Ran). IsRunning rules c v e (closed a (rules.answered a.player Done) (ended_at (if wrote then outcomes.Committed else outcomes.ReadOnly) (e.snapshot / 2) ran (with_call s.call Done row)))) (sym (told_all (Committed at wrote) served))
+        (commits laws c s a v e running before stands asks first_time inside at wrote served)
 
     commit_falls : Falls rules c.retries true (in_transaction e) a.nth 1 a.player (rules.answered a.player Done)
     commit_falls =
@@ -87,9 +113,13 @@ module _ {P : Type 0} {rules : Rules P} (laws : Obeys rules) (c : Course P) (s :
         subst (λ (b : Bool). Falls rules c.retries true b a.nth 1 a.player (rules.answered a.player Done)) (sym shut)
         (falls_close rules c.retries laws a.nth nested (played rules laws a.player s.call Done asks true false nested (subst (λ (b : Bool). IsNested rules b (rules.answered a.player Done)) shut commit_on.nested)))
 
+  -- the run where the open attempt is over, with these actions
+  abbrev Told_over : Outcome → List Ran → Type 0
+  Told_over outcome ran = HasRun rules c v (a.ended ++ ended_at outcome (e.snapshot / 2) ran row ∷ []) × (v.mine ≡ c.view.mine ++ positions (a.ended ++ ended_at outcome (e.snapshot / 2) ran row ∷ []))
+
   module _ (clock : ℕ) (word : Option ℕ) (served : Served s (Conflict clock word) v e) where
     abbrev over_row : List Attempt
-    over_row = over_as outcomes.Conflict (stand_of e) (within row)
+    over_row = over_as outcomes.Conflict (stand_of e) (within row points)
 
     abbrev after_conflict : Bool → Taken P
     after_conflict b = if b
@@ -98,7 +128,9 @@ module _ {P : Type 0} {rules : Rules P} (laws : Obeys rules) (c : Course P) (s :
 
     conflict_on : (b : Bool) → nat_lt c.retries a.nth ≡ b → (after_conflict b).end ≡ None → IsRunning rules c v e (account_after a (after_conflict b))
     conflict_on true e none = absurd (cc)
-    conflict_on false is none = conflicts laws c s a v e running before stands asks inside clock word served (ltb-false c.retries a.nth is)
+    conflict_on false is none =
+        subst (λ (ran : List Ran). IsRunning rules c v e (tried a (rules.restarted a.player) (a.ended ++ ended_at outcomes.Conflict (e.snapshot / 2) ran row ∷ []))) (sym (told_all (Conflict clock word) served))
+        (conflicts laws c s a v e running before stands asks inside clock word served (ltb-false c.retries a.nth is))
 
     conflict_falls : (b : Bool) → nat_lt c.retries a.nth ≡ b → (after_conflict b).end ≡ None → Falls rules c.retries true (in_transaction e) a.nth (after_conflict b).tally.nth a.player (after_conflict b).tally.player
     conflict_falls true e none = absurd (cc)
@@ -109,7 +141,7 @@ module _ {P : Type 0} {rules : Rules P} (laws : Obeys rules) (c : Course P) (s :
     conflict_over : (b : Bool) (end : End) → nat_lt c.retries a.nth ≡ b → (after_conflict b).end ≡ Some end → IsOverSo rules c s.engine.max_commits end v e (account_after a (after_conflict b))
     conflict_over false end is some = absurd (cc)
     conflict_over true end is some =
-        let run = conflict_run laws c s a v e running before stands asks inside clock word served in
+        let run = subst (Told_over outcomes.Conflict) (sym (told_all (Conflict clock word) served)) (conflict_run laws c s a v e running before stands asks inside clock word served) in
         record {
           has_run = run.0;
           mine = run.1;
@@ -121,8 +153,9 @@ module _ {P : Type 0} {rules : Rules P} (laws : Obeys rules) (c : Course P) (s :
 
   full_over : (at : ℕ) (end : End) → Served s (Full at) v e → Some ends.GaveUp ≡ Some end → IsOverSo rules c s.engine.max_commits end v e (account_after a (Took (Full at)))
   full_over at end served some =
-      let run = full_run laws c s a v e running before stands asks inside at served in
-      record { has_run = run.0; mine = run.1; stage = refl; shut = served.tells.closes.closed; end_is = gave_up some; why = inl run.2 }
+      let full = full_run laws c s a v e running before stands asks inside at served in
+      let run = subst (Told_over outcomes.Full) (sym (told_all (Full at) served)) (full.0, full.1) in
+      record { has_run = run.0; mine = run.1; stage = refl; shut = served.tells.closes.closed; end_is = gave_up some; why = inl full.2 }
 
   -- ## Any answer
 
@@ -142,7 +175,7 @@ module _ {P : Type 0} {rules : Rules P} (laws : Obeys rules) (c : Course P) (s :
   inside_falls (Busy clock) served none = absurd (no_busy clock served)
   inside_falls (Full at) served none = absurd (cc)
 
-  reply_goes : (b : Bool) (r : Replied) (end : End) → (went_on b (record (tally_in a) { player = rules.answered a.player r; stage = within row }) (with_call s.call r row) (stand_of e)).end ≡ Some end → ⊥
+  reply_goes : (b : Bool) (r : Replied) (end : End) → (went_on b (record (tally_in a) { player = rules.answered a.player r; stage = within row points }) (with_call s.call r row) (savepoints_after points row (record { call = s.call; reply = r })) (stand_of e)).end ≡ Some end → ⊥
   reply_goes true r end some = cc
   reply_goes false r end some = cc
 

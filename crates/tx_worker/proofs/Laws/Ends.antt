@@ -14,7 +14,9 @@ use Rattle.itm_runtime.specs.Ties.{Stands}
 use Rattle.tx_attempts.specs.declared.attempt.Attempt.{Attempt}
 use Rattle.tx_attempts.specs.declared.attempt.Outcome.TheVariants as outcomes
 use Rattle.tx_attempts.specs.Attempts.{alone}
+use Rattle.tx_attempts.proofs.RanOn.{ran_on_none}
 use Rattle.tx_attempts.specs.Opacity.{begin_within}
+use Rattle.tx_attempts.specs.Restarts.{ran_on}
 use Rattle.tx_player.specs.Rules.{Obeys, Rules}
 use Rattle.tx_runs.proofs.Begins.{led}
 use Rattle.tx_runs.specs.declared.ending.End.{End}
@@ -29,6 +31,7 @@ use Rattle.tx_worker.specs.Works.{AreHeld, EndsAs, EndsOpen, IsBack, IsFinished,
 use Rattle.tx_worker.proofs.Laws.Answers.{both}
 use Rattle.tx_worker.proofs.Laws.Rows.{few_more}
 use Rattle.tx_worker.proofs.Shapes.{ended_at}
+use Rattle.tx_worker.proofs.Machines.PlainActions.{given_up_runs}
 use Rattle.tx_worker.proofs.Transactions.Stops.{starved_run, unfinished_mode, unfinished_run}
 
 -- ## The pass
@@ -106,7 +109,11 @@ module _ {P : Type 0} {rules : Rules P} (laws : Obeys rules) (words : Words) (c 
     last = ended_at outcomes.Unfinished (s.engine.snapshot / 2) s.engine.actions.ran (running.inside inside).row
 
     told_inside : told a (stand_of s.engine) ≡ a.ended ++ last ∷ []
-    told_inside = ap (λ (g : Stage). a.ended ++ over_as outcomes.Unfinished (stand_of s.engine) g) (running.inside inside).stage_is
+    told_inside =
+        let h = running.inside inside in
+        let all : ran_on h.row.ran h.row.restarts s.engine.actions.ran ≡ s.engine.actions.ran = ran_on_none h.row.ran h.row.restarts s.engine.actions.ran h.try.restarts ([], append-nil h.row.ran ∙ h.try.ran) in
+        ap (λ (g : Stage). a.ended ++ over_as outcomes.Unfinished (stand_of s.engine) g) h.stage_is
+        ∙ ap (λ (ran : List Ran). a.ended ++ ended_at outcomes.Unfinished (s.engine.snapshot / 2) ran h.row ∷ []) all
 
     last_is : ended_at outcomes.Unfinished (s.engine.snapshot / 2) (running.inside inside).row.ran (running.inside inside).row ≡ last
     last_is = ap (λ (ran : List Ran). ended_at outcomes.Unfinished (s.engine.snapshot / 2) ran (running.inside inside).row) (running.inside inside).try.ran
@@ -194,6 +201,12 @@ module _ {P : Type 0} {rules : Rules P} (laws : Obeys rules) (words : Words) (c 
             ends = tt;
           })
         where
+          told_all : s.engine.irrevocable ≡ false → (inside : in_transaction s.engine ≡ true) → ran_on (running.inside inside).row.ran (running.inside inside).row.restarts t.engine.actions.ran ≡ t.engine.actions.ran
+          told_all revocable inside =
+              let h = running.inside inside in
+              let r = given_up_runs (start_of s Commit false) t.engine stands revocable k.engine in
+              ran_on_none h.row.ran h.row.restarts t.engine.actions.ran h.try.restarts (r.later, ap (λ (ran : List Ran). ran ++ r.later) h.try.ran ∙ sym r.ran)
+
           freed : s.engine.irrevocable ≡ false → t.engine.irrevocable ≡ false
           freed revocable = ap (λ (x : Core). x.irrevocable) k.engine ∙ ap (λ (h : Bool). (if h then s.engine else record (rolled_back s.engine) { stage = Idle; tries = 0 }).irrevocable) (stands.mode ∙ revocable)
 
@@ -201,7 +214,9 @@ module _ {P : Type 0} {rules : Rules P} (laws : Obeys rules) (words : Words) (c 
               × ((view_of t.pass).mine ≡ c.view.mine ++ positions (a.ended ++ over_as outcomes.NoMemory (stand_of t.engine) a.stage))
           runs revocable view = by_mode (HasRun rules c (view_of t.pass) (a.ended ++ over_as outcomes.NoMemory (stand_of t.engine) a.stage) × ((view_of t.pass).mine ≡ c.view.mine ++ positions (a.ended ++ over_as outcomes.NoMemory (stand_of t.engine) a.stage)))
               (λ inside. subst (λ (g : Stage). HasRun rules c (view_of t.pass) (a.ended ++ over_as outcomes.NoMemory (stand_of t.engine) g) × ((view_of t.pass).mine ≡ c.view.mine ++ positions (a.ended ++ over_as outcomes.NoMemory (stand_of t.engine) g)))
-              (sym (running.inside inside).stage_is) (starved_run laws c (start_of s Commit false) a running stands inside (view_of t.pass) t.engine revocable k.engine view))
+              (sym (running.inside inside).stage_is)
+              (subst (λ (ran : List Ran). HasRun rules c (view_of t.pass) (a.ended ++ ended_at outcomes.NoMemory (t.engine.snapshot / 2) ran (running.inside inside).row ∷ []) × ((view_of t.pass).mine ≡ c.view.mine ++ positions (a.ended ++ ended_at outcomes.NoMemory (t.engine.snapshot / 2) ran (running.inside inside).row ∷ [])))
+              (sym (told_all revocable inside)) (starved_run laws c (start_of s Commit false) a running stands inside (view_of t.pass) t.engine revocable k.engine view)))
               (λ shut. subst (λ (x : View × List Attempt). HasRun rules c x.0 x.1 × (x.0.mine ≡ c.view.mine ++ positions x.1))
               (λ i. (sym view i, (sym (append-nil a.ended) ∙ ap (λ (g : Stage). a.ended ++ over_as outcomes.NoMemory (stand_of t.engine) g) (sym (running.outside shut).stage_is)) i)) (running.has_run, running.mine))
 
@@ -224,7 +239,7 @@ module _ {P : Type 0} {rules : Rules P} (laws : Obeys rules) (words : Words) (c 
       last_few : (g : Stage) → AreFew max_commits (over_as outcomes.Unfinished (stand_of t.engine) g)
       last_few outside = tt
       last_few (begins row) = tt
-      last_few (within row) = ((λ c. absurd (cc)), tt)
+      last_few (within row points) = ((λ c. absurd (cc)), tt)
 
   pub finished : (number retries : ℕ) → number ≡ c.number → retries ≡ c.retries → (w : Worked) (left : Account P) (t : Standing) → StopsAs words rules number retries shuts w.end a s left t → AreOver left.ended → AreFew max_commits left.ended → Owns words t.pass → Stands (view_of t.pass) t.engine → Parts t w.pass → w.attempts ≡ told left (stand_of t.engine)
       → IsFinished rules words c max_commits shuts w

@@ -1,6 +1,6 @@
 -- The room that is made before a call serves whatever comes of its answer.
-use Rattle.std.proofs.Common.{◌≡◌, ℕ, ◌+◌, ◌/◌, ◌<◌, ◌≤◌, Bool, true, false, true≢false, nat_lt, if◌then◌else◌, List, ◌++◌, length, is_some, refl, sym, ap, subst, ◌∙◌, arith, unwrap_or, ltb-false}
-use Rattle.itm_types.specs.Calls.{is_abort, registered_by}
+use Rattle.std.proofs.Common.{◌≡◌, inl, inr, ℕ, suc, ◌+◌, ◌/◌, ◌<◌, ◌≤◌, Bool, true, false, true≢false, nat_lt, if◌then◌else◌, List, [], ◌++◌, length, length-append, is_some, refl, sym, ap, subst, ◌∙◌, arith, unwrap_or, ltb-false}
+use Rattle.itm_types.specs.Calls.{is_abort, is_begin, registered_by}
 use Rattle.itm_types.specs.declared.call.Call.{Call}
 use Rattle.itm_types.specs.declared.call.Call.TheVariants.{Begin, CommitAction, UndoAction}
 use Rattle.itm_types.specs.declared.call.Props.{Props}
@@ -15,18 +15,22 @@ use Rattle.itm_runtime.specs.Served.{Served, Start}
 use Rattle.itm_runtime.specs.Standing.{start_of}
 use Rattle.tx_attempts.specs.declared.attempt.Attempt.{Attempt}
 use Rattle.tx_attempts.specs.declared.attempt.Outcome.{Outcome}
+use Rattle.tx_attempts.specs.Beginnings.{IsBeginningOf}
 use Rattle.tx_attempts.specs.Kept.{Kept, reserved}
 use Rattle.tx_player.specs.Rules.{Rules}
+use Rattle.tx_runs.proofs.OpenRooms.{opens_most, told_none}
 use Rattle.tx_runs.proofs.StepCalls.{cancels_register_none}
+use Rattle.tx_runs.proofs.TookIn.{OpensBy}
 use Rattle.tx_runs.specs.declared.player_run.Current.{Current}
 use Rattle.tx_runs.specs.declared.player_run.Current.TheVariants.{Outside, Begins, Within}
-use Rattle.tx_runs.specs.OpenAttempts.{Open, HasRoom}
-use Rattle.tx_runs.specs.PlayerRuns.{MayTakeIn, MayTell, stage_of}
+use Rattle.tx_runs.specs.OpenAttempts.{Open, HasRoom, told_in}
+use Rattle.tx_runs.specs.PlayerRuns.{KeepsPlaces, MayTakeIn, MayTell, stage_of}
+use Rattle.tx_runs.specs.declared.savepoint.Savepoint.{Savepoint}
 use Rattle.tx_runs.specs.Tallies.{Stage, outside, begins, within, Stand, begins_again, begun, over_as, stage_at, stand_of}
 use Rattle.tx_worker.specs.declared.worker.Worker.{Worker}
 use Rattle.tx_worker.specs.Accounts.{account_of}
 use Rattle.tx_worker.specs.Progress.{Course, IsRunning}
-use Rattle.tx_worker.specs.Workers.{Bounds, IsAsked, IsReadyFor, IsRoomier, again_for, view_in}
+use Rattle.tx_worker.specs.Workers.{Bounds, HasBlockPlaces, IsAsked, KeepsBlockPlaces, IsReadyFor, IsRoomier, again_for, view_in}
 use Rattle.tx_worker.proofs.Machines.PlainActions.{served_ran, served_runs}
 
 -- ## What a begin is told
@@ -46,9 +50,9 @@ again_prepared outside (Within o) again (Begin props room) row ahead never is = 
 again_prepared outside Outside again call row ahead never is = refl
 again_prepared outside (Begins o) again call row ahead never is = absurd (cc)
 again_prepared outside (Within o) again call row ahead never is = refl
-again_prepared (within r) (Within o) again call row ahead never is = refl
-again_prepared (within r) Outside again call row ahead never is = refl
-again_prepared (within r) (Begins o) again call row ahead never is = absurd (cc)
+again_prepared (within r points) (Within o) again call row ahead never is = refl
+again_prepared (within r points) Outside again call row ahead never is = refl
+again_prepared (within r points) (Begins o) again call row ahead never is = absurd (cc)
 
 -- ## Places
 
@@ -66,12 +70,54 @@ room_after (CommitAction action) before after room few more l = (let m = more re
 room_after (UndoAction action) before after room few more l = (let m = more refl in omega arith)
 room_after call before after room few more l = omega arith
 
+-- ## What is told
+
+-- where no block has run again, it begins what has come to run
+pub told_few : (row : Attempt) (due : List Ran) → row.restarts ≡ [] → IsBeginningOf row.ran due → told_in row ≤ length due
+told_few row due none h = (let told = told_none row none in let both = ap (length {A = Ran}) h.1 in let parts = length-append row.ran h.0 in omega arith)
+
+-- ## Places for blocks
+
+-- a call opens one block at most, and takes a place of the room
+pub blocks_opened : (call : Call) (answer : Answer) (s : Stand) (ran : List Ran) (x : Current) (o : Open) → ((clock word : ℕ) → answer ≡ Restarted clock word → ⊥) → KeepsPlaces ran x (Within o) → KeepsBlockPlaces x → OpensBy (stage_of x) call answer s o.row o.points → HasBlockPlaces (Within o)
+blocks_opened call answer s ran Outside o back keeps had opens = absurd keeps
+blocks_opened call (Reply r) s ran (Begins was) o back keeps had (inl h) = absurd (let e = h.2 in cc)
+blocks_opened call (Reply r) s ran (Begins was) o back keeps had (inr h) = λ some.
+    (let same : was.row ≡ h.0 = (let e = h.1 in cc) in
+    let room = ap (λ (a : Attempt). a.calls.room) same in
+    let now = ap (λ (a : Attempt). a.calls.room) h.2 in
+    let none = ap (length {A = Savepoint}) h.3 in
+    let deep = keeps.2 in
+    omega arith)
+blocks_opened call (Reply r) s ran (Within was) o back keeps had (inl h) = λ some.
+    (let same : was.row ≡ h.0 = (let e = h.2 in cc) in
+    let points : was.points ≡ h.1 = (let e = h.2 in cc) in
+    let room = ap (λ (a : Attempt). a.calls.room) same in
+    let now = ap (λ (a : Attempt). a.calls.room) h.3 in
+    let before = ap (length {A = Savepoint}) points in
+    let after = ap (length {A = Savepoint}) h.4 in
+    let most = opens_most (record { kept = suc (length h.0.calls.list); ran = length h.0.ran }) h.1 (record { call = call; reply = r }) in
+    let one = one_most (is_begin call) in
+    let deep = keeps.2 in
+    let had_so = had (omega arith) in
+    omega arith)
+  where
+    one_most : (b : Bool) → (if b then 1 else 0) ≤ 1
+    one_most true = omega arith
+    one_most false = omega arith
+blocks_opened call (Reply r) s ran (Within was) o back keeps had (inr h) = absurd (let e = h.1 in cc)
+blocks_opened call (Restarted clock word) s ran x o back keeps had opens = absurd (back clock word refl)
+blocks_opened call (Committed at wrote) s ran x o back keeps had opens = absurd opens
+blocks_opened call (Conflict clock word) s ran x o back keeps had opens = absurd opens
+blocks_opened call (Busy clock) s ran x o back keeps had opens = absurd opens
+blocks_opened call (Full at) s ran x o back keeps had opens = absurd opens
+
 -- ## The same attempt with more room
 
 pub same_over : (outcome : Outcome) (s : Stand) (x y : Current) → IsRoomier x y → over_as outcome s (stage_of y) ≡ over_as outcome s (stage_of x)
 same_over outcome s Outside Outside r = refl
 same_over outcome s Outside (Begins o) r = refl
-same_over outcome s (Within o) (Within o') r = ap (λ (row : Attempt). over_as outcome s (within row)) r
+same_over outcome s (Within o) (Within o') r = (λ i. over_as outcome s (within (r.0 i) (r.1 i)))
 same_over outcome s Outside (Within o) r = absurd r
 same_over outcome s (Begins o) y r = absurd r
 same_over outcome s (Within o) Outside r = absurd r
@@ -83,19 +129,19 @@ module _ {P : Type 0} {rules : Rules P} {c : Course P} (w : Worker P) (running :
   never_begins row is = by_mode (in_transaction w.thread.engine) refl
     where
       by_mode : (i : Bool) → in_transaction w.thread.engine ≡ i → ⊥
-      by_mode true inside = let open_is : within (running.inside inside).row ≡ begins row = sym (running.inside inside).stage_is ∙ is in cc
+      by_mode true inside = let open_is : within (running.inside inside).row (running.inside inside).points ≡ begins row = sym (running.inside inside).stage_is ∙ is in cc
       by_mode false shut = let none : outside ≡ begins row = sym (running.outside shut).stage_is ∙ is in cc
 
   -- one is open just within a transaction
-  pub within_inside : (row : Attempt) → stage_of w.run.current ≡ within row → (i : in_transaction w.thread.engine ≡ true) × ((running.inside i).row ≡ row)
-  within_inside row is = by_mode (in_transaction w.thread.engine) refl
+  pub within_inside : (row : Attempt) (points : List Savepoint) → stage_of w.run.current ≡ within row points → (i : in_transaction w.thread.engine ≡ true) × ((running.inside i).row ≡ row)
+  within_inside row points is = by_mode (in_transaction w.thread.engine) refl
     where
-      same : (x : Attempt) → within x ≡ within row → x ≡ row
-      same x e = cc
+      same : (x : Attempt) (at : List Savepoint) → within x at ≡ within row points → x ≡ row
+      same x at e = cc
 
       by_mode : (b : Bool) → in_transaction w.thread.engine ≡ b → (i : in_transaction w.thread.engine ≡ true) × ((running.inside i).row ≡ row)
-      by_mode true inside = (inside, same _ (sym (running.inside inside).stage_is ∙ is))
-      by_mode false shut = let none : outside ≡ within row = sym (running.outside shut).stage_is ∙ is in absurd (cc)
+      by_mode true inside = (inside, same _ _ (sym (running.inside inside).stage_is ∙ is))
+      by_mode false shut = let none : outside ≡ within row points = sym (running.outside shut).stage_is ∙ is in absurd (cc)
 
 module _ {P : Type 0} {rules : Rules P} {words : Words} {c : Course P} {b : Bounds} {old new : Worker P} {call : Call} {answer : Answer} (k : IsAsked rules words c b old call answer new) where
   abbrev s : Start
@@ -132,41 +178,45 @@ module _ {P : Type 0} {rules : Rules P} {words : Words} {c : Course P} {b : Boun
     open_cancels (Busy clock) served now less = absurd (true≢false (sym now ∙ served.tells.closes.closed))
     open_cancels (Full at) served now less = absurd (true≢false (sym now ∙ served.tells.closes.closed))
 
-    has_room : HasRoom (stand_of new.thread.engine) o
+    row_restarts : o.row.restarts ≡ []
+    row_restarts = ap (λ (x : Attempt). x.restarts) row_is ∙ (ap (λ (x : Attempt). x.restarts) (sym same) ∙ (k.works.running.inside inside).try.restarts)
+
+    has_room : HasRoom call (stand_of new.thread.engine) o
     has_room = record {
       entry = subst (λ (x : Attempt). 0 < x.calls.room) (sym row_is) (some_room row.calls (unwrap_or (irrevocable_room old.thread.engine call) 0));
-      first = (runs.0, ap (λ (x : List Ran). x ++ runs.0) ran_is ∙ runs.1);
+      begins = ready.2.begins;
+      told = told_few o.row new.thread.engine.actions.ran row_restarts (runs.0, ap (λ (x : List Ran). x ++ runs.0) ran_is ∙ runs.1);
       ends = (let places = still_places in omega arith);
-      cancels = open_cancels answer k.answered.served;
+      cancels = λ now less. open_cancels answer k.answered.served now (let told = told_none o.row row_restarts in omega arith);
     }
 
-  the_row : (o : Open) (row : Attempt) → within o.row ≡ within row → o.row ≡ row
-  the_row o row e = cc
+  the_row : (o : Open) (row : Attempt) (points : List Savepoint) → within o.row o.points ≡ within row points → o.row ≡ row
+  the_row o row points e = cc
 
   -- the attempt that is at hand is the open one, with room for the call
-  at_hand : (old_stage : Stage) → stage_of old.run.current ≡ old_stage → (o : Open) (row : Props → Attempt) (ahead : ℕ) → within o.row ≡ stage_at old_stage call row ahead → (r : Attempt) × (old_stage ≡ within r) × (o.row ≡ record r { calls = reserved r.calls (ahead + 1) })
+  at_hand : (old_stage : Stage) → stage_of old.run.current ≡ old_stage → (o : Open) (row : Props → Attempt) (ahead : ℕ) → within o.row o.points ≡ stage_at old_stage call row ahead → (r : Attempt) × (points : List Savepoint) × (old_stage ≡ within r points) × (o.row ≡ record r { calls = reserved r.calls (ahead + 1) })
   at_hand outside was o row ahead is = absurd (by_call call is)
     where
-      by_call : (x : Call) → within o.row ≡ stage_at outside x row ahead → ⊥
+      by_call : (x : Call) → within o.row o.points ≡ stage_at outside x row ahead → ⊥
       by_call (Begin props room) e = cc
       by_call x e = cc
   at_hand (begins r) was o row ahead is = absurd (cc)
-  at_hand (within r) was o row ahead is = (r, refl, the_row o _ is)
+  at_hand (within r points) was o row ahead is = (r, points, refl, the_row o _ _ is)
 
   module _ (x : Current) (is : new.run.current ≡ x) where
     stage_is : stage_of x ≡ stage_at (stage_of old.run.current) call (opens old) (unwrap_or (irrevocable_room old.thread.engine call) 0)
     stage_is = ap stage_of (sym is) ∙ ap (λ (t : _). t.stage) k.prepared.came
 
-  pub may_take_in : MayTakeIn (stand_of new.thread.engine) new.run.current
+  pub may_take_in : MayTakeIn call (stand_of new.thread.engine) new.run.current
   may_take_in = by_current new.run.current refl
     where
-      by_current : (x : Current) → new.run.current ≡ x → MayTakeIn (stand_of e) x
+      by_current : (x : Current) → new.run.current ≡ x → MayTakeIn call (stand_of e) x
       by_current Outside is = tt
       by_current (Begins o) is = tt
       by_current (Within o) is =
           let hand = at_hand (stage_of old.run.current) refl o (opens old) (unwrap_or (irrevocable_room old.thread.engine call) 0) (stage_is (Within o) is) in
-          let inside = within_inside old k.works.running hand.0 hand.1 in
-          has_room o is (subst (IsReadyFor old.thread.engine call (unwrap_or (irrevocable_room old.thread.engine call) 0) new.ended) is k.prepared.ready) hand.0 hand.2 inside.0 inside.1
+          let inside = within_inside old k.works.running hand.0 hand.1 hand.2 in
+          has_room o is (subst (IsReadyFor old.thread.engine call (unwrap_or (irrevocable_room old.thread.engine call) 0) new.ended) is k.prepared.ready) hand.0 hand.3 inside.0 inside.1
 
   pub may_tell : MayTell new.run.current new.ended
   may_tell = by_current new.run.current refl
@@ -189,18 +239,18 @@ module _ {P : Type 0} {rules : Rules P} {words : Words} {c : Course P} {b : Boun
         where
           by_mode : (i : Bool) → in_transaction old.thread.engine ≡ i → i ≡ false
           by_mode false i = refl
-          by_mode true i = (let some : within (k.works.running.inside i).row ≡ outside = sym (k.works.running.inside i).stage_is ∙ none in absurd (cc))
+          by_mode true i = (let some : within (k.works.running.inside i).row (k.works.running.inside i).points ≡ outside = sym (k.works.running.inside i).stage_is ∙ none in absurd (cc))
 
       by_stage : (g : Stage) → stage_of old.run.current ≡ g → begins o.row ≡ stage_at (stage_of old.run.current) call (opens old) (unwrap_or (irrevocable_room old.thread.engine call) 0) → (props : Props) × (room : ℕ) × (call ≡ Begin props room) × (in_transaction old.thread.engine ≡ false)
       by_stage outside was e =
           let begin = by_call call refl (e ∙ ap (λ (g : Stage). stage_at g call (opens old) (unwrap_or (irrevocable_room old.thread.engine call) 0)) was) in
           (begin.0, begin.1, begin.2, shut was)
       by_stage (begins r) was e = absurd (never_begins old k.works.running r was)
-      by_stage (within r) was e = (let none : begins o.row ≡ stage_at (within r) call (opens old) (unwrap_or (irrevocable_room old.thread.engine call) 0) = e ∙ ap (λ (g : Stage). stage_at g call (opens old) (unwrap_or (irrevocable_room old.thread.engine call) 0)) was in absurd (cc))
+      by_stage (within r points) was e = (let none : begins o.row ≡ stage_at (within r points) call (opens old) (unwrap_or (irrevocable_room old.thread.engine call) 0) = e ∙ ap (λ (g : Stage). stage_at g call (opens old) (unwrap_or (irrevocable_room old.thread.engine call) 0)) was in absurd (cc))
 
   -- one that is open has a place for each action
   pub still_within : (o : Open) → new.run.current ≡ Within o → IsReadyFor old.thread.engine call (unwrap_or (irrevocable_room old.thread.engine call) 0) new.ended (Within o) → total new.thread.engine.actions ≤ o.ends
   still_within o is ready =
       let hand = at_hand (stage_of old.run.current) refl o (opens old) (unwrap_or (irrevocable_room old.thread.engine call) 0) (stage_is (Within o) is) in
-      let inside = within_inside old k.works.running hand.0 hand.1 in
-      still_places o is ready hand.0 hand.2 inside.0 inside.1
+      let inside = within_inside old k.works.running hand.0 hand.1 hand.2 in
+      still_places o is ready hand.0 hand.3 inside.0 inside.1

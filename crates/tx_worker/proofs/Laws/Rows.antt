@@ -20,13 +20,15 @@ use Rattle.tx_attempts.specs.Attempts.{is_committed}
 use Rattle.tx_attempts.specs.declared.attempt.Outcome.{Outcome}
 use Rattle.tx_attempts.specs.declared.attempt.Outcome.TheVariants as outcomes
 use Rattle.tx_player.specs.Rules.{Obeys, Rules}
-use Rattle.tx_runs.proofs.TookIn.{within_untold}
+use Rattle.tx_runs.proofs.TookIn.{is_taken, within_untold}
 use Rattle.tx_runs.specs.declared.ending.End.{End}
 use Rattle.tx_runs.specs.declared.ending.End.TheVariants as ends
 use Rattle.tx_runs.specs.declared.player_run.Current.{Current}
 use Rattle.tx_runs.specs.declared.player_run.Current.TheVariants.{Outside, Begins, Within}
 use Rattle.tx_runs.specs.OpenAttempts.{Open}
 use Rattle.tx_runs.specs.PlayerRuns.{KeepsPlaces, MayStop, MayTell, stage_of, tally_of}
+use Rattle.tx_runs.specs.declared.savepoint.Savepoint.{Savepoint}
+use Rattle.tx_runs.specs.Savepoints.{savepoints_after}
 use Rattle.tx_runs.specs.Tallies.{Stage, outside, begins, within, Stand, Taken, Tally, begins_again, over_as, replied, sent_back, stage_with, took_in, went_on, with_call, stand_of}
 use Rattle.tx_worker.specs.declared.worker.Worker.{Worker}
 use Rattle.tx_worker.specs.Accounts.{Account, account_after, account_of}
@@ -34,9 +36,9 @@ use Rattle.tx_worker.specs.Calls.{IsMade, StopsAs, asked}
 use Rattle.tx_worker.specs.Falls.{Falls}
 use Rattle.tx_worker.specs.Positions.{AreFew, AreOver}
 use Rattle.tx_worker.specs.Progress.{Course, IsRunning}
-use Rattle.tx_worker.specs.Workers.{Bounds, GoesOnOrStops, HasPlaces, IsAsked, IsReadyFor, IsSame, IsStopped, IsWorking, bounds_of, view_in}
+use Rattle.tx_worker.specs.Workers.{Bounds, GoesOnOrStops, HasBlockPlaces, HasPlaces, IsAsked, IsReadyFor, IsSame, IsStopped, IsWorking, bounds_of, view_in}
 use Rattle.tx_worker.proofs.Begins.OutermostBegins.{begins_actions, no_commit}
-use Rattle.tx_worker.proofs.Laws.Rooms.{begins_call, still_within}
+use Rattle.tx_worker.proofs.Laws.Rooms.{begins_call, blocks_opened, still_within}
 use Rattle.tx_worker.proofs.Laws.Answers.{Both, both}
 
 -- what is over has ended
@@ -46,20 +48,20 @@ over_ended {P} rules retries t call answer s = by_answer answer
     as_told : (outcome : Outcome) → (outcome ≡ outcomes.Unfinished → ⊥) → (g : Stage) → AreOver (over_as outcome s g)
     as_told outcome never outside = tt
     as_told outcome never (begins row) = tt
-    as_told outcome never (within row) = (never, tt)
+    as_told outcome never (within row points) = (never, tt)
 
     committed : (wrote : Bool) → (if wrote then outcomes.Committed else outcomes.ReadOnly) ≡ outcomes.Unfinished → ⊥
     committed true e = cc
     committed false e = cc
 
-    went : (open_still : Bool) (x : Tally P) (row : Attempt) → AreOver (went_on open_still x row s).over
-    went true x row = tt
-    went false x row = ((λ e. cc), tt)
+    went : (open_still : Bool) (x : Tally P) (row : Attempt) (points : List Savepoint) → AreOver (went_on open_still x row points s).over
+    went true x row points = tt
+    went false x row points = ((λ e. cc), tt)
 
     told : (g : Stage) (x : Tally P) (r : Replied) → AreOver (replied g x call r s).over
     told outside x r = tt
     told (begins row) x r = tt
-    told (within row) x r = went s.is_open x (with_call call r row)
+    told (within row points) x r = went s.is_open x (with_call call r row) (savepoints_after points row (record { call = call; reply = r }))
 
     try : (b : Bool) (x : Tally P) (over : List Attempt) → AreOver over
         → (let taken : Taken P = if b then record { tally = record x { stage = outside }; over = over; end = Some ends.GaveUp } else record { tally = record x { nth = x.nth + 1; stage = outside }; over = over; end = None } in AreOver taken.over)
@@ -89,16 +91,16 @@ over_few {P} rules retries t call s answer v e served = by_answer answer served
     as_told : (outcome : Outcome) → (is_committed outcome ≡ true → e.snapshot / 2 < s.engine.max_commits) → (g : Stage) → AreFew s.engine.max_commits (over_as outcome (stand_of e) g)
     as_told outcome below outside = tt
     as_told outcome below (begins row) = tt
-    as_told outcome below (within row) = (below, tt)
+    as_told outcome below (within row points) = (below, tt)
 
-    went : (open_still : Bool) (x : Tally P) (row : Attempt) → AreFew s.engine.max_commits (went_on open_still x row (stand_of e)).over
-    went true x row = tt
-    went false x row = ((λ c. absurd (cc)), tt)
+    went : (open_still : Bool) (x : Tally P) (row : Attempt) (points : List Savepoint) → AreFew s.engine.max_commits (went_on open_still x row points (stand_of e)).over
+    went true x row points = tt
+    went false x row points = ((λ c. absurd (cc)), tt)
 
     told : (g : Stage) (x : Tally P) (r : Replied) → AreFew s.engine.max_commits (replied g x call r (stand_of e)).over
     told outside x r = tt
     told (begins row) x r = tt
-    told (within row) x r = went (in_transaction e) x (with_call call r row)
+    told (within row points) x r = went (in_transaction e) x (with_call call r row) (savepoints_after points row (record { call = call; reply = r }))
 
     try : (b : Bool) (x : Tally P) (over : List Attempt) → AreFew s.engine.max_commits over
         → (let taken : Taken P = if b then record { tally = record x { stage = outside }; over = over; end = Some ends.GaveUp } else record { tally = record x { nth = x.nth + 1; stage = outside }; over = over; end = None } in AreFew s.engine.max_commits taken.over)
@@ -189,11 +191,13 @@ module _ {P : Type 0} {rules : Rules P} (laws : Obeys rules) {words : Words} {c 
 
   -- ## Room
 
+  stage_within : (o' : Open) → new.run.current ≡ Within o' → Told.tally.stage ≡ within o'.row o'.points
+  stage_within o' is = sym (ap (λ (x : Tally P). x.stage) t.tally) ∙ ap stage_of is
+
   -- where an attempt is open then, none has ended, and the place is still there
   place_still : (o' : Open) → new.run.current ≡ Within o' → vec_len mid.ended < vec_capacity mid.ended → vec_len new.ended < vec_capacity new.ended
   place_still o' is l =
-      let stage : Told.tally.stage ≡ within o'.row = sym (ap (λ (x : Tally P). x.stage) t.tally) ∙ ap stage_of is in
-      let none : Told.over ≡ [] = within_untold rules mid.run.retries (tally_of mid.run) call answer (stand_of mid.thread.engine) o'.row stage in
+      let none : Told.over ≡ [] = within_untold rules mid.run.retries (tally_of mid.run) call answer (stand_of mid.thread.engine) o'.row o'.points (stage_within o' is) in
       let len : vec_len new.ended ≡ vec_len mid.ended + 0 = t.len ∙ ap (λ (xs : List Attempt). vec_len mid.ended + length xs) none in
       (let same = t.capacity in omega arith)
 
@@ -223,6 +227,25 @@ module _ {P : Type 0} {rules : Rules P} (laws : Obeys rules) {words : Words} {c 
       by_current (Begins o) is = tt
       by_current (Within o') is = within_so o' is mid.run.current refl
 
+  -- each call that there is room for finds a place for a block still
+  blocks_now : HasBlockPlaces new.run.current
+  blocks_now = by_current new.run.current refl
+    where
+      back : (clock : ℕ) (word : ℕ) → answer ≡ Restarted clock word → ⊥
+      back clock word is =
+          let served : Served (start_of old.thread call (begins_again (stage_of old.run.current) old.run.again call)) (Restarted clock word) (view_in mid) mid.thread.engine = subst (λ (x : Answer). Served (start_of old.thread call (begins_again (stage_of old.run.current) old.run.again call)) x (view_in mid) mid.thread.engine) is k.answered.served in
+          (let whole = k.works.same.whole in let left = served.tells.left in omega arith)
+
+      within_so : (o' : Open) → new.run.current ≡ Within o' → HasBlockPlaces (Within o')
+      within_so o' is =
+          let opens = ((is_taken call (stand_of mid.thread.engine) rules mid.run.retries mid.run.player mid.run.nth mid.run.again (stage_of mid.run.current) answer).still o'.row o'.points (stage_within o' is)).2 in
+          blocks_opened call answer (stand_of mid.thread.engine) mid.thread.engine.actions.ran mid.run.current o' back (places_as mid.run.current (Within o') refl is) k.prepared.blocks opens
+
+      by_current : (y : Current) → new.run.current ≡ y → HasBlockPlaces y
+      by_current Outside is = tt
+      by_current (Begins o) is = tt
+      by_current (Within o') is = within_so o' is
+
   -- ## It goes on, or it has stopped
 
   goes : TookIn.end ≡ None → IsRunning rules c (view_in mid) mid.thread.engine (account_of new)
@@ -234,7 +257,7 @@ module _ {P : Type 0} {rules : Rules P} (laws : Obeys rules) {words : Words} {c 
       nowhere : (y : Current) → new.run.current ≡ y → (in_transaction mid.thread.engine ≡ false) → HasPlaces mid.thread.engine new.ended y
       nowhere Outside is shut = tt
       nowhere (Begins o) is shut = tt
-      nowhere (Within o) is shut = (let stage : outside ≡ within o.row = sym ((goes none).outside shut).stage_is ∙ ap stage_of is in absurd (cc))
+      nowhere (Within o) is shut = (let stage : outside ≡ within o.row o.points = sym ((goes none).outside shut).stage_is ∙ ap stage_of is in absurd (cc))
 
       by_open : (i : Bool) → in_transaction mid.thread.engine ≡ i → HasPlaces mid.thread.engine new.ended new.run.current
       by_open true now = roomy_now now
@@ -245,6 +268,7 @@ module _ {P : Type 0} {rules : Rules P} (laws : Obeys rules) {words : Words} {c 
     same = same_now;
     running = subst (λ (x : Standing). IsRunning rules c (view_of x.pass) x.engine (account_of new)) (sym t.thread) (goes none);
     roomy = subst (λ (x : Standing). HasPlaces x.engine new.ended new.run.current) (sym t.thread) (roomy_after none);
+    blocks = blocks_now;
   })
 
   falls_on : end ≡ None → Falls rules old.run.retries (in_transaction old.thread.engine) (in_transaction new.thread.engine) old.run.nth new.run.nth old.run.player new.run.player

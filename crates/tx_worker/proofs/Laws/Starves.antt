@@ -27,7 +27,7 @@ use Rattle.tx_worker.specs.Accounts.{Account, account_of}
 use Rattle.tx_worker.specs.Positions.{AreFew, AreOver}
 use Rattle.tx_worker.specs.Progress.{Course}
 use Rattle.tx_worker.specs.Workers.{Bounds, HasPlaces, IsHungry, IsRoomier, IsSame, IsStopped, bounds_of}
-use Rattle.tx_worker.proofs.Laws.Rooms.{same_over, within_inside}
+use Rattle.tx_worker.proofs.Laws.Rooms.{same_over, told_few, within_inside}
 use Rattle.tx_worker.proofs.Laws.Rows.{few_more, over_more}
 use Rattle.tx_worker.proofs.Machines.PlainActions.{given_up_runs}
 
@@ -79,15 +79,17 @@ module _ {P : Type 0} {rules : Rules P} {words : Words} {c : Course P} {b : Boun
   }
 
   -- the open attempt, with the actions that it had
-  row_ran : (o' : Open) → self.run.current ≡ Within o' → (inside : in_transaction old.thread.engine ≡ true) × (o'.row.ran ≡ old.thread.engine.actions.ran)
+  row_ran : (o' : Open) → self.run.current ≡ Within o' → (o'.row.ran ≡ old.thread.engine.actions.ran) × (o'.row.restarts ≡ [])
   row_ran o' is = by_old old.run.current refl (subst (IsRoomier old.run.current) is k.unprepared.roomier)
     where
-      by_old : (x : Current) → old.run.current ≡ x → IsRoomier x (Within o') → (inside : in_transaction old.thread.engine ≡ true) × (o'.row.ran ≡ old.thread.engine.actions.ran)
+      by_old : (x : Current) → old.run.current ≡ x → IsRoomier x (Within o') → (o'.row.ran ≡ old.thread.engine.actions.ran) × (o'.row.restarts ≡ [])
       by_old Outside was r = absurd r
       by_old (Begins o) was r = absurd r
       by_old (Within o) was r =
-          let inside = within_inside old k.works.running o.row (ap stage_of was) in
-          (inside.0, ap (λ (x : Attempt). x.ran) r ∙ (ap (λ (x : Attempt). x.ran) (sym inside.1) ∙ (k.works.running.inside inside.0).try.ran))
+          let inside = within_inside old k.works.running o.row o.points (ap stage_of was) in
+          let try = (k.works.running.inside inside.0).try in
+          let same = r.0 ∙ ap (λ (x : Attempt). record x { calls = record x.calls { room = o'.row.calls.room } }) (sym inside.1) in
+          (ap (λ (x : Attempt). x.ran) same ∙ try.ran, ap (λ (x : Attempt). x.restarts) same ∙ try.restarts)
 
   roomy : HasPlaces old.thread.engine self.ended self.run.current
   roomy = k.unprepared.roomy
@@ -111,11 +113,11 @@ module _ {P : Type 0} {rules : Rules P} {words : Words} {c : Course P} {b : Boun
         by_current Outside is = tt
         by_current (Begins o) is = tt
         by_current (Within o) is =
-            let ran = (row_ran o is).1 in
+            let row = row_ran o is in
             let places = subst (HasPlaces old.thread.engine self.ended) is roomy in
             let f = runs in
             let most = f.most in
-            ((f.later, ap (λ (x : List Ran). x ++ f.later) ran ∙ sym f.ran), (let room = places.1 in omega arith))
+            (told_few o.row thread.engine.actions.ran row.1 (f.later, ap (λ (x : List Ran). x ++ f.later) row.0 ∙ sym f.ran), (let room = places.1 in omega arith))
 
     pub may_tell : MayTell self.run.current self.ended
     may_tell = by_current self.run.current refl
@@ -156,12 +158,12 @@ module _ {P : Type 0} {rules : Rules P} {words : Words} {c : Course P} {b : Boun
         ended_over : (g : Stage) → AreOver (over_as outcomes.NoMemory (stand_of thread.engine) g)
         ended_over outside = tt
         ended_over (begins row) = tt
-        ended_over (within row) = ((λ e. cc), tt)
+        ended_over (within row points) = ((λ e. cc), tt)
 
         ended_few : (g : Stage) → AreFew b.max_commits (over_as outcomes.NoMemory (stand_of thread.engine) g)
         ended_few outside = tt
         ended_few (begins row) = tt
-        ended_few (within row) = ((λ c. absurd (cc)), tt)
+        ended_few (within row points) = ((λ c. absurd (cc)), tt)
 
   -- ## It stays, with the clock held
 
@@ -194,9 +196,10 @@ module _ {P : Type 0} {rules : Rules P} {words : Words} {c : Course P} {b : Boun
       by_current still Outside is = tt
       by_current still (Begins o) is = tt
       by_current still (Within o) is =
-          let ran : o.row.ran ≡ thread.engine.actions.ran = (row_ran o is).1 ∙ ap (λ (x : Core). x.actions.ran) (sym still) in
+          let row = row_ran o is in
+          let ran : o.row.ran ≡ thread.engine.actions.ran = row.0 ∙ ap (λ (x : Core). x.actions.ran) (sym still) in
           let places = subst (HasPlaces old.thread.engine self.ended) is roomy in
-          (([], append-nil o.row.ran ∙ ran), (let room = places.1 in let same = ap (λ (x : Core). total x.actions) still in omega arith))
+          (told_few o.row thread.engine.actions.ran row.1 ([], append-nil o.row.ran ∙ ran), (let room = places.1 in let same = ap (λ (x : Core). total x.actions) still in omega arith))
 
       tells : (x : Current) → self.run.current ≡ x → MayTell x self.ended
       tells Outside is = tt

@@ -12,7 +12,7 @@ use Rattle.tx_worker.specs.Accounts.{account_of}
 use Rattle.tx_worker.specs.Calls.{StopsAs}
 use Rattle.tx_worker.specs.Progress.{Course}
 use Rattle.tx_worker.specs.Workers.{Bounds, GoesOnOrStops, HasPlaces, IsSame, IsStopped, IsWorking}
-use Rattle.tx_worker.proofs.Laws.Rooms.{within_inside}
+use Rattle.tx_worker.proofs.Laws.Rooms.{told_few, within_inside}
 
 module _ {P : Type 0} {rules : Rules P} {words : Words} {c : Course P} {b : Bounds} {w : Worker P} (k : IsWorking rules words c b w) where
   pub may_stop_here : MayStop (w.thread.engine.snapshot / 2) w.thread.engine.actions.ran w.run.current
@@ -22,10 +22,12 @@ module _ {P : Type 0} {rules : Rules P} {words : Words} {c : Course P} {b : Boun
       by_current Outside is = tt
       by_current (Begins o) is = tt
       by_current (Within o) is =
-          let inside = within_inside w k.running o.row (ap stage_of is) in
-          let ran : o.row.ran ≡ w.thread.engine.actions.ran = ap (λ (x : Attempt). x.ran) (sym inside.1) ∙ (k.running.inside inside.0).try.ran in
+          let inside = within_inside w k.running o.row o.points (ap stage_of is) in
+          let h = k.running.inside inside.0 in
+          let ran : o.row.ran ≡ w.thread.engine.actions.ran = ap (λ (x : Attempt). x.ran) (sym inside.1) ∙ h.try.ran in
+          let restarts : o.row.restarts ≡ [] = ap (λ (x : Attempt). x.restarts) (sym inside.1) ∙ h.try.restarts in
           let places = subst (HasPlaces w.thread.engine w.ended) is k.roomy in
-          (([], append-nil o.row.ran ∙ ran), (let room = places.1 in omega arith))
+          (told_few o.row w.thread.engine.actions.ran restarts ([], append-nil o.row.ran ∙ ran), (let room = places.1 in omega arith))
 
   pub may_tell_here : MayTell w.run.current w.ended
   may_tell_here = by_current w.run.current refl
@@ -46,7 +48,7 @@ same_counted n words c b w s = record { own = s.own; stands = s.stands; number =
 pub turns_counted : {P : Type 0} (rules : Rules P) (words : Words) (shuts : Bool) (old new : Worker P) (n : ℕ) (end : Option End) → GoesOnOrStops rules words shuts old end new → GoesOnOrStops rules words shuts old end (record new { calls = n })
 turns_counted rules words shuts old new n None t = record {
   made = t.made;
-  works = λ c b k. (let w = t.works c b k in record { same = same_counted n words c b new w.same; running = w.running; roomy = w.roomy });
+  works = λ c b k. (let w = t.works c b k in record { same = same_counted n words c b new w.same; running = w.running; roomy = w.roomy; blocks = w.blocks });
   falls = t.falls;
   thread = t.thread;
   retries = t.retries;

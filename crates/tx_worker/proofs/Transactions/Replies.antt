@@ -22,6 +22,7 @@ use Rattle.tx_attempts.specs.Opacity.{begin_code}
 use Rattle.tx_attempts.specs.declared.attempt.Outcome.TheVariants as outcomes
 use Rattle.tx_player.specs.Depth.{depth_after}
 use Rattle.tx_player.specs.Rules.{Obeys, Rules}
+use Rattle.tx_runs.specs.declared.savepoint.Savepoint.{Savepoint}
 use Rattle.tx_runs.proofs.PlainCalls.{aborts_close, commit_reply}
 use Rattle.tx_runs.proofs.Tries.{closing_alone, closing_state}
 use Rattle.tx_worker.proofs.Runs.LaterCommits.{run_later}
@@ -79,8 +80,8 @@ module _ {P : Type 0} {rules : Rules P} (laws : Obeys rules) (c : Course P) (s :
     depth_is : length e.blocks ≡ depth_after (length s.engine.blocks) s.call r
     depth_is = depth_told s v e before stands inside r first_time _ _ (met_here s v e before stands inside r served)
 
-    pub stays : (room : ℕ) → in_transaction e ≡ true → IsRunning rules c v e (goes_on t (rules.answered t.player r) (row_with room s.call r e.actions.ran (running.inside inside).row))
-    stays room o =
+    pub stays : (room : ℕ) (points : List Savepoint) → in_transaction e ≡ true → IsRunning rules c v e (goes_on t (rules.answered t.player r) (row_with room s.call r e.actions.ran (running.inside inside).row) points)
+    stays room points o =
         let h = running.inside inside in
         let later = run_later rules c s.view v served.went t.ended running.has_run in
         record {
@@ -94,6 +95,7 @@ module _ {P : Type 0} {rules : Rules P} (laws : Obeys rules) (c : Course P) (s :
           inside = λ o. record {
             between = h.between;
             row = row_with room s.call r e.actions.ran h.row;
+            points = points;
             stage_is = refl;
             now_is = later.1 ∙ h.now_is;
             try = try_goes_on room o;

@@ -21,7 +21,7 @@ pub record GoAlike {P : Type 0} (r s r' s' : Rows) (a' b' : Actor P) : Type 0 wh
 abbrev moved_in : ℕ → Stage → Stage
 moved_in at outside = outside
 moved_in at (begins row) = begins row
-moved_in at (within row) = within (record row { at = at })
+moved_in at (within row points) = within (record row { at = at }) points
 
 stage_moved : (at : ℕ) (c : Current) → stage_of (moved_to at c) ≡ moved_in at (stage_of c)
 stage_moved at Outside = refl

@@ -1,6 +1,6 @@
 -- Two actors that are alike are alike after a step, and after a call of their players.
-use Rattle.std.proofs.Common.{◌≡◌, ℕ, ◌+◌, ◌/◌, Bool, Some, unwrap_or, refl, sym, ap, subst, ◌∙◌}
-use Rattle.norec_world.proofs.Common.{Begin, Call, Cells, Core, IsResumed, Next, Rows, Rules, Stage, Step, Tells, begins_again, begun, found, in_transaction, stage_of, tally_of, told}
+use Rattle.std.proofs.Common.{◌≡◌, ℕ, ◌/◌, Some, unwrap_or, refl, sym, ap, subst, ◌∙◌}
+use Rattle.norec_world.proofs.Common.{Call, Cells, Core, IsResumed, Next, Rows, Rules, Step, Tells, begins_again, found, stage_of, tally_of, told}
 use Rattle.norec_world.specs.declared.actor.Actor.{Actor}
 use Rattle.norec_world.specs.declared.actor.Status.TheVariants.{Ready, Waits}
 use Rattle.norec_core.specs.Core.{irrevocable_room}

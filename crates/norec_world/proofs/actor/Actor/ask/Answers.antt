@@ -1,16 +1,20 @@
 use Rattle.std.proofs.Common.{◌≡◌, ◌≤◌, ◌/◌, ◌+◌, ◌∙◌, ℕ, Option, Some, unwrap_or, false, refl, sym, ap, subst, arith, rules, true≢false}
-use Rattle.norec_world.proofs.{Actor, AsksOf as Asks, Begin, Begins, Call, Core, IsAsked, IsRefused, IsUnasked, MayRunOn, Within, acts_begin, acts_outside, acts_within, asked_begin, asked_outside, asked_room, asked_within, begun, count_in, irrevocable_room, is_begin, kept_room, next_in, no_begin, not_within, on_err, on_err_still, others_begun, others_same, others_within, out_outside, refused_outside, refused_within, reserved, rows_in, shut_outside, starves_begin, told_begin, told_outside, told_within, unasked_outside, unasked_within}
+use Rattle.norec_world.proofs.{Actor, AsksOf as Asks, Begin, Begins, Call, Core, IsAsked, IsRefused, IsUnasked, MayRunOn, Within, acts_begin, acts_outside, acts_within, asked_begin, asked_outside, asked_room, asked_within, begun, count_in, irrevocable_room, is_begin, kept_room, next_in, no_begin, not_within, on_err, on_err_still, others_begun, others_same, others_within, out_outside, refused_outside, refused_within, reserved, rows_in, short_within, shut_outside, starves_begin, told_begin, told_outside, told_within, unasked_outside, unasked_within}
 use Rattle.norec_world.proofs.actor.Actor.ask.Goals as goal
 
 -- ## Within an attempt
 
 pub returns-in_err-prepare-clause-unasked : goal.returns-in_err-prepare-clause-unasked
 returns-in_err-prepare-clause-unasked g c =
-    on_err c.from_residual.result (unasked_within c.requires.sound c.requires.ready c.in-Within.open c.prepare.new.attempt c.in-Within.is c.prepare.ensures.kept.0 c.prepare.ensures.kept.1 c.in-Within.open.row.calls refl c.in_err-prepare.ensures.err)
+    on_err c.from_residual.result (unasked_within c.requires.sound c.requires.ready c.in-Within.open c.prepare.new.attempt c.in-Within.is c.prepare.ensures.kept.0 c.prepare.ensures.kept.1 c.prepare.ensures.kept.2 c.prepare.ensures.points c.in-Within.open.row.calls refl c.in_err-prepare.ensures.err)
 
 pub returns-in_err-prepare-clause-refused : goal.returns-in_err-prepare-clause-refused
 returns-in_err-prepare-clause-refused g c =
-    on_err c.from_residual.result (refused_within c.requires.sound c.requires.ready c.in-Within.open c.prepare.new.attempt c.in-Within.is c.prepare.ensures.kept.0 c.prepare.ensures.kept.1 c.in-Within.open.row.calls refl c.in_err-prepare.ensures.err (λ h. kept_room c.requires.sound c.requires.ready c.in-Within.open c.prepare.new.attempt c.in-Within.is c.prepare.ensures.kept.0 c.prepare.ensures.kept.1))
+    on_err c.from_residual.result (refused_within c.requires.sound c.requires.ready c.in-Within.open c.prepare.new.attempt c.in-Within.is c.prepare.ensures.kept.0 c.prepare.ensures.kept.1 c.prepare.ensures.kept.2 c.prepare.ensures.points c.in-Within.open.row.calls refl c.in_err-prepare.ensures.err (λ h. kept_room c.requires.sound c.requires.ready c.in-Within.open c.prepare.new.attempt c.in-Within.is c.prepare.ensures.kept.0 c.prepare.ensures.kept.1 c.prepare.ensures.kept.2 c.prepare.ensures.points))
+
+pub returns-in_err-prepare-clause-short : goal.returns-in_err-prepare-clause-short
+returns-in_err-prepare-clause-short g c =
+    on_err c.from_residual.result (λ inside. short_within c.requires.sound c.requires.ready c.in-Within.open c.prepare.new.attempt c.in-Within.is c.prepare.ensures.kept.0 c.prepare.ensures.kept.1 c.prepare.ensures.kept.2 c.prepare.ensures.points c.args.call.now c.in_err-prepare.ensures.short)
 
 pub returns-in-Within : goal.returns-in-Within
 returns-in-Within g c =
@@ -22,18 +26,18 @@ returns-in-Within g c =
     let calls = reserved o.row.calls (unwrap_or (irrevocable_room a.engine call) 0 + 1) in
     let At : Core → Actor g.row.P.Denot = λ e. record a { run = record a.run { current = Within o' }; engine = e } in
     record {
-      acts = acts_within c.requires.sound c.requires.ready o o' c.in-Within.is c.prepare.ensures.kept.0 c.prepare.ensures.kept.1 call c.in_ok-prepare.ensures.calls c.requires.asks new c.call_into.new.answer c.call_into.result c.in_ok-prepare.ensures.places c.call_into.ensures;
-      asked = asked_within c.requires.sound c.requires.ready o o' c.in-Within.is c.prepare.ensures.kept.0 c.prepare.ensures.kept.1 call c.in_ok-prepare.ensures.calls c.requires.asks new c.call_into.new.answer c.call_into.result;
-      told = told_within c.requires.sound c.requires.ready o o' c.in-Within.is c.prepare.ensures.kept.0 c.prepare.ensures.kept.1 call c.in_ok-prepare.ensures.calls c.requires.asks c.args.memory.now.clock new c.call_into.new.answer c.call_into.result c.call_into.ensures;
+      acts = acts_within c.requires.sound c.requires.ready o o' c.in-Within.is c.prepare.ensures.kept.0 c.prepare.ensures.kept.1 c.prepare.ensures.kept.2 c.prepare.ensures.points call c.in_ok-prepare.ensures.calls c.requires.asks new c.call_into.new.answer c.call_into.result c.in_ok-prepare.ensures.places c.call_into.ensures;
+      asked = asked_within c.requires.sound c.requires.ready o o' c.in-Within.is c.prepare.ensures.kept.0 c.prepare.ensures.kept.1 c.prepare.ensures.kept.2 c.prepare.ensures.points call c.in_ok-prepare.ensures.calls c.requires.asks new c.call_into.new.answer c.call_into.result;
+      told = told_within c.requires.sound c.requires.ready o o' c.in-Within.is c.prepare.ensures.kept.0 c.prepare.ensures.kept.1 c.prepare.ensures.kept.2 c.prepare.ensures.points call c.in_ok-prepare.ensures.calls c.requires.asks c.args.memory.now.clock new c.call_into.new.answer c.call_into.result c.call_into.ensures;
       unasked = on_err_still a.engine new call false c.call_into.new.answer (λ e. IsUnasked g.P.Player a (At e)) c.call_into.result c.call_into.ensures
-          (unasked_within c.requires.sound c.requires.ready o o' c.in-Within.is c.prepare.ensures.kept.0 c.prepare.ensures.kept.1 calls refl c.in_ok-prepare.ensures.calls);
+          (unasked_within c.requires.sound c.requires.ready o o' c.in-Within.is c.prepare.ensures.kept.0 c.prepare.ensures.kept.1 c.prepare.ensures.kept.2 c.prepare.ensures.points calls refl c.in_ok-prepare.ensures.calls);
       refused = on_err_still a.engine new call false c.call_into.new.answer (λ e. IsRefused (At e)) c.call_into.result c.call_into.ensures
-          (refused_within c.requires.sound c.requires.ready o o' c.in-Within.is c.prepare.ensures.kept.0 c.prepare.ensures.kept.1 calls refl c.in_ok-prepare.ensures.calls (asked_room c.requires.sound c.requires.ready o o' c.in-Within.is c.prepare.ensures.kept.0 c.prepare.ensures.kept.1 call));
+          (refused_within c.requires.sound c.requires.ready o o' c.in-Within.is c.prepare.ensures.kept.0 c.prepare.ensures.kept.1 c.prepare.ensures.kept.2 c.prepare.ensures.points calls refl c.in_ok-prepare.ensures.calls (asked_room c.requires.sound c.requires.ready o o' c.in-Within.is c.prepare.ensures.kept.0 c.prepare.ensures.kept.1 c.prepare.ensures.kept.2 c.prepare.ensures.points call));
       grows = search rules;
       short = search rules;
       ended = search rules;
       place = search rules;
-      others = others_within c.requires.sound c.requires.ready o o' c.in-Within.is c.prepare.ensures.kept.0 c.prepare.ensures.kept.1 new;
+      others = others_within c.requires.sound c.requires.ready o o' c.in-Within.is c.prepare.ensures.kept.0 c.prepare.ensures.kept.1 c.prepare.ensures.kept.2 c.prepare.ensures.points new;
     }
 
 -- ## Outside a transaction
@@ -68,12 +72,13 @@ returns-in_ok-next-in-Begin g c =
     c.ahead_of-ahead.ensures.value ∙ (ap (λ (o : Option ℕ). unwrap_or o 0) c.irrevocable_room.ensures ∙ ap (λ (x : Call). unwrap_or (irrevocable_room a.engine x) 0) c.in-Begin.is) in
     let asks = c.requires.asks ∙ ap (λ (x : Call). Some x) c.in-Begin.is in
     let row : o.row ≡ begun a.run.thread a.run.nth (c.args.memory.now.clock / 2) c.in-Begin.props a.engine.arena (unwrap_or (irrevocable_room a.engine call) 0) = c.in_ok-attempt-in-Begin.ensures.row ∙ (λ i. begun a.run.thread a.run.nth (c.clock-began.ensures i / 2) c.in-Begin.props ((c.bytes-arena.ensures ∙ c.arena.ensures) i) (asked i)) in
-    let fits : (unwrap_or (irrevocable_room a.engine call) 0 ≤ o.ends) × (unwrap_or (irrevocable_room a.engine call) 0 ≤ o.cancels) = (let x = c.in_ok-attempt-in-Begin.ensures.room in (subst (λ (n : ℕ). n ≤ o.ends) asked x.0, subst (λ (n : ℕ). n ≤ o.cancels) asked x.1)) in
+    let fits : (unwrap_or (irrevocable_room a.engine call) 0 ≤ o.ends) × (unwrap_or (irrevocable_room a.engine call) 0 ≤ o.cancels) × (unwrap_or (irrevocable_room a.engine call) 0 ≤ o.deep) =
+    (let x = c.in_ok-attempt-in-Begin.ensures.room in (subst (λ (n : ℕ). n ≤ o.ends) asked x.0, subst (λ (n : ℕ). n ≤ o.cancels) asked x.1, subst (λ (n : ℕ). n ≤ o.deep) asked x.2)) in
     let new : Actor g.row.P.Denot = record a { run = record a.run { current = Begins o }; engine = e } in
     record {
-      acts = subst (λ (x : Call). MayRunOn new x what) (sym c.in-Begin.is) (acts_begin c.requires.sound c.requires.ready none c.in-Begin.props c.in-Begin.room asks e o c.args.memory.now.clock row fits.0 fits.1 what c.in_ok-next-in-Begin.ensures);
-      asked = subst (λ (x : Call). IsAsked g.P.Player a new x what) (sym c.in-Begin.is) (asked_begin c.requires.sound c.requires.ready none c.in-Begin.props c.in-Begin.room asks e o c.args.memory.now.clock row fits.0 fits.1 what);
-      told = subst (λ (x : Call). Asks c.args.memory.now.clock (rows_in c.args.ended.now) (rows_in c.reserve.new.self) a new x what) (sym c.in-Begin.is) (told_begin c.requires.sound c.requires.ready none c.in-Begin.props c.in-Begin.room asks e o c.args.memory.now.clock row fits.0 fits.1 (rows_in c.reserve.new.self) c.reserve.ensures.items what c.in_ok-next-in-Begin.ensures);
+      acts = subst (λ (x : Call). MayRunOn new x what) (sym c.in-Begin.is) (acts_begin c.requires.sound c.requires.ready none c.in-Begin.props c.in-Begin.room asks e o c.args.memory.now.clock row fits.0 fits.1 fits.2 what c.in_ok-next-in-Begin.ensures);
+      asked = subst (λ (x : Call). IsAsked g.P.Player a new x what) (sym c.in-Begin.is) (asked_begin c.requires.sound c.requires.ready none c.in-Begin.props c.in-Begin.room asks e o c.args.memory.now.clock row fits.0 fits.1 fits.2 what);
+      told = subst (λ (x : Call). Asks c.args.memory.now.clock (rows_in c.args.ended.now) (rows_in c.reserve.new.self) a new x what) (sym c.in-Begin.is) (told_begin c.requires.sound c.requires.ready none c.in-Begin.props c.in-Begin.room asks e o c.args.memory.now.clock row fits.0 fits.1 fits.2 (rows_in c.reserve.new.self) c.reserve.ensures.items what c.in_ok-next-in-Begin.ensures);
       unasked = tt;
       refused = tt;
       grows = tt;

@@ -18,7 +18,7 @@ is_open s h = (s.holder (s.irrevocable h).0).0
 over_room : (outcome : Outcome) (s : Stand) (room : ℕ) (stage : Stage) → over_as outcome s (with_room room stage) ≡ over_as outcome s stage
 over_room outcome s room outside = refl
 over_room outcome s room (begins row) = refl
-over_room outcome s room (within row) = refl
+over_room outcome s room (within row points) = refl
 
 pub settle-requires : goal.settle-requires
 settle-requires g c = record {

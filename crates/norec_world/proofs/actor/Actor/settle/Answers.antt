@@ -1,6 +1,6 @@
-use Rattle.norec_world.proofs.{Actor, Answers, Ended, IsActing, IsAnswered, IsSettledBy, Ran, Records, Status, Taken, no_restart, others_taken, recorded_acting, room_less, rows_in, settles, stand_of, status_after, tally_of, took_in, ◌≡◌, ◌/◌, ◌++◌, ◌∙◌, sym, ap, refl, subst, Bool, List}
+use Rattle.norec_world.proofs.{Actor, Answers, Ended, IsActing, IsAnswered, IsSettledBy, Ran, Records, may_take, Status, Taken, no_restart, others_taken, recorded_acting, room_less, rows_in, settles, stand_of, status_after, tally_of, took_in, ◌≡◌, ◌/◌, ◌++◌, ◌∙◌, sym, ap, refl, subst, Bool, List}
 use Rattle.norec_world.specs.Sound.{IsRecorded}
-use Rattle.tx_runs.specs.PlayerRuns.{KeepsPlaces}
+use Rattle.tx_runs.specs.PlayerRuns.{KeepsPlaces, MayTakeIn}
 use Rattle.norec_world.proofs.actor.Actor.settle.Goals.{After-take_in-end}
 use Rattle.norec_world.proofs.actor.Actor.settle.Goals as goal
 
@@ -12,8 +12,8 @@ module _ (g : _) (c : After-take_in-end g) (status : Status) (is : status ≡ st
   abbrev Told : Taken g.row.P.Denot
   Told = took_in g.P.Player c.args.self.now.run.retries (tally_of c.args.self.now.run) c.args.call c.args.answer (stand_of c.args.self.now.engine)
 
-  told_so : took_in g.P.Player c.args.self.now.run.retries (tally_of c.args.self.now.run) c.args.call c.args.answer (record { is_open = c.is_open-is_open.result; at = c.snapshot-at.result / 2; ran = c.due.result.now }) ≡ Told
-  told_so = λ i. took_in g.P.Player c.args.self.now.run.retries (tally_of c.args.self.now.run) c.args.call c.args.answer (record { is_open = c.is_open-is_open.ensures i; at = c.snapshot-at.ensures i / 2; ran = c.due.ensures i })
+  told_so : took_in g.P.Player c.args.self.now.run.retries (tally_of c.args.self.now.run) c.args.call c.args.answer (record { is_open = c.is_open-is_open.result; at = c.snapshot-at.result / 2; ran = c.due-ran.result.now; arena = c.bytes-arena.result.now }) ≡ Told
+  told_so = λ i. took_in g.P.Player c.args.self.now.run.retries (tally_of c.args.self.now.run) c.args.call c.args.answer (record { is_open = c.is_open-is_open.ensures i; at = c.snapshot-at.ensures i / 2; ran = c.due-ran.ensures i; arena = (c.bytes-arena.ensures ∙ c.arena.ensures) i })
 
   told : Records g.P.Player (rows_in c.args.ended.now) (rows_in c.take_in-end.new.ended) c.args.self.now Last c.args.call c.args.answer
   told = record {
@@ -29,10 +29,16 @@ module _ (g : _) (c : After-take_in-end g) (status : Status) (is : status ≡ st
   settled was d = settles g.P.Player g.met.P.Player.laws c.args.self.now c.args.call Last refl c.take_in-end.ensures.same.0 c.take_in-end.ensures.same.1 was c.args.answer d told
 
   acting : IsActing Last
-  acting = recorded_acting g.P.Player (rows_in c.args.ended.now) (rows_in c.take_in-end.new.ended) c.args.self.now Last c.args.call c.requires.acts refl (subst (λ (ran : List Ran). KeepsPlaces ran c.args.self.now.run.current c.take_in-end.new.self.current) c.due.ensures c.take_in-end.ensures.places) c.requires.answered.0 c.args.answer c.requires.answered.1 told (settled c.requires.answered.0 c.requires.answered.1).kept.row
+  acting = recorded_acting g.P.Player (rows_in c.args.ended.now) (rows_in c.take_in-end.new.ended) c.args.self.now Last c.args.call c.requires.acts refl (subst (λ (ran : List Ran). KeepsPlaces ran c.args.self.now.run.current c.take_in-end.new.self.current) c.due-ran.ensures c.take_in-end.ensures.places) c.requires.answered.0 c.args.answer c.requires.answered.1 told (settled c.requires.answered.0 c.requires.answered.1).kept.row
 
   recorded : (was : Bool) → IsAnswered g.P.Player was c.args.self.now c.args.call c.args.answer → IsRecorded g.P.Player was (rows_in c.args.ended.now) c.args.self.now c.args.call (Answers c.args.answer) (rows_in c.take_in-end.new.ended) Last
   recorded was d = assumption (settled was d, told, others_taken d.kept told c.take_in-end.ensures.same.0 (room_less c.args.ended.now c.take_in-end.new.ended Told.over (told.takes.ended) c.take_in-end.ensures.capacity))
+
+pub take_in-end-requires-clause-room : goal.take_in-end-requires-clause-room
+take_in-end-requires-clause-room g c =
+    let a = c.args.self.now in
+    subst (λ (ran : List Ran). MayTakeIn c.args.call (record { is_open = c.is_open-is_open.result; at = c.snapshot-at.result / 2; ran = ran; arena = c.bytes-arena.result.now }) a.run.current) (sym c.due-ran.ensures)
+    (may_take a c.args.call c.is_open-is_open.result (c.snapshot-at.result / 2) c.bytes-arena.result.now c.requires.acts c.is_open-is_open.ensures a.run.current refl)
 
 pub returns-in-Some-clause-acts : goal.returns-in-Some-clause-acts
 returns-in-Some-clause-acts g c = acting g (goal.at.returns-in-Some-clause-acts g c).After-take_in-end (Ended c.in-Some.end) (ap status_after (sym c.in-Some.is))

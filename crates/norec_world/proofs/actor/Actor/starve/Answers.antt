@@ -1,5 +1,7 @@
-use Rattle.norec_world.proofs.{Actor, Attempt, Begins, Core, Current, IsRefused, IsTied, Outside, Ran, Stand, Within, after_undoing, count_in, ends_in, given_up_free, given_up_later, given_up_most, in_transaction, open_in, others_same, others_stopped, over_as, room_less, rows_in, stage_of, tied_undone, ◌≡◌, ◌∙◌, ◌++◌, ◌/◌, List, Vec, refl, sym, ap, subst, arith, true, ℕ, vec_capacity, false}
+use Rattle.norec_world.proofs.{Actor, Attempt, Begins, Core, Current, IsRefused, IsTied, Outside, Ran, Stand, Within, after_undoing, count_in, ends_in, given_up_free, given_up_later, given_up_most, in_transaction, open_in, others_same, others_stopped, over_as, room_less, rows_in, stage_of, tied_undone, ◌≡◌, ◌∙◌, ◌++◌, ◌/◌, List, Vec, [], length, refl, sym, ap, subst, arith, true, ℕ, vec_capacity, false}
 use Rattle.{std.specs.declared.alloc.Global.Global, tx_attempts.specs.declared.attempt.Outcome.TheVariants.NoMemory, tx_runs.specs.PlayerRuns.MayStop}
+use Rattle.std.proofs.lemmas.List.{length-append}
+use Rattle.tx_runs.proofs.OpenRooms.{told_none}
 use Rattle.norec_world.proofs.actor.Actor.starve.Goals.{in-Done, in_default}
 use Rattle.norec_world.proofs.actor.Actor.starve.Goals as goal
 
@@ -12,7 +14,9 @@ may_stop a new at (Within o) is refused free after =
     let place = refused.places o.row here in
     let same = ap ends_in is in
     let most = given_up_most a.engine new free after in
-    ((later.0, ap (λ (ran : List Ran). ran ++ later.0) (refused.all o.row here) ∙ sym later.1), omega arith)
+    let told = told_none o.row (refused.whole o.row here) in
+    let long = ap (length {A = Ran}) (later.1 ∙ ap (λ (ran : List Ran). ran ++ later.0) (sym (refused.all o.row here))) ∙ length-append o.row.ran later.0 in
+    (omega arith, omega arith)
 
 pub stop-requires-clause-room : goal.stop-requires-clause-room
 stop-requires-clause-room g c =
@@ -29,8 +33,8 @@ pub returns-clause-others : goal.returns-clause-others
 returns-clause-others g c =
     let a = c.args.self.now in
     elim c.match-abort.branch [
-      | in-Done w ↦ (let stand : Stand = record { is_open = true; at = w.snapshot-at.result / 2; ran = w.due.result.now } in
-          let over = ap (λ (v : Vec Attempt Global). v.items) w.ended-is ∙ w.stop.ensures.over true in
+      | in-Done w ↦ (let stand : Stand = record { is_open = true; at = w.snapshot-at.result / 2; ran = w.due.result.now; arena = [] } in
+          let over = ap (λ (v : Vec Attempt Global). v.items) w.ended-is ∙ w.stop.ensures.over true [] in
           others_stopped a _ (rows_in c.args.ended.now) (rows_in c.match-abort.ended) NoMemory stand c.requires.kept (ap (λ (x : Actor g.row.P.Denot). x.run) w.self-is ∙ w.stop.ensures.run) over
           (room_less c.args.ended.now c.match-abort.ended (over_as NoMemory stand (stage_of a.run.current)) over (ap vec_capacity w.ended-is ∙ w.stop.ensures.capacity)))
       | in_default w ↦ (let run = ap (λ (x : Actor g.row.P.Denot). x.run) w.self-is in

@@ -28,8 +28,8 @@ returns-in_default g c = record {
   end = refl;
   stopped = λ words course b old call shuts k.
       (let a = c.abort.ensures in
-      let told : Stand = record { is_open = (stand_of c.abort.new.self.engine).is_open; at = c.snapshot-at.result / 2; ran = c.due.result.now } in
-      let same : told ≡ stand_of c.abort.new.self.engine = λ i. record { is_open = (stand_of c.abort.new.self.engine).is_open; at = c.snapshot-at.ensures.value i / 2; ran = c.due.ensures i } in
+      let told : Stand = record { is_open = (stand_of c.abort.new.self.engine).is_open; at = c.snapshot-at.result / 2; ran = c.due.result.now; arena = c.abort.new.self.engine.arena } in
+      let same : told ≡ stand_of c.abort.new.self.engine = λ i. record { is_open = (stand_of c.abort.new.self.engine).is_open; at = c.snapshot-at.ensures.value i / 2; ran = c.due.ensures i; arena = c.abort.new.self.engine.arena } in
       starves k c.abort.new.self a.engine a.pass (λ e. c.in_default.not-Held (a.undone ∙ e)) shuts a.stands (record c.args.self.now { run = c.stop.new.self; thread = c.abort.new.self; ended = c.stop.new.ended }) refl c.stop.ensures.run
-      (subst (λ (s : Stand). c.stop.new.ended.items ≡ c.args.self.now.ended.items ++ over_as outcomes.NoMemory s (stage_of c.args.self.now.run.current)) same (c.stop.ensures.over told.is_open)));
+      (subst (λ (s : Stand). c.stop.new.ended.items ≡ c.args.self.now.ended.items ++ over_as outcomes.NoMemory s (stage_of c.args.self.now.run.current)) same (c.stop.ensures.over told.is_open told.arena)));
 }

@@ -1,4 +1,4 @@
-use Rattle.std.proofs.Common.{◌≡◌, ◌/◌, ◌+◌, ◌++◌, length, refl, sym, subst, vec_len}
+use Rattle.std.proofs.Common.{◌≡◌, ◌∙◌, ◌/◌, ◌+◌, ◌++◌, length, refl, sym, subst, vec_len}
 use Rattle.tx_runs.specs.PlayerRuns.{KeepsPlaces, MayTakeIn, tally_of}
 use Rattle.tx_runs.specs.Tallies.{Stand, took_in, stand_of}
 use Rattle.tx_worker.specs.declared.worker.Worker.{Worker}
@@ -8,17 +8,17 @@ use Rattle.tx_worker.proofs.worker.Worker.take_in.Goals as goal
 
 pub take_in-end-requires-clause-room : goal.take_in-end-requires-clause-room
 take_in-end-requires-clause-room g c =
-    let told : Stand = record { is_open = c.is_open-is_open.result; at = c.snapshot-at.result / 2; ran = c.due.result.now } in
-    let same : told ≡ stand_of c.args.self.now.thread.engine = λ i. record { is_open = c.is_open-is_open.ensures i; at = c.snapshot-at.ensures.value i / 2; ran = c.due.ensures i } in
-    subst (λ (s : Stand). MayTakeIn s c.args.self.now.run.current) (sym same) (may_take_in c.requires.asked.4)
+    let told : Stand = record { is_open = c.is_open-is_open.result; at = c.snapshot-at.result / 2; ran = c.due.result.now; arena = c.bytes.result.now } in
+    let same : told ≡ stand_of c.args.self.now.thread.engine = λ i. record { is_open = c.is_open-is_open.ensures i; at = c.snapshot-at.ensures.value i / 2; ran = c.due.ensures i; arena = (c.bytes.ensures ∙ c.arena.ensures) i } in
+    subst (λ (s : Stand). MayTakeIn c.args.call s c.args.self.now.run.current) (sym same) (may_take_in c.requires.asked.4)
 
 pub returns : goal.returns
 returns g c words course b old shuts k =
     let mid = c.args.self.now in
     let x = c.take_in-end.ensures in
     let new : Worker g.row.P.Denot = record mid { run = c.take_in-end.new.self; ended = c.take_in-end.new.ended } in
-    let told : Stand = record { is_open = c.is_open-is_open.result; at = c.snapshot-at.result / 2; ran = c.due.result.now } in
-    let same : told ≡ stand_of mid.thread.engine = λ i. record { is_open = c.is_open-is_open.ensures i; at = c.snapshot-at.ensures.value i / 2; ran = c.due.ensures i } in
+    let told : Stand = record { is_open = c.is_open-is_open.result; at = c.snapshot-at.result / 2; ran = c.due.result.now; arena = c.bytes.result.now } in
+    let same : told ≡ stand_of mid.thread.engine = λ i. record { is_open = c.is_open-is_open.ensures i; at = c.snapshot-at.ensures.value i / 2; ran = c.due.ensures i; arena = (c.bytes.ensures ∙ c.arena.ensures) i } in
     turns g.met.P.Player.laws k new c.take_in-end.result
     (record {
       thread = refl;
