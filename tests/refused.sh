@@ -33,7 +33,7 @@ make() {
 }
 
 {
-    echo 'use super::{engine, frames, plain, worlds};'
+    echo 'use super::{again, engine, frames, plain, worlds};'
     echo 'use std::alloc::{AllocError, Global};'
     echo 'use std::test::Fail;'
     echo 'fn take(alloc: Global, times: usize) -> Result<(), AllocError> {'
@@ -52,6 +52,7 @@ make() {
         make "worlds_$name" "worlds::expect_case(&rt, rt.alloc(), &worlds::$case)"
     done
     make worlds_beyond_room 'worlds::expect_beyond_room(&rt, rt.alloc())'
+    make worlds_again 'again::expect_again(&rt, rt.alloc())'
 } >src/tests/refused.rt
 sed -i '0,/^mod /s//mod refused;\nmod /' src/tests.rt
 
@@ -59,6 +60,6 @@ rt try --test --fail-alloc $MOST >out.txt 2>&1 || true
 grep -A 4 '::refused::.* \.\.\. FAILED' out.txt || true
 passed=$(grep -c '::refused::.* \.\.\. ok$' out.txt || true)
 failed=$(grep -c '::refused::.* \.\.\. FAILED$' out.txt || true)
-[ $((passed + failed)) -eq $((14 * MOST)) ] || { tail -20 out.txt; echo "not all were run" >&2; exit 1; }
+[ $((passed + failed)) -eq $((15 * MOST)) ] || { tail -20 out.txt; echo "not all were run" >&2; exit 1; }
 echo "$passed passed, $failed failed"
 [ "$failed" = 0 ]

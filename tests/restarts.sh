@@ -1,6 +1,6 @@
-# The part of tests/command.sh on `itmrun check` and blocks that ran again, which versions 2 and 3 of histories tell: verdicts
-# and faults that were worked out by hand. It is read by that script, and uses its functions and variables, and those of
-# tests/judging.sh. In the text of a row `\n` begins one more line.
+# The part of tests/command.sh on blocks that run again, which versions 2 and 3 of histories tell: verdicts and faults of
+# `itmrun check` that were worked out by hand, and three runs of `itmrun sched` event by event. It is read by that script, and
+# uses its functions and variables, and those of tests/judging.sh. In the text of a row `\n` begins one more line.
 
 # A block that ran again: it had read the second word before another thread's commit, had logged the first byte of the
 # arena and written 09 to both bytes, and its undo action has run. The second byte is as it had left it.
@@ -300,4 +300,70 @@ judge_edited "$work/both" <<'END'
 11s/.*/&\nrestart 03\ncall _ITM_commitTransaction = ok\n&/|legal
 18s/.*/call _ITM_abortTransaction userAbort+outerAbort = code 24\n&/;3s/conflict/cancelled/|legal
 17s/.*/call _ITM_commitTransaction = ok\ncall _ITM_beginTransaction - = code 5\nrestart 04\ncall ld1 0 = 04/;18d|legal
+END
+
+# Three of the rows, each cut after each of its events. Thread 0 reads the first word (events 2 and 3), and in an inner block,
+# where it writes to its arena, the second one (4 and 5). Thread 1 changes one of them (6 to 9). The next read of thread 0 loads
+# its word and the clock (10 and 11), and a round looks at the clock and at what was read (12 to 14).
+
+# cut_after EVENTS: the schedule of the first ones
+cut_after() {
+    if [ "$1" -le 5 ]; then
+        echo ".schedule 0x$1"
+    elif [ "$1" -le 9 ]; then
+        echo ".schedule 0x5 1x$(($1 - 5))"
+    else
+        echo ".schedule 0x5 1x4 0x$(($1 - 9))"
+    fi
+}
+
+# told_after EVENTS VERSION PLACE CONFLICT: the history of so many events, where thread 1 writes at this place, and where thread
+# 0 ends in a conflict at this event; 0 where it does not. Then the inner block runs again at event 15, the last load of the
+# round, and reads the second and the third word by events 16 to 19.
+told_after() {
+    awk -v n="$1" -v version="$2" -v place="$3" -v conflict="$4" 'BEGIN {
+        zero = "0000000000000000"
+        seven = "0700000000000000"
+        again = !conflict && n >= 15
+        outcome = conflict && n >= conflict ? "conflict" : !conflict && n >= 19 ? "readonly" : "unfinished"
+        writer = "arena 0000\ncall _ITM_WU8 " place " " seven " = ok"
+        print "itm-history " version "\nmemory " zero zero zero
+        if (n >= 9) print "attempt 1 1 0 committed -\n" writer "\ncall _ITM_commitTransaction = ok\nend"
+        print "attempt 0 1 " (again ? 1 : 0) " " outcome " -\narena 0000"
+        if (n >= 3) {
+            print "call _ITM_RU8 0 = " zero "\ncall _ITM_beginTransaction - = code 5"
+            if (again) print "restart 0009"
+            print "call _ITM_LU1 0 = ok\ncall st1 0 09 = ok\ncall st1 1 09 = ok"
+        }
+        if (again ? n >= 17 : n >= 5) print "call _ITM_RU8 8 = " (again ? seven : zero)
+        if (outcome == "readonly")
+            print "call _ITM_RU8 16 = " zero "\ncall _ITM_commitTransaction = ok\ncall _ITM_commitTransaction = ok"
+        print "end"
+        if (n >= 6 && n < 9) print "attempt 1 1 0 unfinished -\n" writer "\nend"
+        stored = n >= 8 ? seven : zero
+        print "final " (n < 7 ? 0 : n < 9 ? 1 : 2) " " (place ? zero stored : stored zero) zero
+    }' >"$work/want_output"
+}
+
+while read -r name version place conflict events; do
+    n=1
+    while [ "$n" -le "$events" ]; do
+        sed "s/^\.schedule.*/$(cut_after "$n")/" "$root/tests/rows/$name.itm" >"$work/input"
+        told_after "$n" "$version" "$place" "$conflict"
+        : >"$work/want_errors"
+        wanted=0
+        if [ "$conflict" -gt 0 ] && [ "$n" -ge "$conflict" ]; then
+            echo 'itmrun: thread 0 gave up' >"$work/want_errors"
+            wanted=4
+        fi
+        run sched -
+        check "$name.itm, the first $n events" "$wanted"
+        cp "$work/want_output" "$work/input"
+        judge "the history of $name.itm, the first $n events" legal
+        n=$((n + 1))
+    done
+done <<'END'
+inner_block_runs_again 2 8 0 20
+inner_block_may_not_run_again 1 8 14 15
+word_read_outside_is_changed 2 0 13 14
 END

@@ -47,6 +47,19 @@ line 1: out of range|.commits 0
 line 1: out of range|.commits 4611686018427387904
 line 2: misplaced|.commits 1\n.commits 0
 line 3: misplaced|.memory 8\n.thread\n.commits 1
+line 1: wrong operand|.restarts
+line 1: wrong operand|.restarts 1 2
+line 1: wrong operand|.restarts r1
+line 1: wrong operand|.restarts -1
+line 1: wrong operand|.restarts 00
+line 1: wrong operand|.restarts 0x1
+line 1: out of range|.restarts 10001
+line 1: out of range|.restarts 18446744073709551616
+line 1: unknown name|.Restarts 1
+line 1: unknown name|.restart 1
+line 2: misplaced|.restarts 5\n.restarts
+line 2: misplaced|.restarts 0\n.restarts 0
+line 3: misplaced|.memory 8\n.thread\n.restarts 1
 line 1: wrong operand|.depth
 line 1: wrong operand|.depth 1 2
 line 1: wrong operand|.depth r1
@@ -282,6 +295,7 @@ line 3: misplaced|.arena x
 line 3: misplaced|.patience 0
 line 3: misplaced|.retries
 line 3: misplaced|.commits 0
+line 3: misplaced|.restarts x
 line 3: misplaced|.depth x
 END
 
@@ -342,6 +356,7 @@ cat >"$work/input" <<'END'
 .patience 1000
 .retries 10000
 .commits 4611686018427387903
+.restarts 10000
 .depth 64
 .schedule 63x1000000
 .thread 64
@@ -354,6 +369,7 @@ cat >"$work/want_output" <<'END'
 .patience 1
 .retries 0
 .commits 1
+.restarts 1
 .depth 1
 .schedule 0x1
 .thread
@@ -376,3 +392,17 @@ printf '.memory 8\n.depth 16 ; as where it is not said\n.thread\n' >"$work/input
     printf '.thread\n'
 } >"$work/want_output"
 printed 'a depth of 16'
+
+# and the restarts where they are not 0, before the depth
+printf '.depth 3\n.restarts 2\n.memory 8\n.thread\n' >"$work/input"
+{
+    canonical 8
+    printf '.restarts 2\n.depth 3\n.thread\n'
+} >"$work/want_output"
+printed 'two restarts, and a depth of 3'
+printf '.memory 8\n.restarts 0 ; as where it is not said\n.thread\n' >"$work/input"
+{
+    canonical 8
+    printf '.thread\n'
+} >"$work/want_output"
+printed 'no restarts'

@@ -8,7 +8,8 @@
 #
 # The scripts have the whole language: every directive and instruction, every entry point with any place, blocks in
 # blocks, actions, irrevocable transactions, for up to 8 threads. Many read the same words again and again, by other
-# types, in blocks that are cancelled and after them, and in copies whose chunks meet inside a word.
+# types, in blocks that are cancelled and after them, and in copies whose chunks meet inside a word. In every fifth one
+# threads read in blocks within blocks what the others change in short ones, so that these blocks run again alone.
 #
 # Each run is made event by event, each thread's next load, store or exchange as the schedule says (tests/soak/norec.py
 # and run.py). So the whole answer is known: every try with its calls, their replies and the actions that ran, its
@@ -22,7 +23,7 @@
 # a change or two away from the history, some of them legal, have to be judged as verdict.py judges them, with the same
 # line. So have four to six of versions 2 and 3: there the same calls are told anew, with blocks that ran again from these
 # bytes of the arena or from others, with another number of blocks that may be open, and then with up to two changes. From
-# 500 scripts on, each verdict and each fault of a text has to have come, in each version.
+# 500 scripts on, each verdict and each fault of a text has to have come, in each version, and blocks that ran again.
 #
 # On threads a run is never the same twice. So each answer of `threads` is followed through its script: the history has to
 # be legal to `check` and to verdict.py; each thread's tries have to be, one after the other, what its code does where it is

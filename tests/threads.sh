@@ -129,6 +129,17 @@ for threads in 2 4; do
     is "transfers of $threads threads: their sum" "$(sum)" '1024 1024000'
 done
 
+# inner blocks that may run again alone: each reads the word that others have changed, and then another one, so that the change
+# shows within the block
+{
+    printf '.memory 16\n.patience 1000\n.retries 10000\n.restarts 100\n.thread 4\nset r1 1\n.rept 1000\n'
+    printf '_ITM_beginTransaction r0 -\n_ITM_beginTransaction r3 -\n_ITM_RU8 r2 0\n_ITM_RU8 r4 8\n'
+    printf 'add r2 r2 r1\n_ITM_WU8 0 r2\n_ITM_commitTransaction\n_ITM_commitTransaction\n.endr\n'
+} >"$work/input"
+on_threads 'inner blocks that may run again' 4000
+is 'inner blocks that may run again: their version' "$(head -n 1 "$work/output")" 'itm-history 2'
+is 'inner blocks that may run again: their sum' "$(tail -n 1 "$work/output")" "final 8000 a00f000000000000$(printf '%016d' 0)"
+
 # as many threads as may be
 counters 64 1 >"$work/input"
 on_threads 'as many threads as may be' 64

@@ -21,18 +21,19 @@ from script import Script
 from version_changes import VersionMutator
 from versions import version_of
 
-# of changed histories, by their versions; once enough scripts have run, each of these has to have come
+# of changed histories, by their versions; once enough scripts have run, each of these has to have come, and so have restarts
 CHANGED = [
     ["changed histories", verdict.HEADER],
     *([f"of version {it}", *(f"{kind} ({it})" for kind in verdict.EVERY)] for it in verdict.VERSIONS.values()),
     ["legal ones with blocks that ran again", "legal ones of other depths"],
 ]
+AGAIN = ["restarts", "restarts that came to nothing"]
 ENOUGH = 500  # scripts
 COUNTED = [
     ["scripts", "events", "attempts", "calls", *OUTCOMES, "odd clocks", "threads that gave up"],
     # a call outside a block, which is refused by 1, has no line
     ["nested blocks", "irrevocable", "copies", "fills", "actions run", *(f"refused {n}" for n in range(2, 9))],
-    ["words answered from the log", "rounds", "rounds that gave a snapshot"],
+    ["words answered from the log", "rounds", "rounds that gave a snapshot", *AGAIN],
     *CHANGED,
 ]
 
@@ -94,10 +95,10 @@ def main(program, folder, what, seed=None):
     if counts is None:
         return 1
     tell(counts, COUNTED)
-    absent = [name for names in CHANGED for name in names if not counts[name]]
+    absent = [name for names in (*CHANGED, AGAIN) for name in names if not counts[name]]
     if not absent or counts["scripts"] < ENOUGH:
         return 0
-    print("failed: no history was judged so:", ", ".join(absent))
+    print("failed: there was none of these:", ", ".join(absent))
     return 1
 
 

@@ -28,6 +28,7 @@ class Maker:
         self.size = WORD * (words if not self.one_in(100) else self.random.choice([64, 512, 8192]))
         self.arena = self.random.choice(arenas) if not self.one_in(100) else 4096
         self.coder = Coder(self.random, self.size, self.arena)
+        self.meets = self.one_in(5)
 
     def one_in(self, number):
         return self.random.randrange(number) == 0
@@ -36,9 +37,11 @@ class Maker:
         """Lines that may stand anywhere before the first thread."""
         lines = [f".arena {self.arena}"] if self.arena or self.one_in(2) else []
         # a thread that is patient outlasts those that hold the clock, so that its rounds compare what it has read
-        patience = self.random.randint(9, 100) if self.one_in(3) else self.random.randint(1, 8)
+        patience = self.random.randint(9, 100) if self.one_in(3) or self.meets else self.random.randint(1, 8)
         lines += [f".patience {patience}"] if not self.one_in(20) else []
         lines += [f".retries {self.random.randint(0, 5)}"] if not self.one_in(20) else []
+        restarts = self.random.choice([0, 1, 1, 2, 3, 20, 10000])
+        lines += [f".restarts {restarts}"] if self.meets or self.one_in(3) else []
         lines += [f".depth {self.random.choice([1, 2, 3, 15, 16, 17, 64])}"] if self.one_in(8) else []
         return lines + ([f".commits {self.random.randint(1, 6)}"] if self.one_in(5) else [])
 
@@ -56,10 +59,11 @@ class Maker:
             return []
         if shape == 1:
             return ends[: self.random.randint(1, threads)]
-        items = []
+        # in longer turns a thread comes to commit, and others find what they have read changed
+        items, most = [], self.random.randint(4, 10) if self.meets else 4
         for _ in range(self.random.randint(1, 60 * threads)):
             thread = self.random.randrange(threads)
-            steps = self.random.randint(1, 30 if self.one_in(8) else 4)
+            steps = self.random.randint(1, 30 if self.one_in(8) else most)
             items.append(f"{thread}!" if self.one_in(100) else f"{thread}x{steps}")
         # where the threads need not end, some stop in the middle of a commit
         return items + ends if shape < 6 else items[: self.random.randint(1, len(items))]
@@ -97,7 +101,8 @@ class Maker:
             if self.parts:
                 first, words = self.random.randrange(0, self.size, WORD), self.random.choice(self.parts)
                 self.coder.use(range(first, min(first + WORD * words, self.size)))
-            lines += self.again(self.coder.code(4 if threads < 4 else 3))
+            code = self.coder.meeting() if self.meets else self.coder.code(4 if threads < 4 else 3)
+            lines += self.again(code)
             threads -= alike
         wild = self.one_in(10)
         text = "".join(self.spaced(line, wild) + "\n" for line in lines)

@@ -232,6 +232,31 @@ class Coder:
             lines += self.ends_early(inside + 1) + self.lines(most // 2, inside + 1)
         return [*lines, COMMIT]
 
+    def begin(self):
+        """The begin of a block that mostly has no property."""
+        return f"{BEGIN} {self.register()} {self.props() if self.one_in(5) else '-'}"
+
+    def reading(self, inside):
+        """A block that reads the same words as others write, after something that a rollback shows, and blocks within it."""
+        lines = [self.begin()]
+        makers = [self.read_at, self.write_at, self.copy_at, lambda _: self.action(), lambda _: self.read()]
+        for _ in range(self.random.randint(2, 5)):
+            lines += self.kept() if self.one_in(4) else []
+            lines += [self.random.choices(makers, [6, 1, 1, 3, 3])[0](self.random.choice(self.hot))]
+            if inside < 4 and self.one_in(6):
+                lines += self.reading(inside + 1)
+        ends = self.ends_early(inside + 1) if self.one_in(8) else []
+        return [*lines, *ends, COMMIT]
+
+    def within(self):
+        """A block that reads mostly within blocks of its own, so that these may run again alone."""
+        lines = [self.begin(), *(self.kept() if self.one_in(3) else [])]
+        lines += [self.action()] if self.one_in(3) else []
+        lines += [self.read()] if self.one_in(6) else []
+        for _ in range(self.random.choice([1, 1, 1, 2, 3])):
+            lines += self.reading(1)
+        return [*lines, *(self.lines(1, 1) if self.one_in(3) else []), COMMIT]
+
     def deep(self):
         """About as many blocks in one another as may be open. The inner ones may be refused for two reasons."""
         depth = self.random.randint(14, 18)
@@ -241,13 +266,26 @@ class Coder:
         ends = [line for _ in range(depth) for line in (*self.lines(1, 1), COMMIT)]
         return [*begins, *(self.ends_early(depth) if self.one_in(2) else []), *ends]
 
-    def code(self, blocks):
-        # registers differ from the start: a commit that stores what was there before disturbs nobody
+    def registers(self):
+        # they differ from the start: a commit that stores what was there before disturbs nobody
         lines = [f"set r{n} {self.number()}" for n in range(KEPT)]
         lines += [f"set {it} {self.place_in(self.part, self.size, WORD)}" for it in SHARED]
         own, size = self.place_in(range(self.arena), self.arena, 1), self.upto(min(12, self.size))
-        lines += [f"set {OWN} {own}", f"set {SIZE} {size}"]
+        return lines + [f"set {OWN} {own}", f"set {SIZE} {size}"]
+
+    def counter(self):
+        """A short block that changes a word which others read."""
+        word = self.random.choice(self.hot)
+        return [f"{BEGIN} r1 -", "add r2 r2 r1", f"_ITM_WU8 {word} r2", COMMIT]
+
+    def meeting(self):
+        """Blocks that read within blocks of their own, and short ones that write what those have read."""
+        makers = self.random.choices([self.within, self.counter], [1, 2], k=self.random.randint(3, 8))
+        return [*self.registers(), *(line for make in makers for line in make())]
+
+    def code(self, blocks):
+        lines = self.registers()
         for _ in range(self.random.randint(0 if self.one_in(9) else 1, blocks)):
-            block = self.deep() if self.one_in(40) else self.block(9)
+            block = self.deep() if self.one_in(40) else self.within() if self.one_in(8) else self.block(9)
             lines += self.lines(2) + ([f".rept {self.upto(3)}", *block, ".endr"] if self.one_in(8) else block)
         return lines + self.lines(1)

@@ -21,6 +21,10 @@ class Over(Exception):
         self.why = why
 
 
+class Again(Exception):
+    """A call is not answered, and the innermost block runs again."""
+
+
 def read_of(name, *values):
     """The shared bytes that a call reads."""
     if name in READS:
@@ -48,6 +52,8 @@ class Transaction:
         self.machine = Machine(b"?" * len(script.opening), arena, script.depth)
         self.snapshot = None  # the clock's value
         self.log = {}  # the words that were read, in the order of first reading
+        self.begun = []  # of each open block how many words were read before it
+        self.restarts = script.restarts  # that are left
         self.rounds = 0  # that the call under way may still start
         self.counts = collections.Counter()
 
@@ -55,7 +61,7 @@ class Transaction:
 
     def begin(self, props):
         yield from self.taken() if goes(BEGIN, [props]) else self.loaded()
-        self.machine.one((BEGIN, props))
+        self.answered((BEGIN, props))
 
     def loaded(self):
         """Loads the clock until it is even."""
@@ -96,17 +102,31 @@ class Transaction:
             self.counts["rounds"] += 1
             clock = yield Load(CLOCK)
             if clock % 2 == 0:
-                yield from self.compared()
+                is_same = yield from self.compared()
                 if (yield Load(CLOCK)) == clock:
                     self.snapshot = clock
                     self.counts["rounds that gave a snapshot"] += 1
+                    if not is_same:
+                        raise Again
                     return
+                self.counts["restarts that came to nothing"] += not is_same
         raise Over(CONFLICT)
 
     def compared(self):
-        for word, value in self.log.items():
+        """Whether each word is as it was read, where the first one that is not lets the innermost block run again."""
+        for place, (word, value) in enumerate(self.log.items()):
             if (yield Load(1 + word)) != value:
-                raise Over(CONFLICT)
+                if len(self.begun) == 1 or place < self.begun[-1] or not self.restarts:
+                    raise Over(CONFLICT)
+                return False
+        return True
+
+    def again(self):
+        """The innermost block begins again, with what was read before it; what has run since its begin was first answered."""
+        self.restarts -= 1
+        self.counts["restarts"] += 1
+        self.log = dict(list(self.log.items())[: self.begun[-1]])
+        return self.machine.again()
 
     # words
 
@@ -166,6 +186,13 @@ class Transaction:
             return self.machine.one(call)
         return (yield from self.held(call) if self.machine.irrevocable else self.unheld(call))
 
+    def answered(self, call):
+        """The reply to a call for which all is read."""
+        reply = self.machine.one(call)
+        open_blocks = len(self.machine.blocks)
+        self.begun = self.begun[:open_blocks] + (open_blocks - len(self.begun)) * [len(self.log)]
+        return reply
+
     def is_last(self, call):
         """Whether a call is the commit of the outermost block."""
         return call[0] == COMMIT and len(self.machine.blocks) == 1
@@ -179,7 +206,7 @@ class Transaction:
             yield from self.freed()
         for part in self.parts(call):
             yield from self.read(*read_of(*part))
-        reply = self.machine.one(call)
+        reply = self.answered(call)
         if call[0] == ABORT:
             for word in self.log:
                 self.lay_logged(word)

@@ -10,9 +10,10 @@ from entries import (
 WORD, CHUNK, DEEPEST = 8, 32, 16
 
 # of an open block its properties; what stood at its begin: the memory, the bytes that were written, and how many
-# actions of both kinds were registered; and of each place of the arena that is logged in it the byte at the first log.
-# All but the properties is for a rollback, so it counts no more once the transaction is irrevocable.
-Block = collections.namedtuple("Block", "props memory written commits undos kept")
+# actions of both kinds were registered; of each place of the arena that is logged in it the byte at the first log; and how
+# many actions had run when its begin was first answered, and how many of those are told. All but the properties is for a
+# rollback, so it counts no more once the transaction is irrevocable.
+Block = collections.namedtuple("Block", "props memory written commits undos kept due ran")
 
 
 def spelled(call):
@@ -63,7 +64,8 @@ class Machine:
         self.blocks = []  # the outermost one first
         self.written = {}  # the bytes written of each word, in the order of first writing
         self.irrevocable = self.cancelled = False
-        self.commits, self.undos, self.ran = [], [], []  # actions
+        self.commits, self.undos = [], []  # actions
+        self.due, self.ran = [], []  # those that have run, and those of them that no block told which ran again
 
     def one(self, call):
         """The reply to a call, in the history's spelling."""
@@ -102,7 +104,8 @@ class Machine:
     # blocks
 
     def begin(self, name, props):
-        self.blocks.append(Block(props, bytes(self.memory), dict(self.written), len(self.commits), len(self.undos), {}))
+        commits, undos, due, ran = map(len, (self.commits, self.undos, self.due, self.ran))
+        self.blocks.append(Block(props, bytes(self.memory), dict(self.written), commits, undos, {}, due, ran))
         self.irrevocable = self.irrevocable or goes(name, [props])
         self.deepest = max(self.deepest, len(self.blocks))
         return "code 5"
@@ -113,7 +116,7 @@ class Machine:
             # what the block around it has logged itself counts
             self.blocks[-1].kept.update({**block.kept, **self.blocks[-1].kept})
         else:
-            self.ran += [("commit", *action) for action in self.commits]
+            self.run("commit", self.commits)
 
     def abort(self, _, which):
         self.back()
@@ -128,13 +131,28 @@ class Machine:
         self.memory[:], self.written = block.memory, block.written
         for place, byte in block.kept.items():
             self.arena[place] = byte
-        self.ran += [("undo", *action) for action in reversed(self.undos[block.undos :])]
+        self.run("undo", reversed(self.undos[block.undos :]))
         del self.commits[block.commits :], self.undos[block.undos :]
 
     def back_to_start(self):
         """Rolls every open block back, the innermost first."""
         while self.blocks:
             self.back()
+
+    def again(self):
+        """Rolls the innermost block back, and begins it again; what has run since its begin was first answered."""
+        block = self.blocks[-1]
+        self.back()
+        del self.ran[block.ran :]
+        self.begin(BEGIN, block.props)
+        self.blocks[-1] = self.blocks[-1]._replace(due=block.due)
+        return self.due[block.due :]
+
+    def run(self, kind, actions):
+        """These actions run."""
+        actions = [(kind, *action) for action in actions]
+        self.due += actions
+        self.ran += actions
 
     def mode(self, *_):
         self.irrevocable = True

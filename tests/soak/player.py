@@ -94,6 +94,11 @@ class Player:
         self.registers[self.lines[begin][1]] = value_of(reply)
         self.line = self.ends[begin]
 
+    def restart_block(self):
+        """Goes back to right after the begin of the innermost block, which was answered as an inner one is."""
+        begin, registers = self.open[-1]
+        self.line, self.registers = begin + 1, {**registers, self.lines[begin][1]: numbered(5)}
+
     def restart(self):
         """Goes back to where the begin of the outermost block was called."""
         self.line, self.registers = self.open[0]

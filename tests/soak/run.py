@@ -5,7 +5,7 @@ import itertools
 import history
 from entries import BEGIN
 from history import Attempt
-from norec import CONFLICT, FULL, Exchange, Over, Store, Transaction
+from norec import CONFLICT, FULL, Again, Exchange, Over, Store, Transaction
 from plain import WORD, Machine
 from player import Player
 
@@ -79,8 +79,13 @@ class Thread:
             call = self.player.call()
             if not machine.irrevocable:
                 self.asks()
-            reply = yield from transaction.call(call)
-            self.attempt.calls.append((call, reply))
+            try:
+                reply = yield from transaction.call(call)
+            except Again:
+                self.attempt.again(transaction.again())
+                self.player.restart_block()
+                continue
+            self.attempt.add(call, reply)
             self.player.answer(reply)
         self.over("cancelled" if machine.cancelled else "committed" if machine.wrote() else "readonly")
 

@@ -4,7 +4,7 @@ from entries import BEGIN, COMMIT
 from plain import DEEPEST
 
 ANY = float("inf")
-EARLY_MEMORY, EARLY_THREADS = 65536, 32  # the most that a history of the first version tells of
+EARLY_MEMORY, EARLY_THREADS = 65536, 32  # the most that a history of the first two versions tells of
 
 
 def fields_of(text):
@@ -49,6 +49,7 @@ class Script:
 
     def __init__(self, text):
         self.arena, self.patience, self.retries, self.commits, self.depth = 0, 8, 100, (1 << 62) - 1, DEEPEST
+        self.restarts = 0
         self.items, codes = [], []
         for name, *operands in fields_of(text):
             if name == ".thread":
@@ -62,9 +63,9 @@ class Script:
         self.items = self.items or [(thread, ANY) for thread in range(len(self.codes))]
 
     def version(self):
-        """That of its histories: the first one where it can tell of them."""
+        """That of its histories: one of the first two where it can tell of them, the second where blocks may run again."""
         few = len(self.opening) <= EARLY_MEMORY and len(self.codes) <= EARLY_THREADS
-        return 1 if self.depth == DEEPEST and few else 3
+        return 3 if self.depth != DEEPEST or not few else 2 if self.restarts else 1
 
     def directive(self, name, operands):
         if name == ".memory":

@@ -24,7 +24,7 @@ STOPPED = {"conflict": None, "full": GAVE_UP, "nomemory": STARVED}  # how the th
 OUTCOMES = ["committed", "readonly", "cancelled", "conflict", "full"]
 COUNTED = [
     ["scripts", "scripts with conflicts", "threads", "threads that gave up"],
-    ["attempts", *OUTCOMES, "entered again", "irrevocable", "calls", "actions run"],
+    ["attempts", *OUTCOMES, "entered again", "blocks that ran again", "irrevocable", "calls", "actions run"],
 ]
 
 
@@ -46,6 +46,8 @@ class Followed(Thread):
     def follow(self, attempt, machine):
         """Goes on to the end of the next try, which leaves this machine."""
         self.enter(attempt)
+        again = sum(call.again is not None for call in attempt.calls)
+        expect(again <= self.script.restarts, "line", attempt.row, "is of a try with", again, "blocks that ran again")
         for call in attempt.calls:
             self.calls(call.row, tuple(call.values))
             self.player.answer(call.reply)
@@ -136,6 +138,7 @@ def counted(history, threads, machines):
     counts.update({"scripts": 1, "scripts with conflicts": counts["conflict"] > 0, "threads": len(threads)})
     counts.update({"attempts": len(history.attempts), "calls": sum(len(it.calls) for it in history.attempts)})
     counts["entered again"] = sum(it.nth > 1 for it in history.attempts)
+    counts["blocks that ran again"] = sum(call.again is not None for it in history.attempts for call in it.calls)
     counts["threads that gave up"] = sum(it.end == GAVE_UP for it in threads)
     for machine in machines.values():
         counts.update({"actions run": len(machine.ran), "irrevocable": machine.irrevocable})

@@ -23,7 +23,7 @@ class VersionMutator(Mutator):
     """Changes histories of each version."""
 
     def texts(self, text):
-        """Those of a history of version 1, and texts that are up to two changes away from its telling in another version."""
+        """Those of a history, and texts that are up to two changes away from its telling in version 2 or 3."""
         yield from super().texts(text)
         teller = Teller(self.random, text)
         for version in (2, 3):

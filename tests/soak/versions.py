@@ -1,4 +1,4 @@
-"""Histories of versions 2 and 3, made of legal ones of version 1. They are legal too."""
+"""Histories of versions 2 and 3, made of legal ones. They are legal too."""
 
 import verdict
 from entries import ABORT, BEGIN, COMMIT, INNER, LOADS, LOG_BYTES

@@ -38,7 +38,7 @@ pub use Rattle.norec_core.specs.declared.answer.Answer.TheVariants.{Busy, Commit
 pub use Rattle.norec_core.specs.declared.answer.Next.{Next}
 pub use Rattle.norec_core.specs.declared.answer.Next.TheVariants.{Answer as Answers, Step as Asks}
 pub use Rattle.norec_engine.specs.NextSteps.{ComesInto, next_in}
-pub use Rattle.norec_world.specs.ActionRoom.{AsksAs, goes_in, HasPlace, HasRoomFor, is_held, IsActing, IsBacked, IsRefused, MayRunOn, NoCancel, promised, wanted}
+pub use Rattle.norec_world.specs.ActionRoom.{AsksAs, goes_in, HasPlace, HasRoomFor, is_held, IsActing, IsPromised, IsRefused, MayRunOn, NoCancel, promised, wanted}
 pub use Rattle.norec_world.specs.Actors.{AreActors}
 pub use Rattle.norec_world.specs.Cells.{Cells, cells_after, found}
 pub use Rattle.norec_world.specs.ClockHolder.{ClocksOn, HoldsOn}
@@ -56,7 +56,7 @@ pub use Rattle.norec_world.specs.PlayerRooms.{ComesTo, EndsWithin, TellsRoom}
 pub use Rattle.norec_world.specs.Progress.{LeavesLess}
 pub use Rattle.norec_world.specs.Records.{Asks as AsksOf, ReadsAt, Records, status_after, TakesTo, Tells, told}
 pub use Rattle.norec_world.specs.Rows.{AreFrom, AreOpen, AreUnfinished, Rows, rows_in}
-pub use Rattle.norec_world.specs.Runs.{IsBeforeTry, IsInTry, IsRun, ReadsFrom, RunsFrom, StillRuns}
+pub use Rattle.norec_world.specs.Runs.{IsBeforeTry, IsInTry, IsRun, RunsFrom, StillRuns}
 pub use Rattle.norec_world.specs.Sound.{AnswerFits, BeginsAt, Falls, GoesOn, HasLess, HasRow, IsAnswered, IsAsked, IsDone, IsDue, IsKept, IsNoMore, IsReady, IsSettledBy, IsSound, IsTied, IsUnasked, IsWaiting, rank, RestsAs, run_left, StatusIs, steps_left, WritesDown}
 pub use Rattle.norec_world.specs.Stages.{active_of, AllOf, begun_in, cancels_in, count_all, count_in, count_of, ends_in, KeepsOthers, moved_to, open_in, pending_of, points_in, with_open, with_room}
 pub use Rattle.norec_world.specs.Starts.{HasStarted, IsFirst}
@@ -72,7 +72,7 @@ pub use Rattle.norec_world.specs.declared.actor.Status.TheVariants.{Ended, Ready
 pub use Rattle.norec_world.specs.declared.fault.WorldFault.{WorldFault}
 pub use Rattle.norec_world.specs.declared.schedule.Passes.{Passes}
 pub use Rattle.tx_attempts.specs.Alone.{IsAlone, player_then, state_then}
-pub use Rattle.tx_attempts.specs.Attempts.{alone, ClosedBy, committed_at, is_at, is_committed, memory_left, of_thread, pair_of}
+pub use Rattle.tx_attempts.specs.Attempts.{alone, alone_whole, ClosedBy, committed_at, is_at, is_committed, memory_left, of_thread, pair_of}
 pub use Rattle.tx_attempts.specs.Counts.{count_at, count_committed, one_where}
 pub use Rattle.tx_attempts.specs.Kept.{Kept, reserved, spent}
 pub use Rattle.tx_attempts.specs.Opacity.{after_try, answered_all, begin_code, begin_of, begin_within, Beginning, Between, EndsAs, follows, IsOpaque, IsRunOf, IsTryAt, LacksClock, takes_clock}
@@ -88,13 +88,11 @@ pub use Rattle.tx_runs.proofs.EngineReplies.{cancels, plain_reply}
 pub use Rattle.tx_runs.proofs.IrrevocableCalls.{asks_no_room, goes_same}
 pub use Rattle.tx_runs.proofs.RunLists.{run_still, run_with}
 pub use Rattle.tx_runs.proofs.Tries.{alone_led, begin_call, by_wrote, IsMadeAlone, try_stops}
-pub use Rattle.tx_runs.proofs.Unbroken.{state_whole}
 pub use Rattle.tx_runs.specs.Nesting.{IsDeep, IsNested, whole}
 pub use Rattle.tx_runs.specs.Outcomes.{is_done}
 pub use Rattle.tx_runs.specs.PlayerRuns.{KeepsPlaces, stage_of, tally_of}
 pub use Rattle.tx_runs.specs.Runs.{begins_at, LeadsTo, run_after}
 pub use Rattle.tx_runs.specs.Tallies.{begins_again, begun, closed, ending_as, over_as, sent_back, Stage, Stand, stand_of, Taken, Tally, took_in, tried, with_call, within}
-pub use Rattle.tx_runs.specs.Unbroken.{AreUnbroken}
 pub use Rattle.tx_runs.specs.declared.ending.End.{End}
 pub use Rattle.tx_runs.specs.declared.ending.End.TheVariants.{Finished, GaveUp, NoMemory}
 pub use Rattle.tx_runs.specs.declared.player_run.Current.{Current}

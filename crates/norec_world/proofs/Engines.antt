@@ -1,6 +1,6 @@
 -- An actor's engine over one step or one call: what it has of the cells, and what it gives.
 pub mod Intakes
-pub mod NoRestarts
+pub mod RestartedEngines
 pub mod TiedEngines
 pub mod ClockHolders
 pub mod HeldCalls

@@ -1,9 +1,9 @@
--- Worked cases, computed: the attempts of one counter, and of two whose first try is lost; a block that is cancelled and the next one; the counts of a schedule; which transactions have a room that is kept.
+-- Worked cases, computed: the attempts of one counter, and of two whose first try is lost; a block that is cancelled and the next one; the counts of a schedule; which transactions have a room that is kept; a block within another that goes back.
 use Rattle.std.proofs.Common.{◌≡◌, ℕ, suc, ◌-◌, List, [], ◌∷◌, ◌++◌, length, map, refl, ap, ◌∙◌, false, true, replicate, Option, None, Some, Ok, Err, arith, slice_get}
 use Rattle.norec_world.proofs.Common.{Abort, AreDated, Attempt, Begin, Between, Call, CallRecord, Code, Commit, Core, Done, Frame, IsDated, IsOpaque, IsRunOf, Log, Mode, Props, Read, Refused, Outcome, Replied as Reply, Rules, Save, Write, after, alone, is_held, opening, passes_of, promised, slice_index_or, takes_clock, wanted}
 use Rattle.norec_world.proofs.Plan.{Plan, next_call, restarted, at_block}
-use Rattle.norec_world.specs.{ActionRoom.counted, PlayerRooms.EndsWithin}
-use Rattle.tx_attempts.specs.declared.attempt.Outcome.TheVariants.{Cancelled, Committed, Conflict, Full, ReadOnly}
+use Rattle.norec_world.specs.{ActionRoom.counted, PlayerRooms.EndsWithin, Tries.GoesBack}
+use Rattle.tx_attempts.specs.declared.attempt.Outcome.TheVariants.{Cancelled, Committed, Conflict, Full, ReadOnly, Unfinished}
 use Rattle.itm_types.specs.declared.{access.ReadHint.TheVariants.R, access.Width.TheVariants.U1, access.Width.TheVariants.U2, access.Width.TheVariants.U8, access.WriteHint.TheVariants.W, call.Call.TheVariants.Load, call.Refusal.TheVariants.Outside, call.Reply.TheVariants.Bytes, datum.Datum.Datum}
 use Rattle.tx_attempts.specs.Attempts.{ByAbort, memory_after}
 use Rattle.tx_player.specs.Replies.{MayReply}
@@ -238,3 +238,23 @@ ends_in_one = (λ some call reply next may call' next'. absurd (let both : None 
 -- a commit within a block is done, and a begin is not
 may_not_reply : (MayReply 1 Commit (Refused Outside) → ⊥) × (MayReply 0 (Begin plain 3) Done → ⊥)
 may_not_reply = (λ may. absurd (let same : Refused Outside ≡ Done = may (omega arith) in cc), λ may. may)
+
+-- ## A block within another goes back once another thread has committed, and what it had read is taken out; not where none has, and not an outermost block
+
+abbrev inner : CallRecord
+inner = record { call = Begin plain 0; reply = Code 5 }
+
+abbrev before : Attempt
+before = tried 0 1 0 [] (inner ∷ read 0 ∷ []) Unfinished
+
+abbrev begun_again : Attempt
+begun_again = record (tried 0 1 0 [] (inner ∷ []) Unfinished) { at = 1; restarts = record { kept = 1; arena = []; undone = [] } ∷ [] }
+
+went_back : GoesBack 2 before begun_again
+went_back = record { moved = omega arith; same = record { thread = refl; nth = refl; began = refl; props = refl; arena = refl }; again = record { kept = 1; arena = []; undone = [] }; outer = []; innermost = refl; calls = refl; restarts = refl; told = 0; ran = refl }
+
+not_alone : (row : Attempt) → GoesBack 1 before row → ⊥
+not_alone row back = absurd (let moved = back.moved in omega arith)
+
+not_outermost : (row : Attempt) → GoesBack 2 (tried 0 1 0 [] (read 0 ∷ []) Unfinished) row → ⊥
+not_outermost row back = absurd (let some : [] ≡ back.again.kept ∷ back.outer = back.innermost in cc)

@@ -6,3 +6,4 @@ pub mod ActionRoom
 pub mod RecordedRoom
 pub mod FedPlayers
 pub mod AskingActors
+pub mod RestartRoom

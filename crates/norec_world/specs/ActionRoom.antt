@@ -1,19 +1,25 @@
--- The actions of an actor's transaction: which of them have run, and the places for those that are to run. And the places for its calls.
-use Rattle.std.specs.Prelude.{◌≡◌, ℕ, ◌+◌, ◌-◌, ◌<◌, ◌≤◌, ◌||◌, max, if◌then◌else◌, Bool, true, false, [], length, is_some, Option, None, Some, unwrap_or}
+-- The actions of an actor's transaction: which of them have run, and the places for those that are to run. And the places for its calls, and for a block of it that runs again.
+use Rattle.std.specs.Prelude.{◌≡◌, ℕ, ◌+◌, ◌-◌, ◌<◌, ◌≤◌, ◌&&◌, ◌||◌, not, nat_lt, max, if◌then◌else◌, Bool, true, false, List, [], ◌∷◌, length, is_some, Option, None, Some, unwrap_or}
 use Rattle.itm_types.specs.Calls.{is_abort, is_begin, registered_by}
 use Rattle.user_actions.specs.Actions.{total}
-use Rattle.norec_core.specs.Core.{Core, irrevocable_room, in_transaction}
+use Rattle.norec_core.specs.Core.{Core, irrevocable_room, in_transaction, is_within}
+use Rattle.norec_core.specs.Restarts.{IsRestart}
 use Rattle.itm_types.specs.declared.call.Call.{Call}
 use Rattle.norec_engine.specs.RestartingCalls.{can_restart}
+use Rattle.norec_core.specs.declared.answer.Answer.{Answer as Given}
 use Rattle.norec_core.specs.declared.answer.Next.{Next}
 use Rattle.norec_core.specs.declared.answer.Next.TheVariants.{Step, Answer}
 use Rattle.tx_attempts.specs.declared.attempt.Attempt.{Attempt}
+use Rattle.tx_runs.specs.OpenAttempts.{IsBacked, told_in}
+use Rattle.tx_runs.specs.PlayerRuns.{MayGoBack, stage_of}
+use Rattle.tx_runs.specs.Savepoints.{AreSavepoints}
+use Rattle.tx_runs.specs.Tallies.{Stage, outside, begins, within, stand_of}
 use Rattle.tx_runs.specs.declared.player_run.Current.{Current}
 use Rattle.tx_runs.specs.declared.player_run.Current.TheVariants.{Begins, Outside, Within}
 use Rattle.norec_world.specs.declared.actor.Actor.{Actor}
 use Rattle.norec_world.specs.declared.actor.Status.{Status}
 use Rattle.norec_world.specs.declared.actor.Status.TheVariants.{Ready, Waits, Ended}
-use Rattle.tx_attempts.specs.Beginnings.{IsBeginningOf}
+use Rattle.tx_runs.specs.declared.savepoint.Savepoint.{Savepoint}
 use Rattle.norec_world.specs.Stages.{active_of, pending_of, ends_in, cancels_in}
 
 -- the call in progress is no cancel, and registers nothing
@@ -42,6 +48,27 @@ wanted e = unwrap_or (goes_in e e.doing) 0
 -- the bytes of the arena, where the innermost block may run again by the call
 abbrev pub arena_ahead : Core → Call → Option ℕ
 arena_ahead e call = if can_restart e call then Some (length e.arena) else None
+
+-- an inner block is open that may go back to its begin, and a restart is left; by a call that waits for a step it may
+abbrev pub may_go_back : Core → Bool
+may_go_back e = nat_lt e.restarted e.restarts && (not e.irrevocable && is_within e.blocks)
+
+-- there is room for one more block of the open attempt that runs again, from an arena of so many bytes, where so many actions may have run
+abbrev pub BacksIn : ℕ → ℕ → Current → Type 0
+BacksIn bytes actions Outside = Unit {0}
+BacksIn bytes actions (Begins o) = Unit {0}
+BacksIn bytes actions (Within o) = IsBacked bytes actions o
+
+-- these open inner blocks, the innermost first, began with no more actions told than so many, and each with no more than the one within it
+abbrev pub BeganWith : ℕ → List Savepoint → Type 0
+BeganWith told [] = Unit {0}
+BeganWith told (s ∷ outer) = (s.ran ≤ told) × BeganWith s.ran outer
+
+-- so did those of the open attempt, with no more than are told now; they are those that its calls say
+abbrev pub BeganIn : Stage → Type 0
+BeganIn outside = Unit {0}
+BeganIn (begins row) = Unit {0}
+BeganIn (within row points) = AreSavepoints points row.calls.list × BeganWith (length row.ran) points
 
 -- how many inner blocks the call opens at most
 abbrev pub opened_by : Call → ℕ
@@ -84,17 +111,17 @@ module _ {P : Type 0} where
   abbrev pub HasRoomFor : Core → Actor P → Type 0
   HasRoomFor e a = is_held e ≡ true → 0 < e.room → (counted e + e.room ≤ ends_in a.run.current) × (counted e + e.room ≤ cancels_in a.run.current)
 
-  -- no block of the actor's open attempt, if it has one, has run again
-  abbrev pub NeverRestarts : Actor P → Type 0
-  NeverRestarts a = (row : Attempt) → active_of a ≡ Some row → row.restarts ≡ []
+  -- the actor's open attempt, if it has one, tells of no more blocks that ran again than have gone back
+  abbrev pub HasFew : Actor P → Type 0
+  HasFew a = (row : Attempt) → active_of a ≡ Some row → length row.restarts ≤ a.engine.restarted
 
-  -- the actor's open attempt, if it has one, has the actions that have run
+  -- and of as many actions as have come to run, as run or as undone
   abbrev pub HasAll : Actor P → Type 0
-  HasAll a = (row : Attempt) → active_of a ≡ Some row → row.ran ≡ a.engine.actions.ran
+  HasAll a = (row : Attempt) → active_of a ≡ Some row → told_in row ≡ length a.engine.actions.ran
 
-  -- or the first of them
+  -- or of fewer
   abbrev pub HasFirst : Actor P → Type 0
-  HasFirst a = (row : Attempt) → active_of a ≡ Some row → IsBeginningOf row.ran a.engine.actions.ran
+  HasFirst a = (row : Attempt) → active_of a ≡ Some row → told_in row ≤ length a.engine.actions.ran
 
   -- all that are registered have a place where the attempt ends
   abbrev pub HasPlaces : Actor P → Type 0
@@ -102,19 +129,19 @@ module _ {P : Type 0} where
 
   -- those that a cancel has run have one where it does not end
   abbrev pub HasCancelPlaces : Actor P → Type 0
-  HasCancelPlaces a = in_transaction a.engine ≡ true → (row : Attempt) → active_of a ≡ Some row → length row.ran < length a.engine.actions.ran → length a.engine.actions.ran ≤ cancels_in a.run.current
+  HasCancelPlaces a = in_transaction a.engine ≡ true → (row : Attempt) → active_of a ≡ Some row → told_in row < length a.engine.actions.ran → length a.engine.actions.ran ≤ cancels_in a.run.current
 
-  -- none has run in an attempt that is to be opened, and no block
+  -- none has run in an attempt that is to be opened, which has no call, and no block that ran again
   abbrev pub StartsEmpty : Actor P → Type 0
-  StartsEmpty a = (row : Attempt) → pending_of a ≡ Some row → (row.ran ≡ []) × (row.restarts ≡ [])
+  StartsEmpty a = (row : Attempt) → pending_of a ≡ Some row → (row.ran ≡ []) × (row.restarts ≡ []) × (row.calls.list ≡ [])
 
   -- there are none where the transaction has just begun
   abbrev pub BeginsEmpty : Actor P → Type 0
   BeginsEmpty a = in_transaction a.engine ≡ true → active_of a ≡ None → total a.engine.actions ≡ 0
 
   -- the list of the actor's open attempt promises no more places than that
-  abbrev pub IsBacked : Actor P → Status → Type 0
-  IsBacked a status = (row : Attempt) → active_of a ≡ Some row → PromisesAs a.engine status row
+  abbrev pub IsPromised : Actor P → Status → Type 0
+  IsPromised a status = (row : Attempt) → active_of a ≡ Some row → PromisesAs a.engine status row
 
   -- an attempt that is to be opened has the room that its begin asks for, and so does the engine of any call
   pub record HasAsked (a : Actor P) : Type 0 where
@@ -126,44 +153,56 @@ module _ {P : Type 0} where
   AsksAs a (Waits call step) = HasAsked a
   AsksAs a (Ended end) = Unit {0}
 
+  -- where the innermost block may run again by the call in progress, there is room for what is told of that
+  abbrev pub RenewsAs : Actor P → Status → Type 0
+  RenewsAs a Ready = Unit {0}
+  RenewsAs a (Waits call step) = may_go_back a.engine ≡ true → BacksIn (length a.engine.arena) (total a.engine.actions) a.run.current
+  RenewsAs a (Ended end) = Unit {0}
+
   -- between two calls, or in one
   pub record IsActing (a : Actor P) : Type 0 where
     pub all : HasAll a
-    pub whole : NeverRestarts a
+    pub few : HasFew a
     pub places : HasPlaces a
     pub pending : StartsEmpty a
     pub status : NoCancel a.status
     pub room : HasRoomFor a.engine a
-    pub backed : IsBacked a a.status
+    pub backed : IsPromised a a.status
     pub asks : AsksAs a a.status
     pub nests : NestsAs a.status a.run.current
+    pub began : BeganIn (stage_of a.run.current)
+    pub renews : RenewsAs a a.status
 
   -- memory was refused to a call of it
   pub record IsRefused (a : Actor P) : Type 0 where
     pub all : HasAll a
-    pub whole : NeverRestarts a
+    pub few : HasFew a
     pub places : HasPlaces a
     pub nothing : pending_of a ≡ None
     pub room : HasRoomFor a.engine a
+    pub began : BeganIn (stage_of a.run.current)
     pub backed : (row : Attempt) → active_of a ≡ Some row → a.engine.irrevocable ≡ true → row.calls.room ≤ max (promised a.engine) 1
 
   -- the call is answered, and nothing is recorded of that yet
-  pub record MayRun (a : Actor P) (call : Call) : Type 0 where
+  pub record MayRun (a : Actor P) (call : Call) (answer : Given) : Type 0 where
     pub first : HasFirst a
-    pub whole : NeverRestarts a
+    pub few : HasFew a
+    pub fewer : IsRestart answer → (row : Attempt) → active_of a ≡ Some row → length row.restarts < a.engine.restarted
     pub places : HasPlaces a
-    pub cancel_places : HasCancelPlaces a
+    pub cancel_places : (IsRestart answer → ⊥) → HasCancelPlaces a
     pub pending : StartsEmpty a
     pub anew : BeginsEmpty a
     pub room : HasRoomFor a.engine a
     pub over : in_transaction a.engine ≡ false → is_held a.engine ≡ false
     pub still : is_held a.engine ≡ true → HasAll a
     pub place : (row : Attempt) → active_of a ≡ Some row → 0 < row.calls.room
-    pub adds : in_transaction a.engine ≡ true → (row : Attempt) → active_of a ≡ Some row → row.calls.room - 1 ≤ promised a.engine
+    pub adds : (IsRestart answer → ⊥) → in_transaction a.engine ≡ true → (row : Attempt) → active_of a ≡ Some row → row.calls.room - 1 ≤ promised a.engine
     pub opens : in_transaction a.engine ≡ true → (row : Attempt) → pending_of a ≡ Some row → row.calls.room ≤ promised a.engine
     pub nests : NestsBy call a.run.current
+    pub began : BeganIn (stage_of a.run.current)
+    pub renews : IsRestart answer → MayGoBack (stand_of a.engine) a.run.current
 
   -- what the engine gave for the call is to be recorded
   abbrev pub MayRunOn : Actor P → Call → Next → Type 0
   MayRunOn a call (Step step) = IsActing (record a { status = Waits call step })
-  MayRunOn a call (Answer answer) = MayRun a call
+  MayRunOn a call (Answer answer) = MayRun a call answer

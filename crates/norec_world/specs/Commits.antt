@@ -12,7 +12,7 @@ pub record HasLimits {P : Type 0} (w : World P) (a : Actor P) : Type 0 where
   pub patience : a.engine.patience ≡ w.patience
   pub max_commits : a.engine.max_commits ≡ w.max_commits
   pub depth : a.engine.depth ≡ w.depth
-  pub restarts : a.engine.restarts ≡ 0  -- no block of it goes back to its begin alone
+  pub restarts : a.engine.restarts ≡ w.restarts
 
 -- the committed attempts, the clock and its holder go together
 pub record CommitsInOrder {P : Type 0} (w : World P) : Type 0 where

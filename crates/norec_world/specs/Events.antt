@@ -7,7 +7,7 @@ use Rattle.norec_world.specs.Rows.{Rows}
 use Rattle.norec_world.specs.Status.{ending_of}
 use Rattle.norec_world.specs.Stages.{KeepsOthers}
 use Rattle.norec_world.specs.ClockHolder.{ClocksOn}
-use Rattle.norec_world.specs.Tries.{Tries, prior_of}
+use Rattle.norec_world.specs.Tries.{Continues, Tries, prior_of}
 use Rattle.norec_world.specs.LocalWork.{TakesIn, Works}
 use Rattle.tx_player.specs.Rules.{Rules}
 
@@ -17,7 +17,7 @@ module _ {P : Type 0} (rules : Rules P) where
     pub stepped : Actor P
     pub takes : TakesIn rules cells r a rows stepped  -- its step is done, and the value goes to its engine
     pub works : Works rules cells'.clock rows stepped r' a'  -- and then it does its local work
-    pub tries : Tries cells.clock (prior_of r a) cells'.clock r' a'  -- what becomes of its try
+    pub tries : Tries (Continues cells.clock) cells.clock (prior_of r a) cells'.clock r' a'  -- what becomes of its try: a block of it may have gone back as its step was done, and then it went on
     pub finishes : ending_of a'.status ≡ Some Finished → rules.next_call a'.run.player ≡ None  -- it finishes only where its player has no more calls
     pub others : KeepsOthers a r a' r'  -- the others' attempts stay
     pub clocks : ClocksOn cells a.engine cells' a'.engine

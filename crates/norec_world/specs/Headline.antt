@@ -7,7 +7,7 @@ use Rattle.tx_player.specs.Rules.{Rules}
 use Rattle.norec_world.specs.Dates.{AreDated}
 use Rattle.tx_attempts.specs.Opacity.{Between, IsRunOf}
 use Rattle.tx_attempts.specs.Outrun.{AreOutrun}
-use Rattle.tx_runs.specs.Unbroken.{AreUnbroken}
+use Rattle.tx_runs.specs.Restarts.{RestartAtMost}
 
 -- the bytes that the first commits left, each run alone on those that the one before it left, where `deepest` blocks may be open at once
 abbrev pub bytes_at : ℕ → List ℕ → List Attempt → ℕ → List ℕ
@@ -34,6 +34,7 @@ pub record Observed (P : Type 0) : Type 0 where
   pub arena : ℕ  -- the bytes of each player's arena
   pub retries : ℕ  -- how often a block may be tried again
   pub depth : ℕ  -- how many blocks may be open at once
+  pub restarts : ℕ  -- how often inner blocks of one attempt may run again alone
   pub attempts : List Attempt  -- those that have ended, in the order in which they did, and then the open ones, by actor
   pub clock : ℕ
   pub bytes : List ℕ  -- the memory
@@ -47,6 +48,6 @@ module _ {P : Type 0} (rules : Rules P) where
     pub counted : AreCounted o.clock o.attempts  -- the clock counts the commits
     pub outrun : AreOutrun o.clock o.attempts  -- it has moved on from where each conflict had read
     pub dated : AreDated o.retries [] o.attempts  -- the attempts tell which try each is, and when it began
-    pub unbroken : AreUnbroken o.attempts  -- no inner block runs again alone
+    pub few : RestartAtMost o.restarts o.attempts  -- no attempt tells of more blocks that ran again than may
     pub size : length o.bytes ≡ length o.base
     pub free : o.clock % 2 ≡ 0 → o.bytes ≡ bytes_at o.depth o.base o.attempts (o.clock / 2)  -- the bytes are those that all commits left, but while one of them is stored

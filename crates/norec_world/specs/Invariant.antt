@@ -13,13 +13,12 @@ use Rattle.norec_world.specs.Runs.{RunsFrom}
 use Rattle.norec_world.specs.Headline.{AreOfActors, first_of}
 use Rattle.norec_world.specs.World.{World}
 use Rattle.tx_player.specs.Rules.{Rules}
-use Rattle.tx_runs.specs.Unbroken.{AreUnbroken}
+use Rattle.tx_runs.specs.Restarts.{RestartAtMost}
 
 -- the attempt is the actor's present try, and comes next after those that have ended
 pub record IsTry {P : Type 0} (retries : ℕ) (r : Rows) (a : Actor P) (row : Attempt) : Type 0 where
   pub thread : row.thread ≡ a.run.thread
   pub nth : row.nth ≡ a.run.nth
-  pub unbroken : row.restarts ≡ []
   pub dated : IsDated retries r.ended row
 
 -- so is the actor's open one, or the one that is to be opened
@@ -30,7 +29,7 @@ pub record IsDatedActor {P : Type 0} (retries : ℕ) (r : Rows) (a : Actor P) : 
 -- each attempt comes next after those that ended before it
 pub record IsDatedWorld {P : Type 0} (w : World P) : Type 0 where
   pub ended : AreDated w.retries [] w.attempts.ended
-  pub unbroken : AreUnbroken w.attempts.ended
+  pub few : RestartAtMost w.restarts w.attempts.ended
   pub each : (place : ℕ) (a : Actor P) → slice_get w.actors place ≡ Some a → IsDatedActor w.retries w.attempts a
 
 module _ {P : Type 0} (rules : Rules P) where

@@ -6,6 +6,7 @@ use Rattle.norec_core.specs.declared.answer.Next.{Next}
 use Rattle.norec_core.specs.Moves.{IsResumed}
 use Rattle.norec_core.specs.Proceeds.{MayStarve}
 use Rattle.norec_core.specs.Undoing.{after_undoing}
+use Rattle.norec_engine.specs.RestartingCalls.{can_restart}
 use Rattle.itm_types.specs.Calls.{is_abort, is_begin, registered_by}
 use Rattle.user_actions.specs.Actions.{total}
 use Rattle.norec_core.specs.Core.{in_transaction}
@@ -28,9 +29,9 @@ pub record SameActor {P : Type 0} (a a' : Actor P) : Type 0 where
   pub retries : a'.run.retries ≡ a.run.retries
   pub nothing : a'.status ≡ Ready → pending_of a' ≡ None
 
--- There is no room for one action more that runs at the attempt's end, or for those that have run once a cancel is done. Of an irrevocable attempt that is so only once its commit actions have used its room up.
+-- There is no room for one action more that runs at the attempt's end, or for those that have run once a cancel is done; or room is wanted for what is told of the innermost block, which may run again by the call. Of an irrevocable attempt that is so only once its commit actions have used its room up.
 abbrev pub LacksRoom : {P : Type 0} → Actor P → Call → Type 0
-LacksRoom a call = (a.engine.irrevocable ≡ true → a.engine.room ≡ 0) × (((is_some (registered_by call) ≡ true) × (ends_in a.run.current ≤ total a.engine.actions)) ⊎ ((is_abort call ≡ true) × (cancels_in a.run.current < total a.engine.actions)))
+LacksRoom a call = (a.engine.irrevocable ≡ true → a.engine.room ≡ 0) × (((is_some (registered_by call) ≡ true) × (ends_in a.run.current ≤ total a.engine.actions)) ⊎ ((is_abort call ≡ true) × (cancels_in a.run.current < total a.engine.actions)) ⊎ (can_restart a.engine call ≡ true))
 
 -- within a block memory is wanted for the call with its reply where there is no room left for them, likewise for the actions that it leaves, or by the call for itself
 abbrev pub IsShort : {P : Type 0} → Actor P → Call → Type 0

@@ -12,8 +12,9 @@ use Rattle.norec_world.specs.Rows.{Rows}
 use Rattle.norec_world.specs.Runs.{StillRuns}
 use Rattle.norec_world.specs.Sound.{Falls, GoesOn, IsNoMore, IsSound}
 use Rattle.norec_world.specs.Status.{ending_of, is_ready, is_waiting, waiting_step}
-use Rattle.norec_world.specs.Tries.{Tries, prior_of}
+use Rattle.norec_world.specs.Tries.{Continues, Extends, Tries, prior_of}
 use Rattle.tx_player.specs.Rules.{Rules}
+use Rattle.tx_runs.specs.Ranks.{restarts_left}
 
 module _ {P : Type 0} (rules : Rules P) where
   -- the operation that it waited for was done, and its engine took in what was found
@@ -21,19 +22,19 @@ module _ {P : Type 0} (rules : Rules P) where
     pub sound : IsSound rules cells' r' a'
     pub cells_are : (step : Step) → waiting_step a.status ≡ Some step → cells' ≡ cells_after cells step
     pub takes : TakesIn rules cells r a r' a'
-    pub tries : Tries cells.clock (prior_of r a) cells'.clock r' a'
+    pub tries : Tries (Continues cells.clock) cells.clock (prior_of r a) cells'.clock r' a'
     pub runs : StillRuns rules cells r a cells' r' a'
     pub others : KeepsOthers a r a' r'
     pub clocks : ClocksOn cells a.engine cells' a'.engine
     pub unfinished : ending_of a'.status ≡ Some Finished → ⊥
     pub goes_on : is_waiting a'.status ≡ true → GoesOn rules a a'
-    pub falls : is_ready a'.status ≡ true → Falls rules (in_transaction a.engine) (in_transaction a'.engine) a a'
+    pub falls : is_ready a'.status ≡ true → Falls rules (in_transaction a.engine) (in_transaction a'.engine) (restarts_left a.engine) (restarts_left a'.engine) a a'
 
   -- it made calls of its player, as many as it could or some of them
   pub record HasWorked (cells : Cells) (r : Rows) (a : Actor P) (r' : Rows) (a' : Actor P) : Type 0 where
     pub sound : IsSound rules cells r' a'
     pub works : Works rules cells.clock r a r' a'
-    pub tries : is_ready a.status ≡ true → Tries cells.clock (prior_of r a) cells.clock r' a'
+    pub tries : is_ready a.status ≡ true → Tries Extends cells.clock (prior_of r a) cells.clock r' a'
     pub runs : StillRuns rules cells r a cells r' a'
     pub others : KeepsOthers a r a' r'
     pub holds : a'.engine.holds ≡ a.engine.holds

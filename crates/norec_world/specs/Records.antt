@@ -2,7 +2,6 @@
 use Rattle.std.specs.Prelude.{◌≡◌, ℕ, ◌/◌, ◌++◌, Option, None, Some, unwrap_or}
 use Rattle.itm_types.specs.declared.call.Call.{Call}
 use Rattle.norec_core.specs.Moves.{IsCalled}
-use Rattle.norec_core.specs.Restarts.{IsRestart}
 use Rattle.norec_core.specs.declared.answer.Answer.{Answer}
 use Rattle.norec_core.specs.declared.answer.Next.{Next}
 use Rattle.norec_core.specs.declared.answer.Next.TheVariants.{Step as Steps, Answer as Answers}
@@ -32,9 +31,8 @@ pub record TakesTo {P : Type 0} (taken : Taken P) (r r' : Rows) (old new : Actor
   pub status : new.status ≡ status_after taken.end
 
 module _ {P : Type 0} (rules : Rules P) where
-  -- the actor has the engine that answered; no block goes back to its begin alone
+  -- the actor has the engine that answered
   pub record Records (r r' : Rows) (old new : Actor P) (call : Call) (answer : Answer) : Type 0 where
-    pub whole : IsRestart answer → ⊥
     pub takes : TakesTo (took_in rules old.run.retries (tally_of old.run) call answer (stand_of new.engine)) r r' old new
 
   -- of what the engine gave for the call: it waits for the step, or its answer is recorded

@@ -1,18 +1,16 @@
 -- The run of an actor's player, as far as it has come.
-use Rattle.std.specs.Prelude.{◌≡◌, ℕ, ◌<◌, ◌≤◌, ◌/◌, Bool, true, false, List, [], Some}
-use Rattle.itm_types.specs.declared.row.LogRow.{LogRow}
-use Rattle.itm_types.specs.Memory.{bytes_of, IsMemory, Agrees}
-use Rattle.itm_model.specs.Machine.{opened}
+use Rattle.std.specs.Prelude.{◌≡◌, ℕ, ◌<◌, ◌≤◌, ◌/◌, true, false, List, [], Some}
 use Rattle.norec_core.specs.Core.{Core, in_transaction, may_go}
-use Rattle.norec_core.specs.Stands.{stands_for}
 use Rattle.tx_attempts.specs.declared.attempt.Attempt.{Attempt}
 use Rattle.tx_runs.specs.declared.ending.End.TheVariants.{GaveUp, NoMemory}
 use Rattle.norec_world.specs.declared.actor.Actor.{Actor}
 use Rattle.tx_attempts.specs.Attempts.{of_thread}
-use Rattle.tx_attempts.specs.Alone.{state_then, IsAlone}
-use Rattle.tx_attempts.specs.Opacity.{Between, begin_code, IsRunOf}
-use Rattle.tx_attempts.specs.Restarts.{breaks_of}
-use Rattle.tx_runs.specs.Runs.{IsOfBlock, LeadsTo, begins_at, run_after}
+use Rattle.tx_attempts.specs.Opacity.{Between, IsRunOf}
+use Rattle.tx_runs.specs.OpenTries.{IsOpenTry}
+use Rattle.tx_runs.specs.PlayerRuns.{stage_of}
+use Rattle.tx_runs.specs.Runs.{LeadsTo, begins_at, run_after}
+use Rattle.tx_runs.specs.Tallies.{within}
+use Rattle.tx_runs.specs.declared.savepoint.Savepoint.{Savepoint}
 use Rattle.norec_world.specs.Cells.{Cells}
 use Rattle.norec_world.specs.Records.{ReadsAt}
 use Rattle.norec_world.specs.Rows.{Rows}
@@ -25,22 +23,11 @@ use Rattle.norec_world.specs.HeldAttempts.{IsHeld}
 use Rattle.norec_world.specs.PlayerRooms.{ComesTo, EndsWithin, TellsRoom}
 use Rattle.tx_player.specs.Rules.{Rules}
 
--- the memory that an attempt reads may be this one: one that agrees with its log, or, of an irrevocable attempt, that of its position
-abbrev pub ReadsFrom : Bool → List ℕ → List LogRow → List ℕ → Type 0
-ReadsFrom false position log m = Agrees m log
-ReadsFrom true position log m = m ≡ position
-
 module _ {P : Type 0} (rules : Rules P) where
-  -- the open attempt: its calls are those of its player alone, over every memory that it may have read; the words of its position are these
-  pub record IsInTry (deepest : ℕ) (position : List ℕ) (b : Between P) (row : Attempt) (p : P) (e : Core) : Type 0 where
-    pub block : IsOfBlock rules deepest b row p
-    pub began : row.began ≤ e.snapshot / 2
+  -- the open attempt: the engine's, in which no begin of an outermost block is in progress; the words of its position are these
+  pub record IsInTry (deepest : ℕ) (position : List ℕ) (b : Between P) (row : Attempt) (points : List Savepoint) (p : P) (e : Core) : Type 0 where
+    pub open_try : IsOpenTry rules deepest position b row points p e
     pub anew : e.again ≡ false
-    pub restarts : row.restarts ≡ []  -- no block of it has run again
-    pub ran : row.ran ≡ e.actions.ran
-    pub alone : (m : List ℕ) → IsMemory e.words m → ReadsFrom e.irrevocable position e.log m
-        → IsAlone rules deepest (breaks_of row.restarts) (rules.answered block.start.player (begin_code b.again)) (opened (bytes_of m) block.start.arena block.start.props) row.calls.list
-    pub stands : e.irrevocable ≡ false → (m : List ℕ) → IsMemory e.words m → Agrees m e.log → stands_for e m ≡ state_then deepest (breaks_of row.restarts) (opened (bytes_of m) block.start.arena block.start.props) row.calls.list
 
   -- before the next one, with so many commits done: the player has come as far as its calls outside a transaction led, and perhaps called its begin
   pub record IsBeforeTry (deepest n : ℕ) (b : Between P) (a : Actor P) : Type 0 where
@@ -56,8 +43,8 @@ module _ {P : Type 0} (rules : Rules P) where
   -- the actor's attempts are its player's run from here, over the memories of so many commits, and each saw what its player gets alone
   pub record IsRun (first : Between P) (deepest : ℕ) (base : List ℕ) (n : ℕ) (r : Rows) (a : Actor P) : Type 0 where
     pub run : IsRunOf rules deepest n (bytes_at deepest base r.ended) (Some first) (of_thread a.run.thread r.ended)
-    pub inside : in_transaction a.engine ≡ true → (b : Between P) × (row : Attempt) × (run_after rules deepest (bytes_at deepest base r.ended) (Some first) (of_thread a.run.thread r.ended) ≡ Some b) × (active_of a ≡ Some row)
-        × IsInTry deepest (words_at deepest base r.ended n) b row a.run.player a.engine × (a.run.again ≡ true) × (row.nth ≡ a.run.nth)
+    pub inside : in_transaction a.engine ≡ true → (b : Between P) × (row : Attempt) × (run_after rules deepest (bytes_at deepest base r.ended) (Some first) (of_thread a.run.thread r.ended) ≡ Some b)
+        × (points : List Savepoint) × (stage_of a.run.current ≡ within row points) × IsInTry deepest (words_at deepest base r.ended n) b row points a.run.player a.engine × (a.run.again ≡ true) × (row.nth ≡ a.run.nth)
     pub between : in_transaction a.engine ≡ false → (ending_of a.status ≡ Some GaveUp → ⊥) → (ending_of a.status ≡ Some NoMemory → ⊥)
         → (b : Between P) × (run_after rules deepest (bytes_at deepest base r.ended) (Some first) (of_thread a.run.thread r.ended) ≡ Some b) × IsBeforeTry deepest n b a
 
@@ -65,6 +52,7 @@ module _ {P : Type 0} (rules : Rules P) where
   pub record IsFed (p : P) (a : Actor P) : Type 0 where
     pub moves : ℕ
     pub comes : ComesTo rules moves p a.run.player
+    pub blocks : (d : ℕ) → 1 < d → d ≤ rules.depth a.run.player → (n : ℕ) × ComesTo rules n p (rules.at_block a.run.player d)  -- also where it goes back to, as just after the begin of an inner block
     pub within : a.engine.irrevocable ≡ true → (row : Attempt) → active_of a ≡ Some row → EndsWithin rules row.calls.room a.run.player
     pub fed : ending_of a.status ≡ Some NoMemory → a.engine.irrevocable ≡ false
 

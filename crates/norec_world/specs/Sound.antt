@@ -1,5 +1,5 @@
 -- What is true of an actor between two events.
-use Rattle.std.specs.Prelude.{◌≡◌, ℕ, ◌+◌, ◌-◌, ◌*◌, ◌<◌, ◌≤◌, Bool, true, false, if◌then◌else◌, is_some, length, None, Some}
+use Rattle.std.specs.Prelude.{◌≡◌, ℕ, ◌+◌, ◌-◌, ◌^◌, ◌<◌, ◌≤◌, Bool, true, false, if◌then◌else◌, is_some, length, None, Some}
 use Rattle.itm_types.specs.declared.call.Call.{Call}
 use Rattle.itm_types.specs.declared.call.Props.{Props}
 use Rattle.itm_types.specs.declared.call.Call.TheVariants.{Begin, Commit}
@@ -20,6 +20,7 @@ use Rattle.norec_core.specs.declared.answer.Answer.TheVariants.{Reply, Committed
 use Rattle.tx_attempts.specs.declared.attempt.Attempt.{Attempt}
 use Rattle.tx_attempts.specs.declared.attempt.Outcome.TheVariants.{Unfinished}
 use Rattle.tx_runs.specs.Nesting.{IsNested, whole}
+use Rattle.tx_runs.specs.Ranks.{restarts_left, rank as rank_of}
 use Rattle.norec_world.specs.declared.actor.Actor.{Actor}
 use Rattle.norec_world.specs.declared.actor.Status.{Status}
 use Rattle.norec_world.specs.declared.actor.Status.TheVariants.{Ready, Waits, Ended}
@@ -29,6 +30,7 @@ use Rattle.norec_world.specs.Records.{Tells}
 use Rattle.norec_world.specs.Rows.{Rows}
 use Rattle.norec_world.specs.Stages.{KeepsOthers, active_of, count_of, pending_of, with_room}
 use Rattle.tx_runs.specs.PlayerRuns.{stage_of}
+use Rattle.tx_runs.specs.Tallies.{Stage, outside, begins, within}
 use Rattle.norec_world.specs.Status.{is_ready, is_waiting}
 use Rattle.tx_player.specs.Rules.{Rules}
 
@@ -41,7 +43,7 @@ pub record IsTied (cells : Cells) (e : Core) : Type 0 where
   pub late : e.clock ≤ cells.clock
   pub holder : e.holds ≡ true → cells.clock ≡ e.clock + 1
   pub settled : IsSettled e
-  pub restarts : e.restarts ≡ 0  -- no block goes back to its begin alone
+  pub small : e.restarts < 2 ^ 32
 
 -- an outermost begin that is not refused loads the clock, and one that goes irrevocable takes it as it was just loaded
 abbrev pub BeginsAt : Core → Phase → Type 0
@@ -73,20 +75,27 @@ module _ {P : Type 0} where
     pub nth : row.nth ≡ a.run.nth
     pub outcome : row.outcome ≡ Unfinished
 
-  -- tries of its block that are left after the present or next one
-  abbrev pub tries_left : Actor P → ℕ
-  tries_left a = a.run.retries + 1 - a.run.nth
-
 -- ## Answers
 
--- what an answer leaves: the engine was open or not as the call came, with so many blocks, and now is as this says; no block goes back to its begin alone
+-- what an answer leaves: the engine was open or not as the call came, with so many blocks, and now is as this says; the block that goes back to its begin is not the outermost one
 abbrev pub AnswerFits : Bool → ℕ → Bool → ℕ → Call → Answer → Type 0
 AnswerFits was before now deep call (Reply r) = (depth_after before call r ≡ deep) × (is_abort call ≡ false → was ≡ true → now ≡ true)
 AnswerFits was before now deep call (Committed at wrote) = (was ≡ true) × (now ≡ false) × (call ≡ Commit) × (before ≡ 1)
 AnswerFits was before now deep call (Conflict clock word) = (was ≡ false → is_begin call ≡ true) × (now ≡ false)
-AnswerFits was before now deep call (Restarted clock word) = ⊥
+AnswerFits was before now deep call (Restarted clock word) = (was ≡ true) × (now ≡ true) × (before ≡ deep) × (1 < before)
 AnswerFits was before now deep call (Busy clock) = (was ≡ false) × (now ≡ false)
 AnswerFits was before now deep call (Full at) = (was ≡ false → is_begin call ≡ true) × (now ≡ false)
+
+-- so many restarts were left as the call came, and so many are: one that was made is gone, and no other answer leaves more, but where a transaction has ended
+abbrev pub LeavesRestarts : Bool → Bool → ℕ → ℕ → Answer → Type 0
+LeavesRestarts was now before left (Restarted clock word) = left < before
+LeavesRestarts was now before left answer = (was ≡ true → now ≡ false → ⊥) → left ≤ before
+
+-- of its open attempt it is known where each inner block began, where so many blocks are open
+abbrev pub HasPoints : ℕ → Stage → Type 0
+HasPoints deep outside = Unit {0}
+HasPoints deep (begins row) = Unit {0}
+HasPoints deep (within row points) = deep ≡ length points + 1
 
 module _ {P : Type 0} (rules : Rules P) where
   -- the call came from the player, and there is room for what comes of it
@@ -100,6 +109,7 @@ module _ {P : Type 0} (rules : Rules P) where
   pub record IsWaiting (a : Actor P) (call : Call) (step : Step) : Type 0 where
     pub nested : IsNested rules (in_transaction a.engine) a.run.player
     pub depth : rules.depth a.run.player ≡ length a.engine.blocks
+    pub points : HasPoints (rules.depth a.run.player) (stage_of a.run.current)
     pub in_call : IsInCall (in_transaction a.engine) a call
     pub doing : a.engine.doing ≡ Some call
     pub waits : a.engine.waits ≡ Some step
@@ -111,6 +121,7 @@ module _ {P : Type 0} (rules : Rules P) where
   pub record IsReady (a : Actor P) : Type 0 where
     pub nested : IsNested rules (in_transaction a.engine) a.run.player
     pub depth : rules.depth a.run.player ≡ length a.engine.blocks  -- it has as many open as the engine
+    pub points : HasPoints (rules.depth a.run.player) (stage_of a.run.current)
     pub idle : a.engine.waits ≡ None
     pub free : a.engine.holds ≡ a.engine.irrevocable  -- an irrevocable transaction alone holds the clock between two calls
     pub nothing : pending_of a ≡ None
@@ -130,23 +141,29 @@ module _ {P : Type 0} (rules : Rules P) where
 
   -- ## How much is left to do
 
-  -- falls with each answer; k bounds the calls left
-  abbrev pub rank : ℕ → Bool → Actor P → ℕ
-  rank k is_open a = (whole rules is_open a.run.player * (a.run.retries + 1) + tries_left a) * (k + 1) + rules.calls_left a.run.player
+  -- falls with each answer; k bounds the calls left, and so many restarts are left
+  abbrev pub rank : ℕ → Bool → ℕ → Actor P → ℕ
+  rank k is_open left a = rank_of rules a.run.retries a.engine.restarts k is_open a.run.nth left a.run.player
 
-  -- less is left to do
-  pub record Falls (was now : Bool) (old new : Actor P) : Type 0 where
+  -- by its own engine
+  abbrev pub rank_now : ℕ → Actor P → ℕ
+  rank_now k a = rank k (in_transaction a.engine) (restarts_left a.engine) a
+
+  -- less is left to do, where so many restarts were left, and are
+  pub record Falls (was now : Bool) (before left : ℕ) (old new : Actor P) : Type 0 where
     pub whole_falls : whole rules now new.run.player ≤ whole rules was old.run.player
-    pub rank_falls : (k : ℕ) → whole rules was old.run.player ≤ k → rank k now new < rank k was old
+    pub rank_falls : (k : ℕ) → whole rules was old.run.player ≤ k → rank k now left new < rank k was before old
 
   -- ## Answers
 
-  -- the call is answered, and nothing is recorded of that yet
-  pub record IsAnswered (was : Bool) (a : Actor P) (call : Call) (answer : Answer) : Type 0 where
+  -- the call is answered, and nothing is recorded of that yet; so many restarts were left as it came
+  pub record IsAnswered (was : Bool) (before : ℕ) (a : Actor P) (call : Call) (answer : Answer) : Type 0 where
     pub kept : IsKept was a
     pub nested : IsNested rules was a.run.player
     pub in_call : IsInCall was a call
     pub fits : AnswerFits was (rules.depth a.run.player) (in_transaction a.engine) (length a.engine.blocks) call answer
+    pub points : HasPoints (rules.depth a.run.player) (stage_of a.run.current)
+    pub left : LeavesRestarts was (in_transaction a.engine) before (restarts_left a.engine) answer
     pub idle : a.engine.waits ≡ None
     pub free : a.engine.holds ≡ a.engine.irrevocable
     pub status : a.status ≡ Ready
@@ -158,13 +175,13 @@ module _ {P : Type 0} (rules : Rules P) where
   RestsAs (Ended end) a = a.engine.waits ≡ None
 
   -- the answer is recorded
-  pub record IsSettledBy (was : Bool) (old new : Actor P) : Type 0 where
+  pub record IsSettledBy (was : Bool) (before : ℕ) (old new : Actor P) : Type 0 where
     pub engine : new.engine ≡ old.engine
     pub thread : new.run.thread ≡ old.run.thread
     pub retries : new.run.retries ≡ old.run.retries
     pub kept : IsKept (in_transaction new.engine) new
     pub rests : RestsAs new.status new
-    pub falls : new.status ≡ Ready → Falls was (in_transaction new.engine) old new
+    pub falls : new.status ≡ Ready → Falls was (in_transaction new.engine) before (restarts_left new.engine) old new
 
   -- ## A call goes to the engine
 
@@ -182,7 +199,7 @@ module _ {P : Type 0} (rules : Rules P) where
   -- no more is left to do than before
   pub record IsNoMore (old new : Actor P) : Type 0 where
     pub whole_falls : whole rules (in_transaction new.engine) new.run.player ≤ whole rules (in_transaction old.engine) old.run.player
-    pub rank_falls : (k : ℕ) → whole rules (in_transaction old.engine) old.run.player ≤ k → rank k (in_transaction new.engine) new ≤ rank k (in_transaction old.engine) old
+    pub rank_falls : (k : ℕ) → whole rules (in_transaction old.engine) old.run.player ≤ k → rank_now k new ≤ rank_now k old
 
   -- the same call goes on, with fewer steps left
   pub record GoesOn (old new : Actor P) : Type 0 where
@@ -191,32 +208,32 @@ module _ {P : Type 0} (rules : Rules P) where
 
   -- what is left to do in local work
   abbrev pub work_left : ℕ → Actor P → ℕ
-  work_left k a = if is_ready a.status then rank k (in_transaction a.engine) a + 1 else 0
+  work_left k a = if is_ready a.status then rank_now k a + 1 else 0
 
   -- ## What comes next for a call
 
   -- nothing is recorded yet of what the engine gave for the call
-  abbrev pub IsDue : Bool → Actor P → Call → Next → Type 0
-  IsDue was a call (Asks step) = a.status ≡ Ready
-  IsDue was a call (Answers answer) = IsAnswered was a call answer
+  abbrev pub IsDue : Bool → ℕ → Actor P → Call → Next → Type 0
+  IsDue was before a call (Asks step) = a.status ≡ Ready
+  IsDue was before a call (Answers answer) = IsAnswered was before a call answer
 
-  abbrev pub IsDone : Bool → Rows → Rows → Actor P → Actor P → Call → Next → Type 0
-  IsDone was r r' old new call (Asks step) = (new ≡ record old { status = Waits call step }) × (r' ≡ r)
-  IsDone was r r' old new call (Answers answer) = IsSettledBy was old new
+  abbrev pub IsDone : Bool → ℕ → Rows → Rows → Actor P → Actor P → Call → Next → Type 0
+  IsDone was before r r' old new call (Asks step) = (new ≡ record old { status = Waits call step }) × (r' ≡ r)
+  IsDone was before r r' old new call (Answers answer) = IsSettledBy was before old new
 
-  -- it may be recorded: a transaction was open as the call came, or none was
+  -- it may be recorded: a transaction was open as the call came, or none was, and so many restarts were left
   abbrev pub MayRecord : Actor P → Call → Next → Type 0
-  MayRecord a call what = (was : Bool) × IsDue was a call what
+  MayRecord a call what = (was : Bool) × (before : ℕ) × IsDue was before a call what
 
   -- what is recorded of it
-  pub record IsRecorded (was : Bool) (r : Rows) (old : Actor P) (call : Call) (what : Next) (r' : Rows) (new : Actor P) : Type 0 where
-    pub done : IsDone was r r' old new call what
+  pub record IsRecorded (was : Bool) (before : ℕ) (r : Rows) (old : Actor P) (call : Call) (what : Next) (r' : Rows) (new : Actor P) : Type 0 where
+    pub done : IsDone was before r r' old new call what
     pub tells : Tells rules r r' old new call what
     pub others : KeepsOthers old r new r'
 
-  -- and that is so, whichever of the two it was
+  -- and that is so, whichever of the two it was, and however many were left
   abbrev pub WritesDown : Rows → Actor P → Call → Next → Rows → Actor P → Type 0
-  WritesDown r old call what r' new = (was : Bool) → IsDue was old call what → IsRecorded was r old call what r' new
+  WritesDown r old call what r' new = (was : Bool) (before : ℕ) → IsDue was before old call what → IsRecorded was before r old call what r' new
 
   -- steps of the call in progress that are left, where one is
   abbrev pub call_left : Actor P → ℕ
@@ -224,7 +241,7 @@ module _ {P : Type 0} (rules : Rules P) where
 
   -- what is left to do until the actor has ended
   abbrev pub run_left : ℕ → Actor P → ℕ
-  run_left k a = if is_waiting a.status then rank k (in_transaction a.engine) a + 1 else 0
+  run_left k a = if is_waiting a.status then rank_now k a + 1 else 0
 
   -- what an event leaves to do: the same call goes on, or, where it is over, less is left
   pub record HasLess (goes_on : Bool) (old new : Actor P) : Type 0 where

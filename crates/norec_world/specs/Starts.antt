@@ -13,13 +13,13 @@ use Rattle.norec_world.specs.World.{World, attempts_of, ending_at}
 use Rattle.tx_player.specs.Rules.{Rules}
 use Rattle.tx_runs.specs.declared.player_run.Current.TheVariants.{Outside}
 
--- an actor with these limits, before or at the begin of its first try; no block of it goes back to its begin alone
-pub record IsFirst {P : Type 0} (clock patience max_commits retries depth : ℕ) (a : Actor P) : Type 0 where
+-- an actor with these limits, before or at the begin of its first try
+pub record IsFirst {P : Type 0} (clock patience max_commits retries depth restarts : ℕ) (a : Actor P) : Type 0 where
   pub between : IsBetween clock 1 a
   pub patience_is : a.engine.patience ≡ patience
   pub limit : a.engine.max_commits ≡ max_commits
   pub depth_is : a.engine.depth ≡ depth
-  pub restarts_none : a.engine.restarts ≡ 0
+  pub restarts_are : a.engine.restarts ≡ restarts
   pub retries_are : a.run.retries ≡ retries
   pub seen : a.engine.clock ≡ clock
 
@@ -39,12 +39,12 @@ pub record HasStarted {P : Type 0} (rules : Rules P) (clock : ℕ) (engine : Cor
 -- each actor of a world has, with the world's own limits
 abbrev pub AreStarted : {P : Type 0} → Rules P → World P → Type 0
 AreStarted {P} rules w = (place : ℕ) (p : P) (a : Actor P) → slice_get w.opening place ≡ Some p → slice_get w.actors place ≡ Some a
-    → HasStarted rules w.cells.clock (opening (length w.base / 8) (replicate w.arena 0) w.patience w.max_commits w.depth 0) w.retries place p a
+    → HasStarted rules w.cells.clock (opening (length w.base / 8) (replicate w.arena 0) w.patience w.max_commits w.depth w.restarts) w.retries place p a
 
 -- a world before its first event, to which no memory was refused
 pub record IsNew {P : Type 0} (rules : Rules P) (w : World P) : Type 0 where
   pub starts : AreStarted rules w
-  pub first : (place : ℕ) (a : Actor P) → slice_get w.actors place ≡ Some a → IsFirst w.cells.clock w.patience w.max_commits w.retries w.depth a
+  pub first : (place : ℕ) (a : Actor P) → slice_get w.actors place ≡ Some a → IsFirst w.cells.clock w.patience w.max_commits w.retries w.depth w.restarts a
   pub clock : w.cells.clock ≡ 0
   pub words : w.cells.words ≡ words_of w.base
   pub none : attempts_of w ≡ []

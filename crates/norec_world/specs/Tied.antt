@@ -3,7 +3,7 @@ use Rattle.std.specs.Prelude.{◌≡◌, ℕ, ◌/◌, true, false, length, Some
 use Rattle.norec_core.specs.Core.{in_transaction}
 use Rattle.norec_core.specs.Proceeds.{backed}
 use Rattle.norec_world.specs.declared.actor.Actor.{Actor}
-use Rattle.tx_attempts.specs.Attempts.{alone}
+use Rattle.tx_attempts.specs.Attempts.{alone, alone_whole}
 use Rattle.tx_attempts.specs.declared.attempt.Attempt.{Attempt}
 use Rattle.norec_world.specs.ActionRoom.{PromisesAs}
 use Rattle.norec_world.specs.PlayerRooms.{TellsRoom}
@@ -38,6 +38,6 @@ module _ {P : Type 0} (rules : Rules P) where
     pub rooms : (place : ℕ) (a : Actor P) (row : Attempt) → slice_get w.actors place ≡ Some a → active_of a ≡ Some row → PromisesAs a.engine a.status row  -- between two calls an attempt promises its calls no more places than its engine has room, and none before it is irrevocable
     -- where a player tells its room truly, its irrevocable attempt never wants memory
     pub fed : (place : ℕ) (p : P) (a : Actor P) → slice_get w.opening place ≡ Some p → slice_get w.actors place ≡ Some a → TellsRoom rules p → ending_of a.status ≡ Some NoMemory → a.engine.irrevocable ≡ false
-    -- of an irrevocable attempt, with what its calls have stored, and what the call in progress has
+    -- of an irrevocable attempt, with what its calls have stored, and what the call in progress has; the engine's actions are those that had run in blocks that ran again, too
     pub stored : (place : ℕ) (a : Actor P) (row : Attempt) → slice_get w.actors place ≡ Some a → active_of a ≡ Some row → a.engine.irrevocable ≡ true
-        → StandsIn w.depth a.engine.waits a.engine.doing a.engine w.cells.words (alone w.depth (bytes_at w.depth w.base (attempts_of w) (w.cells.clock / 2)) row)
+        → StandsIn w.depth a.engine.waits a.engine.doing a.engine w.cells.words (alone_whole w.depth (bytes_at w.depth w.base (attempts_of w) (w.cells.clock / 2)) row)

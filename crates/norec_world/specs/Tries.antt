@@ -1,6 +1,7 @@
 -- What an event, or the local work of an actor, does to the try that the actor makes of its block.
-use Rattle.std.specs.Prelude.{◌≡◌, ℕ, ◌+◌, ◌*◌, ◌/◌, ◌%◌, ◌<◌, ◌≤◌, Bool, true, false, nat_lt, List, [], ◌∷◌, ◌++◌, Option, None, Some}
+use Rattle.std.specs.Prelude.{◌≡◌, ◌⊎◌, ℕ, ◌+◌, ◌*◌, ◌/◌, ◌%◌, ◌<◌, ◌≤◌, Bool, true, false, nat_lt, List, [], ◌∷◌, ◌++◌, length, take, Option, None, Some}
 use Rattle.norec_core.specs.Core.{may_go}
+use Rattle.tx_attempts.specs.declared.attempt.Again.{Again}
 use Rattle.tx_attempts.specs.declared.attempt.Attempt.{Attempt}
 use Rattle.itm_types.specs.declared.call.Ran.{Ran}
 use Rattle.tx_attempts.specs.declared.attempt.CallRecord.{CallRecord}
@@ -11,23 +12,46 @@ use Rattle.tx_runs.specs.declared.ending.End.TheVariants as ends
 use Rattle.norec_world.specs.declared.actor.Actor.{Actor}
 use Rattle.norec_world.specs.declared.actor.Status.TheVariants.{Ended}
 use Rattle.tx_attempts.specs.Attempts.{ClosedBy}
+use Rattle.tx_attempts.specs.Restarts.{open_in, with_again}
 use Rattle.norec_world.specs.Rows.{Rows}
 use Rattle.norec_world.specs.Stages.{active_of, pending_of}
 use Rattle.tx_runs.specs.Tallies.{begun}
 use Rattle.norec_world.specs.Status.{ending_of}
 
--- it is the same attempt later: it has the calls that it had, and perhaps more, and so the actions that have run; nothing in it was taken back
-pub record Continues (row row' : Attempt) : Type 0 where
+-- the same attempt
+pub record IsSame (row row' : Attempt) : Type 0 where
   pub thread : row'.thread ≡ row.thread
   pub nth : row'.nth ≡ row.nth
   pub began : row'.began ≡ row.began
   pub props : row'.props ≡ row.props
   pub arena : row'.arena ≡ row.arena
+
+-- later: it has the calls that it had, and perhaps more, and so the actions that have run; nothing in it was taken back
+pub record Extends (row row' : Attempt) : Type 0 where
+  pub same : IsSame row row'
   pub more : List CallRecord
   pub calls : row'.calls.list ≡ row.calls.list ++ more
   pub restarts : row'.restarts ≡ row.restarts
   pub more_ran : List Ran
   pub ran : row'.ran ≡ row.ran ++ more_ran
+
+-- its innermost block, which is not the outermost one, goes back to just after its begin: what came since is taken out, and told in a record. Others have committed since it read
+pub record GoesBack (clock : ℕ) (row row' : Attempt) : Type 0 where
+  pub moved : row.at < clock / 2
+  pub same : IsSame row row'
+  pub again : Again
+  pub outer : List ℕ
+  pub innermost : open_in row.calls.list ≡ again.kept ∷ outer
+  pub calls : row'.calls.list ≡ take again.kept row.calls.list
+  pub restarts : row'.restarts ≡ with_again again row.restarts
+  pub told : ℕ
+  pub ran : row'.ran ≡ take told row.ran
+
+-- it is the same attempt later: it went on, after its innermost block had gone back once or not at all
+pub record Continues (clock : ℕ) (row row' : Attempt) : Type 0 where
+  pub base : Attempt
+  pub from : (base ≡ row) ⊎ GoesBack clock row base
+  pub on : Extends base row'
 
 -- how the clock stands before and after an attempt of this position ends so: a writer's own event frees the clock, and no other one's does
 abbrev pub EndsAt : ℕ → ℕ → ℕ → ℕ → Outcome → Type 0
@@ -47,6 +71,7 @@ pub record Prior : Type 0 where
   pub nth : ℕ  -- which try of its block is under way or comes next
   pub retries : ℕ
   pub max_commits : ℕ
+  pub restarts : ℕ  -- how often inner blocks may go back to their begins, in one transaction
   pub seen : ℕ  -- the clock as its engine saw it last
 
 abbrev pub prior_of : {P : Type 0} → Rows → Actor P → Prior
@@ -57,6 +82,7 @@ prior_of r a = record {
   nth = a.run.nth;
   retries = a.run.retries;
   max_commits = a.engine.max_commits;
+  restarts = a.engine.restarts;
   seen = a.engine.clock;
 }
 
@@ -112,13 +138,13 @@ module _ {P : Type 0} where
     pub tries : a.run.nth ≡ p.nth
     pub on : ending_of a.status ≡ None
 
-  -- the attempt is open, or was opened
-  pub record StaysOpen (clock : ℕ) (p : Prior) (clock' : ℕ) (r : Rows) (a : Actor P) : Type 0 where
+  -- the attempt is open, or was opened; it is later in this way
+  pub record StaysOpen (IsLater : Attempt → Attempt → Type 0) (clock : ℕ) (p : Prior) (clock' : ℕ) (r : Rows) (a : Actor P) : Type 0 where
     pub row : Attempt
     pub row' : Attempt
     pub was : current_of p.active p.pending ≡ Some row
     pub now : active_of a ≡ Some row'
-    pub continues : Continues row row'
+    pub continues : IsLater row row'
     pub ended : r.ended ≡ p.ended
     pub half : clock' / 2 ≡ clock / 2
     pub tries : a.run.nth ≡ p.nth
@@ -126,16 +152,17 @@ module _ {P : Type 0} where
     pub fed : ending_of a.status ≡ Some ends.NoMemory → a.engine.irrevocable ≡ true  -- an irrevocable one that finds no memory stays unfinished
 
   -- it has ended
-  pub record EndsIt (clock : ℕ) (p : Prior) (clock' : ℕ) (r : Rows) (a : Actor P) : Type 0 where
+  pub record EndsIt (IsLater : Attempt → Attempt → Type 0) (clock : ℕ) (p : Prior) (clock' : ℕ) (r : Rows) (a : Actor P) : Type 0 where
     pub row : Attempt
     pub row' : Attempt
     pub was : current_of p.active p.pending ≡ Some row
     pub ended : r.ended ≡ p.ended ++ row' ∷ []
-    pub continues : Continues row row'
+    pub continues : IsLater row row'
     pub reads : row'.at ≡ a.engine.snapshot / 2  -- where the engine read last
     pub at : EndsAt p.max_commits clock clock' row'.at row'.outcome
     pub closed : ClosedBy row'.outcome row'.calls.list
     pub spent : row'.calls.room ≡ 0  -- no place is promised in it any more
+    pub few : length row'.restarts ≤ p.restarts  -- no more blocks of it ran again than may
     pub after : GoesOnAfter row'.outcome clock' p a
 
   -- its begin found the clock odd once too often
@@ -170,12 +197,12 @@ module _ {P : Type 0} where
     pub same : clock' ≡ clock
     pub after : HasStopped ends.GaveUp a
 
-  -- one of these
-  pub data Tries (clock : ℕ) (p : Prior) (clock' : ℕ) (r : Rows) (a : Actor P) : Type 0 where
-    between : StaysBetween clock p clock' r a → Tries clock p clock' r a
-    begins : StaysAtBegin clock p clock' r a → Tries clock p clock' r a
-    runs : StaysOpen clock p clock' r a → Tries clock p clock' r a
-    over : EndsIt clock p clock' r a → Tries clock p clock' r a
-    turned_away : IsTurnedAway clock p clock' r a → Tries clock p clock' r a
-    outrun : IsOutrun clock p clock' r a → Tries clock p clock' r a
-    shut_out : IsShutOut clock p clock' r a → Tries clock p clock' r a
+  -- one of these; an attempt that was open is later in this way
+  pub data Tries (IsLater : Attempt → Attempt → Type 0) (clock : ℕ) (p : Prior) (clock' : ℕ) (r : Rows) (a : Actor P) : Type 0 where
+    between : StaysBetween clock p clock' r a → Tries IsLater clock p clock' r a
+    begins : StaysAtBegin clock p clock' r a → Tries IsLater clock p clock' r a
+    runs : StaysOpen IsLater clock p clock' r a → Tries IsLater clock p clock' r a
+    over : EndsIt IsLater clock p clock' r a → Tries IsLater clock p clock' r a
+    turned_away : IsTurnedAway clock p clock' r a → Tries IsLater clock p clock' r a
+    outrun : IsOutrun clock p clock' r a → Tries IsLater clock p clock' r a
+    shut_out : IsShutOut clock p clock' r a → Tries IsLater clock p clock' r a

@@ -12,6 +12,7 @@ world_of w = record {
   max_commits = w.terms.limits.max_commits;
   retries = w.terms.limits.retries;
   depth = w.terms.limits.depth;
+  restarts = w.terms.limits.restarts;
   cells = w.memory;
   actors = w.actors.items;
   attempts = rows_in w.ended;

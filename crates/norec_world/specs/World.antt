@@ -23,6 +23,7 @@ pub record World (P : Type 0) : Type 0 where
   pub max_commits : ℕ
   pub retries : ℕ
   pub depth : ℕ  -- how many blocks may be open at once
+  pub restarts : ℕ  -- how often inner blocks may go back to their begins, in one transaction
   pub cells : Cells
   pub actors : List (Actor P)
   pub attempts : Rows  -- those that have ended
@@ -37,6 +38,7 @@ pub record SameOpening {P : Type 0} (old new : World P) : Type 0 where
   pub max_commits : new.max_commits ≡ old.max_commits
   pub retries : new.retries ≡ old.retries
   pub depth : new.depth ≡ old.depth
+  pub restarts : new.restarts ≡ old.restarts
 
 -- so many events more, standing still at the highest number
 abbrev pub counted : ℕ → ℕ → ℕ
@@ -52,7 +54,7 @@ memory_of w = bytes_of w.cells.words
 
 -- what is seen of it from outside
 abbrev pub observed : {P : Type 0} → World P → Observed P
-observed w = record { players = w.opening; base = w.base; arena = w.arena; retries = w.retries; depth = w.depth; attempts = attempts_of w; clock = w.cells.clock; bytes = memory_of w }
+observed w = record { players = w.opening; base = w.base; arena = w.arena; retries = w.retries; depth = w.depth; restarts = w.restarts; attempts = attempts_of w; clock = w.cells.clock; bytes = memory_of w }
 
 -- how one of these actors ended
 abbrev pub ending_in : {P : Type 0} → List (Actor P) → ℕ → Option End

@@ -132,7 +132,7 @@ impl<P: Player> Actor<P> {
         requires waits { is_waiting self.old.status ≡ true }
         requires answered { InProgress self.old.status
             (λ call. MayRecord P.Player (record self.old { status = Status.Ready }) call (Answers answer)) }
-        requires acts { InProgress self.old.status (λ call. MayRun (record self.old { status = Status.Ready }) call) }
+        requires acts { InProgress self.old.status (λ call. MayRun (record self.old { status = Status.Ready }) call answer) }
         requires place { count_of self.old ≤ (rows_in ended.old).room }
         ensures acts { IsActing self.new }
         ensures recorded { InProgress self.old.status

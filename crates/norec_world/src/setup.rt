@@ -10,6 +10,5 @@ pub struct Setup {
     pub bytes: Bytes,
     /// How many bytes each actor's arena has: at most 4,096.
     pub arena: u32,
-    /// In a world no block goes back to its begin alone, whatever `restarts` says.
     pub limits: Limits,
 }

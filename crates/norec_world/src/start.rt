@@ -37,7 +37,6 @@ pub(crate) struct Terms {
     ghost commits: { limits.max_commits ≤ MAX_COMMITS },
     ghost few: { limits.retries ≤ MAX_RETRIES },
     ghost deep: { 0 < limits.depth },
-    ghost alone: { limits.restarts ≡ 0 },
 }
 
 /// An actor for each player, which has done its local work up to its first operation.
@@ -58,11 +57,11 @@ pub(crate) fn start_all<P: Player>(
     ensures sound { IfOk result (λ actors. AreActors P.Player memory.now (rows_in ended.new) actors.items) }
     ensures first { IfOk result (λ actors. (place : ℕ) (a : Actor P) → slice_get actors.items place ≡ Some a
         → IsFirst memory.now.clock terms.limits.patience terms.limits.max_commits terms.limits.retries
-        terms.limits.depth a) }
+        terms.limits.depth terms.limits.restarts a) }
     ensures starts { IfOk result (λ actors. (place : ℕ) (p : P) (a : Actor P) → slice_get players.items place ≡ Some p
         → slice_get actors.items place ≡ Some a
         → HasStarted P.Player memory.now.clock (opening (length memory.now.words) (replicate terms.arena 0)
-        terms.limits.patience terms.limits.max_commits terms.limits.depth 0) terms.limits.retries place p a) }
+        terms.limits.patience terms.limits.max_commits terms.limits.depth terms.limits.restarts) terms.limits.retries place p a) }
     ensures runs { IfOk result (λ actors. (place : ℕ) (p : P) (a : Actor P) → slice_get players.items place ≡ Some p
         → slice_get actors.items place ≡ Some a
         → RunsFrom P.Player (first_of p terms.arena) terms.limits.depth (bytes_of memory.now.words) memory.now (rows_in ended.new) a) }
@@ -98,11 +97,11 @@ fn start<P: Player>(
     ensures thread { IfOk result (λ a. a.run.thread ≡ thread) }
     ensures first { IfOk result
         (λ a. IsFirst memory.now.clock terms.limits.patience terms.limits.max_commits terms.limits.retries
-        terms.limits.depth a) }
+        terms.limits.depth terms.limits.restarts a) }
     ensures starts { IfOk result
         (HasStarted P.Player memory.now.clock
         (opening (length memory.now.words) (replicate terms.arena 0) terms.limits.patience
-        terms.limits.max_commits terms.limits.depth 0) terms.limits.retries thread player) }
+        terms.limits.max_commits terms.limits.depth terms.limits.restarts) terms.limits.retries thread player) }
     ensures ended { IfOk result (λ a. ended.new.items ≡ ended.old.items) }
     ensures runs { IfOk result (λ a. ended.old.items ≡ []
         → RunsFrom P.Player (first_of player terms.arena) terms.limits.depth (bytes_of memory.now.words) memory.now (rows_in ended.new) a) }

@@ -29,6 +29,7 @@ impl<P: Player> Actor<P> {
     ghost use Rattle.norec_world.specs.ActionRoom.{MayRunOn, IsActing, IsRefused, MayRun};
     ghost use Rattle.norec_world.specs.Sound.{IsTied, IsKept, IsReady, IsSound, IsAsked, IsUnasked, MayRecord, WritesDown, Falls};
     ghost use Rattle.tx_runs.specs.PlayerRuns.{tally_of};
+    ghost use Rattle.tx_runs.specs.Ranks.{restarts_left};
     ghost use Rattle.tx_runs.specs.Tallies.{stand_of, stopped};
 
     /// Calls are made until one waits for a step or the actor has ended.
@@ -50,7 +51,7 @@ impl<P: Player> Actor<P> {
         requires ready { self.old.status ≡ Status.Ready }
         ensures worked { HasWorked P.Player memory.now (rows_in ended.old) self.old (rows_in ended.new) self.new }
         ensures falls { self.new.status ≡ Status.Ready
-            → Falls P.Player (in_transaction self.old.engine) (in_transaction self.new.engine) self.old self.new }
+            → Falls P.Player (in_transaction self.old.engine) (in_transaction self.new.engine) (restarts_left self.old.engine) (restarts_left self.new.engine) self.old self.new }
     {
         let Some(call) = self.run.player.next() else {
             self.status = Status::Ended(End::Finished);
@@ -115,7 +116,7 @@ impl<P: Player> Actor<P> {
     #[inline(always)]
     pub(crate) fn settle(&mut self, ended: &mut Vec<Attempt>, call: Call, answer: Answer)
         requires answered { MayRecord P.Player self.old call (Answers answer) }
-        requires acts { MayRun self.old call }
+        requires acts { MayRun self.old call answer }
         requires place { count_of self.old ≤ (rows_in ended.old).room }
         ensures acts { IsActing self.new }
         ensures recorded { WritesDown P.Player (rows_in ended.old) self.old call (Answers answer) (rows_in ended.new) self.new }

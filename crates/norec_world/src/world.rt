@@ -9,9 +9,7 @@ use crate::listed::Attempts;
 use crate::memory::Memory;
 use crate::setup::Setup;
 use crate::start::{Terms, start_all};
-use itm_types::{
-    Limits, MAX_ACTORS, MAX_ARENA, MAX_COMMITS, MAX_MEMORY, MAX_PATIENCE, MAX_RETRIES, Step,
-};
+use itm_types::{MAX_ACTORS, MAX_ARENA, MAX_COMMITS, MAX_MEMORY, MAX_PATIENCE, MAX_RETRIES, Step};
 use std::alloc::{AllocError, Global};
 use std::marker::Model;
 use tx_attempts::{Attempt, Bytes};
@@ -63,8 +61,7 @@ impl<P: Player> World<P> {
     ghost use Rattle.norec_world.specs.WorldEvents.{Goes, Takes};
     ghost use Rattle.norec_world.specs.Progress.{LeavesLess};
 
-    /// A world over this memory, with the clock at 0. Each actor's local work up to its first operation is done. No block
-    /// of it goes back to its begin alone, however often the limits let one.
+    /// A world over this memory, with the clock at 0. Each actor's local work up to its first operation is done.
     pub fn new(alloc: Global, setup: Setup, players: Vec<P>) -> Result<Self, AllocError>
         requires size { (8 ≤ length setup.bytes) × (length setup.bytes ≤ MAX_MEMORY) × (length setup.bytes % 8 ≡ 0) }
         requires arena { setup.arena ≤ MAX_ARENA }
@@ -83,6 +80,7 @@ impl<P: Player> World<P> {
         ensures limit { IfOk result (λ w. w.max_commits ≡ setup.limits.max_commits) }
         ensures retries { IfOk result (λ w. w.retries ≡ setup.limits.retries) }
         ensures depth { IfOk result (λ w. w.depth ≡ setup.limits.depth) }
+        ensures restarts { IfOk result (λ w. w.restarts ≡ setup.limits.restarts) }
         ensures first { IfOk result (λ w. (place : ℕ) (a : Actor P) → slice_get w.actors place ≡ Some a
             → IsBetween 0 1 a) }
         ensures commits { IfOk result (λ w. CommitsInOrder w) }
@@ -94,10 +92,7 @@ impl<P: Player> World<P> {
         let base = Bytes::new(setup.bytes.as_slice().to_vec(alloc)?);
         let terms = Terms {
             arena: setup.arena,
-            limits: Limits {
-                restarts: 0,
-                ..setup.limits
-            },
+            limits: setup.limits,
         };
         let memory = Memory::new(setup.bytes.into_vec());
         let mut ended = Vec::new(alloc);

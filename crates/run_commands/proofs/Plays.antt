@@ -73,7 +73,7 @@ Grown old new = (more : List Attempt) × (new ≡ old ++ more)
 still : (old new : List Attempt) → new ≡ old → Grown old new
 still old new e = ([], e ∙ sym (append-nil old))
 
-tries_grown : {P : Type 0} (clock : ℕ) (p : Prior) (clock' : ℕ) (r : Rows) (a : Actor P) → Tries clock p clock' r a → Grown p.ended r.ended
+tries_grown : {P : Type 0} {IsLater : Attempt → Attempt → Type 0} (clock : ℕ) (p : Prior) (clock' : ℕ) (r : Rows) (a : Actor P) → Tries IsLater clock p clock' r a → Grown p.ended r.ended
 tries_grown clock p clock' r a (between t) = still _ _ t.ended
 tries_grown clock p clock' r a (begins t) = still _ _ t.ended
 tries_grown clock p clock' r a (runs t) = still _ _ t.ended

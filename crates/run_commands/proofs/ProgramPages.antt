@@ -3,6 +3,7 @@ use Rattle.std.proofs.Common.{◌≡◌, inl, inr, ℕ, zero, suc, ◌+◌, ◌*
 use Rattle.std.specs.Prelude.{slice_index_or}
 use Rattle.std.proofs.lemmas.List.{length-map}
 use Rattle.itm_types.specs.declared.limits.TheConstants.{MAX_ARENA, MAX_RETRIES}
+use Rattle.tx_attempts.specs.declared.attempt.Again.{Again}
 use Rattle.tx_attempts.specs.declared.attempt.Attempt.{Attempt}
 use Rattle.tx_runs.specs.declared.ending.End.{End}
 use Rattle.tx_runs.specs.declared.ending.End.TheVariants.{Finished, GaveUp, NoMemory}
@@ -23,14 +24,16 @@ use Rattle.world_laws.specs.Told.{told_of}
 use Rattle.history_reader.proofs.Canon.LegalTexts.{legal_text}
 use Rattle.history_reader.specs.LegalTexts.{IsLegalText}
 use Rattle.tx_history.specs.Bounds.{HistoryFits, IsMemorySize}
-use Rattle.tx_history.specs.Versions.{thread_limit}
+use Rattle.tx_history.specs.Versions.{MayTell, thread_limit}
+use Rattle.tx_history.specs.declared.history.Version.{Version}
+use Rattle.tx_history.specs.declared.history.Version.TheVariants.{One, Two, Three}
 use Rattle.tx_history.specs.Histories.{history_text}
 use Rattle.tx_host.proofs.Histories.ScriptWidths.{script_widths}
 use Rattle.tx_host.specs.Limits.{IsLimitedListing}
 use Rattle.tx_host.specs.Versions.{version_of}
 use Rattle.world_laws.proofs.LegalHistories.LegalWorlds.{legal_world}
 use Rattle.world_laws.proofs.LegalHistories.LimitedWorlds.{limited_world}
-use Rattle.world_laws.specs.Limits.{IsLimitedWorld}
+use Rattle.world_laws.specs.Limits.{IsLimitedWorld, MayRestart}
 use Rattle.world_laws.specs.ShownAlone.{DoneBy}
 use Rattle.world_laws.proofs.Solos.Schedules.{led_alone}
 use Rattle.script_vm.specs.ThreadLaws.{thread_laws}
@@ -59,6 +62,7 @@ record BeganAs (p : Listing) (w : World Thread) : Type 0 where
   pub limit : w.max_commits ≡ p.limits.max_commits
   pub retries : w.retries ≡ p.limits.retries
   pub depth : w.depth ≡ p.limits.depth
+  pub restarts : w.restarts ≡ p.limits.restarts
 
 began_as : (p : Listing) (w : World Thread) → Leaves p w → BeganAs p w
 began_as p w (first, begins, leads) =
@@ -70,7 +74,17 @@ began_as p w (first, begins, leads) =
       limit = kept.opening.max_commits ∙ begins.limit;
       retries = kept.opening.retries ∙ begins.retries;
       depth = kept.opening.depth ∙ begins.depth;
+      restarts = kept.opening.restarts ∙ begins.restarts;
     }
+
+-- a version that tells of that many blocks which ran again lets that many
+may_restart : (version : Version) (n : ℕ) → ((restarts : List Again) → length restarts ≤ n → MayTell version restarts) → MayRestart version n
+may_restart One zero told = refl
+may_restart One (suc n) told =
+    let one : Again = record { kept = 0; arena = []; undone = [] } in
+    absurd (let none : one ∷ [] ≡ [] = told (one ∷ []) (omega arith) in cc)
+may_restart Two n told = tt
+may_restart (Three depth) n told = tt
 
 -- a world of a program within the limits of a run is within them too
 limited_as : (p : Listing) (w : World Thread) → BeganAs p w → IsLimitedListing p → IsLimitedWorld (version_of p) w
@@ -79,6 +93,7 @@ limited_as p w began limits = record {
   arena = subst (λ (n : ℕ). n ≤ MAX_ARENA) (sym began.arena) limits.arena;
   retries = subst (λ (n : ℕ). n ≤ MAX_RETRIES) (sym began.retries) limits.retries;
   actors = subst (λ (n : ℕ). n ≤ suc (thread_limit (version_of p))) (sym (ap (λ (l : List Thread). length l) began.players ∙ length-map (threads_of p) (opening p.limits.depth))) limits.threads;
+  restarts = subst (MayRestart (version_of p)) (sym began.restarts) (may_restart (version_of p) p.limits.restarts limits.restarts);
 }
 
 -- its history's text is read as a legal one

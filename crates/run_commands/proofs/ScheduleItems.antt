@@ -63,6 +63,7 @@ keeps_same old new e = record {
     max_commits = ap (λ (w : World Thread). w.max_commits) e;
     retries = ap (λ (w : World Thread). w.retries) e;
     depth = ap (λ (w : World Thread). w.depth) e;
+    restarts = ap (λ (w : World Thread). w.restarts) e;
   };
   actors = ap (λ (w : World Thread). length w.actors) e;
 }
@@ -77,6 +78,7 @@ keeps_then a b c k l = record {
     max_commits = l.opening.max_commits ∙ k.opening.max_commits;
     retries = l.opening.retries ∙ k.opening.retries;
     depth = l.opening.depth ∙ k.opening.depth;
+    restarts = l.opening.restarts ∙ k.opening.restarts;
   };
   actors = l.actors ∙ k.actors;
 }

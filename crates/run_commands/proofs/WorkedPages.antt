@@ -24,6 +24,20 @@ counter_page : history_text (page counter) ≡
 unfolding page solo_of bytes_of codes_of datum history_text first_lines attempt_lines head_line try_text props_end arena_line call_line body_text reply_text last_line encode_with
 counter_page = rw (decimal_digit 0 (omega arith), decimal_digit 1 (omega arith), decimal_digit 2 (omega arith)) refl
 
+-- the second version, where inner blocks may run again, also where none does
+counter_page_again : history_text (page (record counter { limits = record counter.limits { restarts = 5 } })) ≡
+    line (codes "itm-history 2")
+    ++ line (codes "memory 0000000000000000")
+    ++ line (codes "attempt 0 1 0 committed -")
+    ++ line (codes "arena -")
+    ++ line (codes "call _ITM_RU8 0 = 0000000000000000")
+    ++ line (codes "call _ITM_WU8 0 0100000000000000 = ok")
+    ++ line (codes "call _ITM_commitTransaction = ok")
+    ++ line (codes "end")
+    ++ line (codes "final 2 0100000000000000")
+unfolding page solo_of bytes_of codes_of datum history_text first_lines attempt_lines head_line try_text props_end arena_line call_line body_text reply_text last_line encode_with
+counter_page_again = rw (decimal_digit 0 (omega arith), decimal_digit 1 (omega arith), decimal_digit 2 (omega arith)) refl
+
 empty_block_page : history_text (page empty_block) ≡
     line (codes "itm-history 1")
     ++ line (codes "memory 0000000000000000")

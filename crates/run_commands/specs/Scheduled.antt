@@ -29,6 +29,7 @@ pub record Begins (p : Listing) (w : World Thread) : Type 0 where
   pub limit : w.max_commits ≡ p.limits.max_commits
   pub retries : w.retries ≡ p.limits.retries
   pub depth : w.depth ≡ p.limits.depth
+  pub restarts : w.restarts ≡ p.limits.restarts
   pub anew : IsNew thread_rules w  -- before its first event, each thread having done its local work up to its first step
   pub first : (place : ℕ) (a : Actor Thread) → slice_get w.actors place ≡ Some a → IsBetween 0 1 a  -- each is before its first try
   pub commits : CommitsInOrder w

@@ -90,8 +90,8 @@ laid_bytes : opening_of overlapping ≡ 17 ∷ 34 ∷ 170 ∷ 187 ∷ 204 ∷ 0 
 unfolding on_literals
 laid_bytes = refl
 
-limits : program_of (line (codes ".patience 1000") ++ line (codes ".arena 4096") ++ line (codes ".retries 0") ++ line (codes ".commits 1") ++ line (codes ".depth 64") ++ line (codes ".memory 8") ++ codes ".thread")
-    ≡ Ok (record (listing 8 (part 1 [] ∷ [])) { arena = 4096; limits = record { patience = 1000; retries = 0; max_commits = 1; depth = 64; restarts = 0 } })
+limits : program_of (line (codes ".patience 1000") ++ line (codes ".arena 4096") ++ line (codes ".retries 0") ++ line (codes ".commits 1") ++ line (codes ".restarts 10000") ++ line (codes ".depth 64") ++ line (codes ".memory 8") ++ codes ".thread")
+    ≡ Ok (record (listing 8 (part 1 [] ∷ [])) { arena = 4096; limits = record { patience = 1000; retries = 0; max_commits = 1; depth = 64; restarts = 10000 } })
 unfolding on_literals
 limits = refl
 

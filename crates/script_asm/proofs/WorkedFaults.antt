@@ -36,6 +36,19 @@ thread_too_many : program_of (line (codes ".memory 8") ++ codes ".thread 65") �
 unfolding on_literals
 thread_too_many = refl
 
+-- restarts of 0 to 10,000 are said once, before the first thread
+restarts_beyond : program_of (codes ".restarts 10001") ≡ fault 1 kinds.Range
+unfolding on_literals
+restarts_beyond = refl
+
+restarts_again : program_of (line (codes ".restarts 0") ++ codes ".restarts x") ≡ fault 2 kinds.Misplaced
+unfolding on_literals
+restarts_again = refl
+
+restarts_of_a_thread : program_of (script (codes ".restarts 0")) ≡ fault 3 kinds.Misplaced
+unfolding on_literals
+restarts_of_a_thread = refl
+
 -- a depth of 1 to 64 is said once, before the first thread, where no operand is looked at otherwise
 depth_beyond : program_of (codes ".depth 65") ≡ fault 1 kinds.Range
 unfolding on_literals

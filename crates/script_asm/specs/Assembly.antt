@@ -2,7 +2,7 @@
 use Rattle.std.specs.Prelude.{ℕ, ◌+◌, nat_lt, List, [], ◌∷◌, length, Option, Some, None, Result, Ok, if◌then◌else◌}
 use Rattle.std.specs.List.{list_all}
 use Rattle.std.specs.Str.Lines.{lines}
-use Rattle.itm_types.specs.declared.limits.TheConstants.{MAX_ARENA, MAX_PATIENCE, MAX_RETRIES, MAX_COMMITS, MAX_DEPTH}
+use Rattle.itm_types.specs.declared.limits.TheConstants.{MAX_ARENA, MAX_PATIENCE, MAX_RESTARTS, MAX_RETRIES, MAX_COMMITS, MAX_DEPTH}
 use Rattle.script_fields.specs.declared.fault.AsmKind.TheVariants as kinds
 use Rattle.script_fields.specs.declared.fault.AsmFault.{AsmFault}
 use Rattle.script_fields.specs.Text.{fields, without_comment, is_allowed}
@@ -33,6 +33,7 @@ obeyed s n words.Arena fs = at_line n (limit_of 0 MAX_ARENA fs) >>= λ k. Ok (re
 obeyed s n words.Patience fs = at_line n (limit_of 1 MAX_PATIENCE fs) >>= λ k. Ok (record s { limits = record s.limits { patience = Some k } })
 obeyed s n words.Retries fs = at_line n (limit_of 0 MAX_RETRIES fs) >>= λ k. Ok (record s { limits = record s.limits { retries = Some k } })
 obeyed s n words.Commits fs = at_line n (limit_of 1 MAX_COMMITS fs) >>= λ k. Ok (record s { limits = record s.limits { commits = Some k } })
+obeyed s n words.Restarts fs = at_line n (limit_of 0 MAX_RESTARTS fs) >>= λ k. Ok (record s { limits = record s.limits { restarts = Some k } })
 obeyed s n words.Depth fs = at_line n (limit_of 1 MAX_DEPTH fs) >>= λ k. Ok (record s { limits = record s.limits { depth = Some k } })
 obeyed s n words.Schedule fs = at_line n (schedule_of fs) >>= scheduled s n
 obeyed s n words.Thread fs = at_line n (count_of fs) >>= λ count. threaded s n count (innermost_line s.levels)
@@ -91,7 +92,7 @@ lines_say s n (line ∷ more) = meaning s n line >>= λ t. lines_say t (n + 1) m
 abbrev pub initial : State
 initial = record {
   memory = None;
-  limits = record { arena = None; patience = None; retries = None; commits = None; depth = None };
+  limits = record { arena = None; patience = None; retries = None; commits = None; restarts = None; depth = None };
   schedule = record { items = []; lines = [] };
   threads = record { ended = []; count = 0; code = []; left_out = 0 };
   levels = [];

@@ -24,6 +24,7 @@ may_stand s words.Arena = is_none s.limits.arena && not (has_begun s)
 may_stand s words.Patience = is_none s.limits.patience && not (has_begun s)
 may_stand s words.Retries = is_none s.limits.retries && not (has_begun s)
 may_stand s words.Commits = is_none s.limits.commits && not (has_begun s)
+may_stand s words.Restarts = is_none s.limits.restarts && not (has_begun s)
 may_stand s words.Depth = is_none s.limits.depth && not (has_begun s)
 may_stand s words.Schedule = not (has_begun s)
 may_stand s words.Thread = is_some s.memory

@@ -18,6 +18,7 @@ table =
     ∷ (codes ".patience", words.Patience)
     ∷ (codes ".retries", words.Retries)
     ∷ (codes ".commits", words.Commits)
+    ∷ (codes ".restarts", words.Restarts)
     ∷ (codes ".depth", words.Depth)
     ∷ (codes ".schedule", words.Schedule)
     ∷ (codes ".thread", words.Thread)

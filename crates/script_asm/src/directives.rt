@@ -11,7 +11,7 @@ ghost use Rattle.script_asm.specs.Wants.{Steps};
 use crate::items::{add_items, count_items};
 use crate::state::State;
 use crate::stop::{Stop, fault};
-use itm_types::{MAX_ARENA, MAX_COMMITS, MAX_DEPTH, MAX_PATIENCE, MAX_RETRIES};
+use itm_types::{MAX_ARENA, MAX_COMMITS, MAX_DEPTH, MAX_PATIENCE, MAX_RESTARTS, MAX_RETRIES};
 use script_fields::{AsmKind, init_of, limit_of, size_of};
 use script_program::{MAX_ITEMS, Opening, Size};
 use std::alloc::Global;
@@ -111,6 +111,20 @@ pub fn read_commits(state: &mut State, line: usize, rest: &[u8]) -> Result<(), S
     match limit_of(1, MAX_COMMITS, rest) {
         Ok(commits) => {
             state.limits.set_commits(commits);
+            Ok(())
+        }
+        Err(kind) => fault(line, kind),
+    }
+}
+
+/// How often inner blocks may run again in one attempt.
+#[tactic(auto, unfolding(crate::specs::Assembly::obeyed))]
+pub fn read_restarts(state: &mut State, line: usize, rest: &[u8]) -> Result<(), Stop>
+    ensures { Steps result state.old state.new (obeyed state.old line words.Restarts (fields rest.now)) }
+{
+    match limit_of(0, u64::from(MAX_RESTARTS), rest) {
+        Ok(restarts) => {
+            state.limits.set_restarts(restarts as u32);
             Ok(())
         }
         Err(kind) => fault(line, kind),

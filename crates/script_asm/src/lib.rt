@@ -13,6 +13,7 @@
 //! | `.patience N` | rounds of validation that a call may start: 1 to 1,000, else 8 | at most once, before the first `.thread` |
 //! | `.retries N` | how often a block is tried again: 0 to 10,000, else 100 | at most once, before the first `.thread` |
 //! | `.commits N` | commits that the memory takes: 1 to 2^62 - 1, else that | at most once, before the first `.thread` |
+//! | `.restarts N` | how often inner blocks run again alone in one attempt: 0 to 10,000, else 0 | at most once, before the first `.thread` |
 //! | `.depth N` | how many blocks may be open at once: 1 to 64, else 16 | at most once, before the first `.thread` |
 //! | `.schedule ITEM ..` | who takes the next events: `TxK` is K events of thread T, 1 to 1,000,000, and `T!` those up to its end | before the first `.thread`; at most 65,536 items |
 //! | `.thread`, `.thread N` | the code that follows is that of one thread, or of N threads, numbered on from 0 | at most 64 threads |

@@ -11,8 +11,8 @@ ghost use Rattle.script_asm.specs.Wants.{Steps};
 use crate::blocks::{begin_repeat, end_repeat, run_code};
 use crate::code::instruction_into;
 use crate::directives::{
-    read_arena, read_commits, read_depth, read_init, read_memory, read_patience, read_retries,
-    read_schedule,
+    read_arena, read_commits, read_depth, read_init, read_memory, read_patience, read_restarts,
+    read_retries, read_schedule,
 };
 use crate::state::State;
 use crate::stop::{Stop, fault};
@@ -97,6 +97,7 @@ pub fn obey(
         Word::Patience => read_patience(state, line, rest),
         Word::Retries => read_retries(state, line, rest),
         Word::Commits => read_commits(state, line, rest),
+        Word::Restarts => read_restarts(state, line, rest),
         Word::Depth => read_depth(state, line, rest),
         Word::Schedule => read_schedule(state, line, rest),
         Word::Thread => read_thread(alloc, state, line, rest),

@@ -33,6 +33,7 @@ pub fn may_stand(state: &State, word: Word) -> bool
         Word::Patience => !state.limits.has_patience() && !begun,
         Word::Retries => !state.limits.has_retries() && !begun,
         Word::Commits => !state.limits.has_commits() && !begun,
+        Word::Restarts => !state.limits.has_restarts() && !begun,
         Word::Depth => !state.limits.has_depth() && !begun,
         Word::Schedule => !begun,
         Word::Thread => state.memory.is_some(),

@@ -19,6 +19,7 @@ pub enum Word {
     Patience,
     Retries,
     Commits,
+    Restarts,
     Depth,
     Schedule,
     Thread,
@@ -43,13 +44,14 @@ pub enum Mnemonic {
 }
 
 /// The words that are no entry points.
-const WORDS: [(&[u8], Word); 29] = [
+const WORDS: [(&[u8], Word); 30] = [
     (b".memory", Word::Memory),
     (b".init", Word::Init),
     (b".arena", Word::Arena),
     (b".patience", Word::Patience),
     (b".retries", Word::Retries),
     (b".commits", Word::Commits),
+    (b".restarts", Word::Restarts),
     (b".depth", Word::Depth),
     (b".schedule", Word::Schedule),
     (b".thread", Word::Thread),

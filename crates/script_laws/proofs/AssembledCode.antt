@@ -4,7 +4,7 @@ use Rattle.std.specs.Prelude.{slice_get}
 use Rattle.std.specs.List.{flat_map, repeat}
 use Rattle.std.proofs.lemmas.Bool.{cases_Bool, or_parts, or_right}
 use Rattle.std.proofs.lemmas.List.{append-nil}
-use Rattle.itm_types.specs.declared.limits.TheConstants.{MAX_ACTORS, MAX_ARENA, MAX_COMMITS, MAX_DEPTH, MAX_PATIENCE, MAX_RETRIES}
+use Rattle.itm_types.specs.declared.limits.TheConstants.{MAX_ACTORS, MAX_ARENA, MAX_COMMITS, MAX_DEPTH, MAX_PATIENCE, MAX_RESTARTS, MAX_RETRIES}
 use Rattle.script_fields.specs.declared.fault.AsmFault.{AsmFault}
 use Rattle.script_fields.specs.declared.fault.AsmKind.TheVariants as kinds
 use Rattle.script_fields.specs.Text.{fields, without_comment, is_allowed}
@@ -285,6 +285,7 @@ module _ (s : State) (n : ℕ) (good : IsGood s) where
   obeyed_good words.Arena fs = any_good (at_line n (limit_of 0 MAX_ARENA fs)) (λ k. Ok (record s { limits = record s.limits { arena = Some k } })) (λ k. good)
   obeyed_good words.Patience fs = any_good (at_line n (limit_of 1 MAX_PATIENCE fs)) (λ k. Ok (record s { limits = record s.limits { patience = Some k } })) (λ k. good)
   obeyed_good words.Retries fs = any_good (at_line n (limit_of 0 MAX_RETRIES fs)) (λ k. Ok (record s { limits = record s.limits { retries = Some k } })) (λ k. good)
+  obeyed_good words.Restarts fs = any_good (at_line n (limit_of 0 MAX_RESTARTS fs)) (λ k. Ok (record s { limits = record s.limits { restarts = Some k } })) (λ k. good)
   obeyed_good words.Commits fs = any_good (at_line n (limit_of 1 MAX_COMMITS fs)) (λ k. Ok (record s { limits = record s.limits { commits = Some k } })) (λ k. good)
   obeyed_good words.Depth fs = any_good (at_line n (limit_of 1 MAX_DEPTH fs)) (λ k. Ok (record s { limits = record s.limits { depth = Some k } })) (λ k. good)
   obeyed_good words.Schedule fs = any_good (at_line n (schedule_of fs)) (scheduled s n) scheduled_good

@@ -63,7 +63,6 @@ small_printable = record {
   inits = tt;
   arena = omega arith;
   limits = record { patience = (omega arith, omega arith); retries = omega arith; commits = (omega arith, omega arith); depth = (omega arith, omega arith); restarts = omega arith };
-  restarts = refl;
   items = omega arith;
   schedule = tt;
   some = omega arith;
@@ -107,7 +106,7 @@ abbrev several : Listing
 several = record {
   memory = record { size = 16; inits = record { at = 0; bytes = 171 ∷ [] } ∷ record { at = 14; bytes = 0 ∷ 15 ∷ [] } ∷ [] };
   arena = 4096;
-  limits = record { patience = 1; retries = 0; max_commits = 2; depth = 64; restarts = 0 };
+  limits = record { patience = 1; retries = 0; max_commits = 2; depth = 64; restarts = 5 };
   schedule = Take 0 3 ∷ Out 2 ∷ Take 1 1000000 ∷ [];
   parts = record { count = 2; code = pair_code } ∷ record { count = 1; code = other_code } ∷ record { count = 3; code = [] } ∷ [];
 }
@@ -119,6 +118,7 @@ several_text =
     ++ line (codes ".patience 1")
     ++ line (codes ".retries 0")
     ++ line (codes ".commits 2")
+    ++ line (codes ".restarts 5")
     ++ line (codes ".depth 64")
     ++ line (codes ".init 0 ab")
     ++ line (codes ".init 14 000f")
@@ -185,7 +185,6 @@ several_printable = record {
   inits = ((one_byte, omega arith, omega arith, omega arith), ((two_bytes, omega arith, omega arith, omega arith), tt));
   arena = omega arith;
   limits = record { patience = (omega arith, omega arith); retries = omega arith; commits = (omega arith, omega arith); depth = (omega arith, omega arith); restarts = omega arith };
-  restarts = refl;
   items = omega arith;
   schedule = ((omega arith, (omega arith, omega arith)), (omega arith, ((omega arith, (omega arith, omega arith)), tt)));
   some = omega arith;

@@ -100,7 +100,6 @@ pub record IsPrintable (p : Listing) : Type 0 where
   pub inits : AllByRecursion (IsInit p.memory.size) p.memory.inits
   pub arena : p.arena ≤ MAX_ARENA
   pub limits : AreWithin p.limits
-  pub restarts : p.limits.restarts ≡ 0  -- no script says how many
   pub items : length p.schedule ≤ MAX_ITEMS
   pub schedule : AllByRecursion (IsItem (threads_in p.parts)) p.schedule
   pub some : 0 < length p.parts

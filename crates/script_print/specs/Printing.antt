@@ -74,11 +74,15 @@ instruction_fields (code.Fill hint to byte size) = name_of (entries.Fill hint) �
 abbrev pub number_fields : List ℕ → ℕ → List (List ℕ)
 number_fields word n = word ∷ decimal n ∷ []
 
+-- how often inner blocks may run again, where they may
+abbrev pub restart_lines : ℕ → List (List (List ℕ))
+restart_lines restarts = if restarts == 0 then [] else number_fields (codes ".restarts") restarts ∷ []
+
 -- how many blocks may be open at once, where it is not what it is where a script says none
 abbrev pub depth_lines : ℕ → List (List (List ℕ))
 depth_lines depth = if depth == USUAL_DEPTH then [] else number_fields (codes ".depth") depth ∷ []
 
--- the sizes and the limits, but for the depth those too that are what they are where a script says none
+-- the sizes and the limits, but for restarts and the depth those too that are what they are where a script says none
 abbrev pub limit_lines : Listing → List (List (List ℕ))
 limit_lines p =
     number_fields (codes ".memory") p.memory.size
@@ -86,7 +90,7 @@ limit_lines p =
     ∷ number_fields (codes ".patience") p.limits.patience
     ∷ number_fields (codes ".retries") p.limits.retries
     ∷ number_fields (codes ".commits") p.limits.max_commits
-    ∷ depth_lines p.limits.depth
+    ∷ (restart_lines p.limits.restarts ++ depth_lines p.limits.depth)
 
 abbrev pub init_fields : Placed → List (List ℕ)
 init_fields i = codes ".init" ∷ decimal i.at ∷ encode_lower i.bytes ∷ []

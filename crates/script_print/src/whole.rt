@@ -3,7 +3,7 @@
 ghost use Rattle.std.specs.Prelude.{◌≡◌, [], ◌∷◌, ◌++◌, IfOk, OnOk, map};
 ghost use Rattle.std.specs.List.{flat_map};
 ghost use Rattle.script_print.specs.Fields.{lines_text};
-ghost use Rattle.script_print.specs.Printing.{depth_lines, init_fields, item_fields, limit_lines, number_fields, part_lines, printed, SaysAgain};
+ghost use Rattle.script_print.specs.Printing.{depth_lines, init_fields, item_fields, limit_lines, number_fields, part_lines, printed, restart_lines, SaysAgain};
 
 use crate::field::Field;
 use crate::line::put_line;
@@ -16,6 +16,16 @@ fn put_number(text: &mut Vec<u8>, word: &str, number: u64) -> Result<(), AllocEr
     ensures { OnOk result (text.new.items ≡ text.old.items ++ lines_text (number_fields word.now number ∷ [])) }
 {
     put_line(text, word, &[Field::Number(number)])
+}
+
+#[tactic(auto, using(crate::proofs::Texts::LineTexts::none_put))]
+fn put_restarts(text: &mut Vec<u8>, restarts: u32) -> Result<(), AllocError>
+    ensures { OnOk result (text.new.items ≡ text.old.items ++ lines_text (restart_lines restarts)) }
+{
+    if restarts == 0 {
+        return Ok(());
+    }
+    put_number(text, ".restarts", u64::from(restarts))
 }
 
 #[tactic(auto, using(crate::proofs::Texts::LineTexts::none_put))]
@@ -37,6 +47,7 @@ fn put_limits(text: &mut Vec<u8>, program: &Program) -> Result<(), AllocError>
     put_number(text, ".patience", u64::from(limits.patience))?;
     put_number(text, ".retries", u64::from(limits.retries))?;
     put_number(text, ".commits", limits.max_commits)?;
+    put_restarts(text, limits.restarts)?;
     put_depth(text, limits.depth)
 }
 

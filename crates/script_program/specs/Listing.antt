@@ -39,6 +39,7 @@ pub record Bounds : Type 0 where
   pub patience : Option ℕ
   pub retries : Option ℕ
   pub commits : Option ℕ
+  pub restarts : Option ℕ
   pub depth : Option ℕ
 
 -- how many bytes each thread's arena has: none, where it is not said
@@ -47,7 +48,7 @@ arena_of b = unwrap_or b.arena 0
 
 -- those of the run: of each that is not said, what it is else
 abbrev pub limits_of : Bounds → Limits
-limits_of b = record { patience = unwrap_or b.patience 8; retries = unwrap_or b.retries 100; max_commits = unwrap_or b.commits MAX_COMMITS; depth = unwrap_or b.depth USUAL_DEPTH; restarts = 0 }
+limits_of b = record { patience = unwrap_or b.patience 8; retries = unwrap_or b.retries 100; max_commits = unwrap_or b.commits MAX_COMMITS; depth = unwrap_or b.depth USUAL_DEPTH; restarts = unwrap_or b.restarts 0 }
 
 -- ## The schedule
 

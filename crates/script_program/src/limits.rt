@@ -2,7 +2,7 @@
 
 ghost use Rattle.std.specs.Prelude.{◌≡◌, ◌≤◌, None, Some, is_some};
 ghost use Rattle.itm_types.specs.Limits.{AreWithin};
-ghost use Rattle.itm_types.specs.declared.limits.TheConstants.{MAX_ARENA, MAX_COMMITS, MAX_DEPTH, MAX_PATIENCE, MAX_RETRIES};
+ghost use Rattle.itm_types.specs.declared.limits.TheConstants.{MAX_ARENA, MAX_COMMITS, MAX_DEPTH, MAX_PATIENCE, MAX_RESTARTS, MAX_RETRIES};
 ghost use Rattle.script_program.specs.Listing.{arena_of, limits_of};
 
 use itm_types::{Limits, MAX_COMMITS, USUAL_DEPTH};
@@ -43,33 +43,35 @@ pub struct SaidLimits {
     patience: Option<u32>,
     retries: Option<u32>,
     commits: Option<u64>,
+    restarts: Option<u32>,
     depth: Option<u8>,
 }
 
 impl Model for SaidLimits {
     ghost use Rattle.std.specs.Prelude.{◌≤◌};
     ghost use Rattle.std.specs.Option.{ForSome};
-    ghost use Rattle.itm_types.specs.declared.limits.TheConstants.{MAX_ARENA, MAX_COMMITS, MAX_DEPTH, MAX_PATIENCE, MAX_RETRIES};
+    ghost use Rattle.itm_types.specs.declared.limits.TheConstants.{MAX_ARENA, MAX_COMMITS, MAX_DEPTH, MAX_PATIENCE, MAX_RESTARTS, MAX_RETRIES};
     ghost use Rattle.script_program.specs.Listing.{Bounds};
 
     ghost Value = { Bounds };
 
-    ghost view = { λ l. record { arena = l.arena; patience = l.patience; retries = l.retries; commits = l.commits; depth = l.depth } };
+    ghost view = { λ l. record { arena = l.arena; patience = l.patience; retries = l.retries; commits = l.commits; restarts = l.restarts; depth = l.depth } };
 
     ghost invariant = { λ l. ForSome l.arena (λ n. n ≤ MAX_ARENA) × ForSome l.patience (λ n. (1 ≤ n) × (n ≤ MAX_PATIENCE)) × ForSome l.retries (λ n. n ≤ MAX_RETRIES)
-        × ForSome l.commits (λ n. (1 ≤ n) × (n ≤ MAX_COMMITS)) × ForSome l.depth (λ n. (1 ≤ n) × (n ≤ MAX_DEPTH)) };
+        × ForSome l.commits (λ n. (1 ≤ n) × (n ≤ MAX_COMMITS)) × ForSome l.restarts (λ n. n ≤ MAX_RESTARTS) × ForSome l.depth (λ n. (1 ≤ n) × (n ≤ MAX_DEPTH)) };
 }
 
 impl SaidLimits {
     /// No limit is said yet.
     pub fn new() -> Self
-        ensures { result ≡ record { arena = None; patience = None; retries = None; commits = None; depth = None } }
+        ensures { result ≡ record { arena = None; patience = None; retries = None; commits = None; restarts = None; depth = None } }
     {
         SaidLimits {
             arena: None,
             patience: None,
             retries: None,
             commits: None,
+            restarts: None,
             depth: None,
         }
     }
@@ -100,6 +102,13 @@ impl SaidLimits {
         ensures { result ≡ is_some self.now.commits }
     {
         self.commits.is_some()
+    }
+
+    /// Whether the restarts are said.
+    pub fn has_restarts(&self) -> bool
+        ensures { result ≡ is_some self.now.restarts }
+    {
+        self.restarts.is_some()
     }
 
     /// Whether the depth is said.
@@ -143,6 +152,14 @@ impl SaidLimits {
         self.commits = Some(commits);
     }
 
+    /// Says how often inner blocks may run again in one attempt.
+    pub fn set_restarts(&mut self, restarts: u32)
+        requires { restarts ≤ MAX_RESTARTS }
+        ensures { self.new ≡ record self.old { restarts = Some restarts } }
+    {
+        self.restarts = Some(restarts);
+    }
+
     /// Says how many blocks may be open at once.
     pub fn set_depth(&mut self, depth: u8)
         requires low { 1 ≤ depth }
@@ -160,8 +177,8 @@ impl SaidLimits {
         self.arena.unwrap_or(0) as usize
     }
 
-    /// The limits of the run: those that were said, and else 8 rounds, 100 retries, as many commits as may be and 16 blocks
-    /// open at once.
+    /// The limits of the run: those that were said, and else 8 rounds, 100 retries, as many commits as may be, no inner block
+    /// that runs again alone, and 16 blocks open at once.
     pub fn limits(&self) -> Limits
         ensures value { result ≡ limits_of self.now }
         ensures within { AreWithin result }
@@ -171,7 +188,7 @@ impl SaidLimits {
             retries: self.retries.unwrap_or(100),
             max_commits: self.commits.unwrap_or(MAX_COMMITS),
             depth: self.depth.unwrap_or(USUAL_DEPTH),
-            restarts: 0,
+            restarts: self.restarts.unwrap_or(0),
         }
     }
 }

@@ -10,7 +10,7 @@ use Rattle.tx_attempts.specs.declared.attempt.Attempt.{Attempt}
 use Rattle.tx_attempts.specs.declared.attempt.Outcome.TheVariants.{Conflict, ReadOnly}
 use Rattle.tx_runs.specs.declared.ending.End.TheVariants.{Finished, GaveUp}
 use Rattle.script_program.specs.Listing.{Listing, codes_of}
-use Rattle.tx_history.specs.declared.history.Version.TheVariants.{One, Three}
+use Rattle.tx_history.specs.declared.history.Version.TheVariants.{One, Two, Three}
 use Rattle.tx_history.specs.Depths.{depth_from}
 use Rattle.tx_history.specs.Versions.{depth_of}
 use Rattle.tx_worker.specs.Accounts.{first_account}
@@ -118,6 +118,11 @@ no_commit_left = tt
 largest_early : version_of (program 65536 32 16) ≡ One
 unfolding codes_of
 largest_early = refl
+
+-- the second one, where its inner blocks may run again
+may_restart : version_of (record (program 65536 32 16) { limits = record (program 65536 32 16).limits { restarts = 1 } }) ≡ Two
+unfolding codes_of
+may_restart = refl
 
 -- and the third one of one with a larger memory, with a thread more, or with another depth, each alone
 larger_memory : version_of (program 65544 1 16) ≡ Three (depth_from 16)

@@ -9,8 +9,8 @@ use Rattle.tx_attempts.specs.Alone.{player_then}
 use Rattle.tx_attempts.specs.Opacity.{Beginning, Between, IsRunOf, begin_code}
 use Rattle.tx_runs.specs.declared.ending.End.{End}
 use Rattle.tx_runs.specs.declared.ending.End.TheVariants.{Finished, GaveUp, NoMemory}
+use Rattle.tx_runs.specs.Restarts.{RestartAtMost}
 use Rattle.tx_runs.specs.Runs.{begins_at, run_after}
-use Rattle.tx_runs.specs.Unbroken.{AreUnbroken}
 use Rattle.tx_worker.specs.Positions.{AreOwn, AreSince}
 
 -- a thread of the program, with this code, before its first try, with an arena of zeros
@@ -48,5 +48,5 @@ pub record IsCourse (p : Listing) (n : ℕ) (memory : ℕ → List ℕ) (number 
   pub run : IsRunOf thread_rules p.limits.depth n memory (Some (first_of p code)) attempts  -- its code's run, in order, each of them opaque
   pub since : AreSince 0 attempts  -- each began with the commits that the one before it told of
   pub own : AreOwn number (p.limits.retries + 1) attempts  -- none is of another thread, or of more tries than there may be
-  pub unbroken : AreUnbroken attempts  -- no inner block of any runs again alone
+  pub few : RestartAtMost p.limits.restarts attempts  -- in each, inner blocks run again so often at most
   pub ends : EndsBy p.limits.depth memory (first_of p code) end attempts

@@ -24,7 +24,7 @@ code_of p number = slice_index_or (threads_of p) number []
 pub record IsFresh (p : Listing) (base : List ℕ) (number : ℕ) (t : Standing) (player : Thread) : Type 0 where
   pub player_is : player ≡ script_opening p.limits.depth (code_of p number)
   pub words : ℕ
-  pub engine_is : t.engine ≡ opening words (replicate p.arena 0) p.limits.patience p.limits.max_commits p.limits.depth 0  -- no inner block goes back to its begin alone
+  pub engine_is : t.engine ≡ opening words (replicate p.arena 0) p.limits.patience p.limits.max_commits p.limits.depth p.limits.restarts
   pub base_is : (view_of t.pass).base ≡ base
   pub mine : (view_of t.pass).mine ≡ []
   pub share : (view_of t.pass).share ≡ 1

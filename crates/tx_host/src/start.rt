@@ -1,6 +1,6 @@
 //! Starting workers in a scope.
 
-ghost use Rattle.std.specs.Prelude.{◌≡◌, ◌+◌, ◌<◌, ◌≤◌, false, [], IfSome, IfOk, length, vec_len, vec_capacity};
+ghost use Rattle.std.specs.Prelude.{◌≡◌, ◌+◌, ◌^◌, ◌<◌, ◌≤◌, false, [], IfSome, IfOk, length, vec_len, vec_capacity};
 ghost use Rattle.itm_types.specs.declared.limits.TheConstants.{MAX_RETRIES};
 ghost use Rattle.norec_core.specs.Core.{in_transaction};
 ghost use Rattle.shared_words.specs.Passes.{Owns, view_of};
@@ -10,7 +10,7 @@ ghost use Rattle.itm_runtime.specs.Ties.{Stands};
 ghost use Rattle.tx_host.specs.Starts.{AllReady, Prepares, Starts};
 
 use itm_runtime::Thread;
-use itm_types::{Limits, MAX_RETRIES};
+use itm_types::MAX_RETRIES;
 use script_program::Program;
 use script_vm::Script;
 use shared_words::{Pass, Words};
@@ -61,7 +61,7 @@ pub(crate) fn start_one<'s, 'e: 's, G: Gate + Sync, A: ActionSink + Sync>(
     requires stands { Stands (view_of ready.thread.pass) ready.thread.engine }
     requires outside { in_transaction ready.thread.engine ≡ false }
     requires depth { depth_of ready.player ≡ 0 }
-    requires whole { ready.thread.engine.restarts ≡ 0 }
+    requires limit { ready.thread.engine.restarts < 2 ^ 32 }
     requires few { retries ≤ MAX_RETRIES }
     ensures { IfSome result (λ h. (h.promise.words.now ≡ words.now) × (h.promise.start.value ≡ ready.entry.thread)
         × (h.promise.player.value ≡ ready.entry.player) × (h.promise.number ≡ ready.entry.number) × (h.promise.retries ≡ retries)) }
@@ -89,7 +89,7 @@ pub(crate) fn start_one<'s, 'e: 's, G: Gate + Sync, A: ActionSink + Sync>(
 }
 
 /// What each thread of the program is given, before any of them starts: a pass of its own, split from this one, an arena,
-/// and its code. Inner blocks do not go back to their begins alone, whatever the program's limit says.
+/// and its code.
 pub(crate) fn prepare<'p>(
     alloc: Global,
     words: &Words,
@@ -108,11 +108,7 @@ pub(crate) fn prepare<'p>(
         let arena = Arena::new(alloc, program.arena())?;
         let player = Script::new(alloc, program, number)?;
         let theirs = words.split(pass);
-        let limits = Limits {
-            restarts: 0,
-            ..program.limits()
-        };
-        let thread = Thread::new(alloc, words, theirs, arena, limits)?;
+        let thread = Thread::new(alloc, words, theirs, arena, program.limits())?;
         all.push_reserved(Ready {
             number: number as u8,
             thread,

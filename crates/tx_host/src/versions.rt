@@ -8,7 +8,7 @@ use script_program::Program;
 use tx_history::{EARLY_ACTORS, EARLY_MEMORY, Version};
 
 /// The first version, where the program has the usual depth and no larger a memory and no more threads than that one tells
-/// of; else the third one, with the program's depth.
+/// of, and no inner block may run again; the second one where some may; else the third one, with the program's depth.
 pub fn version_of(program: &Program) -> Version
     ensures { result ≡ version_of program.now }
 {
@@ -16,7 +16,11 @@ pub fn version_of(program: &Program) -> Version
     let size = program.size();
     let threads = program.threads();
     if limits.depth == USUAL_DEPTH && size <= EARLY_MEMORY && threads <= EARLY_ACTORS {
-        Version::One
+        if limits.restarts == 0 {
+            Version::One
+        } else {
+            Version::Two
+        }
     } else {
         Version::Three(Depth::new(limits.depth).unwrap())
     }

@@ -6,7 +6,6 @@ pub mod Tries
 pub mod Begins
 pub mod PlainCalls
 pub mod Players
-pub mod Unbroken
 pub mod OpenBegins
 pub mod OpenCalls
 pub mod OpenRooms
@@ -27,5 +26,7 @@ pub mod TriesReply
 pub mod TriesHeld
 pub mod TriesBegin
 pub mod TriesStep
+pub mod TriesBack
 pub mod RestartLists
 pub mod Ranks
+pub mod OpenCounts

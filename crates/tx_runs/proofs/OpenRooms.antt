@@ -4,25 +4,17 @@ use Rattle.itm_types.specs.declared.call.Call.{Call}
 use Rattle.itm_types.specs.declared.call.Reply.{Reply}
 use Rattle.tx_attempts.specs.Kept.{Kept, reserved}
 use Rattle.tx_runs.specs.declared.player_run.Current.{Current}
-use Rattle.tx_runs.specs.declared.player_run.Current.TheVariants.{Outside, Within}
-use Rattle.tx_runs.specs.PlayerRuns.{current_with, stage_of, MayStop, MayTakeIn}
+use Rattle.tx_runs.specs.declared.player_run.Current.TheVariants.{Outside}
+use Rattle.tx_runs.specs.PlayerRuns.{current_with, stage_of}
 use Rattle.tx_attempts.specs.declared.attempt.CallRecord.{CallRecord}
 use Rattle.tx_attempts.specs.Restarts.{count_undone, open_after, open_by}
 use Rattle.tx_runs.specs.OpenAttempts.{HasPlacesFor, IsBacked, Open, told_in}
-use Rattle.tx_runs.specs.Tallies.{Stage, outside, Stand, begins_again, stage_at, stage_with}
+use Rattle.tx_runs.specs.Tallies.{Stage, outside, begins_again, stage_at, stage_with}
 use Rattle.itm_types.specs.Calls.{abort_of, is_begin, is_commit}
 use Rattle.itm_types.specs.declared.call.Reply.TheVariants.{Code, Done}
 use Rattle.itm_types.specs.declared.call.Call.TheVariants.{Begin}
 use Rattle.itm_types.specs.declared.call.Props.{Props}
 use Rattle.tx_attempts.specs.declared.attempt.Attempt.{Attempt}
-
-pub may_stop : (call : Call) (s : Stand) (x : Current) → MayTakeIn call s x → MayStop s.at s.ran x
-may_stop call s (Within o) m = (m.told, m.ends)
-may_stop call s x m = m
-
-pub may_stop_with : (s : Stand) (call : Call) (reply : Reply) (x : Current) → MayTakeIn call s x → MayStop s.at s.ran (current_with call reply x)
-may_stop_with s call reply (Within o) m = (m.told, m.ends)
-may_stop_with s call reply x m = m
 
 pub stage_added : (call : Call) (reply : Reply) (x : Current) → stage_of (current_with call reply x) ≡ stage_with call reply (stage_of x)
 stage_added call reply Outside = refl

@@ -2,7 +2,6 @@ pub mod Savepoints
 pub mod Nesting
 pub mod Outcomes
 pub mod Runs
-pub mod Unbroken
 pub mod Tallies
 pub mod OpenAttempts
 pub mod PlayerRuns

@@ -19,10 +19,10 @@ due_at s restarts = s.ran + count_undone (before s.kept restarts)
 abbrev pub again_of : Savepoint → Attempt → List ℕ → List Ran → Again
 again_of s row arena due = record { kept = s.kept; arena = arena; undone = drop (due_at s row.restarts) due }
 
--- the attempt, cut to just after that block's begin
+-- the attempt, cut to just after that block's begin; no place is promised in it for more calls
 abbrev pub cut_to : Savepoint → List ℕ → List Ran → Attempt → Attempt
 cut_to s arena due row = record row {
-  calls = record row.calls { list = take s.kept row.calls.list };
+  calls = record { list = take s.kept row.calls.list; room = 0 };
   restarts = with_again (again_of s row arena due) row.restarts;
   ran = take s.ran row.ran;
 }

@@ -213,6 +213,7 @@ impl OpenAttempt {
                     .restarts
                     .add(room, point.kept, arena, &due[began..]);
                 self.row.calls.cut(point.kept);
+                self.row.calls.give_up_room();
                 self.row.ran.cut(point.ran);
             }
         }

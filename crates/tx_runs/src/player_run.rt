@@ -2,7 +2,9 @@
 
 ghost use Rattle.std.specs.Prelude.{◌≡◌, ◌+◌, ◌<◌, ◌≤◌, ◌++◌, false, true, nat_lt, if◌then◌else◌, List, Option, None, Some, IfOk, length, vec_len, vec_capacity};
 ghost use Rattle.itm_types.specs.declared.limits.TheConstants.{MAX_RETRIES};
+ghost use Rattle.norec_core.specs.Restarts.{IsRestart};
 ghost use Rattle.norec_core.specs.declared.answer.Answer.TheVariants.{Restarted};
+ghost use Rattle.norec_core.specs.Restarts.{IsRestart};
 ghost use Rattle.tx_attempts.specs.Kept.{spent};
 ghost use Rattle.tx_runs.specs.declared.ending.End.TheVariants.{GaveUp};
 ghost use Rattle.tx_runs.specs.declared.player_run.Current.{Current};
@@ -109,7 +111,7 @@ impl<P: Player> PlayerRun<P> {
     ) -> Option<End>
         requires tries { (self.old.nth ≤ self.old.retries + 1) × (self.old.retries ≤ MAX_RETRIES) }
         requires again { (clock word : _) → answer ≡ Restarted clock word → (0 < P.Player.depth self.old.player) × MayGoBack (record { is_open = is_open; at = at; ran = ran.now; arena = arena.now }) self.old.current }
-        requires room { MayTakeIn call (record { is_open = is_open; at = at; ran = ran.now; arena = arena.now }) self.old.current }
+        requires room { (IsRestart answer → ⊥) → MayTakeIn call (record { is_open = is_open; at = at; ran = ran.now; arena = arena.now }) self.old.current }
         requires place { MayTell self.old.current ended.old }
         ensures taken { let taken = took_in P.Player self.old.retries (tally_of self.old) call answer (record { is_open = is_open; at = at; ran = ran.now; arena = arena.now }) in
             (tally_of self.new ≡ taken.tally) × (ended.new.items ≡ ended.old.items ++ taken.over) × (result ≡ taken.end) }

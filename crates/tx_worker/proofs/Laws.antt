@@ -7,5 +7,6 @@ pub mod Rows
 pub mod Starves
 pub mod Asks
 pub mod Stopped
+pub mod Shortages
 pub mod Ends
 pub mod Begins

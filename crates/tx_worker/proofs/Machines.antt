@@ -1,4 +1,8 @@
--- The plain machine in the state that a worker's engine stands for.
+-- The plain machine in the state that a worker's engine stands for, and what comes of a call.
 pub mod PlainStates
 pub mod PlainActions
 pub mod ClockCalls
+pub mod LastEvents
+pub mod RestartingCalls
+pub mod RestartsLeft
+pub mod ActionRooms

@@ -1,6 +1,5 @@
 -- A worker's run, as its open attempt goes on and ends.
 pub mod LaterCommits
-pub mod Measures
 pub mod EarlierReads
 pub mod OpenRuns
 pub mod OpenCloses

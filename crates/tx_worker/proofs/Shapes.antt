@@ -5,18 +5,27 @@ use Rattle.itm_types.specs.declared.call.Ran.{Ran}
 use Rattle.itm_types.specs.declared.call.Reply.{Reply as Replied}
 use Rattle.tx_attempts.specs.declared.attempt.Attempt.{Attempt}
 use Rattle.tx_attempts.specs.declared.attempt.Outcome.{Outcome}
-use Rattle.tx_attempts.specs.Kept.{spent}
+use Rattle.tx_attempts.specs.Kept.{reserved, spent}
+use Rattle.tx_attempts.specs.Restarts.{ran_on}
 use Rattle.tx_runs.specs.declared.savepoint.Savepoint.{Savepoint}
-use Rattle.tx_runs.specs.Tallies.{outside, within}
+use Rattle.tx_runs.specs.Tallies.{outside, with_call, within}
 use Rattle.tx_worker.specs.Accounts.{Account}
 
--- the open attempt with one call more, and room for so many, and these actions
-abbrev pub row_with : ℕ → Call → Replied → List Ran → Attempt → Attempt
-row_with room call reply ran row = record row { calls = record { list = row.calls.list ++ record { call = call; reply = reply } ∷ []; room = room }; ran = ran }
+-- the open attempt as a call comes, with room for it and for so many more
+abbrev pub with_room : ℕ → Attempt → Attempt
+with_room ahead row = record row { calls = reserved row.calls (ahead + 1) }
 
--- the attempt as it ends, at this position, with these actions
+-- with one call more, once these actions have come to run in all
+abbrev pub replied_row : Call → Replied → List Ran → Attempt → Attempt
+replied_row call reply due row = record (with_call call reply row) { ran = ran_on row.ran row.restarts due }
+
+-- with one call more, and room for so many
+abbrev pub row_with : ℕ → Call → Replied → Attempt → Attempt
+row_with room call reply row = record row { calls = record { list = row.calls.list ++ record { call = call; reply = reply } ∷ []; room = room } }
+
+-- the attempt as it ends, at this position, once these actions have come to run in all
 abbrev pub ended_at : Outcome → ℕ → List Ran → Attempt → Attempt
-ended_at outcome at ran row = record row { calls = spent row.calls; at = at; ran = ran; outcome = outcome }
+ended_at outcome at due row = record row { calls = spent row.calls; at = at; ran = ran_on row.ran row.restarts due; outcome = outcome }
 
 module _ {P : Type 0} where
   -- the open attempt goes on

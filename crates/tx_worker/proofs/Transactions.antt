@@ -1,2 +1,3 @@
+pub mod OpenTries
 pub mod Replies
 pub mod Stops

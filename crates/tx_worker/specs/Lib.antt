@@ -1,7 +1,6 @@
 pub mod Accounts
 pub mod Positions
 pub mod Calls
-pub mod Falls
 pub mod Progress
 pub mod Workers
 pub mod Works

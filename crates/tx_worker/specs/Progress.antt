@@ -1,7 +1,6 @@
 -- Where a worker stands between two calls.
-use Rattle.std.specs.Prelude.{◌≡◌, ℕ, ◌+◌, ◌/◌, ◌<◌, ◌≤◌, Bool, true, false, List, [], ◌++◌, length, Option, Some}
-use Rattle.itm_types.specs.Memory.{bytes_of, IsMemory, Agrees}
-use Rattle.itm_model.specs.Machine.{opened}
+use Rattle.std.specs.Prelude.{◌≡◌, ℕ, ◌+◌, ◌/◌, ◌<◌, ◌≤◌, Bool, true, false, List, ◌++◌, length, Option, Some}
+use Rattle.itm_types.specs.Memory.{IsMemory}
 use Rattle.norec_core.specs.Core.{Core, in_transaction}
 use Rattle.norec_core.specs.Stands.{stands_for}
 use Rattle.shared_words.specs.declared.view.View.{View}
@@ -9,51 +8,42 @@ use Rattle.shared_words.specs.Views.{held}
 use Rattle.itm_runtime.specs.Ties.{memory_of}
 use Rattle.itm_runtime.specs.Served.{Went}
 use Rattle.tx_attempts.specs.declared.attempt.Attempt.{Attempt}
-use Rattle.tx_attempts.specs.Alone.{state_then, IsAlone}
-use Rattle.tx_attempts.specs.Opacity.{Between, begin_code, IsRunOf}
+use Rattle.tx_attempts.specs.Opacity.{Between, IsRunOf}
 use Rattle.tx_attempts.specs.Outrun.{AreOutrun}
-use Rattle.tx_attempts.specs.Restarts.{breaks_of}
 use Rattle.tx_player.specs.Rules.{Rules}
 use Rattle.tx_runs.specs.Nesting.{IsNested}
-use Rattle.tx_runs.specs.Runs.{run_after, IsOfBlock, LeadsTo}
-use Rattle.tx_runs.specs.Unbroken.{AreUnbroken}
+use Rattle.tx_runs.specs.OpenTries.{IsOpenTry, ReadsFrom, whole_then}
+use Rattle.tx_runs.specs.Restarts.{RestartAtMost}
+use Rattle.tx_runs.specs.Runs.{run_after, LeadsTo}
 use Rattle.tx_worker.specs.Positions.{bytes_at, positions, AreLeft, AreSince, known_after, AreOwn}
 use Rattle.tx_runs.specs.declared.savepoint.Savepoint.{Savepoint}
 use Rattle.tx_runs.specs.Tallies.{outside, within}
 use Rattle.tx_worker.specs.Accounts.{Account}
 
 -- the memories that the open attempt may have read: those that agree with its log, or, once it is irrevocable, that of its position
-abbrev pub MayReadIn : Bool → View → Core → List ℕ → Type 0
-MayReadIn false v e m = IsMemory e.words m × Agrees m e.log
-MayReadIn true v e m = m ≡ memory_of v (e.snapshot / 2)
-
 abbrev pub MayRead : View → Core → List ℕ → Type 0
-MayRead v e m = MayReadIn e.irrevocable v e m
+MayRead v e m = IsMemory e.words m × ReadsFrom e.irrevocable (memory_of v (e.snapshot / 2)) e.log m
 
 -- the words that its engine stands over then: its own stores are in those that are held
 abbrev pub stood : Bool → View → List ℕ → List ℕ
 stood false v m = m
 stood true v m = held v
 
--- what a run began with: its view, its number, how often a block may be tried again, how many blocks may be open at once, how many commits were known, and its player
+-- what a run began with: its view, its number, how often a block may be tried again, how often inner blocks may go back to their begins in one transaction, how many blocks may be open at once, how many commits were known, and its player
 pub record Course (P : Type 0) : Type 0 where
   pub view : View
   pub number : ℕ
   pub retries : ℕ
+  pub restarts : ℕ
   pub depth : ℕ
   pub known : ℕ
   pub first : Between P
 
 module _ {P : Type 0} (rules : Rules P) where
-  -- the open attempt: its calls are those of its player alone on each memory that it may have read, and lead the plain machine where the engine stands
-  pub record IsTry (deepest : ℕ) (b : Between P) (row : Attempt) (p : P) (v : View) (e : Core) : Type 0 where
-    pub of_block : IsOfBlock rules deepest b row p
-    pub began : row.began ≤ e.snapshot / 2
-    pub restarts : row.restarts ≡ []  -- no block of it has run again
-    pub ran : row.ran ≡ e.actions.ran
-    pub each : (m : List ℕ) → MayRead v e m
-        → IsAlone rules deepest (breaks_of row.restarts) (rules.answered of_block.start.player (begin_code b.again)) (opened (bytes_of m) of_block.start.arena of_block.start.props) row.calls.list
-        × (stands_for e (stood e.irrevocable v m) ≡ state_then deepest (breaks_of row.restarts) (opened (bytes_of m) of_block.start.arena of_block.start.props) row.calls.list)
+  -- the open attempt is the engine's; once it is irrevocable, the engine stands, over the words that are held, where its calls led for the engine over the memory of its position
+  pub record IsTry (deepest : ℕ) (b : Between P) (row : Attempt) (points : List Savepoint) (p : P) (v : View) (e : Core) : Type 0 where
+    pub is_open : IsOpenTry rules deepest (memory_of v (e.snapshot / 2)) b row points p e
+    pub stands_held : e.irrevocable ≡ true → stands_for e (held v) ≡ whole_then deepest row (memory_of v (e.snapshot / 2)) row.calls.list
 
   -- before the next one: the player has come as far as its calls outside a transaction led
   pub record IsBefore (deepest : ℕ) (b : Between P) (t : Account P) (arena : List ℕ) : Type 0 where
@@ -70,7 +60,7 @@ module _ {P : Type 0} (rules : Rules P) where
     pub since : AreSince c.known ended
     pub known : known_after c.known ended ≤ length v.seen
     pub own : AreOwn c.number (c.retries + 1) ended
-    pub unbroken : AreUnbroken ended  -- no inner block runs again alone
+    pub few : RestartAtMost c.restarts ended  -- inner blocks run again so often at most in each
     pub outrun : AreOutrun v.high ended  -- the clock was seen past where each that ended in a conflict had read
 
   -- where the run stands after them
@@ -84,7 +74,7 @@ module _ {P : Type 0} (rules : Rules P) where
     pub points : List Savepoint
     pub stage_is : t.stage ≡ within row points
     pub now_is : now_at c v t.ended ≡ Some between
-    pub try : IsTry c.depth between row t.player v e
+    pub try : IsTry c.depth between row points t.player v e
     pub again : t.again ≡ true
     pub nth : row.nth ≡ t.nth
     pub thread : row.thread ≡ c.number
@@ -108,5 +98,6 @@ module _ {P : Type 0} (rules : Rules P) where
     pub nested : IsNested rules (in_transaction e) t.player
     pub depth : rules.depth t.player ≡ length e.blocks
     pub deepest : e.depth ≡ c.depth
+    pub limit : e.restarts ≡ c.restarts
     pub inside : in_transaction e ≡ true → IsInside c v e t
     pub outside : in_transaction e ≡ false → IsOutside c v e t

@@ -1,10 +1,11 @@
 -- A worker between two calls, and one that has stopped.
-use Rattle.std.specs.Prelude.{◌≡◌, ℕ, ◌+◌, ◌/◌, ◌<◌, ◌≤◌, Bool, true, false, if◌then◌else◌, List, length, Option, None, Some, unwrap_or, Vec, vec_len, vec_capacity}
+use Rattle.std.specs.Prelude.{◌≡◌, ℕ, ◌+◌, ◌/◌, ◌^◌, ◌<◌, ◌≤◌, Bool, true, false, if◌then◌else◌, List, length, Option, None, Some, unwrap_or, Vec, vec_len, vec_capacity}
 use Rattle.std.specs.declared.alloc.Global.{Global}
 use Rattle.itm_types.specs.declared.limits.TheConstants.{MAX_RETRIES}
 use Rattle.itm_types.specs.Calls.{is_begin}
 use Rattle.itm_types.specs.declared.call.Call.{Call}
 use Rattle.itm_types.specs.declared.call.Call.TheVariants.{Begin}
+use Rattle.itm_types.specs.declared.call.Ran.{Ran}
 use Rattle.norec_core.specs.declared.answer.Answer.{Answer}
 use Rattle.norec_core.specs.Core.{Core, in_transaction, irrevocable_room}
 use Rattle.norec_engine.specs.RestartingCalls.{can_restart}
@@ -19,8 +20,9 @@ use Rattle.tx_attempts.specs.declared.attempt.Attempt.{Attempt}
 use Rattle.tx_runs.specs.declared.ending.End.{End}
 use Rattle.tx_runs.specs.declared.player_run.Current.{Current}
 use Rattle.tx_runs.specs.declared.player_run.Current.TheVariants.{Outside, Begins, Within}
-use Rattle.tx_runs.specs.OpenAttempts.{HasPlacesFor}
+use Rattle.tx_runs.specs.OpenAttempts.{HasPlacesFor, told_in}
 use Rattle.tx_runs.specs.PlayerRuns.{MayStop, MayTell, stage_of, tally_of}
+use Rattle.tx_runs.specs.Ranks.{Falls, restarts_left}
 use Rattle.tx_runs.specs.declared.savepoint.Savepoint.{Savepoint}
 use Rattle.tx_runs.specs.Tallies.{begins_again, outside, within, stand_of}
 use Rattle.tx_player.specs.Rules.{Rules}
@@ -28,7 +30,6 @@ use Rattle.tx_worker.specs.declared.worker.Worker.{Worker}
 use Rattle.tx_worker.specs.Accounts.{Account, account_of, told}
 use Rattle.tx_worker.specs.Calls.{IsMade, IsShort, StopsAs, asked}
 use Rattle.tx_worker.specs.Positions.{AreFew, AreOver}
-use Rattle.tx_worker.specs.Falls.{Falls}
 use Rattle.tx_worker.specs.Progress.{Course, IsRunning}
 
 -- the limits of a thread, which no call changes
@@ -52,23 +53,36 @@ HasPlaces e ended Outside = Unit {0}
 HasPlaces e ended (Begins o) = Unit {0}
 HasPlaces e ended (Within o) = (vec_len ended < vec_capacity ended) × (total e.actions ≤ o.ends)
 
+-- what is told of the open attempt's actions has come to run
+abbrev pub IsToldBy : List Ran → Current → Type 0
+IsToldBy due Outside = Unit {0}
+IsToldBy due (Begins o) = Unit {0}
+IsToldBy due (Within o) = told_in o.row ≤ length due
+
 -- and for what comes of this call, which asks for so many more
 abbrev pub IsReadyFor : Core → Call → ℕ → Vec Attempt Global → Current → Type 0
 IsReadyFor e call ahead ended Outside = Unit {0}
-IsReadyFor e call ahead ended (Begins o) = vec_len ended < vec_capacity ended
+IsReadyFor e call ahead ended (Begins o) = (vec_len ended < vec_capacity ended) × (ahead ≤ o.ends) × (ahead ≤ o.cancels)
 IsReadyFor e call ahead ended (Within o) = (vec_len ended < vec_capacity ended) × (total e.actions ≤ o.ends) × HasPlacesFor call (total e.actions) ahead (arena_ahead e call) o
 
--- each call that the open attempt has room for finds a place for a block that it begins
-abbrev pub HasBlockPlaces : Current → Type 0
-HasBlockPlaces Outside = Unit {0}
-HasBlockPlaces (Begins o) = Unit {0}
-HasBlockPlaces (Within o) = 0 < o.row.calls.room → length o.points + o.row.calls.room ≤ o.deep
+-- each call that the open attempt has room for finds a place for a block that it begins; while the transaction may be tried again, each but one, since a call by which a block runs again leaves its room
+abbrev pub HasBlockPlaces : Bool → Current → Type 0
+HasBlockPlaces irrevocable Outside = Unit {0}
+HasBlockPlaces irrevocable (Begins o) = Unit {0}
+HasBlockPlaces true (Within o) = 0 < o.row.calls.room → length o.points + o.row.calls.room ≤ o.deep
+HasBlockPlaces false (Within o) = 1 < o.row.calls.room → length o.points + o.row.calls.room ≤ o.deep
 
 -- and so it is once the next call has come
 abbrev pub KeepsBlockPlaces : Current → Type 0
 KeepsBlockPlaces Outside = Unit {0}
 KeepsBlockPlaces (Begins o) = o.row.calls.room ≤ o.deep
 KeepsBlockPlaces (Within o) = 1 < o.row.calls.room → length o.points + o.row.calls.room ≤ o.deep
+
+-- each commit action that an irrevocable transaction may still register with no memory finds a place in the open attempt
+abbrev pub HasActionPlaces : Core → Current → Type 0
+HasActionPlaces e Outside = Unit {0}
+HasActionPlaces e (Begins o) = Unit {0}
+HasActionPlaces e (Within o) = e.irrevocable ≡ true → 0 < e.room → (total e.actions + e.room ≤ o.ends) × (total e.actions + e.room ≤ o.cancels)
 
 -- a begin is told whether an earlier try of its block got past it, where it is to open an attempt
 abbrev pub again_for : Current → Bool → Call → Bool
@@ -95,16 +109,17 @@ module _ {P : Type 0} where
     pub number : w.run.thread ≡ c.number
     pub retries : w.run.retries ≡ c.retries
     pub few : c.retries ≤ MAX_RETRIES
+    pub limit : c.restarts < 2 ^ 32
     pub over : AreOver w.ended.items
     pub below : AreFew b.max_commits w.ended.items
     pub bounds : bounds_of w.thread.engine ≡ b
-    pub whole : w.thread.engine.restarts ≡ 0  -- no inner block goes back to its begin alone
 
   -- there is room for what comes of its player's next call, and nothing else has changed
   pub record IsPrepared (words : Words) (rules : Rules P) (old : Worker P) (call : Call) (new : Worker P) : Type 0 where
     pub came : tally_of new.run ≡ asked words rules old.run.thread old.run.retries old.thread (account_of old) call
     pub ready : IsReadyFor old.thread.engine call (unwrap_or (irrevocable_room old.thread.engine call) 0) new.ended new.run.current
     pub blocks : KeepsBlockPlaces new.run.current
+    pub actions : HasActionPlaces old.thread.engine new.run.current
     pub thread : new.run.thread ≡ old.run.thread
     pub retries : new.run.retries ≡ old.run.retries
     pub ended : new.ended.items ≡ old.ended.items
@@ -122,7 +137,8 @@ module _ {P : Type 0} (rules : Rules P) where
     pub same : IsSame words c b w
     pub running : IsRunning rules c (view_in w) w.thread.engine (account_of w)
     pub roomy : HasPlaces w.thread.engine w.ended w.run.current
-    pub blocks : HasBlockPlaces w.run.current
+    pub blocks : HasBlockPlaces w.thread.engine.irrevocable w.run.current
+    pub actions : HasActionPlaces w.thread.engine w.run.current
 
   -- its player's next call is answered, and nothing has come of that yet
   pub record IsAsked (words : Words) (c : Course P) (b : Bounds) (old : Worker P) (call : Call) (answer : Answer) (new : Worker P) : Type 0 where
@@ -143,7 +159,7 @@ module _ {P : Type 0} (rules : Rules P) where
   pub record GoesOn (words : Words) (old new : Worker P) : Type 0 where
     pub made : IsMade words rules old.run.thread old.run.retries (account_of old) old.thread None (account_of new) new.thread
     pub works : (c : Course P) (b : Bounds) → IsWorking words c b old → IsWorking words c b new
-    pub falls : Falls rules old.run.retries (in_transaction old.thread.engine) (in_transaction new.thread.engine) old.run.nth new.run.nth old.run.player new.run.player
+    pub falls : Falls rules old.run.retries old.thread.engine.restarts (in_transaction old.thread.engine) (in_transaction new.thread.engine) old.run.nth new.run.nth (restarts_left old.thread.engine) (restarts_left new.thread.engine) old.run.player new.run.player
     pub thread : new.run.thread ≡ old.run.thread
     pub retries : new.run.retries ≡ old.run.retries
 

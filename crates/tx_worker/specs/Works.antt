@@ -56,6 +56,7 @@ course_of start player number retries = record {
   view = view_of start.pass;
   number = number;
   retries = retries;
+  restarts = start.engine.restarts;
   depth = start.engine.depth;
   known = start.engine.clock / 2;
   first = record { player = player; arena = start.engine.arena; again = false; tries = 0 };

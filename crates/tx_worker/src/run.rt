@@ -1,6 +1,6 @@
 //! A whole run.
 
-ghost use Rattle.std.specs.Prelude.{◌≡◌, ◌≤◌, false};
+ghost use Rattle.std.specs.Prelude.{◌≡◌, ◌^◌, ◌<◌, ◌≤◌, false};
 ghost use Rattle.itm_types.specs.declared.limits.TheConstants.{MAX_RETRIES};
 ghost use Rattle.norec_core.specs.Core.{in_transaction};
 ghost use Rattle.shared_words.specs.Passes.{Owns, view_of};
@@ -18,13 +18,12 @@ use tx_player::Player;
 use tx_runs::PlayerRun;
 
 /// Runs a player's transactions on a thread that has none open, up to its end: each call that it makes, and each block
-/// again from its begin, at most `retries` times, where it came to a conflict or found the clock held.
+/// again from its begin, at most `retries` times, where it came to a conflict or found the clock held. Where an inner block
+/// of the thread goes back to its begin alone, so does the player.
 ///
 /// The gate is asked before each call, and told after it, but for those that come in an irrevocable transaction; where it
 /// shuts, the thread gives up as it stands, and no action runs. The sink is handed each action once its call is answered.
 /// `NoMemory` where memory was refused: the open transaction is rolled back then, but for an irrevocable one.
-///
-/// Inner blocks of the thread do not go back to their begins alone: its limit of restarts is 0.
 pub fn work<P: Player, G: Gate, A: ActionSink>(
     alloc: Global,
     words: &Words,
@@ -39,7 +38,7 @@ pub fn work<P: Player, G: Gate, A: ActionSink>(
     requires stands { Stands (view_of thread.pass) thread.engine }
     requires outside { in_transaction thread.engine ≡ false }
     requires depth { P.depth player ≡ 0 }
-    requires whole { thread.engine.restarts ≡ 0 }
+    requires limit { thread.engine.restarts < 2 ^ 32 }
     requires few { retries ≤ MAX_RETRIES }
     ensures { Works P.Player words.now thread player number retries G.shuts result }
 {

@@ -1,26 +1,26 @@
 //! One thread's player with its transactions.
 
-ghost use Rattle.std.specs.Prelude.{◌≡◌, ◌/◌, ◌<◌, ◌≤◌, Bool, false, Some, unwrap_or, IsOk, OnOk, OnErr, vec_len, vec_capacity};
+ghost use Rattle.std.specs.Prelude.{◌≡◌, ◌/◌, ◌<◌, ◌≤◌, Bool, false, Some, unwrap_or, IsOk, OnOk, OnErr, length, vec_len, vec_capacity};
 ghost use Rattle.norec_core.specs.Core.{irrevocable_room};
 ghost use Rattle.shared_words.specs.Passes.{Owns};
 ghost use Rattle.shared_words.specs.declared.words.Words.{Words as WordsValue};
 ghost use Rattle.itm_runtime.specs.CallResults.{Returns};
-ghost use Rattle.tx_runs.specs.OpenAttempts.{Open};
+ghost use Rattle.tx_runs.specs.OpenAttempts.{Open, told_in};
 ghost use Rattle.tx_runs.specs.PlayerRuns.{MayStop, MayTell};
 ghost use Rattle.tx_runs.specs.Tallies.{begun, stand_of};
 ghost use Rattle.tx_worker.specs.Accounts.{account_of, told};
-ghost use Rattle.tx_worker.specs.Workers.{Bounds, IsPrepared, IsUnprepared, again_for, arena_ahead};
+ghost use Rattle.tx_worker.specs.Workers.{Bounds, IsPrepared, IsToldBy, IsUnprepared, again_for, arena_ahead};
 ghost use Rattle.tx_worker.specs.Works.{Parts};
 
 use crate::gate::Gate;
 use crate::sink::ActionSink;
 use crate::worked::Worked;
 use itm_runtime::Thread;
-use itm_types::{Call, Props};
+use itm_types::{Call, Props, Ran};
 use norec_core::{Answer, Undone};
 use shared_words::{Pass, Words};
 use std::alloc::{AllocError, Global};
-use tx_attempts::{Attempt, Attempts, Outcome};
+use tx_attempts::{Attempt, Attempts, Outcome, count_undone};
 use tx_player::Player;
 use tx_runs::{Current, End, PlayerRun, ahead_of};
 
@@ -115,7 +115,7 @@ impl<P: Player> Worker<P> {
         ensures ended { self.new.ended.items ≡ self.old.ended.items }
         ensures begins { OnOk result ((o : Open) × (self.new.run.current ≡ Current.Begins o) × (o.row ≡ begun self.old.run.thread self.old.run.nth
             (self.old.thread.engine.clock / 2) props self.old.thread.engine.arena (unwrap_or (irrevocable_room self.old.thread.engine call.now) 0))
-            × (o.row.calls.room ≤ o.deep)) }
+            × (o.row.calls.room ≤ o.deep) × (o.row.calls.room ≤ o.ends) × (o.row.calls.room ≤ o.cancels)) }
         ensures place { OnOk result (vec_len self.new.ended < vec_capacity self.new.ended) }
         ensures still { OnErr result (self.new.run.current ≡ self.old.run.current) }
     {
@@ -168,10 +168,12 @@ impl<P: Player> Worker<P> {
         end
     }
 
-    /// How many actions have run in the open attempt.
-    fn ran(&self) -> Option<usize> {
+    /// How many of the actions that have come to run are told in the open attempt.
+    fn ran(&self) -> Option<usize>
+        requires { IsToldBy self.now.thread.engine.actions.ran self.now.run.current }
+    {
         match &self.run.current {
-            Current::Within(open) => Some(open.row().ran.as_slice().len()),
+            Current::Within(open) => Some(told_of(open.row(), self.thread.due())),
             _ => None,
         }
     }
@@ -231,6 +233,17 @@ impl<P: Player> Worker<P> {
             pass: pass_of(thread),
         }
     }
+}
+
+/// How many of these actions the attempt tells, also in its blocks that ran again.
+fn told_of(row: &Attempt, due: &[Ran]) -> usize
+    requires { told_in row.now ≤ length due.now }
+    ensures { result ≡ told_in row.now }
+{
+    if due.is_empty() {
+        return 0;
+    }
+    row.ran.as_slice().len() + count_undone(row.restarts.as_slice())
 }
 
 /// How many bytes the arena has, where the innermost block may run again by the call.

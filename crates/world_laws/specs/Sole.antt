@@ -19,11 +19,12 @@ use Rattle.tx_runs.specs.Outcomes.{is_done}
 use Rattle.norec_world.specs.Tries.{current_of}
 use Rattle.tx_player.specs.Rules.{Rules}
 
--- the first try of its block, begun when so many had committed
+-- the first try of its block, begun when so many had committed; no inner block of it ran again
 pub record IsFirstTry (n : ℕ) (a : Attempt) : Type 0 where
   pub thread : a.thread ≡ 0
   pub nth : a.nth ≡ 1
   pub began : a.began ≡ n
+  pub unbroken : a.restarts ≡ []
 
 -- from so many commits to so many: each is such a try, reads where all before it had ended, and its block has ended: it committed, or was cancelled; no place is promised in it any more
 abbrev pub AreSole : ℕ → List Attempt → ℕ → Type 0

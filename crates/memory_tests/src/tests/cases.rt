@@ -25,7 +25,7 @@ fn ran(due: Due) -> Ran {
 }
 
 /// These actions have run, in this order.
-fn expect_ran(rt: &impl Abort, all: &[Ran], wanted: &[Due]) {
+pub(super) fn expect_ran(rt: &impl Abort, all: &[Ran], wanted: &[Due]) {
     assert_eq!(rt; all.len(), wanted.len());
     for (one, due) in all.iter().zip(wanted) {
         assert_eq!(rt; *one, ran(*due));

@@ -1,6 +1,7 @@
 //! Blocks that find no memory. Where one is irrevocable, it has made room for all that it does, and takes none.
 
-ghost use Rattle.std.specs.Prelude.{◌≡◌, IfOk};
+ghost use Rattle.std.specs.Prelude.{◌≡◌, ◌<◌, ◌≤◌, All, IfOk, length};
+ghost use Rattle.itm_types.specs.declared.limits.TheConstants.{MAX_ACTORS};
 ghost use Rattle.script_vm.specs.Threads.{depth_of};
 
 use super::cases::{Case, Due, expect_end};
@@ -15,7 +16,7 @@ use tx_player::Player;
 use tx_runs::End;
 
 /// The program of a script, which has no fault; nothing where memory is refused.
-fn program(rt: &impl Abort, alloc: Global, text: &[u8]) -> Option<Program> {
+pub(super) fn program(rt: &impl Abort, alloc: Global, text: &[u8]) -> Option<Program> {
     match assemble(alloc, text) {
         Ok(program) => Some(program),
         Err(fault) => {
@@ -33,9 +34,15 @@ fn thread<'p>(alloc: Global, program: &'p Program) -> Result<Script<'p>, AllocEr
     Script::new(alloc, program, 0)
 }
 
-/// A world of this player alone, over the program's memory.
-fn world<P: Player>(alloc: Global, program: &Program, player: P) -> Result<World<P>, AllocError>
-    requires { P.depth player ≡ 0 }
+/// A world of these players, over the program's memory.
+pub(super) fn of_players<P: Player>(
+    alloc: Global,
+    program: &Program,
+    players: Vec<P>,
+) -> Result<World<P>, AllocError>
+    requires some { 0 < length players.items }
+    requires few { length players.items ≤ MAX_ACTORS }
+    requires outside { All (λ p. P.depth p ≡ 0) players.items }
 {
     let mut bytes = vec![in alloc; 0; program.size()]?;
     program.opening(&mut bytes);
@@ -44,9 +51,16 @@ fn world<P: Player>(alloc: Global, program: &Program, player: P) -> Result<World
         arena: program.arena() as u32,
         limits: program.limits(),
     };
+    World::new(alloc, setup, players)
+}
+
+/// A world of this player alone, over the program's memory.
+fn world<P: Player>(alloc: Global, program: &Program, player: P) -> Result<World<P>, AllocError>
+    requires { P.depth player ≡ 0 }
+{
     let mut players = Vec::new(alloc);
     players.push(player)?;
-    World::new(alloc, setup, players)
+    of_players(alloc, program, players)
 }
 
 /// The world of the program's first thread; nothing where memory is refused.

@@ -63,7 +63,7 @@ counted_one clock clock' xs ys a one is before now c = record {
 }
 
 module _ {P : Type 0} where
-  pub counted_after : (clock clock' : ℕ) (p : Prior) (r : Rows) (a : Actor P) → Tries clock p clock' r a → AreCounted clock p.ended → AreCounted clock' r.ended
+  pub counted_after : {IsLater : Attempt → Attempt → Type 0} (clock clock' : ℕ) (p : Prior) (r : Rows) (a : Actor P) → Tries IsLater clock p clock' r a → AreCounted clock p.ended → AreCounted clock' r.ended
   counted_after clock clock' p r a (between t) c = counted_same clock clock' p.ended r.ended t.ended t.half c
   counted_after clock clock' p r a (begins t) c = counted_same clock clock' p.ended r.ended t.ended t.half c
   counted_after clock clock' p r a (runs t) c = counted_same clock clock' p.ended r.ended t.ended t.half c
@@ -85,7 +85,7 @@ ended_more (x ∷ xs) a e all = (all.0, ended_more xs a e all.1)
 
 module _ {P : Type 0} where
   -- what an event adds has ended
-  ended_after : (clock clock' : ℕ) (p : Prior) (r : Rows) (a : Actor P) → Tries clock p clock' r a → AreEnded p.ended → AreEnded r.ended
+  ended_after : {IsLater : Attempt → Attempt → Type 0} (clock clock' : ℕ) (p : Prior) (r : Rows) (a : Actor P) → Tries IsLater clock p clock' r a → AreEnded p.ended → AreEnded r.ended
   ended_after clock clock' p r a (over t) all = subst AreEnded (sym t.ended) (ended_more p.ended t.row' (λ e. subst (EndsAt p.max_commits clock clock' t.row'.at) e t.at) all)
   ended_after clock clock' p r a (between t) all = subst AreEnded (sym t.ended) all
   ended_after clock clock' p r a (begins t) all = subst AreEnded (sym t.ended) all
@@ -132,7 +132,7 @@ module _ {P : Type 0} (rules : Rules P) (w : World P) (c : CommitsInOrder w) (i 
 -- a world that has just begun
 module _ {P : Type 0} (rules : Rules P) (w : World P)
     (sound : AreActors rules w.cells w.attempts w.actors) (zero_clock : w.cells.clock ≡ 0) (none : w.attempts.ended ≡ [])
-    (first : (place : ℕ) (a : Actor P) → slice_get w.actors place ≡ Some a → IsFirst w.cells.clock w.patience w.max_commits w.retries w.depth a) where
+    (first : (place : ℕ) (a : Actor P) → slice_get w.actors place ≡ Some a → IsFirst w.cells.clock w.patience w.max_commits w.retries w.depth w.restarts a) where
   pub commits_first : CommitsInOrder w
   commits_first = record {
     counted = record {
@@ -145,7 +145,7 @@ module _ {P : Type 0} (rules : Rules P) (w : World P)
     held = λ odd. absurd (omega (arith, zero_clock));
     free = λ even place a e. free_one place a e;
     one = λ i j a b ea eb ha hb. absurd (both_ways a.engine.holds (free_one i a ea) ha);
-    limits = λ place a e. (let f = first place a e in record { retries = f.retries_are; patience = f.patience_is; max_commits = f.limit; depth = f.depth_is; restarts = f.restarts_none });
+    limits = λ place a e. (let f = first place a e in record { retries = f.retries_are; patience = f.patience_is; max_commits = f.limit; depth = f.depth_is; restarts = f.restarts_are });
   }
     where
       free_one : (place : ℕ) (a : Actor P) → slice_get w.actors place ≡ Some a → a.engine.holds ≡ false

@@ -19,13 +19,13 @@ outrun_both clock xs ys u all = both_outrun clock xs ys all (open_outrun clock y
 
 module _ {P : Type 0} where
   -- an event adds at most one conflict, at a clock that had moved on
-  pub outrun_after : (clock clock' : ℕ) (p : Prior) (r : Rows) (a : Actor P) → clock ≤ clock' → Tries clock p clock' r a → AreOutrun clock p.ended → AreOutrun clock' r.ended
-  outrun_after clock clock' p r a late tries all = by_case tries
+  pub outrun_after : {IsLater : Attempt → Attempt → Type 0} (clock clock' : ℕ) (p : Prior) (r : Rows) (a : Actor P) → clock ≤ clock' → Tries IsLater clock p clock' r a → AreOutrun clock p.ended → AreOutrun clock' r.ended
+  outrun_after {IsLater} clock clock' p r a late tries all = by_case tries
     where
       still : AreOutrun clock' p.ended
       still = outrun_later clock clock' late p.ended all
 
-      by_case : Tries clock p clock' r a → AreOutrun clock' r.ended
+      by_case : Tries IsLater clock p clock' r a → AreOutrun clock' r.ended
       by_case (over t) = subst (AreOutrun clock') (sym t.ended) (outrun_more clock' p.ended t.row' still (λ lost. (subst (EndsAt p.max_commits clock clock' t.row'.at) lost t.at).1))
       by_case (between t) = subst (AreOutrun clock') (sym t.ended) still
       by_case (begins t) = subst (AreOutrun clock') (sym t.ended) still

@@ -1,9 +1,9 @@
 -- What an engine has seen of the memories that the commits left, over a step or a call.
-use Rattle.std.proofs.Common.{◌≡◌, inl, inr, [], take, ℕ, zero, suc, ◌+◌, ◌/◌, ◌%◌, ◌≤◌, ◌==◌, Bool, true, false, if◌then◌else◌, List, length, length-set, Some, refl, sym, ap, subst, ◌∙◌, arith, ◌<◌, slice_get, slice_set, slice_index, eqb-true}
+use Rattle.std.proofs.Common.{◌≡◌, inl, inr, [], ◌++◌, append-nil, take, ℕ, zero, suc, ◌+◌, ◌/◌, ◌%◌, ◌≤◌, ◌==◌, Bool, true, false, if◌then◌else◌, List, length, length-set, Some, refl, sym, ap, subst, ◌∙◌, arith, ◌<◌, slice_get, slice_set, slice_index, eqb-true}
 use Rattle.norec_world.proofs.Common.{Agrees, AreLaid, Call, Cas, Cells, Core, Got, IsLawful, IsMemory, IsTied, Load, Loaded, Rows, Sees, StaysOn, Step, Store, backed, both_ways, bytes_at, bytes_of, came, cells_after, cond-true, cond_both, found, handed_is, handed_to, in_transaction, is_inside, same_Some, slice_get-get_or, word_loaded, words_at, write_at}
 use Rattle.norec_world.proofs.{Engines.ClockHolders.freed_by, Engines.ClockHolders.is_free, Engines.TiedEngines.held_even}
-use Rattle.norec_core.proofs.Accesses.Logs.{agrees_less, agrees_more, log_longer, log_now as log_then, still_logged as log_of_before}
-use Rattle.{norec_core.proofs.Engines.HeldStores.got_now, norec_core.proofs.Engines.HeldStores.got_or, norec_core.proofs.Replies.NoRestarts.none_goes_back, norec_core.specs.OwnAccesses.got_in, norec_core.specs.Proceeds.Joins, norec_core.specs.Proceeds.Settles, write_set.specs.Rows.overlay}
+use Rattle.norec_core.proofs.Accesses.Logs.{agrees_more, log_longer, snapshot_late, log_now as log_then, still_logged as log_of_before}
+use Rattle.{norec_core.proofs.Engines.HeldStores.got_now, norec_core.proofs.Engines.HeldStores.got_or, norec_core.specs.OwnAccesses.got_in, itm_types.specs.declared.row.LogRow.LogRow, norec_core.specs.Proceeds.AreRead, norec_core.specs.Proceeds.GoesBack, norec_core.specs.Proceeds.Joins, norec_core.specs.Proceeds.Settles, write_set.specs.Rows.overlay}
 
 module _ (memory : ℕ → List ℕ) (cells : Cells) (e : Core) (t : IsTied cells e) (free : cells.clock % 2 ≡ 0 → cells.words ≡ memory (cells.clock / 2)) (fits : IsMemory (length cells.words) (memory (cells.clock / 2))) where
   -- ## The value is handed in
@@ -60,19 +60,23 @@ module _ (memory : ℕ → List ℕ) (cells : Cells) (e : Core) (t : IsTied cell
         let even : cells.clock % 2 ≡ 0 = ap (λ (n : ℕ). n % 2) (sym seen) ∙ k.even in
         subst (λ (n : ℕ). Agrees (memory (n / 2)) e.fresh) (sym seen) (s.loaded.fresh even (sym k.same ∙ seen) own)
 
-    -- the log of before is of the new snapshot's memory too
-    pub still_logged : in_transaction e ≡ true → Agrees (memory (new.snapshot / 2)) e.log
-    still_logged o = elim (log_of_before e new (found cells step) joins t.settled memory s.logged settled_fresh o) [ inl all ↦ all | inr back ↦ absurd (none_goes_back e new (found cells step) t.restarts back) ]
+    -- no block goes back unless one more has
+    not_back : {A : Type 0} → new.restarted ≡ e.restarted → GoesBack e (found cells step) new → A
+    not_back same back = absurd (let more = back.counted in omega arith)
+
+    -- unless a block goes back, the log of before is of the new snapshot's memory too
+    pub still_logged : new.restarted ≡ e.restarted → in_transaction e ≡ true → Agrees (memory (new.snapshot / 2)) e.log
+    still_logged same o = elim (log_of_before e new (found cells step) joins t.settled memory s.logged settled_fresh o) [ inl all ↦ all | inr back ↦ not_back same back ]
 
     pub log_now : in_transaction new ≡ true → Agrees (memory (new.snapshot / 2)) new.log
     log_now o = log_then e new (found cells step) joins t.settled memory s.logged settled_fresh o
 
-    -- one that agrees with the log now agrees with the log of before
-    pub less_logged : in_transaction new ≡ true → new.irrevocable ≡ false → (m : List ℕ) → Agrees m new.log → Agrees m e.log
-    less_logged o r m a = elim (log_longer e new (found cells step) joins t.settled o) [
-      | inl more ↦ agrees_less m e.log more.0 (subst (Agrees m) more.1 a)
+    -- and it has grown by some rows, or none
+    pub longer_log : new.restarted ≡ e.restarted → in_transaction new ≡ true → new.irrevocable ≡ false → (rows : List LogRow) × (new.log ≡ e.log ++ rows)
+    longer_log same o r = elim (log_longer e new (found cells step) joins t.settled o) [
+      | inl more ↦ more
       | inr (inl over) ↦ absurd (both_ways new.irrevocable r over.is)
-      | inr (inr back) ↦ absurd (none_goes_back e new (found cells step) t.restarts back)
+      | inr (inr back) ↦ not_back same back
     ]
 
 -- ## Over cells and then others
@@ -87,9 +91,10 @@ pub record HasSeen (deepest : ℕ) (base : List ℕ) (cells cells' : Cells) (r :
   pub opens : in_transaction mid ≡ false → in_transaction new ≡ true → cells.clock / 2 ≤ new.snapshot / 2
   pub unlogged : in_transaction mid ≡ false → mid.log ≡ []
   pub logged : in_transaction mid ≡ true → Agrees (words_at deepest base r.ended (mid.snapshot / 2)) mid.log
-  pub still : in_transaction mid ≡ true → Agrees (words_at deepest base r.ended (new.snapshot / 2)) mid.log
+  pub still : new.restarted ≡ mid.restarted → in_transaction mid ≡ true → Agrees (words_at deepest base r.ended (new.snapshot / 2)) mid.log
   pub now : in_transaction new ≡ true → Agrees (words_at deepest base r.ended (new.snapshot / 2)) new.log
-  pub fewer : in_transaction new ≡ true → new.irrevocable ≡ false → (m : List ℕ) → Agrees m new.log → Agrees m mid.log
+  pub longer : new.restarted ≡ mid.restarted → in_transaction new ≡ true → new.irrevocable ≡ false → (rows : List LogRow) × (new.log ≡ mid.log ++ rows)  -- unless a block has gone back
+  pub read : mid.irrevocable ≡ false → AreRead (length mid.log) mid.blocks
   pub loaded : mid.freed ≡ false → Loaded (words_at deepest base r.ended) cells' mid
   pub even : mid.freed ≡ false → cells'.clock % 2 ≡ 0 → cells' ≡ cells  -- an even clock that was not freed was there before
   pub freed : mid.freed ≡ true → mid.irrevocable ≡ false → cells'.words ≡ backed mid (words_at deepest base r.ended (cells.clock / 2))
@@ -115,11 +120,12 @@ call_seen deepest base cells r e new call again laid tied free sees stays = reco
   opens = λ shut o. absurd (both_ways (in_transaction e) shut (stays.opens o));
   unlogged = λ o. (tied.settled.closed o).0;
   logged = sees.logged;
-  still = λ o. subst (λ (k : ℕ). Agrees (words_at deepest base r.ended (k / 2)) e.log) (sym stays.snapshot) (sees.logged o);
+  still = λ same o. subst (λ (k : ℕ). Agrees (words_at deepest base r.ended (k / 2)) e.log) (sym stays.snapshot) (sees.logged o);
   now = λ o.
       subst (λ (l : _). Agrees (words_at deepest base r.ended (new.snapshot / 2)) l) (sym (stays.log o))
       (subst (λ (k : ℕ). Agrees (words_at deepest base r.ended (k / 2)) e.log) (sym stays.snapshot) (sees.logged (stays.opens o)));
-  fewer = λ o r m x. subst (Agrees m) (stays.log o) x;
+  longer = λ same o r. ([], stays.log o ∙ sym (append-nil e.log));
+  read = tied.settled.reads;
   loaded = λ f. record { fresh = λ even same h. tt; held = λ h r. absurd (both_ways e.irrevocable r (sym free ∙ h)); got = λ h r. absurd (both_ways e.irrevocable r (sym free ∙ h)) };
   even = λ f even. refl;
   freed = λ f r. absurd (cc);
@@ -156,11 +162,7 @@ step_seen deepest base cells r e new step laid tied sees waits lawful joins =
       words = k.keeps.words ∙ tied.words;
       long = step_long cells e tied step;
       late = (let same = k.snapshot in let reached = tied.settled.reached in let late = tied.late in omega arith);
-      up = λ o. elim (joins.snapshot (sym (ap is_inside k.keeps.blocks) ∙ o)) [
-        | inl is ↦ (let same = k.snapshot in omega arith)
-        | inr (inr back) ↦ absurd (none_goes_back e new (found cells step) tied.restarts back)
-        | inr (inl moved) ↦ (let same = k.snapshot in let reached = tied.settled.reached in let clock = moved.0.same in let to = moved.2 in omega arith)
-      ];
+      up = λ o. (let late = snapshot_late e new (found cells step) joins tied.settled (sym (ap is_inside k.keeps.blocks) ∙ o) in let same = k.snapshot in omega arith);
       opens = λ shut o.
           elim (joins.begins (sym (ap is_inside k.keeps.blocks) ∙ shut) o) [
             | inl b ↦ (let clock : found cells step ≡ cells.clock = ap (found cells) (same_Some _ _ (sym waits ∙ b.0)) in omega (arith, b.1))
@@ -168,9 +170,12 @@ step_seen deepest base cells r e new step laid tied sees waits lawful joins =
           ];
       unlogged = λ o. k.log ∙ (tied.settled.closed (sym (ap is_inside k.keeps.blocks) ∙ o)).0;
       logged = λ o. subst (λ (j : ℕ). Agrees (memory (j / 2)) mid.log) (sym k.snapshot) (subst (Agrees (memory (e.snapshot / 2))) (sym k.log) (sees.logged (sym (ap is_inside k.keeps.blocks) ∙ o)));
-      still = λ o. subst (Agrees (memory (new.snapshot / 2))) (sym k.log) (still_logged memory cells e tied laid.free fits sees step waits lawful new joins (sym (ap is_inside k.keeps.blocks) ∙ o));
+      still = λ same o. subst (Agrees (memory (new.snapshot / 2))) (sym k.log) (still_logged memory cells e tied laid.free fits sees step waits lawful new joins (same ∙ k.keeps.restarted) (sym (ap is_inside k.keeps.blocks) ∙ o));
       now = log_now memory cells e tied laid.free fits sees step waits lawful new joins;
-      fewer = λ o r m a. subst (Agrees m) (sym k.log) (less_logged memory cells e tied laid.free fits sees step waits lawful new joins o r m a);
+      longer = λ same o r.
+          (let x = longer_log memory cells e tied laid.free fits sees step waits lawful new joins (same ∙ k.keeps.restarted) o r in
+          (x.0, x.1 ∙ ap (λ (l : List LogRow). l ++ x.0) (sym k.log)));
+      read = λ r. subst (λ (l : List LogRow). AreRead (length l) mid.blocks) (sym k.log) (subst (AreRead (length e.log)) (sym k.keeps.blocks) (tied.settled.reads (sym k.keeps.irrevocable ∙ r)));
       loaded = λ f. loaded_handed memory cells e tied laid.free fits sees.loaded step lawful (sym unfreed ∙ f);
       even = λ f. even_same cells e tied step lawful (sym unfreed ∙ f);
       freed = λ f r. freed_words cells e tied memory sees.loaded step lawful (sym unfreed ∙ f) (sym k.keeps.irrevocable ∙ r);

@@ -1,6 +1,6 @@
 -- An irrevocable attempt over a call that comes, and over a step.
 use Rattle.std.proofs.Common.{◌≡◌, ℕ, zero, suc, ◌/◌, true, false, List, Option, Some, slice_get, refl, sym, ap, subst, ◌∙◌, arith, unwrap_or, ◌+◌}
-use Rattle.norec_world.proofs.Common.{Actor, Answers, Asks, AsksFor, Attempt, Call, Cells, Core, Got, IsHeld, IsLawful, IsTied, Load, Next, Proceeds, Replied, Rows, Rules, StandsIn, State, Step, Store, active_of, after, alone, asked_from, bytes_at, cells_after, found, handed_to, irrevocable_room, is_inside, reply, reserved, rests, slice_get-get_or, stage_from, stands_for}
+use Rattle.norec_world.proofs.Common.{Actor, Answers, Asks, AsksFor, Attempt, Call, Cells, Core, Got, IsHeld, IsLawful, IsTied, Load, Next, Proceeds, Replied, Rows, Rules, StandsIn, State, Step, Store, active_of, after, alone_whole, asked_from, bytes_at, cells_after, found, handed_to, irrevocable_room, is_inside, reply, reserved, rests, slice_get-get_or, stage_from, stands_for}
 use Rattle.norec_core.specs.Held.{ComesTo}
 use Rattle.norec_world.proofs.Engines.SoundSteps.{IsCalling, IsStepping, asked_row, mid, mid_step, rests as between_calls, same, waits, went}
 use Rattle.norec_world.proofs.Engines.HeldCalls.{HasHeld, held_same}
@@ -20,15 +20,14 @@ module _ {P : Type 0} {rules : Rules P} {cells : Cells} {r0 r : Rows} {old a : A
       subst (λ (bytes : List ℕ). IsHeld old.engine.depth bytes cells.words row old.engine) (sym memory_same)
       (subst (λ (x : Attempt). IsHeld old.engine.depth (bytes_at old.engine.depth base r0.ended (cells.clock / 2)) cells.words x old.engine) (sym was.2) (held_same was.0.at (reserved was.0.calls (unwrap_or (irrevocable_room old.engine call) 0 + 1)).room (held i was.0 was.1)))
 
-  stands_then : old.engine.irrevocable ≡ true → (row : Attempt) → active_of a ≡ Some row → stands_for old.engine cells.words ≡ alone old.engine.depth (bytes_at old.engine.depth base r.ended (cells.clock / 2)) row
+  stands_then : old.engine.irrevocable ≡ true → (row : Attempt) → active_of a ≡ Some row → stands_for old.engine cells.words ≡ alone_whole old.engine.depth (bytes_at old.engine.depth base r.ended (cells.clock / 2)) row
   stands_then i row f =
-      subst (λ (w : Option Step). StandsIn old.engine.depth w old.engine.doing old.engine cells.words (alone old.engine.depth (bytes_at old.engine.depth base r.ended (cells.clock / 2)) row)) (between_calls m.sound m.ready).idle (held_then i row f).stands
+      subst (λ (w : Option Step). StandsIn old.engine.depth w old.engine.doing old.engine cells.words (alone_whole old.engine.depth (bytes_at old.engine.depth base r.ended (cells.clock / 2)) row)) (between_calls m.sound m.ready).idle (held_then i row f).stands
 
   pub call_held : HasHeld old.engine.depth base cells cells r (active_of a) (mid m) a.engine call what
   call_held = record {
     still_open = λ i row f. (held_then i row f).still_open;
     mode = λ i row f. (held_then i row f).mode;
-    ran = λ i row f. (held_then i row f).ran;
     comes = λ i row f.
         subst (λ (s : State). ComesTo (after old.engine.depth s call) (reply old.engine.depth s call) what a.engine cells.words) (stands_then i row f)
         (m.asks.called.held i cells.words (sym m.sound.tied.words, m.sound.tied.fit));
@@ -66,14 +65,14 @@ module _ {P : Type 0} {rules : Rules P} {cells : Cells} {r : Rows} {old : Actor 
   was i = sym (same m).irrevocable ∙ i
 
   in_call : old.engine.irrevocable ≡ true → (row : Attempt) → active_of old ≡ Some row
-      → (leaves old.engine cells.words ≡ after deepest (alone deepest (bytes_at deepest base r.ended (cells.clock / 2)) row) call) × (answers old.engine cells.words ≡ reply deepest (alone deepest (bytes_at deepest base r.ended (cells.clock / 2)) row) call)
+      → (leaves old.engine cells.words ≡ after deepest (alone_whole deepest (bytes_at deepest base r.ended (cells.clock / 2)) row) call) × (answers old.engine cells.words ≡ reply deepest (alone_whole deepest (bytes_at deepest base r.ended (cells.clock / 2)) row) call)
   in_call i row f =
       let w = waits m in
-      subst (λ (o : Option Call). StandsIn deepest (Some m.step) o old.engine cells.words (alone deepest (bytes_at deepest base r.ended (cells.clock / 2)) row)) w.doing
-      (subst (λ (o : Option Step). StandsIn deepest o old.engine.doing old.engine cells.words (alone deepest (bytes_at deepest base r.ended (cells.clock / 2)) row)) w.waits (held i row f).stands)
+      subst (λ (o : Option Call). StandsIn deepest (Some m.step) o old.engine cells.words (alone_whole deepest (bytes_at deepest base r.ended (cells.clock / 2)) row)) w.doing
+      (subst (λ (o : Option Step). StandsIn deepest o old.engine.doing old.engine cells.words (alone_whole deepest (bytes_at deepest base r.ended (cells.clock / 2)) row)) w.waits (held i row f).stands)
 
   comes_to : old.engine.irrevocable ≡ true → (row : Attempt) → active_of old ≡ Some row
-      → ComesTo (after deepest (alone deepest (bytes_at deepest base r.ended (cells.clock / 2)) row) call) (reply deepest (alone deepest (bytes_at deepest base r.ended (cells.clock / 2)) row) call) what new cells'.words
+      → ComesTo (after deepest (alone_whole deepest (bytes_at deepest base r.ended (cells.clock / 2)) row) call) (reply deepest (alone_whole deepest (bytes_at deepest base r.ended (cells.clock / 2)) row) call) what new cells'.words
   comes_to i row f =
       let w = waits m in
       let h = held i row f in
@@ -81,8 +80,8 @@ module _ {P : Type 0} {rules : Rules P} {cells : Cells} {r : Rows} {old : Actor 
       let there = subst (λ (o : Option Step). IsFound old.engine o (found cells m.step) cells.words) (sym w.waits)
       (is_found old.engine m.step (found cells m.step) cells.words (is_loaded cells old.engine m.step m.sound.tied w.lawful) (λ word value e. h.got word value (w.waits ∙ ap (λ (s : Step). Some s) e))) in
       let words : memory_after old.engine.waits cells.words ≡ cells'.words = ap (λ (o : Option Step). memory_after o cells.words) w.waits ∙ (words_then cells m.step ∙ ap (λ (c : Cells). c.words) (sym m.cells_are)) in
-      subst (λ (x : List ℕ). ComesTo (after deepest (alone deepest (bytes_at deepest base r.ended (cells.clock / 2)) row) call) (reply deepest (alone deepest (bytes_at deepest base r.ended (cells.clock / 2)) row) call) what new x) words
-      (subst (λ (x : Replied). ComesTo (after deepest (alone deepest (bytes_at deepest base r.ended (cells.clock / 2)) row) call) x what new (memory_after old.engine.waits cells.words)) pair.1
+      subst (λ (x : List ℕ). ComesTo (after deepest (alone_whole deepest (bytes_at deepest base r.ended (cells.clock / 2)) row) call) (reply deepest (alone_whole deepest (bytes_at deepest base r.ended (cells.clock / 2)) row) call) what new x) words
+      (subst (λ (x : Replied). ComesTo (after deepest (alone_whole deepest (bytes_at deepest base r.ended (cells.clock / 2)) row) call) x what new (memory_after old.engine.waits cells.words)) pair.1
       (subst (λ (x : State). ComesTo x (answers old.engine cells.words) what new (memory_after old.engine.waits cells.words)) pair.0
       (m.resumed.held i cells.words (sym m.sound.tied.words, m.sound.tied.fit) there)))
 
@@ -101,7 +100,6 @@ module _ {P : Type 0} {rules : Rules P} {cells : Cells} {r : Rows} {old : Actor 
   step_held = record {
     still_open = λ i row f. (held (was i) row f).still_open;
     mode = λ i row f. (held (was i) row f).mode;
-    ran = λ i row f. (held (was i) row f).ran;
     comes = λ i row f. comes_to (was i) row f;
     shut = λ o. (same m).irrevocable ∙ shut_revocable old.engine m.sound.tied.settled (sym (ap is_inside (same m).blocks) ∙ o);
     got = λ i word value e. got_next what refl (was i) word value e;

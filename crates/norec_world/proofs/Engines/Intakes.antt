@@ -1,9 +1,9 @@
 -- The moment that a step and a call of the player share: the engine has taken in a value or a call, and what it gave is recorded next.
 use Rattle.std.proofs.Common.{◌≡◌, ◌≢◌, ◌⊎◌, None, ◌+◌, ◌*◌, ◌/◌, Bool, true, false, [], refl, ap, subst, ◌∙◌, sym, length, Some, ◌<◌, ◌≤◌, inl, inr, arith, ℕ}
-use Rattle.norec_world.proofs.Common.{Actor, Answer, AnswerFits, Answers, Asks, Attempt, BeginsAt, Call, Cells, Core, End, Ended, Ends, HasRow, IsActing, IsAnswered, IsAtOnce, IsDone, IsDue, IsKept, IsNested, IsSettledBy, IsSound, IsTied, IsWaiting, IsWithin, Next, Proceeds, Ready, Records, RestsAs, Rows, Rules, Status, StatusIs, Step, Tells, Waits, active_of, asked, cases_Bool, count_of, ending_of, frees, in_transaction, is_ready, pending_of, rests, wanted}
-use Rattle.norec_world.{proofs.Engines.TiedEngines.answer_fits, proofs.Tries.Stages.row_same, specs.ActionRoom.HasFirst, specs.ActionRoom.NeverRestarts, specs.Sound.IsInCall}
-use Rattle.tx_attempts.proofs.RanOn.{ran_on_none}
-use Rattle.tx_attempts.specs.Restarts.{ran_on}
+use Rattle.norec_world.proofs.Common.{Actor, Answer, AnswerFits, Answers, Asks, Attempt, BeginsAt, Call, Cells, Core, End, Ended, Ends, HasRow, IsActing, IsAnswered, IsAtOnce, IsDone, IsDue, IsKept, IsNested, IsSettledBy, IsSound, IsTied, IsWaiting, IsWithin, Next, Proceeds, Ready, Records, RestsAs, Rows, Rules, Status, StatusIs, Step, Tells, Waits, active_of, asked, cases_Bool, count_of, ending_of, frees, in_transaction, is_ready, pending_of, rests, stage_of, wanted}
+use Rattle.norec_world.{proofs.Engines.TiedEngines.answer_fits, proofs.Tries.Stages.row_same, specs.ActionRoom.BeganIn, specs.ActionRoom.HasFew, specs.ActionRoom.HasFirst, specs.Sound.HasPoints, specs.Sound.IsInCall, specs.Sound.LeavesRestarts}
+use Rattle.norec_world.proofs.Engines.RestartedEngines.{leaves_left}
+use Rattle.tx_runs.specs.Ranks.{restarts_left}
 
 pub ready_of : (s : Status) → is_ready s ≡ true → s ≡ Ready
 ready_of Ready e = refl
@@ -32,7 +32,9 @@ module _ {P : Type 0} (rules : Rules P) where
     pub within : IsWithin a.engine
     pub kept : IsKept was a
     pub first : HasFirst a
-    pub whole : NeverRestarts a
+    pub few : HasFew a
+    pub began : BeganIn (stage_of a.run.current)
+    pub points : HasPoints (rules.depth a.run.player) (stage_of a.run.current)
     pub nested : IsNested rules was a.run.player
     pub depth : rules.depth a.run.player ≡ length mid.blocks
     pub in_call : IsInCall rules was a call
@@ -50,10 +52,10 @@ module _ {P : Type 0} (rules : Rules P) where
   -- and the answer is recorded
   pub record HasAnswered (was : Bool) (cells cells' : Cells) (r r1 : Rows) (mid : Core) (a last : Actor P) (call : Call) (answer : Answer) : Type 0 where
     pub taken : HasTaken was cells cells' r mid a call (Answers answer)
-    pub answered : IsAnswered rules was a call answer
+    pub answered : IsAnswered rules was (restarts_left mid) a call answer
     pub ends : Ends mid answer a.engine
     pub told : Records rules r r1 a last call answer
-    pub settled : IsSettledBy rules was a last
+    pub settled : IsSettledBy rules was (restarts_left mid) a last
 
   -- what is true of the actor then
   pub record IsNow (cells : Cells) (r : Rows) (a last : Actor P) : Type 0 where
@@ -69,12 +71,14 @@ pub in_call_of : {P : Type 0} {rules : Rules P} {was : Bool} {a : Actor P} {call
 in_call_of e s i = record { asks = i.asks; begins = i.begins; inside = i.inside; props = i.props; opens = λ row e. (let p = i.opens row e in record { thread = p.thread; nth = p.nth; outcome = p.outcome }) }
 
 module _ {P : Type 0} {rules : Rules P} {was : Bool} {cells cells' : Cells} {r : Rows} {mid : Core} {a : Actor P} {call : Call} where
-  pub answered : {answer : Answer} → HasTaken rules was cells cells' r mid a call (Answers answer) → IsAnswered rules was a call answer
+  pub answered : {answer : Answer} → HasTaken rules was cells cells' r mid a call (Answers answer) → IsAnswered rules was (restarts_left mid) a call answer
   answered {answer} m =
       let fits : AnswerFits was (rules.depth a.run.player) (in_transaction a.engine) (length a.engine.blocks) call answer =
       subst (λ (n : ℕ). AnswerFits was n (in_transaction a.engine) (length a.engine.blocks) call answer) (sym m.depth)
-      (subst (λ (b : Bool). AnswerFits b (length mid.blocks) (in_transaction a.engine) (length a.engine.blocks) call answer) m.was_is (answer_fits mid a.engine m.tied.restarts call answer m.doing m.proceeds)) in
-      assumption (fits, rests mid a.engine answer m.proceeds, m)
+      (subst (λ (b : Bool). AnswerFits b (length mid.blocks) (in_transaction a.engine) (length a.engine.blocks) call answer) m.was_is (answer_fits mid a.engine m.tied.settled call answer m.doing m.proceeds)) in
+      let left : LeavesRestarts was (in_transaction a.engine) (restarts_left mid) (restarts_left a.engine) answer =
+      subst (λ (b : Bool). LeavesRestarts b (in_transaction a.engine) (restarts_left mid) (restarts_left a.engine) answer) m.was_is (leaves_left mid a.engine answer m.tied.settled m.proceeds) in
+      assumption (fits, left, rests mid a.engine answer m.proceeds, m)
 
   -- no commit is done, unless a writer's is what is answered
   pub unfreed : {r1 : Rows} {last : Actor P} {answer : Answer} → HasAnswered rules was cells cells' r r1 mid a last call answer → frees answer ≡ false → mid.freed ≡ false
@@ -83,13 +87,7 @@ module _ {P : Type 0} {rules : Rules P} {was : Bool} {cells cells' : Cells} {r :
   pub half_same : {r1 : Rows} {last : Actor P} {answer : Answer} → HasAnswered rules was cells cells' r r1 mid a last call answer → frees answer ≡ false → cells'.clock / 2 ≡ cells.clock / 2
   half_same m none = m.taken.moves.keeps (unfreed m none)
 
-  -- what is told as run of an open attempt is all that has come to run
-  pub told_all : {r1 : Rows} {last : Actor P} {answer : Answer} → HasAnswered rules was cells cells' r r1 mid a last call answer → (row : Attempt) → active_of a ≡ Some row → ran_on row.ran row.restarts last.engine.actions.ran ≡ last.engine.actions.ran
-  told_all m row e =
-      let same = ap (λ (c : Core). c.actions.ran) m.settled.engine in
-      ap (ran_on row.ran row.restarts) same ∙ (ran_on_none row.ran row.restarts a.engine.actions.ran (m.taken.whole row e) (m.taken.first row e) ∙ sym same)
-
-  pub due : {what : Next} → HasTaken rules was cells cells' r mid a call what → IsDue rules was a call what
+  pub due : {what : Next} → HasTaken rules was cells cells' r mid a call what → IsDue rules was (restarts_left mid) a call what
   due {what = Asks step} m = m.ready
   due {what = Answers answer} m = answered m
 
@@ -103,6 +101,7 @@ module _ {P : Type 0} {rules : Rules P} {was : Bool} {cells cells' : Cells} {r :
       let status : IsWaiting rules (record a { status = Waits call step }) call step = record {
         nested = subst (λ (b : Bool). IsNested rules b a.run.player) opens m.nested;
         depth = m.depth ∙ ap (λ (c : Core). length c.blocks) (sym g.stays);
+        points = m.points;
         in_call = subst (λ (b : Bool). IsInCall rules b (record a { status = Waits call step }) call) opens (in_call_of a.engine (Waits call step) m.in_call);
         doing = ap (λ (c : Core). c.doing) g.stays ∙ m.doing;
         waits = ap (λ (c : Core). c.waits) g.stays;
@@ -123,10 +122,10 @@ module _ {P : Type 0} {rules : Rules P} {was : Bool} {cells cells' : Cells} {r :
       status_of (Ended end) rest = rest
 
   -- what holds of an actor that waits, and of one whose call is answered, holds once either is recorded
-  pub recorded : {what : Next} {r1 : Rows} {last : Actor P} (Holds : Rows → Actor P → Type 0) → HasTaken rules was cells cells' r mid a call what → IsDone rules was r r1 a last call what → Tells rules r r1 a last call what
+  pub recorded : {what : Next} {r1 : Rows} {last : Actor P} (Holds : Rows → Actor P → Type 0) → HasTaken rules was cells cells' r mid a call what → IsDone rules was (restarts_left mid) r r1 a last call what → Tells rules r r1 a last call what
       → ((step : Step) → HasTaken rules was cells cells' r mid a call (Asks step) → Holds r (record a { status = Waits call step })) → ((answer : Answer) → what ≡ Answers answer → HasAnswered rules was cells cells' r r1 mid a last call answer → Holds r1 last) → Holds r1 last
   recorded {what = Asks step} {last} Holds m done tells waits ends = subst (λ (x : Rows). Holds x last) (sym done.1) (subst (Holds r) (sym done.0) (waits step m))
   recorded {what = Answers answer} Holds m done tells waits ends = ends answer refl (record { taken = m; answered = answered m; ends = m.proceeds; told = tells; settled = done })
 
-  pub now : {what : Next} {r1 : Rows} {last : Actor P} → HasTaken rules was cells cells' r mid a call what → IsDone rules was r r1 a last call what → Tells rules r r1 a last call what → IsNow rules cells' r1 a last
+  pub now : {what : Next} {r1 : Rows} {last : Actor P} → HasTaken rules was cells cells' r mid a call what → IsDone rules was (restarts_left mid) r r1 a last call what → Tells rules r r1 a last call what → IsNow rules cells' r1 a last
   now m done tells = recorded (λ x y. IsNow rules cells' x a y) m done tells (λ step t. waits_now t) (λ answer is t. answered_now t)

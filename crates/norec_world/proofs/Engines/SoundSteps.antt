@@ -1,14 +1,20 @@
 -- A step was done, or a call of the player came: its value or the call went to the engine, and what the engine gave may be recorded.
 use Rattle.std.proofs.Common.{◌≡◌, ◌≢◌, ◌⊎◌, [], nat_lt, inl, ℕ, zero, suc, ◌+◌, ◌*◌, ◌/◌, ◌%◌, ◌<◌, ◌≤◌, ◌==◌, Bool, true, false, if◌then◌else◌, Option, None, Some, refl, sym, true≢false, ap, subst, ◌∙◌, arith, eqb-true, inr, length, unwrap_or}
-use Rattle.norec_world.proofs.Common.{Actor, AllFit, Answers, Asks, AsksAs, AsksFor, AsksOf, Attempt, Begin, BeginsAt, Call, Cas, Cells, ClocksOn, Core, Ended, Falls, GoesOn, HoldsOn, IsAsked, IsAtOnce, IsBacked, IsDone, IsLawful, IsNested, IsNoMore, IsReady, IsResumed, IsSettledBy, IsSound, IsTied, IsWaiting, Load, MayRunOn, Next, NoCancel, Phase, PlayerRun, Proceeds, Ready, RestsAs, Rows, Rules, Status, StatusIs, Step, Store, Tells, Waits, active_of, asked, asked_from, begins_again, begun_in, came, cells_after, cond_both, count_of, ending_of, found, handed_is, handed_to, in_transaction, irrevocable_room, is_inside, is_ready, is_waiting, may_go, none_inside, open_in, pending_of, rank, reserved, rests as rested, same_Some, stage_at, stage_from, stage_of, steps_left, told, total, wanted, whole}
+use Rattle.norec_world.proofs.Common.{Actor, AllFit, Answers, Asks, AsksAs, AsksFor, AsksOf, Attempt, Begin, BeginsAt, Call, Cas, Cells, ClocksOn, Core, Ended, Falls, GoesOn, HoldsOn, IsAsked, IsAtOnce, IsDone, IsPromised, IsLawful, IsNested, IsNoMore, IsReady, IsResumed, IsSettledBy, IsSound, IsTied, IsWaiting, Load, MayRunOn, Next, NoCancel, Phase, PlayerRun, Proceeds, Ready, RestsAs, Rows, Rules, Status, StatusIs, Step, Store, Tells, Waits, active_of, asked, asked_from, begins_again, begun_in, came, cells_after, cond_both, count_of, ending_of, found, handed_is, handed_to, in_transaction, irrevocable_room, is_inside, is_ready, is_waiting, may_go, none_inside, open_in, pending_of, rank, reserved, rests as rested, same_Some, stage_at, stage_from, stage_of, steps_left, told, total, wanted, whole}
 use Rattle.norec_world.proofs.Rooms.CallRoom.{promised_same, reserved_least, wanted_came, wanted_same}
 use Rattle.norec_world.proofs.Engines.ClockHolders.{clocks_of, clocks_still, clocks_twice, freed_by}
 use Rattle.norec_world.proofs.Engines.Intakes.{ClockMoves, HasTaken, in_call_of, ready_of}
 use Rattle.norec_world.proofs.Engines.TiedEngines.{IsMid, hands, held_even, holds_handed, clock_same, limit_same, tied, comes}
-use Rattle.norec_world.{proofs.Engines.NoRestarts.not_restarted, proofs.Rooms.ActionRoom.gave_acting, proofs.Rooms.ActionRoom.registers_none, proofs.Rooms.HeldRoom.same_room, proofs.Rooms.LaterActions.first_here, proofs.Tries.Stages.asked_begun, proofs.Tries.Stages.asked_open, proofs.Tries.Stages.row_same, specs.LocalWork.SameActor, specs.LocalWork.TakesIn}
+use Rattle.norec_world.{proofs.Engines.RestartedEngines.left_same, proofs.Engines.RestartedEngines.may_same, proofs.Engines.RestartedEngines.revocable_back, proofs.Engines.RestartedEngines.restarted_more, proofs.Rooms.ActionRoom.gave_acting, proofs.Rooms.ActionRoom.registers_none, proofs.Rooms.HeldRoom.same_room, proofs.Rooms.LaterActions.first_here, proofs.Tries.Stages.asked_begun, proofs.Tries.Stages.asked_open, proofs.Tries.Stages.row_same, specs.LocalWork.SameActor, specs.LocalWork.TakesIn}
 use Rattle.norec_core.{proofs.Engines.KeptFields.most_same, specs.Keeps.Keeps, specs.Order.snapshot_from, specs.Proceeds.most, specs.declared.call_parts.Opening.Opening}
 use Rattle.norec_core.specs.Phases as at
-use Rattle.norec_world.specs.ActionRoom.{NestsAs, NeverRestarts}
+use Rattle.norec_world.specs.ActionRoom.{BacksIn, BeganIn, HasFew, NestsAs, RenewsAs, may_go_back}
+use Rattle.norec_world.specs.Sound.{HasPoints, rank_now}
+use Rattle.norec_core.proofs.Engines.KeptFields.{came_restarted}
+use Rattle.norec_world.proofs.Rooms.ActionRoom.{TakesRoom}
+use Rattle.norec_world.proofs.Tries.Stages.{asked_began, asked_points, row_open}
+use Rattle.tx_runs.specs.OpenAttempts.{told_in}
+use Rattle.tx_runs.specs.Ranks.{restarts_left, rank as rank_of}
 
 -- ## The clock over a step
 
@@ -139,12 +145,13 @@ module _ {P : Type 0} {rules : Rules P} {cells : Cells} {r : Rows} {old : Actor 
       let k = m.sound.kept in
       let inside : in_transaction mid_step ≡ in_transaction old.engine = ap is_inside same.blocks in
       let doing : mid_step.doing ≡ Some call = same.doing ∙ waits.doing in
-      let place : (row : Attempt) → active_of old ≡ Some row → wanted mid_step < row.calls.room = λ row e. (let least = (subst (IsBacked old) m.waiting m.sound.acts.backed row e).least in let same = same_wants in omega arith) in
+      let place : (row : Attempt) → active_of old ≡ Some row → wanted mid_step < row.calls.room = λ row e. (let least = (subst (IsPromised old) m.waiting m.sound.acts.backed row e).least in let same = same_wants in omega arith) in
       let pending : (row : Attempt) → pending_of old ≡ Some row → row.calls.room ≡ wanted mid_step = λ row e. (subst (AsksAs old) m.waiting m.sound.acts.asks).pending row e ∙ sym same_wants in
       let empty : in_transaction old.engine ≡ false → mid_step.writes ≡ [] = λ e. same.writes ∙ (m.sound.tied.settled.closed e).1 in
       let outside : in_transaction old.engine ≡ false → mid_step.holds ≡ false → (cells'.clock ≡ cells.clock) × ((mid_step.clock ≡ cells'.clock) ⊎ IsAtOnce what) =
       λ e free. (let l = loads_clock cells old.engine m.step m.sound.tied waits.lawful e free in (ap (λ (c : Cells). c.clock) m.cells_are ∙ l.0, inl (l.1 ∙ ap (λ (c : Cells). c.clock) (sym m.cells_are)))) in
-      let first = first_here old mid_step new call what (in_transaction old.engine) inside k.row doing went (λ row e. m.sound.acts.all row e ∙ ap (λ (x : _). x.ran) (sym same.actions)) in
+      let first = first_here old mid_step new call what (in_transaction old.engine) inside k.row doing went (λ row e. m.sound.acts.all row e ∙ ap (λ (x : _). length x.ran) (sym same.actions)) in
+      let few : HasFew (record old { engine = new; status = status }) = λ row e. (let f = m.sound.acts.few row e in let n = same.restarted in let more = restarted_more mid_step new what m.resumed.settled went in omega arith) in
       assumption (
         inside,
         went,
@@ -155,7 +162,9 @@ module _ {P : Type 0} {rules : Rules P} {cells : Cells} {r : Rows} {old : Actor 
         row_same (in_transaction old.engine) old (record old { engine = new; status = status }) refl refl k.row,
         k,
         first,
-        m.sound.acts.whole,
+        few,
+        m.sound.acts.began,
+        waits.points,
         waits.nested,
         waits.depth ∙ ap length (sym same.blocks),
         in_call_of new status waits.in_call,
@@ -170,6 +179,15 @@ module _ {P : Type 0} {rules : Rules P} {cells : Cells} {r : Rows} {old : Actor 
         outside,
       )
 
+  -- the room for a block that runs again is that which was there
+  renews_still : TakesRoom what → may_go_back (handed_to old.engine (Some m.step) (found cells m.step)) ≡ true → BacksIn (length (handed_to old.engine (Some m.step) (found cells m.step)).arena) (total (handed_to old.engine (Some m.step) (found cells m.step)).actions) old.run.current
+  renews_still takes may =
+      let before : may_go_back old.engine ≡ true = may_same old.engine mid_step (sym same.restarted) (sym same.restarts) (sym same.irrevocable) (sym same.blocks) ∙ may in
+      let had = subst (RenewsAs old) m.waiting m.sound.acts.renews before in
+      let long = ap (length {A = ℕ}) (sym (same.arena (revocable_back old.engine before))) in
+      let all = ap total (sym same.actions) in
+      subst (λ (n : ℕ). BacksIn n (total mid_step.actions) old.run.current) long (subst (λ (n : ℕ). BacksIn (length old.engine.arena) n old.run.current) all had)
+
   -- nothing of the actions is lost
   pub step_acts : (status : Status) → status ≡ Ready → MayRunOn (record old { engine = new; status = status }) call what
   step_acts status ready =
@@ -179,11 +197,11 @@ module _ {P : Type 0} {rules : Rules P} {cells : Cells} {r : Rows} {old : Actor 
       let same_actions : (handed_to old.engine (Some m.step) (found cells m.step)).actions ≡ old.engine.actions = same.actions in
       let inside : in_transaction (handed_to old.engine (Some m.step) (found cells m.step)) ≡ in_transaction old.engine = ap is_inside same.blocks in
       gave_acting (record old { engine = new; status = status }) (handed_to old.engine (Some m.step) (found cells m.step)) call (in_transaction old.engine) inside (row_same (in_transaction old.engine) old (record old { engine = new; status = status }) refl refl m.sound.kept.row) (same.doing ∙ waits.doing)
-      (λ row e. acts.all row e ∙ ap (λ (x : _). x.ran) (sym same_actions)) acts.whole (subst (λ (s : Status). NestsAs s old.run.current) m.waiting acts.nests)
+      (λ row e. acts.all row e ∙ ap (λ (x : _). length x.ran) (sym same_actions)) (λ row e. (let f = acts.few row e in let n = same.restarted in omega arith)) (subst (λ (s : Status). NestsAs s old.run.current) m.waiting acts.nests) acts.began
       (λ row e. (let p = acts.places row e in let n = registers_none call plain.1 in let t = ap total same_actions in omega arith)) (λ row e abort. absurd (let both : false ≡ true = sym plain.0 ∙ abort in cc)) acts.pending
       (same_room old.engine (handed_to old.engine (Some m.step) (found cells m.step)) old (sym same.depth) (sym same.blocks) (sym same.irrevocable) (sym same.doing) (sym same.room) (sym same.actions) acts.room)
-      (λ row e. (let p = subst (IsBacked old) m.waiting acts.backed row e in let least = p.least in let most = p.most in let w = same_wants in let n = promised_same (handed_to old.engine (Some m.step) (found cells m.step)) old.engine same.irrevocable same.room in record { least = omega arith; most = omega arith }))
-      (λ row e. asks.pending row e ∙ sym same_wants) (let k = asks.backed in let n = same.room in let l = same_wants in omega arith) m.resumed.settled what went (λ answer is. not_restarted mid_step new answer ((limit_same mid_step new what went).3 ∙ is_mid.restarts) (subst (λ (x : Next). Proceeds mid_step x new) is went)) (λ shut. (let none = (m.sound.tied.settled.closed (sym inside ∙ shut)) in (ap (λ (x : _). x.commits) same_actions ∙ none.2, ap (λ (x : _). x.undos) same_actions ∙ none.3))) (λ step e. plain)
+      (λ row e. (let p = subst (IsPromised old) m.waiting acts.backed row e in let least = p.least in let most = p.most in let w = same_wants in let n = promised_same (handed_to old.engine (Some m.step) (found cells m.step)) old.engine same.irrevocable same.room in record { least = omega arith; most = omega arith }))
+      (λ row e. asks.pending row e ∙ sym same_wants) (let k = asks.backed in let n = same.room in let l = same_wants in omega arith) m.resumed.settled what went renews_still (λ shut. (let none = (m.sound.tied.settled.closed (sym inside ∙ shut)) in (ap (λ (x : _). x.commits) same_actions ∙ none.2, ap (λ (x : _). x.undos) same_actions ∙ none.3))) (λ step e. plain)
 
   -- what becomes of the clock, as the others see it
   pub step_clocks : (last : Core) → last ≡ new → ClocksOn cells old.engine cells' last
@@ -202,6 +220,10 @@ module _ {P : Type 0} {rules : Rules P} {cells : Cells} {r : Rows} {old : Actor 
       (subst (λ (s : Status). Tells rules r r' (record old { engine = new; status = s }) recorded call what) ready tells) in
       record { call = call; step = m.step; waits = m.waiting; what = what; resumed = subst (IsResumed old.engine (found cells m.step) what) (sym engine_is) m.resumed; recorded = recorded; tells = told_so; moves = is_told; same = of_same }
 
+  -- nor has the number of restarts that are left, as the value came
+  pub step_left : restarts_left (handed_to old.engine (Some m.step) (found cells m.step)) ≡ restarts_left old.engine
+  step_left = left_same mid_step old.engine (ap is_inside same.blocks) same.restarts (λ o. same.restarted)
+
   pub limit_is : new.max_commits ≡ old.engine.max_commits
   limit_is = (limit_same mid_step new what went).0 ∙ same.max_commits
 
@@ -219,7 +241,11 @@ module _ {P : Type 0} {rules : Rules P} {cells : Cells} {r : Rows} {old : Actor 
         steps = (let fewer : steps_left new < steps_left old.engine = omega arith in fewer);
         less = record {
           whole_falls = (let e : whole rules (in_transaction old.engine) old.run.player ≡ whole rules (in_transaction new) old.run.player = ap (λ (b : Bool). whole rules b old.run.player) opens in omega arith);
-          rank_falls = λ n b. (let e : rank rules n (in_transaction old.engine) old ≡ rank rules n (in_transaction new) old = ap (λ (b : Bool). rank rules n b old) opens in omega arith);
+          rank_falls = λ n b.
+              (let most : old.engine.restarts ≡ new.restarts = sym (ap (λ (c : Core). c.restarts) asks.stays ∙ kept.restarts) in
+              let left : restarts_left old.engine ≡ restarts_left new = sym (left_same new (mid_step m) (ap in_transaction asks.stays) (ap (λ (c : Core). c.restarts) asks.stays) (λ o. ap (λ (c : Core). c.restarted) asks.stays) ∙ step_left m) in
+              let e : rank_now rules n old ≡ rank_now rules n (record old { engine = new; status = Waits call step }) = λ i. rank_of rules old.run.retries (most i) n (opens i) old.run.nth (left i) old.run.player in
+              omega arith);
         };
       }
 
@@ -232,20 +258,32 @@ stepping {old} {step} {what} {new} sound waiting seen_is cells_are fit resumed =
 -- ## What is left to do
 
 module _ {P : Type 0} {rules : Rules P} {cells : Cells} {r : Rows} {old : Actor P} {call : Call} {what : Next} {cells' : Cells} {new : Core} (m : IsStepping rules cells r old call what cells' new) (status : Status) (ready : status ≡ Ready)
-    (r1 : Rows) (last : Actor P) (done : IsDone rules (in_transaction old.engine) r r1 (record old { engine = new; status = status }) last call what) where
+    (r1 : Rows) (last : Actor P) (done : IsDone rules (in_transaction old.engine) (restarts_left (mid_step m)) r r1 (record old { engine = new; status = status }) last call what) where
   -- an actor that has settled does not wait
   rests_not : {A : Type 0} (st : Status) → RestsAs rules st last → is_waiting st ≡ true → A
   rests_not (Waits c step) rest e = absurd rest
   rests_not st rest e = absurd (cc)
 
   -- the call goes on, or less is left
-  pub step_lasts : (is_waiting last.status ≡ true → GoesOn rules old last) × (is_ready last.status ≡ true → Falls rules (in_transaction old.engine) (in_transaction last.engine) old last)
+  pub step_lasts : (is_waiting last.status ≡ true → GoesOn rules old last) × (is_ready last.status ≡ true → Falls rules (in_transaction old.engine) (in_transaction last.engine) (restarts_left old.engine) (restarts_left last.engine) old last)
   step_lasts = by_what what m done
     where
-      by_what : (x : Next) → IsStepping rules cells r old call x cells' new → IsDone rules (in_transaction old.engine) r r1 (record old { engine = new; status = status }) last call x
-          → (is_waiting last.status ≡ true → GoesOn rules old last) × (is_ready last.status ≡ true → Falls rules (in_transaction old.engine) (in_transaction last.engine) old last)
+      by_what : (x : Next) → IsStepping rules cells r old call x cells' new → IsDone rules (in_transaction old.engine) (restarts_left (mid_step m)) r r1 (record old { engine = new; status = status }) last call x
+          → (is_waiting last.status ≡ true → GoesOn rules old last) × (is_ready last.status ≡ true → Falls rules (in_transaction old.engine) (in_transaction last.engine) (restarts_left old.engine) (restarts_left last.engine) old last)
       by_what (Asks step) m done = (λ w. subst (GoesOn rules old) (sym done.0) (step_goes_on m), λ e. absurd (let z = sym (ap (λ (y : Actor P). is_ready y.status) done.0) ∙ e in cc))
-      by_what (Answers answer) m done = (λ w. rests_not last.status done.rests w, λ e. (let f = done.falls (ready_of last.status e) in assumption f))
+      by_what (Answers answer) t done = (
+        λ w. rests_not last.status done.rests w,
+        λ e.
+            (let f = done.falls (ready_of last.status e) in
+            let most = (limit_same (mid_step t) new (Answers answer) (went t)).3 ∙ (same t).restarts in
+            record {
+              whole_falls = f.whole_falls;
+              rank_falls = λ n b.
+                  (let now = f.rank_falls n b in
+                  let e : rank rules n (in_transaction old.engine) (restarts_left (mid_step m)) (record old { engine = new; status = status }) ≡ rank rules n (in_transaction old.engine) (restarts_left old.engine) old = λ i. rank_of rules old.run.retries (most i) n (in_transaction old.engine) old.run.nth (step_left m i) old.run.player in
+                  omega arith);
+            }),
+      )
 
 -- ## A call
 
@@ -291,8 +329,16 @@ module _ {P : Type 0} {rules : Rules P} {cells : Cells} {r0 r : Rows} {old a : A
       let begun : a.engine.waits ≢ None → in_transaction a.engine ≡ false → BeginsAt a.engine a.engine.stage =
       λ some shut. (let went_on = asks_step mid a.engine what called.proceeds some in begun_call a.engine some called.asks old.engine call again (sym (ap is_inside went_on.0) ∙ shut) went_on.1 went_on.0 called.order) in
       let outside : in_transaction old.engine ≡ false → mid.holds ≡ false → (cells.clock ≡ cells.clock) × ((mid.clock ≡ cells.clock) ⊎ IsAtOnce what) = λ o free. (refl, inr called.at_once) in
-      let first = first_here a mid a.engine call what (in_transaction old.engine) refl m.asked.kept.row refl called.proceeds (λ row e. (let was = asked_row row e in ap (λ (x : Attempt). x.ran) was.2 ∙ m.sound.acts.all was.0 was.1)) in
-      let never : NeverRestarts a = λ row e. (let was = asked_row row e in ap (λ (x : Attempt). x.restarts) was.2 ∙ m.sound.acts.whole was.0 was.1) in
+      let first = first_here a mid a.engine call what (in_transaction old.engine) refl m.asked.kept.row refl called.proceeds (λ row e. (let was = asked_row row e in ap told_in was.2 ∙ m.sound.acts.all was.0 was.1)) in
+      let few : HasFew a = λ row e.
+      (let was = asked_row row e in
+      let f = m.sound.acts.few was.0 was.1 in
+      let n = ap (λ (x : Attempt). length x.restarts) was.2 in
+      let same = came_restarted old.engine call again (row_open _ old was.0 m.sound.kept.row was.1) in
+      let more = restarted_more mid a.engine what called.settled called.proceeds in
+      omega arith) in
+      let began : BeganIn (stage_of a.run.current) = subst BeganIn (sym m.asks.stage) (asked_began cells.clock old call (stage_of old.run.current) m.sound.acts.began) in
+      let points : HasPoints (rules.depth a.run.player) (stage_of a.run.current) = subst (λ (p : P). HasPoints (rules.depth p) (stage_of a.run.current)) (sym player_same) (subst (HasPoints (rules.depth old.run.player)) (sym m.asks.stage) (asked_points cells.clock old call (rules.depth old.run.player) (stage_of old.run.current) ready.points)) in
       assumption (
         called.proceeds,
         m.sound.tied.words,
@@ -300,7 +346,9 @@ module _ {P : Type 0} {rules : Rules P} {cells : Cells} {r0 r : Rows} {old a : A
         called.count,
         m.asked.kept,
         first,
-        never,
+        few,
+        began,
+        points,
         subst (IsNested rules (in_transaction old.engine)) (sym player_same) ready.nested,
         ap rules.depth player_same ∙ ready.depth,
         m.asked.in_call,
@@ -315,18 +363,21 @@ module _ {P : Type 0} {rules : Rules P} {cells : Cells} {r0 r : Rows} {old a : A
         outside,
       )
 
-  -- nor does what is left
-  pub same_rank : (n : ℕ) → rank rules n (in_transaction old.engine) a ≡ rank rules n (in_transaction old.engine) old
-  same_rank n = λ i. rank rules n (in_transaction old.engine) (record a { run = m.asks.run i })
+  -- nor does the number of restarts that are left, or what is left at all
+  pub call_left : restarts_left (came old.engine call (begins_again (stage_of old.run.current) old.run.again call)) ≡ restarts_left old.engine
+  call_left = left_same mid old.engine refl refl (λ o. came_restarted old.engine call (begins_again (stage_of old.run.current) old.run.again call) o)
 
-  module _ {last : Actor P} (s : IsSettledBy rules (in_transaction old.engine) a last) where
+  pub same_rank : (n : ℕ) → rank rules n (in_transaction old.engine) (restarts_left (came old.engine call (begins_again (stage_of old.run.current) old.run.again call))) a ≡ rank rules n (in_transaction old.engine) (restarts_left old.engine) old
+  same_rank n = (let most = (limit_same mid a.engine what m.asks.called.proceeds).3 in λ i. rank_of rules (ap (λ (x : PlayerRun P). x.retries) m.asks.run i) (most i) n (in_transaction old.engine) (ap (λ (x : PlayerRun P). x.nth) m.asks.run i) (call_left i) (player_same i))
+
+  module _ {last : Actor P} (s : IsSettledBy rules (in_transaction old.engine) (restarts_left (came old.engine call (begins_again (stage_of old.run.current) old.run.again call))) a last) where
     -- what comes of an answer is as if the actor had not changed before
-    pub answer_falls : last.status ≡ Ready → Falls rules (in_transaction old.engine) (in_transaction last.engine) old last
+    pub answer_falls : last.status ≡ Ready → Falls rules (in_transaction old.engine) (in_transaction last.engine) (restarts_left old.engine) (restarts_left last.engine) old last
     answer_falls e =
         let f = s.falls e in
         record {
           whole_falls = subst (λ (p : P). whole rules (in_transaction last.engine) last.run.player ≤ whole rules (in_transaction old.engine) p) player_same f.whole_falls;
-          rank_falls = λ n b. subst (λ (x : ℕ). rank rules n (in_transaction last.engine) last < x) (same_rank n)
+          rank_falls = λ n b. subst (λ (x : ℕ). rank_now rules n last < x) (same_rank n)
               (f.rank_falls n (subst (λ (p : P). whole rules (in_transaction old.engine) p ≤ n) (sym player_same) b));
         }
 

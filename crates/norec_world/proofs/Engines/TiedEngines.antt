@@ -1,7 +1,7 @@
 -- The engine and the cells, over one event: the engine's data stay as the cells have them.
-use Rattle.std.proofs.Common.{◌≡◌, List, [], None, ℕ, zero, suc, ◌+◌, ◌*◌, ◌/◌, ◌%◌, ◌<◌, ◌≤◌, ◌==◌, Bool, true, false, length, Option, Some, slice_index, refl, sym, ap, subst, ◌∙◌, arith, if◌then◌else◌, eqb-true, length-set}
+use Rattle.std.proofs.Common.{◌≡◌, List, [], None, ℕ, zero, suc, ◌+◌, ◌*◌, ◌/◌, ◌%◌, ◌^◌, ◌<◌, ◌≤◌, ◌==◌, Bool, true, false, length, Option, Some, slice_index, refl, sym, ap, subst, ◌∙◌, arith, if◌then◌else◌, eqb-true, length-set}
 use Rattle.norec_world.proofs.Common.{AllFit, Answer, AnswerFits, Answers, Asks, Begin, Busy, Call, Cas, Cells, Commit, Committed, Conflict, ConflictsIn, Core, Ends, Frame, Full, HoldsOn, Idle, IsBegin, IsLawful, IsSettled, IsTied, Load, Mode, Next, Proceeds, Reply, Restarted, Step, Store, WantsClock, after_undoing, both_ways, came, cells_after, cond-false, cond-true, cond_both, found, handed_to, in_transaction, is_begin, is_inside, none_inside, opening, replied_so, reply_cases, rests, rolled_back, word_loaded}
-use Rattle.norec_world.proofs.Engines.NoRestarts.{not_restarted}
+use Rattle.norec_world.proofs.Engines.RestartedEngines.{is_back}
 use Rattle.{itm_types.specs.declared.limits.TheConstants.MAX_COMMITS, norec_core.proofs.Accesses.Overlays.agreed, norec_core.specs.Proceeds.AreRead, norec_core.specs.Rows.IsLog, tx_runs.proofs.EngineDepths.reply_fits}
 
 -- ## The engine with a call that came, or with the value of its step
@@ -18,11 +18,11 @@ pub record IsMid (cells : Cells) (mid new : Core) : Type 0 where
   pub holder : mid.holds ≡ true → cells.clock ≡ mid.clock + 1
   pub even : mid.holds ≡ true → mid.clock % 2 ≡ 0
   pub settled : IsSettled new
-  pub restarts : mid.restarts ≡ 0
+  pub small : mid.restarts < 2 ^ 32
 
 -- one that does not hold the clock
-loose : {cells : Cells} {mid new : Core} → mid.words ≡ length cells.words → AllFit cells.words → mid.clock ≤ cells.clock → mid.holds ≡ false → IsSettled new → mid.restarts ≡ 0 → IsMid cells mid new
-loose {mid} words fit late free settled restarts = record { words = words; fit = fit; late = late; holder = λ h. absurd (both_ways mid.holds free h); even = λ h. absurd (both_ways mid.holds free h); settled = settled; restarts = restarts }
+loose : {cells : Cells} {mid new : Core} → mid.words ≡ length cells.words → AllFit cells.words → mid.clock ≤ cells.clock → mid.holds ≡ false → IsSettled new → mid.restarts < 2 ^ 32 → IsMid cells mid new
+loose {mid} words fit late free settled small = record { words = words; fit = fit; late = late; holder = λ h. absurd (both_ways mid.holds free h); even = λ h. absurd (both_ways mid.holds free h); settled = settled; small = small }
 
 -- what the engine goes on to has the same words and the same clock, and holds it or not as before
 pub clock_same : (mid new : Core) (what : Next) → Proceeds mid what new → (new.words ≡ mid.words) × (new.clock ≡ mid.clock) × (new.holds ≡ mid.holds)
@@ -44,33 +44,33 @@ tied cells mid new what m g =
       late = (let l = m.late in omega arith);
       holder = λ h. (let l = m.holder (sym holds ∙ h) in omega arith);
       settled = m.settled;
-      restarts = (limit_same mid new what g).3 ∙ m.restarts;
+      small = subst (λ (n : ℕ). n < 2 ^ 32) (sym (limit_same mid new what g).3) m.small;
     }
 
 -- ## A call comes, or a value is handed in
 
 module _ (cells : Cells) (e new : Core) (t : IsTied cells e) (settled : IsSettled new) where
   pub comes : (call : Call) (again : Bool) → IsMid cells (came e call again) new
-  comes call again = record { words = t.words; fit = t.fit; late = t.late; holder = t.holder; even = held_even e t.settled; settled = settled; restarts = t.restarts }
+  comes call again = record { words = t.words; fit = t.fit; late = t.late; holder = t.holder; even = held_even e t.settled; settled = settled; small = t.small }
 
   taken : (b : Bool) (clock from to : ℕ) → b ≡ true → clock ≡ from → to ≡ from + 1 → (if b then to else clock) ≡ clock + 1
   taken b clock from to hit is up = ap (λ (x : Bool). if x then to else clock) hit ∙ (let k : to ≡ clock + 1 = omega arith in k)
 
   word_taken : (word seen : ℕ) → AllFit cells.words → (holds : Bool) → IsMid cells (word_loaded e holds word seen) new
-  word_taken word seen fit true = record { words = t.words; fit = fit; late = t.late; holder = t.holder; even = held_even e t.settled; settled = settled; restarts = t.restarts }
-  word_taken word seen fit false = record { words = t.words; fit = fit; late = t.late; holder = t.holder; even = held_even e t.settled; settled = settled; restarts = t.restarts }
+  word_taken word seen fit true = record { words = t.words; fit = fit; late = t.late; holder = t.holder; even = held_even e t.settled; settled = settled; small = t.small }
+  word_taken word seen fit false = record { words = t.words; fit = fit; late = t.late; holder = t.holder; even = held_even e t.settled; settled = settled; small = t.small }
 
   pub hands : (step : Step) → IsLawful e step → AllFit (cells_after cells step).words
       → IsMid (cells_after cells step) (handed_to e (Some step) (found cells step)) new
-  hands (Load zero) l fit = loose t.words fit (omega arith) l.1 settled t.restarts
+  hands (Load zero) l fit = loose t.words fit (omega arith) l.1 settled t.small
   hands (Load (suc word)) l fit = word_taken word (slice_index cells.words word) fit e.holds
-  hands (Store zero value) l fit = loose t.words fit (omega arith) refl settled t.restarts
-  hands (Store (suc word) value) l fit = record { words = t.words ∙ sym (length-set cells.words word value); fit = fit; late = t.late; holder = t.holder; even = held_even e t.settled; settled = settled; restarts = t.restarts }
+  hands (Store zero value) l fit = loose t.words fit (omega arith) refl settled t.small
+  hands (Store (suc word) value) l fit = record { words = t.words ∙ sym (length-set cells.words word value); fit = fit; late = t.late; holder = t.holder; even = held_even e t.settled; settled = settled; small = t.small }
   hands (Cas cell from to) l fit = record {
     words = t.words;
     fit = fit;
     settled = settled;
-    restarts = t.restarts;
+    small = t.small;
     late = cond_both (cells.clock == from) to cells.clock (λ (n : ℕ). cells.clock ≤ n) (λ h. (let same = eqb-true cells.clock from h in let up = l.6 in omega arith)) (λ h. omega arith);
     holder = λ h. taken (cells.clock == from) cells.clock from to h (eqb-true cells.clock from h) l.6;
     even = λ h. (let same = eqb-true cells.clock from h in let even = l.4 in omega arith);
@@ -97,9 +97,9 @@ nothing_begun c blocks log writes unfreed free revocable gone reached even limit
     let irrevocable : c.irrevocable ≡ true → (c.holds ≡ true) × (c.writes ≡ []) × (c.log ≡ []) = λ i. absurd (both_ways c.irrevocable revocable i) in
     assumption (empty, agreed c.words c.log empty, inside, holder, irrevocable, subst (AreRead (length c.log)) (sym blocks) tt)
 
-pub opening_settled : (words : ℕ) (arena : List ℕ) (patience max_commits depth : ℕ) → max_commits ≤ MAX_COMMITS → 0 < depth → IsSettled (opening words arena patience max_commits depth 0)
-opening_settled words arena patience max_commits depth few some =
-    nothing_begun (opening words arena patience max_commits depth 0) refl refl refl refl refl refl (refl, refl) (let k : 0 ≤ 0 = omega arith in k) refl few (let k : 0 ≤ 0 = omega arith in k) some
+pub opening_settled : (words : ℕ) (arena : List ℕ) (patience max_commits depth restarts : ℕ) → max_commits ≤ MAX_COMMITS → 0 < depth → IsSettled (opening words arena patience max_commits depth restarts)
+opening_settled words arena patience max_commits depth restarts few some =
+    nothing_begun (opening words arena patience max_commits depth restarts) refl refl refl refl refl refl (refl, refl) (let k : 0 ≤ 0 = omega arith in k) refl few (let k : 0 ≤ restarts = omega arith in k) some
 
 -- and it is left as the cells have it
 pub tied_undone : (cells : Cells) (e new : Core) → new ≡ after_undoing e → (e.holds ≡ false → (new.actions.commits ≡ []) × (new.actions.undos ≡ [])) → IsTied cells e → IsTied cells new
@@ -181,7 +181,7 @@ begin_is None call d b = absurd b
 begin_is (Some (Begin props room)) call d b = (let same : Begin props room ≡ call = cc in sym (ap is_begin same))
 begin_is (Some other) call d b = absurd b
 
-module _ (mid new : Core) (none : new.restarts ≡ 0) where
+module _ (mid new : Core) (settled : IsSettled new) where
   conflict_fits : (call : Call) (clock : ℕ) (word : Option ℕ) (inside : Bool) → mid.doing ≡ Some call → ConflictsIn inside mid clock word new → (inside ≡ false → is_begin call ≡ true) × (in_transaction new ≡ false)
   conflict_fits call clock word true doing g = (λ shut. absurd (cc), ap in_transaction g.stays)
   conflict_fits call clock word false doing g = (λ shut. begin_is mid.doing call doing g.begins, ap in_transaction g.stays)
@@ -195,6 +195,6 @@ module _ (mid new : Core) (none : new.restarts ≡ 0) where
       let is : call ≡ Commit = cc in
       (g.is_open, ap in_transaction g.stays, is, g.outermost)
   answer_fits call (Conflict clock word) doing g = conflict_fits call clock word (in_transaction mid) doing g
-  answer_fits call (Restarted clock word) doing g = not_restarted mid new (Restarted clock word) none g tt
+  answer_fits call (Restarted clock word) doing g = (let b = is_back mid new clock word settled g in (b.was, b.still, sym b.deep, b.inner))
   answer_fits call (Busy clock) doing g = (g.closed, ap in_transaction g.stays)
   answer_fits call (Full at) doing g = (wants_begin mid call (subst (WantsClock mid) doing g.wants), ap in_transaction g.stays)

@@ -1,6 +1,7 @@
 -- An actor of a world took an event, a step and the local work that follows it: the world that it leaves, and that the event says so.
 use Rattle.std.proofs.Common.{◌≡◌, ℕ, Bool, true, false, List, length-set, slice_get, slice_set, None, Some, IsSome, refl, sym, ap, subst, ◌∙◌, arith}
-use Rattle.norec_world.proofs.Common.{Actor, ActorGoes, AreOpaque, AreTied, Cells, ClocksOn, Finished, Goes, HasLess, HasRead, HasStepped, HasWorked, IsEvent, IsWorld, KeepsOthers, Obeys, Rows, Rules, Tries, World, counted, ending_at, ending_of, event_result, is_ready, is_waiting, observed, option_and_then, prior_of, same_Some, slice_get-set_same, slice_get_within, slice_index_or, waiting_step, waits_at}
+use Rattle.norec_world.proofs.Common.{Actor, ActorGoes, AreOpaque, AreTied, Cells, ClocksOn, Continues, Finished, Goes, HasLess, HasRead, HasStepped, HasWorked, IsEvent, IsWorld, KeepsOthers, Obeys, Rows, Rules, Tries, World, counted, ending_at, ending_of, event_result, is_ready, is_waiting, observed, option_and_then, prior_of, same_Some, slice_get-set_same, slice_get_within, slice_index_or, waiting_step, waits_at}
+use Rattle.norec_world.proofs.Tries.TryEnds.{continues_on}
 use Rattle.norec_world.proofs.Events.WorldEvents.{no_fault, told_event, waits_not_ended}
 use Rattle.norec_world.proofs.Runs.Others.{has_read, running_after, world_opaque, world_tied}
 use Rattle.norec_world.proofs.{Commits.CommitCounts.commits_after, Engines.ClockHolders.clocks_still, Engines.ClockHolders.clocks_twice, Engines.Intakes.ready_of, Engines.SoundSteps.rests, Events.SoundOthers.actors_after, Events.Measures.event_less, Events.Worlds.going_in, Events.Worlds.lawful_at, Tries.Dates.dated_after, Tries.Stages.others_twice, Tries.TryChains.tries_then}
@@ -19,13 +20,13 @@ module _ {P : Type 0} {rules : Rules P} {cells cells' : Cells} {r r1 r2 : Rows} 
       let tries = tries_on (is_ready a1.status) refl in
       (record { rows = r1; stepped = a1; takes = x.takes; works = y.works; tries = tries; finishes = finishes_on (is_ready a1.status) refl; others = event_others; clocks = event_clocks; retries = y.retries ∙ x.takes.same.retries }, read)
     where
-      tries_on : (b : Bool) → is_ready a1.status ≡ b → Tries cells.clock (prior_of r a) cells'.clock r2 a2
+      tries_on : (b : Bool) → is_ready a1.status ≡ b → Tries (Continues cells.clock) cells.clock (prior_of r a) cells'.clock r2 a2
       tries_on true w =
           let ready = ready_of a1.status w in
-          tries_then cells.clock cells'.clock (prior_of r a) r1 r2 a1 a2 ready (rests x.sound ready).nothing x.clocks.limit.0 x.takes.same.retries y.snapshot (y.tries w) x.tries
+          tries_then (Continues cells.clock) (continues_on cells.clock) cells.clock cells'.clock (prior_of r a) r1 r2 a1 a2 ready (rests x.sound ready).nothing x.clocks.limit.0 x.takes.same.retries x.clocks.limit.3 y.snapshot (y.tries w) x.tries
       tries_on false n =
           let same = y.still n in
-          subst (λ (z : Rows). Tries cells.clock (prior_of r a) cells'.clock z a2) (sym same.1) (subst (Tries cells.clock (prior_of r a) cells'.clock r1) (sym same.0) x.tries)
+          subst (λ (z : Rows). Tries (Continues cells.clock) cells.clock (prior_of r a) cells'.clock z a2) (sym same.1) (subst (Tries (Continues cells.clock) cells.clock (prior_of r a) cells'.clock r1) (sym same.0) x.tries)
 
       finishes_on : (b : Bool) → is_ready a1.status ≡ b → ending_of a2.status ≡ Some Finished → rules.next_call a2.run.player ≡ None
       finishes_on true w end = y.finishes w end
@@ -83,7 +84,7 @@ module _ {P : Type 0} {rules : Rules P} (laws : Obeys rules) {w v : World P} (is
         commits = kept'.commits;
         opaque = world_opaque rules laws after kept';
         tied = world_tied rules laws after kept';
-        opening = record { opening = refl; base = refl; arena = refl; patience = refl; max_commits = refl; retries = refl; depth = refl };
+        opening = record { opening = refl; base = refl; arena = refl; patience = refl; max_commits = refl; retries = refl; depth = refl; restarts = refl };
         actors = length-set w.actors i a2;
       })
 

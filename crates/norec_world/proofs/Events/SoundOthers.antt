@@ -1,7 +1,7 @@
 -- An event of one actor leaves the others sound.
 use Rattle.std.proofs.Common.{◌≡◌, ◌≢◌, ◌⊎◌, inl, inr, ℕ, zero, suc, ◌+◌, ◌%◌, ◌<◌, ◌≤◌, true, false, List, [], ◌∷◌, ◌++◌, length, length-append, Some, slice_get, slice_set, refl, sym, ap, subst, ◌∙◌, arith, eqb-true, ◌==◌, length-set, ◌/◌, is_some}
 use Rattle.norec_world.proofs.Common.{Actor, AllFit, AreActors, Attempt, Cells, ClocksOn, Ended, IsSound, IsTied, KeepsOthers, MAX_ACTORS, Ready, Rows, Rules, Stage, Status, StatusIs, Waits, both_ways, cases_Bool, cases_lt, count_all, count_in, count_of, eqb-false, false_from_ne_true, in_transaction, is_ready, slice_get-set_same, slice_get_within, stage_of, told}
-use Rattle.norec_world.{proofs.Engines.TiedEngines.held_even, proofs.Rooms.ActionRoom.told_acting, proofs.Tries.Stages.moved_begun, proofs.Tries.Stages.moved_count, proofs.Tries.Stages.others_same, proofs.Tries.ToldTries.told_kept, specs.Actors.IsActor, specs.Sound.IsInCall}
+use Rattle.norec_world.{proofs.Engines.TiedEngines.held_even, proofs.Rooms.ActionRoom.told_acting, proofs.Tries.Stages.moved_begun, proofs.Tries.Stages.moved_count, proofs.Tries.Stages.moved_points, proofs.Tries.Stages.others_same, proofs.Tries.ToldTries.told_kept, specs.Actors.IsActor, specs.Sound.IsInCall}
 use Rattle.{itm_types.proofs.Words.slice_get-set_other, tx_runs.specs.Tallies.begins, tx_runs.specs.Tallies.outside, tx_runs.specs.Tallies.within}
 pub use Rattle.std.proofs.lemmas.Option.{slice_get_within as within_of}
 
@@ -9,7 +9,7 @@ module _ {P : Type 0} (rules : Rules P) where
   -- another one, where the cells of the clock that it holds did not change
   pub tied_still : (cells cells' : Cells) (b : Actor P) → IsTied cells b.engine → AllFit cells'.words → cells.clock ≤ cells'.clock → length cells'.words ≡ length cells.words → (b.engine.holds ≡ true → cells' ≡ cells) → IsTied cells' b.engine
   tied_still cells cells' b t fit late long held =
-      record { words = t.words ∙ sym long; fit = fit; late = (let l = t.late in omega arith); holder = λ h. ap (λ (c : Cells). c.clock) (held h) ∙ t.holder h; settled = t.settled; restarts = t.restarts }
+      record { words = t.words ∙ sym long; fit = fit; late = (let l = t.late in omega arith); holder = λ h. ap (λ (c : Cells). c.clock) (held h) ∙ t.holder h; settled = t.settled; small = t.small }
 
   pub sound_still : (cells cells' : Cells) (r r' : Rows) (b : Actor P) → IsSound rules cells r b
       → AllFit cells'.words → cells.clock ≤ cells'.clock → length cells'.words ≡ length cells.words → (b.engine.holds ≡ true → cells' ≡ cells) → count_of b ≤ r'.room → IsSound rules cells' r' b
@@ -17,7 +17,7 @@ module _ {P : Type 0} (rules : Rules P) where
 
   -- one whose open attempt is told where its engine reads
   told_status : (a : Actor P) (s : Status) → StatusIs rules a s → StatusIs rules (told a) s
-  told_status a Ready s = record { nested = s.nested; depth = s.depth; idle = s.idle; free = s.free; nothing = moved_begun (a.engine.snapshot / 2) a.run.current ∙ s.nothing }
+  told_status a Ready s = record { nested = s.nested; depth = s.depth; points = moved_points (a.engine.snapshot / 2) (rules.depth a.run.player) a.run.current s.points; idle = s.idle; free = s.free; nothing = moved_begun (a.engine.snapshot / 2) a.run.current ∙ s.nothing }
   told_status a (Waits call step) s =
       let same = moved_begun (a.engine.snapshot / 2) a.run.current in
       let i = s.in_call in
@@ -28,7 +28,8 @@ module _ {P : Type 0} (rules : Rules P) where
         opens = λ row e. (let p = i.opens row (sym same ∙ e) in record { thread = p.thread; nth = p.nth; outcome = p.outcome });
         props = λ row props room e. i.props row props room (sym same ∙ e);
       } in
-      assumption (in_call, s)
+      let points = moved_points (a.engine.snapshot / 2) (rules.depth a.run.player) a.run.current s.points in
+      assumption (in_call, points, s)
   told_status a (Ended end) s = s
 
   pub told_sound : {cells : Cells} {r : Rows} {a : Actor P} → IsSound rules cells r a → IsSound rules cells r (told a)

@@ -1,6 +1,11 @@
 -- Local work of an actor, one call of its player after the other: all that it leaves.
-use Rattle.std.proofs.Common.{◌≡◌, ℕ, zero, suc, Bool, true, false, List, ◌++◌, None, Some, refl, sym, ap, subst, ◌∙◌, arith}
-use Rattle.norec_world.proofs.Common.{Actor, Acts, Attempt, Call, Cells, Core, Ended, Finished, HasWorked, Idle, IsActing, IsBacked, IsDone, IsNoMore, IsSound, KeepsOthers, Next, Obeys, PlayerRun, Ready, Rows, Rules, Starves, StillRuns, Tells, Tries, Works, after_undoing, cond_both, ending_of, in_transaction, is_ready, prior_of, rank, rolled_back, whole}
+use Rattle.std.proofs.Common.{◌≡◌, ℕ, zero, suc, true, false, List, ◌++◌, None, Some, refl, sym, ap, subst, ◌∙◌, arith}
+use Rattle.norec_world.proofs.Common.{Actor, Acts, Attempt, Call, Cells, Core, Ended, Finished, HasWorked, Idle, IsActing, IsPromised, IsDone, IsNoMore, IsSound, KeepsOthers, Next, Obeys, PlayerRun, Ready, Rows, Rules, Starves, StillRuns, Tells, Tries, Works, after_undoing, cond_both, ending_of, in_transaction, is_ready, prior_of, rank, rolled_back, whole}
+use Rattle.norec_world.specs.Sound.{rank_now}
+use Rattle.norec_world.specs.Tries.{Extends}
+use Rattle.tx_runs.specs.Ranks.{restarts_left}
+use Rattle.norec_world.proofs.Engines.RestartedEngines.{left_same}
+use Rattle.norec_world.proofs.Tries.TryEnds.{extends_twice}
 use Rattle.norec_world.proofs.Tries.Stages.{others_place, others_same, others_twice, row_same}
 use Rattle.norec_world.proofs.Runs.Calls.{call_runs, finish_runs, laid_calls, starve_runs, still_at}
 use Rattle.norec_world.proofs.Engines.SoundSteps.{IsCalling, call_less, call_taken, mid, player_same, rests, same_rank}
@@ -26,7 +31,7 @@ module _ {P : Type 0} {rules : Rules P} (laws : Obeys rules) {cells : Cells} {r0
   pub finish_worked : rules.next_call old.run.player ≡ None → HasWorked rules cells r0 old r0 (record old { status = Ended Finished })
   finish_worked none =
       let last : Actor P = record old { status = Ended Finished } in
-      let backed : IsBacked last last.status = λ row e. (let few = subst (IsBacked old) ready sound.acts.backed row e in omega arith) in
+      let backed : IsPromised last last.status = λ row e. (let few = subst (IsPromised old) ready sound.acts.backed row e in omega arith) in
       let still : is_ready old.status ≡ false → (last ≡ old) × (r0 ≡ r0) = not_still old ready in
       let less : Some Finished ≡ None → IsNoMore rules old last = λ e. absurd (cc) in
       let runs : StillRuns rules cells r0 old cells r0 last = λ first deepest base laid runs. (laid, finish_runs sound ready first deepest base runs) in
@@ -49,13 +54,16 @@ module _ {P : Type 0} {rules : Rules P} (laws : Obeys rules) {cells : Cells} {r0
 
 -- it goes to the engine
 module _ {P : Type 0} {rules : Rules P} (laws : Obeys rules) {cells : Cells} {r0 r : Rows} {old a : Actor P} {call : Call} {what : Next} (m : IsCalling rules cells r0 r old a call what) (r1 : Rows) (last : Actor P)
-    (done : IsDone rules (in_transaction old.engine) r r1 a last call what) (tells : Tells rules r r1 a last call what) where
+    (done : IsDone rules (in_transaction old.engine) (restarts_left (mid m)) r r1 a last call what) (tells : Tells rules r r1 a last call what) where
   -- while it waits, nothing is gained and nothing lost
-  less_waits : in_transaction a.engine ≡ in_transaction old.engine → IsNoMore rules old a
-  less_waits opens = record {
-    whole_falls = (let e : whole rules (in_transaction a.engine) a.run.player ≡ whole rules (in_transaction old.engine) old.run.player = λ i. whole rules (opens i) (player_same m i) in omega arith);
-    rank_falls = λ n b. (let e : rank rules n (in_transaction a.engine) a ≡ rank rules n (in_transaction old.engine) old = ap (λ (x : Bool). rank rules n x a) opens ∙ same_rank m n in omega arith);
-  }
+  less_waits : in_transaction a.engine ≡ in_transaction old.engine → a.engine.restarted ≡ (mid m).restarted → IsNoMore rules old a
+  less_waits opens made =
+      let most = (limit_same (mid m) a.engine what m.asks.called.proceeds).3 in
+      let left = left_same a.engine (mid m) opens most (λ o. made) in
+      record {
+        whole_falls = (let e : whole rules (in_transaction a.engine) a.run.player ≡ whole rules (in_transaction old.engine) old.run.player = λ i. whole rules (opens i) (player_same m i) in omega arith);
+        rank_falls = λ n b. (let e : rank_now rules n a ≡ rank_now rules n old = (λ i. rank rules n (opens i) (left i) a) ∙ same_rank m n in omega arith);
+      }
 
   pub call_worked : rules.next_call old.run.player ≡ Some call → KeepsOthers old r0 last r1 → IsActing last → HasWorked rules cells r0 old r1 last
   call_worked asks others acts =
@@ -80,7 +88,7 @@ module _ {P : Type 0} {rules : Rules P} (laws : Obeys rules) {cells : Cells} {r0
         finishes = λ w e. absurd (recorded (λ x y. ending_of y.status ≡ Some Finished → ⊥) taken done tells (λ step t e. absurd (cc)) (λ answer is t. not_finished rules r r1 a last call answer t.told) e);
         still = not_still old m.ready;
         less = recorded (λ x y. ending_of y.status ≡ None → IsNoMore rules old y) taken done tells
-            (λ step t e. (let l = less_waits (ap in_transaction t.proceeds.stays) in record { whole_falls = l.whole_falls; rank_falls = l.rank_falls })) (λ answer is t. call_less m t.settled);
+            (λ step t e. (let l = less_waits (ap in_transaction t.proceeds.stays) (ap (λ (c : Core). c.restarted) t.proceeds.stays) in record { whole_falls = l.whole_falls; rank_falls = l.rank_falls })) (λ answer is t. call_less m t.settled);
       }
 
 -- ## One after the other
@@ -93,7 +101,7 @@ module _ {P : Type 0} {rules : Rules P} {cells : Cells} {r : Rows} {a : Actor P}
   pub work_none : IsSound rules cells r a → HasWorked rules cells r a r a
   work_none sound =
       let works : Works rules cells.clock r a r a = (0, (refl, refl)) in
-      let tries : is_ready a.status ≡ true → Tries cells.clock (prior_of r a) cells.clock r a = λ w. tries_still rules cells r a sound (ready_of a.status w) in
+      let tries : is_ready a.status ≡ true → Tries Extends cells.clock (prior_of r a) cells.clock r a = λ w. tries_still rules cells r a sound (ready_of a.status w) in
       let finishes : is_ready a.status ≡ true → ending_of a.status ≡ Some Finished → rules.next_call a.run.player ≡ None = λ w. still_going (ready_of a.status w) in
       assumption (sound, works, tries, finishes, others_same a a r r refl (omega arith) refl (omega arith), same_less rules a)
 
@@ -103,7 +111,7 @@ module _ {P : Type 0} {rules : Rules P} {cells : Cells} {r : Rows} {a : Actor P}
       record {
         sound = y.sound;
         works = acts_both rules cells.clock x.works.0 y.works.0 r r1 r2 a a1 a2 x.works.1 y.works.1;
-        tries = λ w. tries_then cells.clock cells.clock (prior_of r a) r1 r2 a1 a2 ready (rests x.sound ready).nothing x.limit.0 x.retries y.snapshot (y.tries ready_1) (x.tries w);
+        tries = λ w. tries_then Extends extends_twice cells.clock cells.clock (prior_of r a) r1 r2 a1 a2 ready (rests x.sound ready).nothing x.limit.0 x.retries x.limit.3 y.snapshot (y.tries ready_1) (x.tries w);
         runs = λ first deepest base laid runs. (let z = x.runs first deepest base laid runs in y.runs first deepest base z.0 z.1);
         others = others_twice a a1 a2 r r1 r2 x.others y.others;
         holds = y.holds ∙ x.holds;

@@ -1,18 +1,28 @@
 -- What an engine gives for a call leaves room for the actions that have run.
-use Rattle.std.proofs.Common.{◌≡◌, ℕ, ◌+◌, ◌/◌, ◌<◌, ◌≤◌, Bool, true, false, true≢false, [], length, is_some, Result, Ok, Err, IfOk, OnErr, Some, None, Option, refl, sym, ap, subst, ◌∙◌, inl, inr, arith}
+use Rattle.std.proofs.Common.{◌≡◌, ℕ, ◌+◌, ◌/◌, ◌<◌, ◌≤◌, ◌&&◌, not, nat_lt, Bool, true, false, true≢false, [], length, is_some, Result, Ok, Err, IfOk, OnErr, Some, None, Option, refl, sym, ap, subst, ◌∙◌, inl, inr, arith}
 use Rattle.itm_types.specs.Calls.{registered_by}
-use Rattle.norec_world.proofs.Tries.Stages.{moved_begun, moved_cancels, moved_ends, moved_open, row_open, row_shut}
-use Rattle.norec_world.specs.ActionRoom.{NestsAs, NestsBy, NeverRestarts, PromisesAs, StartsEmpty}
+use Rattle.norec_world.proofs.Tries.Stages.{moved_begun, moved_cancels, moved_ends, moved_open, open_only, row_open, row_shut}
+use Rattle.norec_world.specs.ActionRoom.{BacksIn, BeganIn, NestsAs, NestsBy, PromisesAs, RenewsAs, StartsEmpty, may_go_back}
+use Rattle.norec_world.proofs.Rooms.RestartRoom.{back_room, began_moved}
+use Rattle.norec_core.specs.Core.{is_within}
+use Rattle.norec_engine.specs.RestartingCalls.{can_restart}
+use Rattle.norec_core.proofs.Engines.KeptFields.{came_restarted}
+use Rattle.tx_runs.specs.OpenAttempts.{told_in}
 use Rattle.norec_world.proofs.Rooms.CallRoom.{leaves_backed, promised_same, wanted_same}
-use Rattle.norec_world.proofs.Rooms.HeldRoom.{LeavesRoom, leaves_room, same_room}
-use Rattle.norec_world.proofs.Common.{Actor, Answer, Answers, Asks, AsksAs, AsksFor, Attempt, Call, ComesInto, Core, Current, Ended, Ends, HasPlace, HasRoomFor, HasRow, IsActing, IsRestart, IsSettled, LeavesActions, MayRunOn, Next, NoCancel, Outside, Proceeds, Ran, Ready, Status, Step, Waits, active_of, came, cancels_in, cases_Bool, ends_in, in_transaction, is_abort, is_begin, is_held, moved_to, next_in, none-some, pending_of, registers, rests, told, total, wanted}
+use Rattle.norec_world.proofs.Rooms.HeldRoom.{LeavesRoom, leaves_room, none_held, same_room}
+use Rattle.norec_world.proofs.Common.{Actor, Answer, Answers, Asks, AsksAs, AsksFor, Attempt, Call, ComesInto, Core, Current, Ended, Ends, HasPlace, HasRoomFor, HasRow, IsActing, IsAtOnce, IsRestart, IsSettled, LeavesActions, MayRunOn, Next, NoCancel, Outside, Proceeds, Ran, Ready, Restarted, Status, Step, Waits, Within, active_of, asked, came, cancels_in, cases_Bool, ends_in, in_transaction, is_abort, is_begin, is_held, moved_to, next_in, none-some, pending_of, registers, rests, stage_at, stage_of, told, total, wanted}
 use Rattle.norec_world.proofs.Rooms.LaterActions.{first_here}
-use Rattle.norec_world.proofs.Engines.NoRestarts.{not_at_once}
+use Rattle.norec_world.proofs.Engines.RestartedEngines.{is_back, may_inside, not_at_once, waits_restarts}
 pub use Rattle.tx_runs.proofs.StepCalls.{registers_none}
 use Rattle.tx_runs.proofs.StepCalls.{cancels_register_none, gave_plainly, starves_shut}
 
+-- the call waits, or its innermost block went back
+abbrev pub TakesRoom : Next → Type 0
+TakesRoom (Asks step) = Unit {0}
+TakesRoom (Answers answer) = IsRestart answer
+
 module _ {P : Type 0} (a : Actor P) (mid : Core) (call : Call) (was : Bool) (o : in_transaction mid ≡ was) (has : HasRow was a) (doing : mid.doing ≡ Some call)
-    (all : (row : Attempt) → active_of a ≡ Some row → row.ran ≡ mid.actions.ran) (whole : NeverRestarts a) (nests : NestsBy call a.run.current)
+    (all : (row : Attempt) → active_of a ≡ Some row → told_in row ≡ length mid.actions.ran) (few : (row : Attempt) → active_of a ≡ Some row → length row.restarts ≤ mid.restarted) (nests : NestsBy call a.run.current) (began : BeganIn (stage_of a.run.current))
     (places : (row : Attempt) → active_of a ≡ Some row → total mid.actions + registers call ≤ ends_in a.run.current)
     (cancel : (row : Attempt) → active_of a ≡ Some row → is_abort call ≡ true → total mid.actions ≤ cancels_in a.run.current)
     (pending : StartsEmpty a) (room : HasRoomFor mid a) (backed : (row : Attempt) → active_of a ≡ Some row → HasPlace mid row)
@@ -20,14 +30,18 @@ module _ {P : Type 0} (a : Actor P) (mid : Core) (call : Call) (was : Bool) (o :
   was_open : (row : Attempt) → active_of a ≡ Some row → in_transaction mid ≡ true
   was_open row e = o ∙ row_open was a row has e
 
+  -- there is room for a block that runs again
+  abbrev Renews : Type 0
+  Renews = may_go_back mid ≡ true → BacksIn (length mid.arena) (total mid.actions) a.run.current
+
   -- it waits for a step
-  pub waits_acting : (step : Step) → Proceeds mid (Asks step) a.engine → (is_abort call ≡ false) × (is_some (registered_by call) ≡ false) → MayRunOn a call (Asks step)
-  waits_acting step g other =
+  pub waits_acting : (step : Step) → Proceeds mid (Asks step) a.engine → (is_abort call ≡ false) × (is_some (registered_by call) ≡ false) → Renews → MayRunOn a call (Asks step)
+  waits_acting step g other renews =
       let same : a.engine.actions ≡ mid.actions = ap (λ (c : Core). c.actions) g.stays in
       let n = wanted_on g in
       record {
-        all = λ row e. all row e ∙ ap (λ (x : _). x.ran) (sym same);
-        whole = whole;
+        all = λ row e. all row e ∙ ap (λ (x : _). length x.ran) (sym same);
+        few = λ row e. (let f = few row e in let n = ap (λ (c : Core). c.restarted) g.stays in omega arith);
         places = λ row e. (let p = places row e in let n = ap total same in omega arith);
         pending = pending;
         status = other;
@@ -35,6 +49,8 @@ module _ {P : Type 0} (a : Actor P) (mid : Core) (call : Call) (was : Bool) (o :
         backed = λ row e. (let p = backed row e in let least = p.least in let most = p.most in let m = promised_same a.engine mid (ap (λ (c : Core). c.irrevocable) g.stays) (ap (λ (c : Core). c.room) g.stays) in record { least = omega arith; most = omega arith });
         asks = record { pending = λ row e. asks row e ∙ sym n; backed = (let k = ap (λ (c : Core). c.room) g.stays in omega arith) };
         nests = nests;
+        began = began;
+        renews = λ may. subst (λ (c : Core). BacksIn (length c.arena) (total c.actions) a.run.current) (sym g.stays) (renews (sym (ap may_go_back g.stays) ∙ may));
       }
     where
       wanted_on : AsksFor mid step a.engine → wanted a.engine ≡ wanted mid
@@ -47,7 +63,7 @@ module _ {P : Type 0} (a : Actor P) (mid : Core) (call : Call) (was : Bool) (o :
     left : LeavesRoom mid a.engine
     left = leaves_room mid a.engine call answer doing settled g stays shut
 
-    cancel_place : in_transaction a.engine ≡ true → (row : Attempt) → active_of a ≡ Some row → length row.ran < length a.engine.actions.ran → length a.engine.actions.ran ≤ cancels_in a.run.current
+    cancel_place : in_transaction a.engine ≡ true → (row : Attempt) → active_of a ≡ Some row → told_in row < length a.engine.actions.ran → length a.engine.actions.ran ≤ cancels_in a.run.current
     cancel_place now row e less = elim (cases_Bool (is_abort call)) [
       | inl abort ↦
           (let c = cancel row e abort in
@@ -55,7 +71,8 @@ module _ {P : Type 0} (a : Actor P) (mid : Core) (call : Call) (was : Bool) (o :
           let n = cancels_register_none call abort in
           omega arith)
       | inr other ↦
-          absurd (let one = ap (length {A = Ran}) (all row e ∙ sym (acts.same (was_open row e) other now)) in
+          absurd (let one = all row e in
+          let same = ap (length {A = Ran}) (acts.same (was_open row e) other now) in
           omega arith)
     ]
 
@@ -63,34 +80,66 @@ module _ {P : Type 0} (a : Actor P) (mid : Core) (call : Call) (was : Bool) (o :
     pub answered_acting : MayRunOn a call (Answers answer)
     answered_acting = record {
       first = first_here a mid a.engine call (Answers answer) was o has doing g all;
-      whole = whole;
+      few = λ row e. (let f = few row e in let n = (rests mid a.engine answer g).restarted stays in omega arith);
+      fewer = λ is. absurd (stays is);
       places = λ row e. (let p = places row e in let m = (acts.runs (was_open row e)).most in omega arith);
-      cancel_places = cancel_place;
+      cancel_places = λ no. cancel_place;
       pending = pending;
       anew = λ now none. (let x = o ∙ row_shut was a has none in acts.begins x (shut x).0 (shut x).1 now);
       room = λ held some. (let less = left.room held some in let both = room (left.held held) less.0 in ((let x = both.0 in let y = less.1 in omega arith), (let x = both.1 in let y = less.1 in omega arith)));
       over = left.over;
-      still = λ held row e. all row e ∙ sym (left.ran held (was_open row e));
+      still = λ held row e. all row e ∙ ap (length {A = Ran}) (sym (left.ran held (was_open row e)));
       place = λ row e. (let some = (backed row e).least in omega arith);
-      adds = λ now row e. (leaves_backed mid a.engine call answer doing reserved settled g stays now).adds row.calls.room (backed row e).most;
+      adds = λ no now row e. (leaves_backed mid a.engine call answer doing reserved settled g stays now).adds row.calls.room (backed row e).most;
       opens = λ now row e. (leaves_backed mid a.engine call answer doing reserved settled g stays now).opens row.calls.room (asks row e);
       nests = nests;
+      began = began;
+      renews = λ is. absurd (stays is);
     }
 
-  -- whatever it gave, but for a block that went back to its begin alone
-  pub gave_acting : (what : Next) → Proceeds mid what a.engine → ((answer : Answer) → what ≡ Answers answer → IsRestart answer → ⊥) → (in_transaction mid ≡ false → (mid.actions.commits ≡ []) × (mid.actions.undos ≡ []))
+  -- its innermost block went back to its begin
+  back_acting : (clock word : ℕ) → Ends mid (Restarted clock word) a.engine → Renews → MayRunOn a call (Answers (Restarted clock word))
+  back_acting clock word g renews =
+      let b = is_back mid a.engine clock word settled g in
+      let free : is_held a.engine ≡ false = none_held a.engine b.revocable b.done in
+      let row_now : HasRow true a = subst (λ (x : Bool). HasRow x a) (sym o ∙ b.was) has in
+      record {
+        first = first_here a mid a.engine call (Answers (Restarted clock word)) was o has doing g all;
+        few = λ row e. (let f = few row e in let n = b.counted in omega arith);
+        fewer = λ is row e. (let f = few row e in let n = b.counted in omega arith);
+        places = λ row e. (let p = places row e in let n = b.most in omega arith);
+        cancel_places = λ no. absurd (no tt);
+        pending = pending;
+        anew = λ now none. absurd (true≢false (sym b.was ∙ (o ∙ row_shut was a has none)));
+        room = λ held. absurd (true≢false (sym held ∙ free));
+        over = λ closed. absurd (true≢false (sym b.still ∙ closed));
+        still = λ held. absurd (true≢false (sym held ∙ free));
+        place = λ row e. (let some = (backed row e).least in omega arith);
+        adds = λ no. absurd (no tt);
+        opens = λ now row e. absurd (none-some row (sym (open_only _ row_now.1) ∙ e));
+        nests = nests;
+        began = began;
+        renews = λ is. back_room mid a.engine b a.run.current all began (renews b.may);
+      }
+
+  answer_acting : (answer : Answer) → Ends mid answer a.engine → (IsRestart answer → Renews) → (in_transaction mid ≡ false → (mid.actions.commits ≡ []) × (mid.actions.undos ≡ [])) → MayRunOn a call (Answers answer)
+  answer_acting (Restarted clock word) g renews shut = back_acting clock word g (renews tt)
+  answer_acting answer g renews shut = answered_acting answer g (λ is. is) shut
+
+  -- whatever it gave
+  pub gave_acting : (what : Next) → Proceeds mid what a.engine → (TakesRoom what → may_go_back mid ≡ true → BacksIn (length mid.arena) (total mid.actions) a.run.current) → (in_transaction mid ≡ false → (mid.actions.commits ≡ []) × (mid.actions.undos ≡ []))
       → ((step : Step) → what ≡ Asks step → (is_abort call ≡ false) × (is_some (registered_by call) ≡ false)) → MayRunOn a call what
-  gave_acting (Asks step) g stays shut plain = waits_acting step g (plain step refl)
-  gave_acting (Answers answer) g stays shut plain = answered_acting answer g (stays answer refl) shut
+  gave_acting (Asks step) g renews shut plain = waits_acting step g (plain step refl) (renews tt)
+  gave_acting (Answers answer) g renews shut plain = answer_acting answer g renews shut
 
 -- ## Calls that wait for a step
 
 -- ## An actor that has no open attempt, and one whose attempt is changed
 
-pub none_acting : {P : Type 0} (a : Actor P) → active_of a ≡ None → StartsEmpty a → NoCancel a.status → is_held a.engine ≡ false → AsksAs a a.status → NestsAs a.status a.run.current → IsActing a
-none_acting a none pending status free asks nests = record {
+pub none_acting : {P : Type 0} (a : Actor P) → active_of a ≡ None → StartsEmpty a → NoCancel a.status → is_held a.engine ≡ false → AsksAs a a.status → NestsAs a.status a.run.current → BeganIn (stage_of a.run.current) → RenewsAs a a.status → IsActing a
+none_acting a none pending status free asks nests began renews = record {
   all = λ row e. absurd (none-some row (sym none ∙ e));
-  whole = λ row e. absurd (none-some row (sym none ∙ e));
+  few = λ row e. absurd (none-some row (sym none ∙ e));
   places = λ row e. absurd (none-some row (sym none ∙ e));
   pending = pending;
   status = status;
@@ -98,6 +147,8 @@ none_acting a none pending status free asks nests = record {
   backed = λ row e. absurd (none-some row (sym none ∙ e));
   asks = asks;
   nests = nests;
+  began = began;
+  renews = renews;
 }
 
 -- what is promised is of the room of the calls alone
@@ -122,6 +173,18 @@ nests_moved at Ready c n = n
 nests_moved at (Waits call step) c n = n
 nests_moved at (Ended end) c n = tt
 
+renews_moved : (at bytes actions : ℕ) (c : Current) → BacksIn bytes actions c → BacksIn bytes actions (moved_to at c)
+renews_moved at bytes actions Outside b = tt
+renews_moved at bytes actions (Within o) b = record { room = b.room; has = b.has; records = b.records; arena = b.arena; undone = b.undone }
+renews_moved at bytes actions c b = b
+
+renews_as : {P : Type 0} (at : ℕ) (a a' : Actor P) → a'.engine ≡ a.engine → a'.run.current ≡ moved_to at a.run.current → (s : Status) → RenewsAs a s → RenewsAs a' s
+renews_as at a a' engine current Ready r = tt
+renews_as at a a' engine current (Waits call step) r = λ may.
+    subst (BacksIn (length a'.engine.arena) (total a'.engine.actions)) (sym current)
+    (renews_moved at (length a'.engine.arena) (total a'.engine.actions) a.run.current (subst (λ (c : Core). BacksIn (length c.arena) (total c.actions) a.run.current) (sym engine) (r (sym (ap may_go_back engine) ∙ may))))
+renews_as at a a' engine current (Ended end) r = tt
+
 -- told where its engine reads
 pub told_acting : {P : Type 0} (a : Actor P) → IsActing a → IsActing (told a)
 told_acting a acts =
@@ -129,8 +192,8 @@ told_acting a acts =
     let ends = moved_ends at a.run.current in
     let cancels = moved_cancels at a.run.current in
     record {
-      all = λ row e. (let w = moved_open at a.run.current row e in ap (λ (x : Attempt). x.ran) w.2 ∙ acts.all w.0 w.1);
-      whole = λ row e. (let w = moved_open at a.run.current row e in ap (λ (x : Attempt). x.restarts) w.2 ∙ acts.whole w.0 w.1);
+      all = λ row e. (let w = moved_open at a.run.current row e in ap told_in w.2 ∙ acts.all w.0 w.1);
+      few = λ row e. (let w = moved_open at a.run.current row e in let n = ap (λ (x : Attempt). length x.restarts) w.2 in let f = acts.few w.0 w.1 in omega arith);
       places = λ row e. (let w = moved_open at a.run.current row e in let p = acts.places w.0 w.1 in omega arith);
       pending = λ row e. acts.pending row (sym (moved_begun at a.run.current) ∙ e);
       status = acts.status;
@@ -138,21 +201,34 @@ told_acting a acts =
       backed = λ row e. (let w = moved_open at a.run.current row e in promises_as a.engine a.status w.0 row (ap (λ (x : Attempt). x.calls.room) w.2) (acts.backed w.0 w.1));
       asks = asks_as a (told a) (moved_begun at a.run.current) refl a.status acts.asks;
       nests = nests_moved at a.status a.run.current acts.nests;
+      began = began_moved at a.run.current acts.began;
+      renews = renews_as at a (told a) refl refl a.status acts.renews;
     }
 
 -- ## A call goes to the engine
 
+-- the room is there that was made for a block that may run again by it
+pub called_renews : {P : Type 0} (a : Actor P) (old : Core) (call : Call) (again : Bool) (what : Next) → Proceeds (came old call again) what a.engine → IsAtOnce what → a.engine.stage ≡ stage_at old call again → a.engine.waits ≡ asked a.engine
+    → (can_restart old call ≡ true → BacksIn (length old.arena) (total old.actions) a.run.current) → TakesRoom what → may_go_back (came old call again) ≡ true → BacksIn (length old.arena) (total old.actions) a.run.current
+called_renews a old call again (Asks step) g soon order asks renews takes may = renews (waits_restarts old a.engine call again step order asks (ap (λ (c : Core). c.waits) g.stays) within_same)
+  where
+    within_same : may_go_back old ≡ true
+    within_same = (let same = sym (came_restarted old call again (may_inside (came old call again) may)) in (λ i. nat_lt (same i) old.restarts && (not old.irrevocable && is_within old.blocks)) ∙ may)
+called_renews a old call again (Answers answer) g soon order asks renews takes may = absurd (not_at_once (Answers answer) soon answer refl takes)
+
 -- there is room for what comes of it, which the result tells
 pub called_acting : {P E : Type 0} (answer : Answer) (a : Actor P) (old : Core) (call : Call) (again was : Bool) (o : in_transaction (came old call again) ≡ was) (has : HasRow was a)
-    → ((row : Attempt) → active_of a ≡ Some row → row.ran ≡ (came old call again).actions.ran) → NeverRestarts a → NestsBy call a.run.current
+    → ((row : Attempt) → active_of a ≡ Some row → told_in row ≡ length (came old call again).actions.ran) → ((row : Attempt) → active_of a ≡ Some row → length row.restarts ≤ old.restarted) → NestsBy call a.run.current → BeganIn (stage_of a.run.current)
+    → (can_restart old call ≡ true → BacksIn (length old.arena) (total old.actions) a.run.current)
     → ((row : Attempt) → active_of a ≡ Some row → total (came old call again).actions + registers call ≤ ends_in a.run.current)
     → ((row : Attempt) → active_of a ≡ Some row → is_abort call ≡ true → total (came old call again).actions ≤ cancels_in a.run.current)
     → StartsEmpty a → HasRoomFor (came old call again) a → ((row : Attempt) → active_of a ≡ Some row → HasPlace (came old call again) row) → ((row : Attempt) → pending_of a ≡ Some row → row.calls.room ≡ wanted (came old call again)) → wanted (came old call again) ≤ (came old call again).room
     → (in_transaction (came old call again) ≡ false → ((came old call again).actions.commits ≡ []) × ((came old call again).actions.undos ≡ []))
     → (result : Result (Option Step) E) → ComesInto old call again result answer a.engine → IfOk result (λ what. MayRunOn a call (next_in what answer))
-called_acting answer a old call again was o has all whole nests places cancel pending room backed wants reserved shut (Ok what) e =
-    gave_acting a (came old call again) call was o has refl all whole nests places cancel pending room backed wants reserved e.settled (next_in what answer) e.proceeds (not_at_once (next_in what answer) e.at_once) shut (gave_plainly (came old call again) a.engine old call again (next_in what answer) e.proceeds e.order e.asks)
-called_acting answer a old call again was o has all whole nests places cancel pending room backed wants reserved shut (Err x) e = tt
+called_acting answer a old call again was o has all few nests began renews places cancel pending room backed wants reserved shut (Ok what) e =
+    gave_acting a (came old call again) call was o has refl all (λ row f. (let n = came_restarted old call again (o ∙ row_open was a row has f) in let l = few row f in omega arith)) nests began places cancel pending room backed wants reserved e.settled (next_in what answer) e.proceeds
+    (called_renews a old call again (next_in what answer) e.proceeds e.at_once e.order e.asks renews) shut (gave_plainly (came old call again) a.engine old call again (next_in what answer) e.proceeds e.order e.asks)
+called_acting answer a old call again was o has all few nests began renews places cancel pending room backed wants reserved shut (Err x) e = tt
 
 pub starves_begin : {E : Type 0} (c new : Core) (call : Call) (answer : Answer) → IsSettled c → (result : Result (Option Step) E) → ComesInto c call false result answer new → OnErr result (in_transaction c ≡ false → is_begin call ≡ true)
 starves_begin c new call answer s (Ok what) m = tt

@@ -2,15 +2,16 @@
 pub use Rattle.tx_runs.proofs.Tries.{no_begin}
 use Rattle.tx_runs.proofs.StepCalls.{wants_none, places_for}
 use Rattle.tx_runs.proofs.OpenRooms.{again_none, begins_none, outside_current, reserved_least, reserved_most}
-use Rattle.std.proofs.Common.{◌≡◌, inl, inr, ℕ, zero, suc, ◌+◌, ◌/◌, ◌<◌, ◌≤◌, max, length, not, Bool, true, false, true≢false, [], append-nil, Result, Ok, Err, IfOk, OnErr, Option, None, Some, is_some, unwrap_or, refl, sym, ap, subst, ◌∙◌, arith, if◌then◌else◌}
+use Rattle.std.proofs.Common.{◌≡◌, inl, inr, ℕ, zero, suc, ◌+◌, ◌/◌, ◌<◌, ◌≤◌, max, length, not, Bool, true, false, true≢false, List, [], append-nil, Result, Ok, Err, IfOk, OnErr, Option, None, Some, is_some, unwrap_or, refl, sym, ap, subst, ◌∙◌, arith, if◌then◌else◌}
 use Rattle.norec_core.specs.Moves.{IsCalled}
-use Rattle.norec_world.specs.ActionRoom.{NestsAs, NestsBy, NestsReady, arena_ahead, opened_by}
-use Rattle.tx_runs.specs.OpenAttempts.{HasPlacesFor, LacksPlaces, Open}
+use Rattle.norec_world.specs.ActionRoom.{BacksIn, BeganIn, NestsAs, NestsBy, NestsReady, arena_ahead, opened_by}
+use Rattle.tx_runs.specs.OpenAttempts.{HasPlacesFor, LacksPlaces, Open, told_in}
+use Rattle.tx_runs.specs.Savepoints.{AreSavepoints}
 use Rattle.tx_runs.specs.Tallies.{begins, outside}
-use Rattle.norec_world.proofs.Engines.NoRestarts.{not_at_once}
+use Rattle.norec_world.proofs.Engines.RestartedEngines.{ahead_of_it}
 use Rattle.norec_world.specs.LocalWork.{IsShort}
 use Rattle.norec_world.specs.Records.{Asks as AsksOf}
-use Rattle.norec_world.proofs.Common.{Actor, Answer, Attempt, Begin, Begins, Call, Cells, ComesInto, Core, Current, HasPlace, HasRow, IsAsked, IsBacked, IsKept, IsRefused, IsSound, IsUnasked, KeepsOthers, Kept, MAX_ACTORS, MayRunOn, Next, Props, Ready, Rows, Rules, Savepoint, Stage, Status, Step, Within, active_of, begins_again, begun, came, cancels_in, cases_Bool, count_in, ends_in, asks_no_room, in_transaction, irrevocable_room, is_begin, next_in, none-some, open_in, promised, reserved, same_Some, stage_of, total, with_room, within}
+use Rattle.norec_world.proofs.Common.{Actor, Answer, Attempt, Begin, Begins, Call, Cells, ComesInto, Core, Current, HasPlace, HasRow, IsAsked, IsKept, IsPromised, IsRefused, IsSound, IsUnasked, KeepsOthers, Kept, MAX_ACTORS, MayRunOn, Next, Props, Ready, Rows, Rules, Savepoint, Stage, Status, Step, Within, active_of, begins_again, begun, came, cancels_in, cases_Bool, count_in, ends_in, asks_no_room, in_transaction, irrevocable_room, is_begin, next_in, none-some, open_in, promised, reserved, same_Some, stage_of, total, with_room, within}
 use Rattle.norec_world.proofs.Engines.SoundSteps.{rests}
 use Rattle.norec_world.proofs.Rooms.ActionRoom.{called_acting, gave_acting}
 use Rattle.norec_world.proofs.Rooms.CallRoom.{backed_came, promised_came, short_of_room, wanted_came}
@@ -63,11 +64,11 @@ module _ {P : Type 0} {rules : Rules P} {cells : Cells} {r : Rows} {a : Actor P}
 
   -- what it promises
   pub kept_room : o.row.calls.room ≤ max (promised a.engine) 1
-  kept_room = (let few = subst (IsBacked a) ready sound.acts.backed o.row here in omega arith)
+  kept_room = (let few = subst (IsPromised a) ready sound.acts.backed o.row here in omega arith)
 
   pub asked_room : (call : Call) → a.engine.irrevocable ≡ true → (reserved o.row.calls (unwrap_or (irrevocable_room a.engine call) 0 + 1)).room ≤ max (promised a.engine) 1
   asked_room call h =
-      let few = subst (IsBacked a) ready sound.acts.backed o.row here in
+      let few = subst (IsPromised a) ready sound.acts.backed o.row here in
       let most = reserved_most o.row.calls (unwrap_or (irrevocable_room a.engine call) 0) (promised a.engine) few in
       let none = ap (λ (x : Option ℕ). unwrap_or x 0) (asks_no_room a.engine call h) in
       omega arith
@@ -92,24 +93,31 @@ module _ {P : Type 0} {rules : Rules P} {cells : Cells} {r : Rows} {a : Actor P}
     pub kept_within : (e : Core) → IsKept (in_transaction a.engine) (New e)
     kept_within e = record { row = subst (λ (b : Bool). HasRow b (New e)) (sym inside) (has_row e); tried = sound.kept.tried; tries = sound.kept.tries; retries = sound.kept.retries }
 
-    all_within : (x : Attempt) → Some o'.row ≡ Some x → x.ran ≡ a.engine.actions.ran
-    all_within x e = ap (λ (y : Attempt). y.ran) (sym (same_Some _ _ e) ∙ row) ∙ sound.acts.all o.row here
+    all_within : (x : Attempt) → Some o'.row ≡ Some x → told_in x ≡ length a.engine.actions.ran
+    all_within x e = ap told_in (sym (same_Some _ _ e) ∙ row) ∙ sound.acts.all o.row here
 
-    whole_within : (x : Attempt) → Some o'.row ≡ Some x → x.restarts ≡ []
-    whole_within x e = ap (λ (y : Attempt). y.restarts) (sym (same_Some _ _ e) ∙ row) ∙ sound.acts.whole o.row here
+    few_within : (x : Attempt) → Some o'.row ≡ Some x → length x.restarts ≤ a.engine.restarted
+    few_within x e = (let f = sound.acts.few o.row here in let n = ap (λ (y : Attempt). length y.restarts) (sym (same_Some _ _ e) ∙ row) in omega arith)
+
+    began_within : BeganIn (within o'.row o'.points)
+    began_within =
+        let had : BeganIn (within o.row o.points) = subst (λ (c : Current). BeganIn (stage_of c)) is sound.acts.began in
+        let made : BeganIn (within (record o.row { calls = k }) o.points) = (subst (AreSavepoints o.points) (sym list) had.0, had.1) in
+        subst (λ (x : Attempt). BeganIn (within x o'.points)) (sym row) (subst (λ (l : List Savepoint). BeganIn (within (record o.row { calls = k }) l)) (sym points) made)
 
     pub refused_within : (a.engine.irrevocable ≡ true → k.room ≤ max (promised a.engine) 1) → IsRefused (New a.engine)
     refused_within few = record {
       all = all_within;
-      whole = whole_within;
+      few = few_within;
       places = λ x e. (let p = sound.acts.places o.row here in let s = same_ends in omega arith);
       nothing = refl;
       room = λ held some. (let both = sound.acts.room held some in let s = same_ends in let t = same_cancels in ((let x = both.0 in omega arith), (let x = both.1 in omega arith)));
       backed = λ x e h. (let f = few h in let n = ap (λ (y : Attempt). y.calls.room) (sym (same_Some _ _ e) ∙ row) in omega arith);
+      began = began_within;
     }
 
   pub short_within : (call : Call) → LacksPlaces call (total a.engine.actions) (unwrap_or (irrevocable_room a.engine call) 0) (arena_ahead a.engine call) o → IsShort a call
-  short_within call = short_of_room a call o is inside sound.tied.restarts sound.acts.room here_nests
+  short_within call = short_of_room a call o is inside sound.acts.room here_nests
 
   pub others_within : (e : Core) → KeepsOthers a r (New e) r
   others_within e = (let one = ap (λ (c : Current). count_in (stage_of c)) is in others_same a (New e) r r refl (omega arith) refl (omega arith))
@@ -121,7 +129,7 @@ module _ {P : Type 0} {rules : Rules P} {cells : Cells} {r : Rows} {a : Actor P}
 
     place_within : HasPlace (came a.engine call false) o'.row
     place_within =
-        let backed = subst (IsBacked a) ready sound.acts.backed o.row here in
+        let backed = subst (IsPromised a) ready sound.acts.backed o.row here in
         let least = reserved_least o.row.calls Ahead in
         let most = reserved_most o.row.calls Ahead (promised a.engine) backed in
         let n = ap (λ (x : Attempt). x.calls.room) row in
@@ -141,7 +149,8 @@ module _ {P : Type 0} {rules : Rules P} {cells : Cells} {r : Rows} {a : Actor P}
         let s = same_ends in
         let t = same_cancels in
         called_acting answer (New e) a.engine call false true inside (has_row (reserved o.row.calls (Ahead + 1)) refl row e)
-        (all_within (reserved o.row.calls (Ahead + 1)) refl row) (whole_within (reserved o.row.calls (Ahead + 1)) refl row) (nests_within places)
+        (all_within (reserved o.row.calls (Ahead + 1)) refl row) (few_within (reserved o.row.calls (Ahead + 1)) refl row) (nests_within places) (began_within (reserved o.row.calls (Ahead + 1)) refl row)
+        (λ can. places.again (length a.engine.arena) (ahead_of_it a.engine call can))
         (λ x f. places_for call (total a.engine.actions) o.ends o'.ends (let p = sound.acts.places o.row here in omega arith) ends places.ends)
         (λ x f. places.cancels) (λ x f. absurd (cc))
         (came_room a.engine call false a (New e) sound.acts.room (omega arith) (omega arith)
@@ -181,11 +190,12 @@ module _ {P : Type 0} {rules : Rules P} {cells : Cells} {r : Rows} {a : Actor P}
   pub refused_outside : IsRefused a
   refused_outside = record {
     all = λ x e. absurd (none-some x (sym none ∙ e));
-    whole = λ x e. absurd (none-some x (sym none ∙ e));
+    few = λ x e. absurd (none-some x (sym none ∙ e));
     places = λ x e. absurd (none-some x (sym none ∙ e));
     nothing = (rests sound ready).nothing;
     room = sound.acts.room;
     backed = λ x e h. absurd (none-some x (sym none ∙ e));
+    began = sound.acts.began;
   }
 
   module _ (call : Call) (asks : rules.next_call a.run.player ≡ Some call) (e : Core) where
@@ -224,6 +234,7 @@ module _ {P : Type 0} {rules : Rules P} {cells : Cells} {r : Rows} {a : Actor P}
       acts_outside answer result comes =
           called_acting answer Same a.engine call false (in_transaction a.engine) refl (row_same (in_transaction a.engine) a Same refl refl sound.kept.row)
           (λ x f. absurd (none-some x (sym none ∙ f))) (λ x f. absurd (none-some x (sym none ∙ f))) (subst (NestsBy call) (sym (outside_current a.run.current out_outside)) tt)
+          sound.acts.began (λ can. subst (BacksIn (length a.engine.arena) (total a.engine.actions)) (sym (outside_current a.run.current out_outside)) tt)
           (λ x f. absurd (none-some x (sym none ∙ f))) (λ x f. absurd (none-some x (sym none ∙ f))) (λ x f. absurd (none-some x (sym (rests sound ready).nothing ∙ f)))
           (came_room a.engine call false a Same sound.acts.room (omega arith) (omega arith) (λ some. absurd (let wants = wants_none a.engine call other shut_outside in omega arith)))
           (λ x f. absurd (none-some x (sym none ∙ f))) (λ x f. absurd (none-some x (sym (rests sound ready).nothing ∙ f))) (backed_came a.engine call false) (λ over. (let s = sound.tied.settled.closed shut_outside in (s.2, s.3))) result comes
@@ -259,11 +270,11 @@ module _ {P : Type 0} {rules : Rules P} {cells : Cells} {r : Rows} {a : Actor P}
     pub acts_begin : (what : Next) → IsCalled a.engine (Begin props room) a.run.again what e → MayRunOn Begun (Begin props room) what
     acts_begin what comes =
         let same = ap (λ (b : Bool). if b then total a.engine.actions else 0) shut_outside in
-        gave_acting Begun (came a.engine (Begin props room) a.run.again) (Begin props room) false shut_outside refl refl (λ x f. absurd (cc)) (λ x f. absurd (cc)) (let n = ap (λ (y : Attempt). y.calls.room) row in omega arith) (λ x f. absurd (cc)) (λ x f abort. absurd (cc))
-        (λ x f. (let same = sym (same_Some _ _ f) ∙ row in (ap (λ (y : Attempt). y.ran) same, ap (λ (y : Attempt). y.restarts) same)))
+        gave_acting Begun (came a.engine (Begin props room) a.run.again) (Begin props room) false shut_outside refl refl (λ x f. absurd (cc)) (λ x f. absurd (cc)) (let n = ap (λ (y : Attempt). y.calls.room) row in omega arith) tt (λ x f. absurd (cc)) (λ x f abort. absurd (cc))
+        (λ x f. (let same = sym (same_Some _ _ f) ∙ row in (ap (λ (y : Attempt). y.ran) same, ap (λ (y : Attempt). y.restarts) same, ap (λ (y : Attempt). y.calls.list) same)))
         (came_room a.engine (Begin props room) a.run.again a Begun sound.acts.room (let none_ends = ap ends_in (outside_current a.run.current out_outside) in omega arith) (let none_cancels = ap cancels_in (outside_current a.run.current out_outside) in omega arith) (λ some. (omega arith, omega arith)))
         (λ x f. absurd (cc)) (λ x f. ap (λ (y : Attempt). y.calls.room) (sym (same_Some _ _ f) ∙ row) ∙ sym (wanted_came a.engine (Begin props room) a.run.again))
-        (backed_came a.engine (Begin props room) a.run.again) comes.settled what comes.proceeds (not_at_once what comes.at_once) (λ over. (let s = sound.tied.settled.closed shut_outside in (s.2, s.3))) (λ step is. (refl, refl))
+        (backed_came a.engine (Begin props room) a.run.again) comes.settled what comes.proceeds (λ takes may. tt) (λ over. (let s = sound.tied.settled.closed shut_outside in (s.2, s.3))) (λ step is. (refl, refl))
 
 pub others_begun : {P : Type 0} (a : Actor P) (r r' : Rows) (o : Open) (e : Core) → stage_of a.run.current ≡ outside → r'.ended ≡ r.ended → r.room ≤ r'.room → MAX_ACTORS ≤ r'.room → KeepsOthers a r (record a { run = record a.run { current = Begins o }; engine = e }) r'
 others_begun a r r' o e out ended more enough = record { thread = refl; more = []; ended = ended ∙ sym (append-nil r.ended); mine = tt; room = λ k few l. omega arith }

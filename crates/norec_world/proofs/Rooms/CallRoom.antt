@@ -4,11 +4,11 @@ use Rattle.std.proofs.Common.{◌≡◌, ◌⊎◌, true≢false, ℕ, zero, suc
 use Rattle.norec_core.specs.Proceeds.{MayStarve, MayStarveHeld, MayStarveOpen}
 use Rattle.tx_runs.specs.OpenAttempts.{LacksPlaces, Open}
 use Rattle.norec_world.specs.ActionRoom.{arena_ahead, counted}
-use Rattle.norec_world.proofs.Engines.NoRestarts.{none_ahead}
+use Rattle.norec_world.proofs.Engines.RestartedEngines.{ahead_if, can_revocable}
 use Rattle.norec_world.specs.LocalWork.{IsShort, LacksRoom}
 use Rattle.norec_world.proofs.Rooms.HeldRoom.{goes_in_same, held_as}
 use Rattle.tx_runs.proofs.IrrevocableCalls.{left_least, plain_goes}
-use Rattle.norec_world.proofs.Common.{Actor, Answer, Attempt, Begin, Call, CommitAction, Core, Current, Ends, HasRoomFor, IsBacked, Mode, Within, cancels_in, ends_in, open_in, same_Some, stage_of, total, IsRestart, IsSettled, MayStarveIn, Ready, Replied, Reply, active_of, came, goes_in, asks_no_room, goes_same, in_transaction, irrevocable_room, promised, reply_cases, rests, room_left, wanted}
+use Rattle.norec_world.proofs.Common.{Actor, Answer, Attempt, Begin, Call, CommitAction, Core, Current, Ends, HasRoomFor, IsPromised, Mode, Within, cancels_in, ends_in, open_in, same_Some, stage_of, total, IsRestart, IsSettled, MayStarveIn, Ready, Replied, Reply, active_of, came, goes_in, asks_no_room, goes_same, in_transaction, irrevocable_room, promised, reply_cases, rests, room_left, wanted}
 
 -- ## An answer
 
@@ -111,10 +111,10 @@ none_left : (n : ℕ) → (0 < n → ⊥) → n ≡ 0
 none_left zero never = refl
 none_left (suc n) never = absurd (never (omega arith))
 
--- an open attempt that has no room for the call, where no block of it may run again
-pub short_of_room : {P : Type 0} (a : Actor P) (call : Call) (o : Open) → a.run.current ≡ Within o → in_transaction a.engine ≡ true → a.engine.restarts ≡ 0 → HasRoomFor a.engine a → length o.points + o.row.calls.room ≤ o.deep
+-- an open attempt that has no room for the call
+pub short_of_room : {P : Type 0} (a : Actor P) (call : Call) (o : Open) → a.run.current ≡ Within o → in_transaction a.engine ≡ true → HasRoomFor a.engine a → length o.points + o.row.calls.room ≤ o.deep
     → LacksPlaces call (total a.engine.actions) (unwrap_or (irrevocable_room a.engine call) 0) (arena_ahead a.engine call) o → IsShort a call
-short_of_room {P} a call o is inside never room nests lacks row e = by_want lacks
+short_of_room {P} a call o is inside room nests lacks row e = by_want lacks
   where
     same : row.calls.room ≡ o.row.calls.room
     same = ap (λ (x : Attempt). x.calls.room) (same_Some _ _ (sym e ∙ ap (λ (c : Current). open_in (stage_of c)) is))
@@ -134,9 +134,11 @@ short_of_room {P} a call o is inside never room nests lacks row e = by_want lack
         let few = cancels.1 in
         let count = all in
         let there = ap cancels_in is in
-        inr (inl ((λ (h : a.engine.irrevocable ≡ true). none_left a.engine.room (λ (some : 0 < a.engine.room). (let both = room (held_as a.engine h) some in let l = both.1 in omega arith))), inr (cancels.0, omega arith)))
+        inr (inl ((λ (h : a.engine.irrevocable ≡ true). none_left a.engine.room (λ (some : 0 < a.engine.room). (let both = room (held_as a.engine h) some in let l = both.1 in omega arith))), inr (inl (cancels.0, omega arith))))
     by_want (inr (inr (inr (inr (inl ahead))))) = inr (inr (starves_asked a.engine call ahead))
-    by_want (inr (inr (inr (inr (inr again))))) = absurd (true≢false (sym again ∙ none_ahead a.engine call never))
+    by_want (inr (inr (inr (inr (inr again))))) =
+        (let can = ahead_if a.engine call again in
+        inr (inl ((λ (h : a.engine.irrevocable ≡ true). absurd (true≢false (sym h ∙ can_revocable a.engine call can))), inr (inr can))))
 
 -- ### In an irrevocable transaction
 
@@ -145,7 +147,7 @@ starves_used c (CommitAction action) m = m
 starves_used c call m = absurd m
 
 -- no place is promised any more
-pub used_up : {P : Type 0} (a : Actor P) (call : Call) → IsBacked a Ready → IsShort a call → a.engine.irrevocable ≡ true → (row : Attempt) → active_of a ≡ Some row → row.calls.room ≡ 0
+pub used_up : {P : Type 0} (a : Actor P) (call : Call) → IsPromised a Ready → IsShort a call → a.engine.irrevocable ≡ true → (row : Attempt) → active_of a ≡ Some row → row.calls.room ≡ 0
 used_up a call backed short h row e = elim (short row e) [
   | inl full ↦ full
   | inr (inl lacks) ↦ (let few = backed row e in let most = promised_all a.engine h in let none = lacks.0 h in omega arith)

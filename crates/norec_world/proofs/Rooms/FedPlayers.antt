@@ -1,13 +1,17 @@
 -- What a player that tells its room truly has left to call in an irrevocable transaction, over an answer: no more than its attempt has places for.
-use Rattle.std.proofs.Common.{◌≡◌, ℕ, zero, suc, ◌-◌, ◌<◌, ◌≤◌, ◌&&◌, not, Bool, true, false, true≢false, nat_lt, if◌then◌else◌, length, None, Some, IsSome, unwrap_or, refl, sym, ap, subst, ◌∙◌, inl, inr, arith}
+use Rattle.std.proofs.Common.{◌≡◌, ℕ, zero, suc, ◌-◌, ◌<◌, ◌≤◌, ◌&&◌, not, Bool, true, false, true≢false, nat_lt, if◌then◌else◌, length, Option, None, Some, IsSome, unwrap_or, refl, sym, ap, subst, ◌∙◌, inl, inr, arith}
 use Rattle.norec_world.specs.PlayerRooms.{going_room}
+use Rattle.itm_types.specs.Calls.{abort_of, is_commit}
+use Rattle.itm_types.specs.declared.call.Reply.TheVariants.{Bytes, Code, Refused}
+use Rattle.std.proofs.lemmas.Bool.{ltb-false, ltb-true}
+use Rattle.tx_player.specs.Depth.{depth_by}
 use Rattle.norec_core.proofs.Replies.ReplyCases.{Ways}
 use Rattle.tx_runs.proofs.EngineReplies.{engine_may}
 use Rattle.tx_runs.proofs.TookIn.{OpensBy}
-use Rattle.norec_world.proofs.Tries.Stages.{begun_shut, open_by, row_open, row_shut, busy_player, conflict_player, reply_player, sent_same, stage_open, told_player, within_at}
+use Rattle.norec_world.proofs.Tries.Stages.{begun_shut, open_by, row_open, row_shut, back_player, busy_player, conflict_player, reply_player, sent_same, stage_open, told_player, within_at}
 use Rattle.norec_world.proofs.Rooms.CallRoom.{wanted_as}
 use Rattle.norec_world.proofs.Engines.Intakes.{HasAnswered, HasTaken}
-use Rattle.norec_world.proofs.Common.{IsDeep, begun_in, open_in, points_in, stand_of, Actor, Answer, Asks, Attempt, Begin, Busy, Call, Cells, ComesTo, Committed, Conflict, Core, Done, EndsWithin, Full, MayReply, Mode, Replied, Reply, Restarted, Rows, Rules, Step, TellsRoom, Waits, active_of, in_transaction, irrevocable_room, may_go, reply_cases, stage_of, wanted}
+use Rattle.norec_world.proofs.Common.{IsDeep, begun_in, open_in, points_in, stand_of, Actor, Answer, Asks, Attempt, Begin, Busy, Call, Cells, ComesTo, Committed, Conflict, Core, Done, EndsWithin, Full, IsRestart, MayReply, Mode, Obeys, Replied, Reply, Restarted, Rows, Rules, Step, TellsRoom, Waits, active_of, begin_call, cases_Bool, cond-false, cond-true, depth_after, in_transaction, irrevocable_room, is_begin, may_go, reply_cases, stage_of, wanted}
 
 -- ## Room
 
@@ -53,13 +57,57 @@ module _ {P : Type 0} (rules : Rules P) where
   pub record HasLeft (p : P) (a : Actor P) : Type 0 where
     pub moves : ℕ
     pub comes : ComesTo rules moves p a.run.player
+    pub blocks : (d : ℕ) → 1 < d → d ≤ rules.depth a.run.player → (n : ℕ) × ComesTo rules n p (rules.at_block a.run.player d)
     pub within : a.engine.irrevocable ≡ true → (row : Attempt) → active_of a ≡ Some row → EndsWithin rules row.calls.room a.run.player
 
-module _ {P : Type 0} {rules : Rules P} {was : Bool} {cells cells' : Cells} {r : Rows} {mid : Core} {a : Actor P} {call : Call} (p : P) (tells_room : TellsRoom rules p) (n : ℕ) (comes : ComesTo rules n p a.run.player)
+-- a call alone opens a block that begins one
+deeper_begins : (deep : ℕ) (call : Call) (reply : Replied) → deep < depth_after deep call reply → is_begin call ≡ true
+deeper_begins deep call reply more = by_kind (is_begin call) refl (is_commit call) (abort_of call) reply more
+  where
+    by_kind : (begin : Bool) → is_begin call ≡ begin → (commit : Bool) (abort : Option Bool) (r : Replied) → deep < depth_by begin commit abort deep r → is_begin call ≡ true
+    by_kind true is commit abort r l = is
+    by_kind false is true abort Done l = absurd (omega arith)
+    by_kind false is true abort (Code k) l = absurd (omega arith)
+    by_kind false is true abort (Bytes v) l = absurd (omega arith)
+    by_kind false is true abort (Refused f) l = absurd (omega arith)
+    by_kind false is false (Some true) (Code k) l = absurd (omega arith)
+    by_kind false is false (Some false) (Code k) l = absurd (omega arith)
+    by_kind false is false (Some outer) Done l = absurd (omega arith)
+    by_kind false is false (Some outer) (Bytes v) l = absurd (omega arith)
+    by_kind false is false (Some outer) (Refused f) l = absurd (omega arith)
+    by_kind false is false None r l = absurd (omega arith)
+
+-- where the blocks of a player go back to, where it was this one
+module _ {P : Type 0} {rules : Rules P} (laws : Obeys rules) (p was now : P) (n : ℕ) (comes : ComesTo rules n p was) (blocks : (d : ℕ) → 1 < d → d ≤ rules.depth was → (k : ℕ) × ComesTo rules k p (rules.at_block was d)) where
+  reply_blocks : (call : Call) (reply : Replied) → now ≡ rules.answered was reply → rules.next_call was ≡ Some call → (d : ℕ) → 1 < d → d ≤ rules.depth now → (k : ℕ) × ComesTo rules k p (rules.at_block now d)
+  reply_blocks call reply is asks d inner few =
+      let deep : rules.depth now ≡ depth_after (rules.depth was) call reply = ap rules.depth is ∙ laws.nests was call reply asks in
+      let law = ap (λ (q : P). rules.at_block q d) is ∙ laws.begins was call reply asks d (omega arith) (omega arith) in
+      elim (cases_Bool (nat_lt (rules.depth was) d)) [
+        | inl new ↦
+            (let more : rules.depth was < d = ltb-true (rules.depth was) d new in
+            let begins = deeper_begins (rules.depth was) call reply (omega arith) in
+            let b = begin_call call begins in
+            let same : rules.at_block now d ≡ rules.answered was (Code 5) = law ∙ cond-true (nat_lt (rules.depth was) d) _ _ new in
+            (suc n, (was, comes, inl (call, Code 5, asks, subst (λ (c : Call). MayReply (rules.depth was) c (Code 5)) (sym b.2) tt, same))))
+        | inr old ↦
+            (let less : d ≤ rules.depth was = ltb-false (rules.depth was) d old in
+            let there = blocks d inner less in
+            (there.0, subst (ComesTo rules there.0 p) (sym (law ∙ cond-false (nat_lt (rules.depth was) d) _ _ old)) there.1))
+      ]
+
+  still_blocks : now ≡ was → (d : ℕ) → 1 < d → d ≤ rules.depth now → (k : ℕ) × ComesTo rules k p (rules.at_block now d)
+  still_blocks is d inner few =
+      let deep = ap rules.depth is in
+      let there = blocks d inner (omega arith) in
+      (there.0, subst (λ (q : P). ComesTo rules there.0 p (rules.at_block q d)) (sym is) there.1)
+
+module _ {P : Type 0} {rules : Rules P} (laws : Obeys rules) {was : Bool} {cells cells' : Cells} {r : Rows} {mid : Core} {a : Actor P} {call : Call} (p : P) (tells_room : TellsRoom rules p) (n : ℕ) (comes : ComesTo rules n p a.run.player)
+    (blocks : (d : ℕ) → 1 < d → d ≤ rules.depth a.run.player → (k : ℕ) × ComesTo rules k p (rules.at_block a.run.player d))
     (within_room : mid.irrevocable ≡ true → (row : Attempt) → active_of a ≡ Some row → EndsWithin rules row.calls.room a.run.player) (shut : in_transaction mid ≡ false → mid.irrevocable ≡ false) where
   -- the call waits for a step
   pub waits_left : (step : Step) → HasTaken rules was cells cells' r mid a call (Asks step) → HasLeft rules p (record a { status = Waits call step })
-  waits_left step t = record { moves = n; comes = comes; within = λ h. within_room (sym (ap (λ (c : Core). c.irrevocable) t.proceeds.stays) ∙ h) }
+  waits_left step t = record { moves = n; comes = comes; blocks = blocks; within = λ h. within_room (sym (ap (λ (c : Core). c.irrevocable) t.proceeds.stays) ∙ h) }
 
   module _ {r1 : Rows} {last : Actor P} where
     reply_may : (reply : Replied) → HasAnswered rules was cells cells' r r1 mid a last call (Reply reply) → MayReply (rules.depth a.run.player) call reply
@@ -73,9 +121,36 @@ module _ {P : Type 0} {rules : Rules P} {was : Bool} {cells cells' : Cells} {r :
         by_was : (b : Bool) → HasAnswered rules b cells cells' r r1 mid a last call (Conflict clock word) → (k : ℕ) × ComesTo rules k p last.run.player
         by_was true t = (suc n, (a.run.player, comes, inr (t.answered.nested.deep, conflict_player t.told (within_at a t.answered.kept.row.0) (stage_open _ t.answered.kept.row.1))))
         by_was false t = comes_still rules p last.run.player a.run.player n comes (conflict_player t.told (stage_of a.run.current) refl ∙ sent_same rules (stage_of a.run.current) a.run.player t.answered.kept.row)
-    comes_on (Restarted clock word) t = absurd t.answered.fits
+    comes_on (Restarted clock word) t = by_was was t
+      where
+        by_was : (b : Bool) → HasAnswered rules b cells cells' r r1 mid a last call (Restarted clock word) → (k : ℕ) × ComesTo rules k p last.run.player
+        by_was true t =
+            (let there = blocks (rules.depth a.run.player) t.answered.fits.3 (omega arith) in
+            (there.0, subst (ComesTo rules there.0 p) (sym (back_player t.told (stage_open _ t.answered.kept.row.1))) there.1))
+        by_was false t = absurd (let f : false ≡ true = t.answered.fits.0 in cc)
     comes_on (Busy clock) t = comes_still rules p last.run.player a.run.player n comes (busy_player t.told)
     comes_on (Full at) t = comes_still rules p last.run.player a.run.player n comes (told_player t.told.takes)
+
+    blocks_on : (answer : Answer) → HasAnswered rules was cells cells' r r1 mid a last call answer → (d : ℕ) → 1 < d → d ≤ rules.depth last.run.player → (k : ℕ) × ComesTo rules k p (rules.at_block last.run.player d)
+    blocks_on (Reply reply) t = reply_blocks laws p a.run.player last.run.player n comes blocks call reply (reply_player reply t.told) t.answered.in_call.asks
+    blocks_on (Committed at wrote) t = reply_blocks laws p a.run.player last.run.player n comes blocks call Done (told_player t.told.takes) t.answered.in_call.asks
+    blocks_on (Conflict clock word) t = by_was was t
+      where
+        by_was : (b : Bool) → HasAnswered rules b cells cells' r r1 mid a last call (Conflict clock word) → (d : ℕ) → 1 < d → d ≤ rules.depth last.run.player → (k : ℕ) × ComesTo rules k p (rules.at_block last.run.player d)
+        by_was true t d inner few = (let none = ap rules.depth (conflict_player t.told (within_at a t.answered.kept.row.0) (stage_open _ t.answered.kept.row.1)) ∙ t.answered.nested.begun refl in absurd (omega arith))
+        by_was false t d inner few = still_blocks laws p a.run.player last.run.player n comes blocks (conflict_player t.told (stage_of a.run.current) refl ∙ sent_same rules (stage_of a.run.current) a.run.player t.answered.kept.row) d inner few
+    blocks_on (Restarted clock word) t = by_was was t
+      where
+        by_was : (b : Bool) → HasAnswered rules b cells cells' r r1 mid a last call (Restarted clock word) → (d : ℕ) → 1 < d → d ≤ rules.depth last.run.player → (k : ℕ) × ComesTo rules k p (rules.at_block last.run.player d)
+        by_was true t d inner few =
+            let is = back_player t.told (stage_open _ t.answered.kept.row.1) in
+            let block = t.answered.nested.blocks (rules.depth a.run.player) t.answered.nested.deep (omega arith) in
+            let deep : rules.depth last.run.player ≡ rules.depth a.run.player = ap rules.depth is ∙ block.depth in
+            let there = blocks d inner (omega arith) in
+            (there.0, subst (ComesTo rules there.0 p) (sym (ap (λ (q : P). rules.at_block q d) is ∙ block.around d (omega arith) (omega arith))) there.1)
+        by_was false t d inner few = absurd (let f : false ≡ true = t.answered.fits.0 in cc)
+    blocks_on (Busy clock) t = still_blocks laws p a.run.player last.run.player n comes blocks (busy_player t.told)
+    blocks_on (Full at) t = still_blocks laws p a.run.player last.run.player n comes blocks (told_player t.told.takes)
 
     -- as it has just become irrevocable
     entered_left : (reply : Replied) → HasAnswered rules was cells cells' r r1 mid a last call (Reply reply) → IsSome (irrevocable_room mid call) → (room : ℕ) → wanted mid ≤ room → EndsWithin rules room (rules.answered a.run.player reply)
@@ -84,12 +159,20 @@ module _ {P : Type 0} {rules : Rules P} {was : Bool} {cells cells' : Cells} {r :
         more_within rules (unwrap_or (irrevocable_room mid call) 0) room (rules.answered a.run.player reply) (omega arith)
         (tells_room n a.run.player call reply (unwrap_or (irrevocable_room mid call) 0) comes t.answered.in_call.asks (reply_may reply t) (told_as_asked mid call goes_so))
 
+    -- no block goes back in an irrevocable transaction
+    back_free : (answer : Answer) → HasAnswered rules was cells cells' r r1 mid a last call answer → IsRestart answer → a.engine.irrevocable ≡ false
+    back_free (Restarted clock word) t is = ap (λ (c : Core). c.irrevocable) t.ends.stays ∙ t.ends.revocable
+    back_free answer t is = absurd is
+
     -- an open attempt had its reply
     within_on : (answer : Answer) → HasAnswered rules was cells cells' r r1 mid a last call answer → a.engine.irrevocable ≡ true → (row : Attempt) → active_of last ≡ Some row → EndsWithin rules row.calls.room last.run.player
     within_on answer t held row e =
-        let x = (open_by t.told row e).2 in
-        let m = subst (λ (y : Answer). HasAnswered rules was cells cells' r r1 mid a last call y) x.is t in
-        subst (EndsWithin rules row.calls.room) (sym (reply_player x.reply m.told)) (by_case x.reply m x.either (reply_cases mid a.engine call x.reply m.taken.doing m.ends))
+        elim (open_by t.told row e).2 [
+          | inl x ↦
+              (let m = subst (λ (y : Answer). HasAnswered rules was cells cells' r r1 mid a last call y) x.1 t in
+              subst (EndsWithin rules row.calls.room) (sym (reply_player x.0 m.told)) (by_case x.0 m x.2 (reply_cases mid a.engine call x.0 m.taken.doing m.ends)))
+          | inr x ↦ absurd (true≢false (sym held ∙ back_free answer t x.0))
+        ]
       where
         by_case : (reply : Replied) → HasAnswered rules was cells cells' r r1 mid a last call (Reply reply) → OpensBy (stage_of a.run.current) call (Reply reply) (stand_of last.engine) row (points_in (stage_of last.run.current)) → Ways mid a.engine call reply → EndsWithin rules row.calls.room (rules.answered a.run.player reply)
         by_case reply m y (inl w) = absurd (true≢false (sym held ∙ (ap (λ (c : Core). c.irrevocable) w.stays ∙ w.revocable)))
@@ -103,4 +186,4 @@ module _ {P : Type 0} {rules : Rules P} {was : Bool} {cells cells' : Cells} {r :
 
     -- it is answered
     pub answered_left : (answer : Answer) → HasAnswered rules was cells cells' r r1 mid a last call answer → HasLeft rules p last
-    answered_left answer t = (let x = comes_on answer t in record { moves = x.0; comes = x.1; within = λ held row e. within_on answer t (sym (ap (λ (c : Core). c.irrevocable) t.settled.engine) ∙ held) row e })
+    answered_left answer t = (let x = comes_on answer t in record { moves = x.0; comes = x.1; blocks = blocks_on answer t; within = λ held row e. within_on answer t (sym (ap (λ (c : Core). c.irrevocable) t.settled.engine) ∙ held) row e })

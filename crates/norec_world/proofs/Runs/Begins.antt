@@ -1,6 +1,6 @@
 -- An actor's run between two tries: calls outside a transaction, and begins.
 use Rattle.std.proofs.Common.{◌≡◌, ◌⊎◌, ℕ, suc, ◌/◌, ◌≤◌, Bool, true, false, List, [], ◌++◌, None, Some, refl, sym, true≢false, ap, subst, ◌∙◌, arith, is_some, inl, inr}
-use Rattle.norec_world.proofs.Common.{Actor, Agrees, Answer, Attempt, Begin, Between, Busy, Call, Cells, Committed, Conflict, ConflictsIn, Core, Enters, Full, IsBeforeTry, IsInTry, IsLost, IsMemory, IsRun, LeadsTo, Obeys, Outcome, Props, Ready, Replied, Replies, Reply, Restarted, Rows, Rules, Stage, Stand, TakesTo, Tally, active_of, alone, append-nil, backed, begin_call, begin_of, begins_at, begun_in, blocks_after, breaks_of, bytes_at, ending_of, in_transaction, inside_all, is_inside, may_go, none-some, open_in, opened, over_as, plain_reply, reply_cases, same_Some, sent_back, stage_of, stand_of, stands_for, state_then, tally_of, tried, within, words_at}
+use Rattle.norec_world.proofs.Common.{Actor, Agrees, Answer, Attempt, Begin, Between, Busy, Call, Cells, Committed, Conflict, ConflictsIn, Core, Enters, Full, IsBeforeTry, IsLost, IsMemory, IsRun, LeadsTo, Obeys, Outcome, Props, Ready, Replied, Replies, Reply, Restarted, Rows, Rules, Stage, Stand, TakesTo, Tally, active_of, alone_whole, append-nil, backed, begin_call, begin_of, begins_at, begun_in, blocks_after, bytes_at, ending_of, in_transaction, inside_all, is_inside, may_go, none-some, open_in, over_as, plain_reply, reply_cases, same_Some, sent_back, stage_of, stand_of, stands_for, tally_of, tried, within, words_at}
 use Rattle.tx_attempts.specs.declared.attempt.Outcome.TheVariants as outcomes
 use Rattle.norec_world.proofs.Tries.Stages.{is_tried, sent_same}
 use Rattle.norec_world.proofs.Runs.Answers.{RunOf, gave_run, now_at, open_run, run_same, shut_run, top}
@@ -9,7 +9,8 @@ use Rattle.tx_runs.proofs.OutermostBegins.{begin_may, served_outside}
 use Rattle.norec_world.proofs.Tries.TryEnds.{IsBegun, RepliedOutside, begun_or_not, next_try}
 use Rattle.norec_world.proofs.Commits.SeenMemories.{HasSeen, memory_at, same_at}
 use Rattle.norec_world.proofs.Engines.Intakes.{HasAnswered, half_same, still_going}
-use Rattle.norec_world.proofs.Tries.OpenTries.{IsToOpen, begin_leaves, try_begins, try_begins_held}
+use Rattle.tx_runs.proofs.TriesBegin.{IsToOpen, begin_leaves, begins_held, begins_on}
+use Rattle.tx_runs.specs.OpenTries.{IsOpenTry}
 
 -- where no attempt was open none is over
 pub none_over : (outcome : Outcome) (stand : Stand) (s : Stage) → open_in s ≡ None → over_as outcome stand s ≡ []
@@ -85,13 +86,15 @@ module _ {P : Type 0} {rules : Rules P} (laws : Obeys rules) {first : Between P}
         | inr g ↦ begin_may mid props room reply [] m.taken.was_is revocable (sym (inside_all (blocks_after mid (Begin props room) reply)) ∙ (sym (ap (λ (c : Core). is_inside c.blocks) (enters g).stays) ∙ now)) ((enters g).reply_is [])
       ]
 
-      opening : IsToOpen rules (before m.taken.was_is m.answered.status).0 b.row a.run.player mid props
+      opening : IsToOpen rules (before m.taken.was_is m.answered.status).0 b.row a.run.player mid props room
       opening =
           let k = (before m.taken.was_is m.answered.status).2 in
           let p = k.pending b.row b.pending in
           let same : b.row.props ≡ props = m.answered.in_call.props b.row props room b.pending is in
           record {
             comes = p.4 (subst (λ (x : Props). may_go [] x ≡ true) (sym same) accepted);
+            asks = m.answered.in_call.asks ∙ ap (λ (c : Call). Some c) is;
+            none_open = m.answered.nested.deep;
             arena = p.1;
             props = same;
             calls = p.2;
@@ -111,29 +114,31 @@ module _ {P : Type 0} {rules : Rules P} (laws : Obeys rules) {first : Between P}
       begin_runs x =
           let t = before m.taken.was_is m.answered.status in
           let row : Attempt = record b.row { at = last.engine.snapshot / 2 } in
-          let try : IsInTry rules mid.depth position t.0 row (rules.answered a.run.player reply) a.engine = elim by_case [
-            | inl g ↦ try_begins position room reply opening began (last.engine.snapshot / 2) (replies g) (words_at mid.depth base r.ended (a.engine.snapshot / 2)) seen_at (seen.now now) now
-            | inr g ↦ try_begins_held position room reply opening began (last.engine.snapshot / 2) (enters g) now
+          let Try : Core → P → List Attempt → Type 0 = λ e q xs. IsOpenTry rules mid.depth (words_at mid.depth base xs (cells.clock / 2)) t.0 row [] q e in
+          let try : Try a.engine (rules.answered a.run.player reply) r.ended × (a.engine.again ≡ false) = elim by_case [
+            | inl g ↦
+                (begins_on laws position opening reply a.engine (last.engine.snapshot / 2) began (replies g) (words_at mid.depth base r.ended (a.engine.snapshot / 2), seen_at, seen.now now) now, ap (λ (c : Core). c.again) g.stays)
+            | inr g ↦ (begins_held laws position opening reply a.engine (last.engine.snapshot / 2) began (enters g) now, ap (λ (c : Core). c.again) g.stays)
           ] in
-          open_run rules first mid.depth base (stays x.ended m.settled.thread) b.now t.0 row ((λ i. now_at rules first mid.depth base (x.ended i) (m.settled.thread i)) ∙ t.1) b.active
-          (subst (λ (xs : List Attempt). IsInTry rules mid.depth (words_at mid.depth base xs (cells.clock / 2)) t.0 row last.run.player last.engine) (sym x.ended)
-          (subst (λ (c : Core). IsInTry rules mid.depth position t.0 row last.run.player c) (sym m.settled.engine) (subst (λ (p : P). IsInTry rules mid.depth position t.0 row p a.engine) (sym x.player) try)))
+          open_run rules first mid.depth base (stays x.ended m.settled.thread) b.now t.0 row [] ((λ i. now_at rules first mid.depth base (x.ended i) (m.settled.thread i)) ∙ t.1) b.stage
+          (record {
+            open_try = subst (λ (xs : List Attempt). Try last.engine last.run.player xs) (sym x.ended) (subst (λ (q : P). Try last.engine q r.ended) (sym x.player) (subst (λ (c : Core). Try c (rules.answered a.run.player reply) r.ended) (sym m.settled.engine) try.0));
+            anew = ap (λ (c : Core). c.again) m.settled.engine ∙ try.1;
+          })
           b.again ((m.answered.in_call.opens b.row b.pending).nth ∙ sym x.nth)
 
       -- one that goes irrevocable: the words are the memory of its position
-      entered : Enters mid call reply a.engine → (row : Attempt) → active_of last ≡ Some row → (stands_for a.engine cells'.words ≡ alone mid.depth (bytes_at mid.depth base r.ended (cells.clock / 2)) row) × (row.ran ≡ a.engine.actions.ran)
+      entered : Enters mid call reply a.engine → (row : Attempt) → active_of last ≡ Some row → stands_for a.engine cells'.words ≡ alone_whole mid.depth (bytes_at mid.depth base r.ended (cells.clock / 2)) row
       entered g row found =
           let at : ℕ = last.engine.snapshot / 2 in
           let memory : List ℕ = bytes_at mid.depth base r.ended (cells.clock / 2) in
-          let same : record b.row { at = at } ≡ row = same_Some _ _ (sym b.active ∙ found) in
+          let same : record b.row { at = at } ≡ row = same_Some _ _ (sym (ap open_in b.stage) ∙ found) in
           let nothing : Agrees position mid.log = subst (Agrees position) (sym (seen.unlogged m.taken.was_is)) tt in
-          let words : cells'.words ≡ backed mid position = (seen.loaded g.unfreed).held g.held g.revocable ∙ ap (λ (n : ℕ). backed mid (words_at mid.depth base r.ended n)) (half_same m refl) in (
-            ap (stands_for a.engine) words
-                ∙ ((enters g).meets position (memory_at seen (cells.clock / 2) (top (cells.clock / 2))) nothing
-                ∙ (begin_leaves position room reply opening began at (enters g) now position
-                ∙ ((λ i. state_then mid.depth (breaks_of b.row.restarts) (opened (same_at seen (cells.clock / 2) (top (cells.clock / 2)) i) (sym opening.arena i) b.row.props) b.row.calls.list) ∙ ap (alone mid.depth memory) same))),
-            ap (λ (x : Attempt). x.ran) (sym same) ∙ (try_begins_held position room reply opening began at (enters g) now).ran,
-          )
+          let words : cells'.words ≡ backed mid position = (seen.loaded g.unfreed).held g.held g.revocable ∙ ap (λ (n : ℕ). backed mid (words_at mid.depth base r.ended n)) (half_same m refl) in
+          ap (stands_for a.engine) words
+          ∙ ((enters g).meets position (memory_at seen (cells.clock / 2) (top (cells.clock / 2))) nothing
+          ∙ (begin_leaves laws position opening reply (enters g) now position
+          ∙ (ap (λ (bytes : List ℕ). alone_whole mid.depth bytes b.row) (same_at seen (cells.clock / 2) (top (cells.clock / 2))) ∙ ap (alone_whole mid.depth memory) same)))
 
     begin_is : IsBegun rules r r1 a last call reply → (props : Props) × (room : ℕ) × (call ≡ Begin props room)
     begin_is b = begin_call call (sym (m.answered.in_call.begins refl) ∙ ap is_some b.pending)
@@ -145,7 +150,7 @@ module _ {P : Type 0} {rules : Rules P} (laws : Obeys rules) {first : Between P}
         elim x.either [ inl b ↦ (let c = begin_is b in begin_runs b c.0 c.1 c.2 x) | inr n ↦ outside_runs x n.shut n.again ]
 
     pub begin_holds : in_transaction last.engine ≡ true → a.engine.irrevocable ≡ true → (row : Attempt) → active_of last ≡ Some row
-        → (stands_for a.engine cells'.words ≡ alone mid.depth (bytes_at mid.depth base r.ended (cells.clock / 2)) row) × (row.ran ≡ a.engine.actions.ran)
+        → stands_for a.engine cells'.words ≡ alone_whole mid.depth (bytes_at mid.depth base r.ended (cells.clock / 2)) row
     begin_holds now_open irrevocable row found = elim by_case [
       | inl g ↦ absurd (true≢false (sym irrevocable ∙ (ap (λ (c : Core). c.irrevocable) g.stays ∙ g.revocable)))
       | inr g ↦ elim (begun_or_not reply m).either [ inl b ↦ (let c = begin_is b in entered b c.0 c.1 c.2 g row found) | inr n ↦ absurd (true≢false (sym now_open ∙ n.shut)) ]
@@ -181,5 +186,5 @@ module _ {P : Type 0} {rules : Rules P} (laws : Obeys rules) {first : Between P}
       gave_run rules first mid.depth base
       (stays (m.told.takes.ended ∙ (ap (λ (l : List Attempt). r.ended ++ l) (none_over outcomes.Full (stand_of last.engine) (stage_of a.run.current) m.answered.kept.row) ∙ append-nil r.ended)) m.settled.thread)
       (ap in_transaction m.settled.engine ∙ m.answered.fits.1) (ap ending_of m.told.takes.status)
-  shut_runs (Restarted clock word) m = absurd m.answered.fits
+  shut_runs (Restarted clock word) m = absurd (let f : false ≡ true = m.answered.fits.0 in cc)
   shut_runs (Committed at wrote) m = absurd (let f : false ≡ true = m.answered.fits.0 in cc)

@@ -1,17 +1,21 @@
 -- A value or a call was taken in, and what the engine gave is recorded: the actor's run goes on, and the words are still those that the commits left.
-use Rattle.std.proofs.Common.{◌≡◌, ℕ, suc, ◌+◌, ◌/◌, ◌≤◌, ◌==◌, Bool, true, false, List, [], ◌∷◌, ◌++◌, Option, None, Some, refl, sym, true≢false, ap, subst, ◌∙◌, arith, eq-eqb, append-nil, inl, inr}
-use Rattle.norec_world.proofs.Common.{Actions, Actor, Agrees, Answer, Answers, AreCounted, AreLaid, Asks, Attempt, Between, Busy, Call, Cells, Committed, Conflict, Core, Full, HasRow, IsDone, IsHeld, IsRun, Loaded, Next, NoMemory, Obeys, Replied, Reply, Restarted, Rows, Rules, Sees, StandsIn, State, Step, Tells, Waits, active_of, after, alone, alone_led, backed, bytes_at, committed_at, cond-true, ending_of, frees, in_transaction, is_open, memory_left, opened, reply_cases, rests, same_Some, stands_for, state_whole, with_call, words_at, Ran}
-use Rattle.norec_world.proofs.Tries.OpenTries.{try_asks}
+use Rattle.std.proofs.Common.{◌≡◌, ℕ, suc, ◌+◌, ◌/◌, ◌≤◌, ◌==◌, Bool, true, false, List, [], ◌∷◌, ◌++◌, Option, None, Some, refl, sym, true≢false, ap, subst, ◌∙◌, arith, eq-eqb, append-nil, length, inl, inr}
+use Rattle.norec_world.proofs.Common.{Actor, Agrees, Answer, Answers, AreCounted, AreLaid, Asks, Attempt, Between, Busy, Call, Cells, Committed, Conflict, Core, Full, HasRow, IsDone, IsHeld, IsRun, Loaded, Next, NoMemory, Obeys, Replied, Reply, Restarted, Rows, Rules, Sees, StandsIn, State, Step, Tells, Waits, active_of, after, alone, alone_whole, backed, bytes_at, committed_at, cond-true, ending_of, frees, in_transaction, is_open, memory_left, open_in, opened, reply_cases, rests, same_Some, stands_for, with_call, words_at}
+use Rattle.norec_world.proofs.Tries.OpenTries.{agree_reads}
+use Rattle.tx_attempts.proofs.RunsAgain.{state_more_in}
+use Rattle.tx_attempts.specs.Restarts.{ran_on}
+use Rattle.tx_runs.proofs.TriesStep.{asks_on}
+use Rattle.tx_runs.specs.Ranks.{restarts_left}
 use Rattle.norec_world.proofs.Commits.LaidWords.{laid_more, laid_on}
 use Rattle.norec_world.proofs.Commits.Memories.{bytes_stay, found_later, none_next}
-use Rattle.norec_world.proofs.Runs.Answers.{before_as, held_position, reply_runs, run_on, stands_at, top}
+use Rattle.norec_world.proofs.Runs.Answers.{back_runs, before_as, held_position, reply_runs, run_on, stands_at, top}
 use Rattle.norec_world.proofs.Runs.Endings.{cancel_runs, commit_ended, committed_row, commit_memory, commit_runs, conflict_runs, full_runs}
-use Rattle.norec_world.proofs.Engines.HeldCalls.{HasHeld, stands_actions, stands_mode}
-use Rattle.norec_world.proofs.Tries.Stages.{open_by, stage_open, taken_at, told_active}
+use Rattle.norec_world.proofs.Engines.HeldCalls.{HasHeld, stands_mode}
+use Rattle.norec_world.proofs.Tries.Stages.{open_by, taken_at, told_active}
 use Rattle.norec_world.proofs.Engines.OpenEngines.{stands_open}
 use Rattle.norec_world.proofs.Runs.Begins.{begin_holds, shut_runs}
 use Rattle.norec_world.proofs.Commits.SeenMemories.{HasSeen, memory_at}
-use Rattle.norec_world.proofs.Engines.Intakes.{HasAnswered, HasTaken, answered, still_going, clock_grows, half_same, told_all, unfreed}
+use Rattle.norec_world.proofs.Engines.Intakes.{HasAnswered, HasTaken, answered, still_going, clock_grows, half_same, unfreed}
 use Rattle.norec_world.proofs.Tries.AnswerEndings.{not_starved}
 
 module _ {P : Type 0} (rules : Rules P) (first : Between P) (deepest : ℕ) (base : List ℕ) where
@@ -40,7 +44,16 @@ module _ {P : Type 0} {rules : Rules P} (laws : Obeys rules) {first : Between P}
       record {
         run = subst (λ (k : ℕ). IsRun rules first mid.depth base k r (record a { status = Waits call step })) (sym half)
             (run_on rules first mid.depth base (record a { status = Waits call step }) run run.run refl opens refl refl (λ end e. still_going t.ready e)
-            (λ b row o e x. (let up = seen.up o in let early = x.began in (row, e, refl, try_asks laws x g (omega arith) (seen.fewer (opens ∙ o)))))
+            (λ b row points o e x. (
+              row,
+              points,
+              e,
+              refl,
+              record {
+                open_try = asks_on x.open_try step g (seen.up o) seen.read (λ revocable. seen.longer (ap (λ (c : Core). c.restarted) g.stays) (opens ∙ o) (ap (λ (c : Core). c.irrevocable) g.stays ∙ revocable));
+                anew = ap (λ (c : Core). c.again) g.stays ∙ x.anew;
+              },
+            ))
             (λ b o k. before_as (record a { status = Waits call step }) k (top (cells.clock / 2)) refl refl refl (ap (λ (c : Core). c.arena) g.stays) (ap (λ (c : Core). c.again) g.stays) (λ row e. e)));
         sees = record {
           loaded = subst (Loaded (words_at mid.depth base r.ended) cells') (sym g.stays) (let l = seen.loaded g.unfreed in record { fresh = l.fresh; held = l.held; got = l.got });
@@ -51,9 +64,8 @@ module _ {P : Type 0} {rules : Rules P} (laws : Obeys rules) {first : Between P}
             subst (λ (k : ℕ). IsHeld mid.depth (bytes_at mid.depth base r.ended k) cells'.words row a.engine) (sym half) (record {
               still_open = held.still_open before row active;
               mode = held.mode before row active;
-              ran = held.ran before row active;
-              stands = subst (λ (w : Option Step). StandsIn mid.depth w a.engine.doing a.engine cells'.words (alone mid.depth (bytes_at mid.depth base r.ended (cells.clock / 2)) row)) (sym (ap (λ (c : Core). c.waits) g.stays))
-                  (subst (λ (o : Option Call). StandsIn mid.depth (Some step) o a.engine cells'.words (alone mid.depth (bytes_at mid.depth base r.ended (cells.clock / 2)) row)) (sym (ap (λ (c : Core). c.doing) g.stays ∙ t.doing)) (held.comes before row active));
+              stands = subst (λ (w : Option Step). StandsIn mid.depth w a.engine.doing a.engine cells'.words (alone_whole mid.depth (bytes_at mid.depth base r.ended (cells.clock / 2)) row)) (sym (ap (λ (c : Core). c.waits) g.stays))
+                  (subst (λ (o : Option Call). StandsIn mid.depth (Some step) o a.engine cells'.words (alone_whole mid.depth (bytes_at mid.depth base r.ended (cells.clock / 2)) row)) (sym (ap (λ (c : Core). c.doing) g.stays ∙ t.doing)) (held.comes before row active));
               got = held.got before;
             }));
         laid = laid_still r [] (sym (append-nil r.ended)) half g.unfreed;
@@ -78,12 +90,12 @@ module _ {P : Type 0} {rules : Rules P} (laws : Obeys rules) {first : Between P}
             (omega (arith, half, m.taken.tied.settled.reached, m.taken.tied.late))
     open_runs (Committed at wrote) m held = commit_runs laws r1 a last call seen run (cells'.clock / 2) (clock_grows m.taken.moves) (bytes_stay seen.laid more ended) m.taken.was_is at wrote m held
     open_runs (Conflict clock word) m held = conflict_runs laws r1 a last call seen run (cells'.clock / 2) (clock_grows m.taken.moves) (bytes_stay seen.laid more ended) m.taken.was_is clock word m held
-    open_runs (Restarted clock word) m held = absurd m.answered.fits
+    open_runs (Restarted clock word) m held = to_now (half_same m refl) (back_runs laws r1 a last call seen run clock word m)
     open_runs (Busy clock) m held = absurd (let f : true ≡ false = m.answered.fits.0 in cc)
     open_runs (Full at) m held =
         let at_is = m.ends.at_is in
         full_runs laws r1 a last call seen run (cells'.clock / 2) (clock_grows m.taken.moves) (bytes_stay seen.laid more ended) m.taken.was_is at m held
-        (omega (arith, (run.inside m.taken.was_is).4.began, seen.up m.taken.was_is)) (omega (arith, m.taken.tied.settled.reached, m.taken.tied.late, clock_grows m.taken.moves, m.taken.moves.keeps m.ends.unfreed))
+        (omega (arith, (run.inside m.taken.was_is).5.open_try.began, seen.up m.taken.was_is)) (omega (arith, m.taken.tied.settled.reached, m.taken.tied.late, clock_grows m.taken.moves, m.taken.moves.keeps m.ends.unfreed))
 
     runs_on : (b : Bool) (answer : Answer) → HasAnswered rules b cells cells' r r1 mid a last call answer → HasHeld mid.depth base cells cells' r (active_of a) mid a.engine call (Answers answer) → IsRun rules first mid.depth base (cells'.clock / 2) r1 last
     runs_on true answer m held = open_runs answer m held
@@ -141,18 +153,17 @@ module _ {P : Type 0} {rules : Rules P} (laws : Obeys rules) {first : Between P}
     -- ### In an irrevocable transaction
 
     -- it goes on with its calls alone, as the words stand
-    stands_held : (memory : List ℕ) (row : Attempt) → in_transaction a.engine ≡ true → a.engine.irrevocable ≡ true → stands_for a.engine cells'.words ≡ alone mid.depth memory row → row.ran ≡ a.engine.actions.ran → a.engine.waits ≡ None → IsHeld mid.depth memory cells'.words row a.engine
-    stands_held memory row inside irrevocable stands ran waits = record {
+    stands_held : (memory : List ℕ) (row : Attempt) → in_transaction a.engine ≡ true → a.engine.irrevocable ≡ true → stands_for a.engine cells'.words ≡ alone_whole mid.depth memory row → a.engine.waits ≡ None → IsHeld mid.depth memory cells'.words row a.engine
+    stands_held memory row inside irrevocable stands waits = record {
       still_open = ap is_open (sym stands) ∙ stands_open a.engine cells'.words inside;
       mode = ap (λ (s : State). s.irrevocable) (sym stands) ∙ (stands_mode a.engine cells'.words ∙ irrevocable);
-      ran = ran ∙ (ap (λ (x : Actions). x.ran) (sym (stands_actions a.engine cells'.words)) ∙ ap (λ (s : State). s.actions.ran) stands);
-      stands = subst (λ (w : Option Step). StandsIn mid.depth w a.engine.doing a.engine cells'.words (alone mid.depth memory row)) (sym waits) stands;
+      stands = subst (λ (w : Option Step). StandsIn mid.depth w a.engine.doing a.engine cells'.words (alone_whole mid.depth memory row)) (sym waits) stands;
       got = λ word value e. absurd (let none = sym waits ∙ e in cc);
     }
 
     -- a reply within it, or that of the call that made it so
     held_stands : (reply : Replied) (m : HasAnswered rules true cells cells' r r1 mid a last call (Reply reply)) → HasHeld mid.depth base cells cells' r (active_of a) mid a.engine call (Answers (Reply reply)) → a.engine.irrevocable ≡ true
-        → stands_for a.engine cells'.words ≡ after mid.depth (alone mid.depth (bytes_at mid.depth base r.ended (cells.clock / 2)) (run.inside m.taken.was_is).1) call
+        → stands_for a.engine cells'.words ≡ after mid.depth (alone_whole mid.depth (bytes_at mid.depth base r.ended (cells.clock / 2)) (run.inside m.taken.was_is).1) call
     held_stands reply m held irrevocable = elim (reply_cases mid a.engine call reply m.taken.doing m.ends) [
       | inl g ↦ absurd (true≢false (sym irrevocable ∙ (ap (λ (c : Core). c.irrevocable) g.stays ∙ g.revocable)))
       | inr (inl g) ↦
@@ -164,8 +175,8 @@ module _ {P : Type 0} {rules : Rules P} (laws : Obeys rules) {first : Between P}
           let words : cells'.words ≡ backed mid position = (seen.loaded g.unfreed).held g.held g.revocable ∙ ap (λ (k : ℕ). backed mid (words_at mid.depth base r.ended k)) half in
           ap (stands_for a.engine) words
           ∙ (g.meets position (memory_at seen n (top n)) agrees
-          ∙ ap (λ (s : State). after mid.depth s call) (stands_at laws r1 a last call seen run m.taken.was_is g.revocable n (top n) agrees refl ∙ sym (alone_led laws mid.depth (run.inside m.taken.was_is).4.block (bytes_at mid.depth base r.ended n)))))
-      | inr (inr g) ↦ (held.comes g.irrevocable (run.inside m.taken.was_is).1 (run.inside m.taken.was_is).3).0
+          ∙ ap (λ (s : State). after mid.depth s call) (stands_at laws r1 a last call seen run m.taken.was_is n (top n) (agree_reads position mid.irrevocable mid.log position g.revocable agrees) refl g.revocable)))
+      | inr (inr g) ↦ (held.comes g.irrevocable (run.inside m.taken.was_is).1 (ap open_in (run.inside m.taken.was_is).4)).0
     ]
 
     abbrev HeldOn : Type 0
@@ -183,21 +194,21 @@ module _ {P : Type 0} {rules : Rules P} (laws : Obeys rules) {first : Between P}
         by_answer true (Reply reply) m held now inside idle =
             let t = run.inside m.taken.was_is in
             let half = half_same m refl in
-            let x = taken_at m.told (stage_open _ t.3) (ap in_transaction m.settled.engine ∙ inside) in
-            let more : Attempt = record (with_call call reply t.1) { ran = last.engine.actions.ran } in
-            let same : more ≡ row = same_Some _ _ (sym (told_active x ∙ ap (λ (l : List Ran). Some (record (with_call call reply t.1) { ran = l })) (told_all m t.1 t.3)) ∙ active) in
+            let x = taken_at m.told t.4 (ap in_transaction m.settled.engine ∙ inside) in
+            let more : Attempt = record (with_call call reply t.1) { ran = ran_on t.1.ran t.1.restarts last.engine.actions.ran } in
+            let same : more ≡ row = same_Some _ _ (sym (told_active x) ∙ active) in
             let s = held_stands reply m held now in
             let memory : bytes_at mid.depth base r.ended (cells.clock / 2) ≡ bytes_at mid.depth base r1.ended (cells'.clock / 2) = λ i. bytes_at mid.depth base (sym (open_ended m inside) i) (sym half i) in
             subst (λ (x : Attempt). IsHeld mid.depth (bytes_at mid.depth base r1.ended (cells'.clock / 2)) cells'.words x a.engine) same
             (subst (λ (bytes : List ℕ). IsHeld mid.depth bytes cells'.words more a.engine) memory
-            (stands_held (bytes_at mid.depth base r.ended (cells.clock / 2)) more inside now (s ∙ sym (state_whole mid.depth t.1.restarts (opened (bytes_at mid.depth base r.ended (cells.clock / 2)) t.1.arena t.1.props) t.1.calls.list (record { call = call; reply = reply }) t.4.restarts))
-            (ap (λ (c : Core). c.actions.ran) m.settled.engine) idle))
+            (stands_held (bytes_at mid.depth base r.ended (cells.clock / 2)) more inside now
+            (s ∙ sym (state_more_in (length t.1.arena) mid.depth t.1.restarts (opened (bytes_at mid.depth base r.ended (cells.clock / 2)) t.1.arena t.1.props) t.1.calls.list (record { call = call; reply = reply }) t.5.open_try.stand)) idle))
         by_answer false (Reply reply) m held now inside idle =
             let half = half_same m refl in
             let s = begin_holds laws r1 a last call seen run (held.shut m.taken.was_is) reply m (ap in_transaction m.settled.engine ∙ inside) now row active in
             let memory : bytes_at mid.depth base r.ended (cells.clock / 2) ≡ bytes_at mid.depth base r1.ended (cells'.clock / 2) = λ i. bytes_at mid.depth base (sym (open_ended m inside) i) (sym half i) in
-            subst (λ (bytes : List ℕ). IsHeld mid.depth bytes cells'.words row a.engine) memory (stands_held (bytes_at mid.depth base r.ended (cells.clock / 2)) row inside now s.0 s.1 idle)
-        by_answer b (Restarted clock word) m held now inside idle = absurd m.answered.fits
+            subst (λ (bytes : List ℕ). IsHeld mid.depth bytes cells'.words row a.engine) memory (stands_held (bytes_at mid.depth base r.ended (cells.clock / 2)) row inside now s idle)
+        by_answer b (Restarted clock word) m held now inside idle = absurd (true≢false (sym now ∙ (ap (λ (c : Core). c.irrevocable) m.ends.stays ∙ m.ends.revocable)))
         by_answer b answer m held now inside idle = absurd (true≢false (sym inside ∙ m.answered.fits.1))
 
     answers_on : (answer : Answer) → HasAnswered rules was cells cells' r r1 mid a last call answer → HasHeld mid.depth base cells cells' r (active_of a) mid a.engine call (Answers answer) → HasRun rules first mid.depth base cells' r1 last
@@ -211,7 +222,7 @@ module _ {P : Type 0} {rules : Rules P} (laws : Obeys rules) {first : Between P}
 
     -- ## Either
 
-    pub runs_recorded : (what : Next) → HasTaken rules was cells cells' r mid a call what → HasHeld mid.depth base cells cells' r (active_of a) mid a.engine call what → IsDone rules was r r1 a last call what → Tells rules r r1 a last call what → HasRun rules first mid.depth base cells' r1 last
+    pub runs_recorded : (what : Next) → HasTaken rules was cells cells' r mid a call what → HasHeld mid.depth base cells cells' r (active_of a) mid a.engine call what → IsDone rules was (restarts_left mid) r r1 a last call what → Tells rules r r1 a last call what → HasRun rules first mid.depth base cells' r1 last
     runs_recorded (Asks step) t held done tells =
         subst (λ (x : Rows). HasRun rules first mid.depth base cells' x last) (sym done.1) (subst (HasRun rules first mid.depth base cells' r) (sym done.0) (waits_on step t held))
     runs_recorded (Answers answer) t held done tells = answers_on answer (record { taken = t; answered = answered t; ends = t.proceeds; told = tells; settled = done }) held

@@ -1,15 +1,18 @@
 -- The actors' runs: one's event leaves the others', and together they are the headline.
 use Rattle.std.proofs.Common.{◌≡◌, ◌≢◌, inl, inr, ℕ, ◌/◌, ◌%◌, ◌≤◌, Bool, true, false, List, [], ◌∷◌, ◌++◌, length, length-set, replicate, Option, Some, ◌+◌, ◌<◌, slice_get, slice_set, refl, sym, ap, subst, ◌∙◌, arith, nat_lt}
-use Rattle.norec_world.proofs.Common.{Actions, Actor, Agrees, AllFit, AllOf, AreActors, AreDated, AreLaid, AreOfActors, AreOpaque, AreRunning, AreTied, AreUnbroken, Attempt, Between, Cells, ClocksOn, Core, Current, Got, HasRead, HasRow, IsHeld, IsMadeAlone, IsMemory, IsRunOf, IsTied, IsTryAt, IsWorld, KeepsOthers, Obeys, Outside, Ready, Rows, Rules, RunsFrom, StandsIn, State, StillRuns, World, active_of, alone, alone_led, append-nil, attempts_of, backed, begun_in, breaks_of, bytes_at, bytes_of, cases_Bool, count_at, count_committed, first_of, in_transaction, is_open, le-ltb, observed, of_thread, one_where, open_in, opened, opening, run_after, run_still, run_with, same_Some, slice_get_within, stage_of, state_then, try_stops, with_open, words_at, words_of, words_of-bytes_of, write_at}
+use Rattle.norec_world.proofs.Common.{Actor, Agrees, AllFit, AllOf, AreActors, AreDated, AreLaid, AreOfActors, AreOpaque, AreRunning, AreTied, Attempt, Between, Cells, ClocksOn, Core, Current, Got, HasRead, HasRow, IsHeld, IsMadeAlone, IsMemory, IsRunOf, IsTied, IsTryAt, IsWorld, KeepsOthers, Obeys, Outside, Ready, Rows, Rules, RunsFrom, StandsIn, State, StillRuns, World, active_of, alone, alone_led, alone_whole, append-nil, attempts_of, backed, begun_in, breaks_of, bytes_at, bytes_of, cases_Bool, count_at, count_committed, first_of, in_transaction, is_open, le-ltb, observed, of_thread, one_where, open_in, opened, opening, run_after, run_still, run_with, same_Some, slice_get_within, stage_of, state_then, try_stops, with_open, words_at, words_of, words_of-bytes_of, write_at}
 use Rattle.tx_attempts.specs.declared.attempt.Outcome.TheVariants as outcomes
 use Rattle.tx_attempts.specs.Outrun.{AreOutrun}
-use Rattle.norec_world.proofs.Tries.Dates.{all_dated, all_unbroken}
+use Rattle.norec_world.proofs.Tries.Dates.{all_dated, all_few}
+use Rattle.tx_runs.proofs.TriesStep.{positioned_on}
+use Rattle.tx_runs.specs.OpenTries.{ReadsFrom}
+use Rattle.tx_runs.specs.Restarts.{RestartAtMost}
 use Rattle.norec_world.proofs.Events.SoundOthers.{set_place, there_is, held_apart, odd_held}
 use Rattle.norec_world.proofs.Tries.Stages.{row_open, row_unfinished}
 use Rattle.norec_world.specs.Stages.{opens}
 use Rattle.norec_world.proofs.Runs.Answers.{before_as, idle_from, rests_run, run_on, top}
-use Rattle.norec_world.proofs.Tries.OpenTries.{made_held, made_so, stands_led, try_moved}
-use Rattle.norec_world.proofs.Engines.HeldCalls.{stands_actions, stands_mode}
+use Rattle.norec_world.proofs.Tries.OpenTries.{agree_reads, made_over, open_over, ran_over, stands_over, stays_over}
+use Rattle.norec_world.proofs.Engines.HeldCalls.{stands_mode}
 use Rattle.itm_types.proofs.Words.{length-bytes_of}
 use Rattle.norec_world.proofs.Commits.CommitCounts.{counted_both}
 use Rattle.norec_world.proofs.Commits.OutrunConflicts.{outrun_both}
@@ -26,7 +29,7 @@ module _ {P : Type 0} (rules : Rules P) (laws : Obeys rules) where
       record {
         depth = x.depth;
         runs = run_on rules first deepest base b x.runs (subst (IsRunOf rules deepest (cells'.clock / 2) (bytes_at deepest base r'.ended) (Some first)) (sym rows) on.0) now refl refl refl (λ end e. e)
-            (λ c row o e t. (row, e, refl, try_moved laws (words_at deepest base r'.ended (cells'.clock / 2)) (λ i. ap words_of (memory_held i)) t)) (λ c o k. before_as b k (omega (arith, later)) refl refl refl refl refl (λ row e. e));
+            (λ c row points o e t. (row, points, e, refl, record { open_try = positioned_on t.open_try (words_at deepest base r'.ended (cells'.clock / 2)) (λ i. ap words_of (memory_held i)); anew = t.anew })) (λ c o k. before_as b k (omega (arith, later)) refl refl refl refl refl (λ row e. e));
         sees = (let s = x.sees in record {
           loaded = record {
             fresh = λ even same f.
@@ -80,8 +83,9 @@ module _ {P : Type 0} (rules : Rules P) (laws : Obeys rules) where
     Parts p a x o =
         let t = x.runs.inside o in
         let memory : List ℕ = bytes_at w.depth w.base (attempts_of w) (a.engine.snapshot / 2) in
-        let state : State = state_then w.depth (breaks_of t.1.restarts) (opened memory t.4.block.start.arena t.4.block.start.props) t.1.calls.list in
-        IsMadeAlone rules w.depth t.0 t.4.block.start t.1 memory × (a.engine.actions.ran ≡ state.actions.ran) × (state.irrevocable ≡ a.engine.irrevocable)
+        let start = t.5.open_try.of_block.start in
+        let state : State = state_then w.depth (breaks_of t.1.restarts) (opened memory start.arena start.props) t.1.calls.list in
+        IsMadeAlone rules w.depth t.0 start t.1 memory × (t.1.ran ≡ state.actions.ran) × (state.irrevocable ≡ a.engine.irrevocable)
 
     open_parts : (place : ℕ) (p : P) (a : Actor P) (e : slice_get w.opening place ≡ Some p) (f : slice_get w.actors place ≡ Some a) (o : in_transaction a.engine ≡ true) → Parts p a (running.each place p a e f) o
     open_parts place p a e f o = elim (cases_Bool a.engine.irrevocable) [ inl i ↦ held_so i | inr r ↦ open_so r ]
@@ -101,24 +105,32 @@ module _ {P : Type 0} (rules : Rules P) (laws : Obeys rules) where
             let m : List ℕ = words_at w.depth w.base w.attempts.ended k in
             let fits = running.laid.memories.fits k k_late in
             let same = running.laid.memories.same k k_late ∙ sym (shown_still k k_late) in
-            let stands = stands_led laws (x.runs.inside o).4 (bytes_at w.depth w.base (attempts_of w) k) m r o (fits.0 ∙ sym tied.words, fits.1) same (x.sees.logged o) in (
-              made_so laws (x.runs.inside o).4 (bytes_at w.depth w.base (attempts_of w) k) m r o (fits.0 ∙ sym tied.words, fits.1) same (x.sees.logged o),
-              ap (λ (y : Actions). y.ran) (sym (stands_actions a.engine m)) ∙ ap (λ (y : State). y.actions.ran) stands,
-              ap (λ (y : State). y.irrevocable) (sym stands) ∙ stands_mode a.engine m,
+            let t = (x.runs.inside o).5.open_try in
+            let mem : IsMemory a.engine.words m = (fits.0 ∙ sym tied.words, fits.1) in
+            let bytes : List ℕ = bytes_at w.depth w.base (attempts_of w) k in
+            let reads = agree_reads (words_at w.depth w.base w.attempts.ended (w.cells.clock / 2)) a.engine.irrevocable a.engine.log m r (x.sees.logged o) in (
+              made_over t m mem reads bytes same (open_over t m mem reads bytes same r o),
+              ran_over t m mem reads bytes same,
+              ap (λ (y : State). y.irrevocable) (stays_over t m mem reads bytes same) ∙ (ap (λ (y : State). y.irrevocable) (sym (stands_over t m mem reads bytes same r)) ∙ stands_mode a.engine m),
             )
 
         held_so : a.engine.irrevocable ≡ true → Parts p a x o
         held_so i =
             let t = x.runs.inside o in
-            let h = x.held i t.1 t.3 in
+            let h = x.held i t.1 (ap open_in t.4) in
             let holds = (tied.settled.irrevocable i).0 in
             let half : a.engine.snapshot / 2 ≡ w.cells.clock / 2 = omega (arith, tied.holder holds, (tied.settled.holder holds).1, tied.settled.even) in
             let n : ℕ = w.cells.clock / 2 in
+            let m : List ℕ = words_at w.depth w.base w.attempts.ended n in
             let fits = running.laid.memories.fits n (top n) in
-            let shown : bytes_at w.depth w.base (attempts_of w) (a.engine.snapshot / 2) ≡ bytes_at w.depth w.base w.attempts.ended n = ap (bytes_at w.depth w.base (attempts_of w)) half ∙ shown_still n (top n) in (
-              made_held laws t.4 (bytes_at w.depth w.base (attempts_of w) (a.engine.snapshot / 2)) i (fits.0 ∙ sym tied.words, fits.1) (running.laid.memories.same n (top n) ∙ sym shown) (ap (λ (bytes : List ℕ). is_open (alone w.depth bytes t.1)) shown ∙ h.still_open),
-              sym t.4.ran ∙ (h.ran ∙ (ap (λ (bytes : List ℕ). (alone w.depth bytes t.1).actions.ran) (sym shown) ∙ ap (λ (y : State). y.actions.ran) (alone_led laws w.depth t.4.block (bytes_at w.depth w.base (attempts_of w) (a.engine.snapshot / 2))))),
-              ap (λ (y : State). y.irrevocable) (sym (alone_led laws w.depth t.4.block (bytes_at w.depth w.base (attempts_of w) (a.engine.snapshot / 2)))) ∙ (ap (λ (bytes : List ℕ). (alone w.depth bytes t.1).irrevocable) shown ∙ (h.mode ∙ sym i)),
+            let mem : IsMemory a.engine.words m = (fits.0 ∙ sym tied.words, fits.1) in
+            let bytes : List ℕ = bytes_at w.depth w.base (attempts_of w) (a.engine.snapshot / 2) in
+            let shown : bytes ≡ bytes_at w.depth w.base w.attempts.ended n = ap (bytes_at w.depth w.base (attempts_of w)) half ∙ shown_still n (top n) in
+            let same = running.laid.memories.same n (top n) ∙ sym shown in
+            let reads : ReadsFrom a.engine.irrevocable m a.engine.log m = subst (λ (b : Bool). ReadsFrom b m a.engine.log m) (sym i) refl in (
+              made_over t.5.open_try m mem reads bytes same (ap (λ (y : List ℕ). is_open (alone_whole w.depth y t.1)) shown ∙ h.still_open),
+              ran_over t.5.open_try m mem reads bytes same,
+              ap (λ (y : State). y.irrevocable) (stays_over t.5.open_try m mem reads bytes same) ∙ (ap (λ (y : List ℕ). (alone_whole w.depth y t.1).irrevocable) shown ∙ (h.mode ∙ sym i)),
             )
 
     of_actor : (place : ℕ) (p : P) (a : Actor P) → slice_get w.opening place ≡ Some p → slice_get w.actors place ≡ Some a
@@ -139,12 +151,14 @@ module _ {P : Type 0} (rules : Rules P) (laws : Obeys rules) where
               let k : ℕ = a.engine.snapshot / 2 in
               let late : k ≤ n = omega (arith, s.sound.tied.settled.reached, s.sound.tied.late) in
               let parts = open_parts place p a e f o in
-              let try = try_stops laws w.depth t.4.block n shown k outcomes.Unfinished a.engine.actions.ran refl parts.0 parts.0.still_open t.4.began late parts.1 (λ f. absurd (cc)) in
-              let as_it_is : record t.1 { at = k; ran = a.engine.actions.ran; outcome = outcomes.Unfinished } ≡ t.1 =
-              λ i. record t.1 { at = (sym (x.reads t.1 t.3)) i; ran = (sym t.4.ran) i; outcome = (sym (row_unfinished (in_transaction a.engine) a t.1 s.sound.kept.row t.3)) i } in
-              let rows : of_thread a.run.thread (attempts_of w) ≡ ended ++ t.1 ∷ [] = own_rows ∙ ap (λ (o : Option Attempt). ended ++ with_open o []) t.3 in
+              let block = t.5.open_try.of_block in
+              let active : active_of a ≡ Some t.1 = ap open_in t.4 in
+              let try = try_stops laws w.depth block n shown k outcomes.Unfinished t.1.ran refl parts.0 parts.0.still_open t.5.open_try.began late parts.1 (λ f. absurd (cc)) in
+              let as_it_is : record t.1 { at = k; outcome = outcomes.Unfinished } ≡ t.1 =
+              λ i. record t.1 { at = (sym (x.reads t.1 active)) i; outcome = (sym (row_unfinished (in_transaction a.engine) a t.1 s.sound.kept.row active)) i } in
+              let rows : of_thread a.run.thread (attempts_of w) ≡ ended ++ t.1 ∷ [] = own_rows ∙ ap (λ (o : Option Attempt). ended ++ with_open o []) active in
               subst (IsRunOf rules w.depth n shown (Some (first_of p w.arena))) (sym rows)
-              (run_with rules w.depth n n memory shown (top n) shown_still (Some (first_of p w.arena)) ended t.0 t.4.block.start t.1 x.runs.run t.2 t.4.block.begins (subst (IsTryAt rules w.depth n shown t.0 (Some t.4.block.start)) as_it_is try)).0)
+              (run_with rules w.depth n n memory shown (top n) shown_still (Some (first_of p w.arena)) ended t.0 block.start t.1 x.runs.run t.2 block.begins (subst (IsTryAt rules w.depth n shown t.0 (Some block.start)) as_it_is try)).0)
           | inr shut ↦
               (let none : HasRow false a = subst (λ (b : Bool). HasRow b a) shut s.sound.kept.row in
               let rows : of_thread a.run.thread (attempts_of w) ≡ ended = own_rows ∙ (ap (λ (o : Option Attempt). ended ++ with_open o []) none ∙ append-nil ended) in
@@ -163,10 +177,10 @@ module _ {P : Type 0} (rules : Rules P) (laws : Obeys rules) where
         let o = row_open (in_transaction a.engine) a row own.sound.kept.row some in
         let x = running.each place here.0 a here.1 e in
         let t = x.runs.inside o in
-        let same : t.1 ≡ row = same_Some _ _ (sym t.3 ∙ some) in
+        let same : t.1 ≡ row = same_Some _ _ (sym (ap open_in t.4) ∙ some) in
         ap (λ (j : ℕ). (alone w.depth (bytes_at w.depth w.base (attempts_of w) j) row).irrevocable) (x.reads row some)
         ∙ (ap (λ (y : Attempt). (alone w.depth (bytes_at w.depth w.base (attempts_of w) (a.engine.snapshot / 2)) y).irrevocable) (sym same)
-        ∙ (ap (λ (y : State). y.irrevocable) (alone_led laws w.depth t.4.block (bytes_at w.depth w.base (attempts_of w) (a.engine.snapshot / 2))) ∙ (open_parts place here.0 a here.1 e o).2))
+        ∙ (ap (λ (y : State). y.irrevocable) (alone_led laws w.depth t.5.open_try.of_block (bytes_at w.depth w.base (attempts_of w) (a.engine.snapshot / 2))) ∙ (open_parts place here.0 a here.1 e o).2))
 
     -- who holds the clock has an open attempt, at the last position
     held_row : (place : ℕ) (a : Actor P) → slice_get w.actors place ≡ Some a → a.engine.holds ≡ true → (row : Attempt) × (active_of a ≡ Some row) × (row.at ≡ w.cells.clock / 2)
@@ -178,17 +192,17 @@ module _ {P : Type 0} (rules : Rules P) (laws : Obeys rules) where
         let x = running.each place here.0 a here.1 e in
         let t = x.runs.inside holder.0 in
         let half : a.engine.snapshot / 2 ≡ w.cells.clock / 2 = omega (arith, tied.holder h, holder.1, tied.settled.even) in
-        (t.1, t.3, x.reads t.1 t.3 ∙ half)
+        (t.1, ap open_in t.4, x.reads t.1 (ap open_in t.4) ∙ half)
 
-    pub are_opaque : AreOutrun w.cells.clock w.attempts.ended → AreDated w.retries [] (attempts_of w) → AreUnbroken (attempts_of w) → AreOpaque rules (observed w)
-    are_opaque outrun dated unbroken = record {
+    pub are_opaque : AreOutrun w.cells.clock w.attempts.ended → AreDated w.retries [] (attempts_of w) → RestartAtMost w.restarts (attempts_of w) → AreOpaque rules (observed w)
+    are_opaque outrun dated few = record {
       runs = λ place p e. (let here = there_is w.actors place (omega (arith, long, slice_get_within w.opening place p e)) in of_actor place p here.0 e here.1);
       threads = subst (λ (n : ℕ). AreOfActors n (attempts_of w)) long (of_actors_both (length w.actors) w.attempts.ended (opens w.actors) running.threads
           (of_actors_each (length w.actors) (opens w.actors) (opens_each (λ (row : Attempt). row.thread < length w.actors) w.actors (λ place a row e here. omega (arith, row_there sound place a row e here, slice_get_within w.actors place a e)))));
       counted = counted_both w.cells.clock w.attempts.ended (opens w.actors) (are_open sound).unfinished running.laid.counted;
       outrun = outrun_both w.cells.clock w.attempts.ended (opens w.actors) (are_open sound).unfinished outrun;
       dated = dated;
-      unbroken = unbroken;
+      few = few;
       size = omega (arith, length-bytes_of w.cells.words, length-bytes_of (words_of w.base), (running.laid.memories.fits 0 (omega arith)).0, ap (length {A = ℕ}) (running.laid.memories.same 0 (omega arith)));
       free = λ even.
           ap bytes_of (running.laid.free even) ∙ (running.laid.memories.same (w.cells.clock / 2) (top (w.cells.clock / 2)) ∙ sym (shown_still (w.cells.clock / 2) (top (w.cells.clock / 2))));
@@ -214,11 +228,11 @@ module _ {P : Type 0} (rules : Rules P) (laws : Obeys rules) where
       fed = λ place p a e f true_room. ((running.each place p a e f).fed true_room).fed;
       stored = λ place a row e some i.
           (let here = player_at place a e in
-          subst (λ (bytes : List ℕ). StandsIn w.depth a.engine.waits a.engine.doing a.engine w.cells.words (alone w.depth bytes row)) (sym (shown_still (w.cells.clock / 2) (top (w.cells.clock / 2)))) ((running.each place here.0 a here.1 e).held i row some).stands);
+          subst (λ (bytes : List ℕ). StandsIn w.depth a.engine.waits a.engine.doing a.engine w.cells.words (alone_whole w.depth bytes row)) (sym (shown_still (w.cells.clock / 2) (top (w.cells.clock / 2)))) ((running.each place here.0 a here.1 e).held i row some).stands);
     }
 
   pub world_opaque : (w : World P) → IsWorld rules w → AreOpaque rules (observed w)
-  world_opaque w kept = are_opaque w kept.actors kept.long kept.running kept.commits.outrun (all_dated w kept.actors kept.dated) (all_unbroken w kept.dated)
+  world_opaque w kept = are_opaque w kept.actors kept.long kept.running kept.commits.outrun (all_dated w kept.actors kept.dated) (all_few w kept.actors kept.commits kept.dated)
 
   pub world_tied : (w : World P) → IsWorld rules w → AreTied rules w
   world_tied w kept = are_tied w kept.actors kept.long kept.running
@@ -271,16 +285,16 @@ module _ {P : Type 0} (rules : Rules P) (laws : Obeys rules) where
   -- ## Beginnings
 
   -- an actor that has made no call
-  pub fresh_runs : (cells : Cells) (r : Rows) (a : Actor P) (deepest : ℕ) (base : List ℕ) (size patience max_commits : ℕ) → a.engine ≡ opening (length cells.words) (replicate size 0) patience max_commits deepest 0 → r.ended ≡ [] → a.run.nth ≡ 1 → a.run.again ≡ false → a.run.current ≡ Outside → a.status ≡ Ready
+  pub fresh_runs : (cells : Cells) (r : Rows) (a : Actor P) (deepest : ℕ) (base : List ℕ) (size patience max_commits restarts : ℕ) → rules.depth a.run.player ≡ 0 → a.engine ≡ opening (length cells.words) (replicate size 0) patience max_commits deepest restarts → r.ended ≡ [] → a.run.nth ≡ 1 → a.run.again ≡ false → a.run.current ≡ Outside → a.status ≡ Ready
       → RunsFrom rules (first_of a.run.player size) deepest base cells r a
-  fresh_runs cells r a deepest base size patience max_commits is none first anew nothing ready =
+  fresh_runs cells r a deepest base size patience max_commits restarts outside is none first anew nothing ready =
       let shut : in_transaction a.engine ≡ false = ap in_transaction is in
       let rows : of_thread a.run.thread r.ended ≡ [] = ap (of_thread a.run.thread) none in
       idle_from (ap (λ (c : Core). c.depth) is)
       (rests_run rules (first_of a.run.player size) deepest base (subst (IsRunOf rules deepest (cells.clock / 2) (bytes_at deepest base r.ended) (Some (first_of a.run.player size))) (sym rows) tt) shut false 0
       (ap (run_after rules deepest (bytes_at deepest base r.ended) (Some (first_of a.run.player size))) rows ∙ (λ i. Some (record { player = a.run.player; arena = sym (ap (λ (c : Core). c.arena) is) i; again = false; tries = 0 })))
       anew (λ gave_up. (let one = first in omega arith)) (ap (λ (c : Current). begun_in (stage_of c)) nothing))
-      shut (ap (λ (c : Core). c.fresh) is) (ap (λ (c : Core). c.holds) is) (ap (λ (c : Core). c.irrevocable) is) (ap (λ (c : Current). open_in (stage_of c)) nothing) (λ told. (0, refl))
+      shut (ap (λ (c : Core). c.fresh) is) (ap (λ (c : Core). c.holds) is) (ap (λ (c : Core). c.irrevocable) is) (ap (λ (c : Current). open_in (stage_of c)) nothing) (λ told. (0, refl, λ d inner few. absurd (omega arith)))
 
 -- no commit has been done
 pub laid_first : (deepest : ℕ) (base : List ℕ) (cells : Cells) (r : Rows) → base ≡ bytes_of cells.words → AllFit cells.words → cells.clock ≡ 0 → r.ended ≡ [] → AreLaid deepest base cells r

@@ -1,12 +1,15 @@
 -- Which try of its block an attempt is, and when it began: an event keeps what the attempts before it say of that.
-use Rattle.std.proofs.Common.{◌≡◌, ℕ, ◌+◌, ◌/◌, ◌<◌, ◌≤◌, ◌==◌, Bool, true, false, nat_lt, List, [], ◌∷◌, ◌++◌, Option, None, Some, is_some, slice_get, slice_set, if◌then◌else◌, inl, inr, refl, sym, ap, subst, ◌∙◌, arith, eq-eqb, append_assoc}
-use Rattle.norec_world.proofs.Common.{Actor, AllByRecursion, AllOf, AreActors, AreDated, AreFrom, AreOfActors, AreUnbroken, Attempt, BeginsAt, Call, Cells, Continues, Core, End, GaveUp, GoesOnAfter, HasRow, IsBetween, IsDated, IsEvent, IsWorld, NoMemory, Outcome, Phase, Prior, Rows, Rules, Status, StatusIs, Tries, TriesAgain, Waits, World, active_of, append-nil, attempts_of, begins, between, both_ways, count_committed, current_of, ending_of, in_transaction, is_begin, is_committed, is_waiting, ltb-false, ne_eqb, none-some, one_where, outrun, over, pending_of, prior_of, runs, same_Some, shut_out, turned_away}
+use Rattle.std.proofs.Common.{◌≡◌, ℕ, ◌+◌, ◌/◌, ◌<◌, ◌≤◌, ◌==◌, Bool, true, false, nat_lt, List, [], ◌∷◌, ◌++◌, length, Option, None, Some, is_some, slice_get, slice_set, if◌then◌else◌, inl, inr, refl, sym, ap, subst, ◌∙◌, arith, eq-eqb, append_assoc}
+use Rattle.norec_world.proofs.Common.{Actor, AllByRecursion, AllOf, AreActors, AreDated, AreFrom, AreOfActors, Attempt, BeginsAt, Call, Cells, CommitsInOrder, Continues, Core, End, GaveUp, GoesOnAfter, HasRow, IsBetween, IsDated, IsEvent, IsWorld, NoMemory, Outcome, Phase, Prior, Rows, Rules, Status, StatusIs, Tries, TriesAgain, Waits, World, active_of, append-nil, attempts_of, begins, between, both_ways, count_committed, current_of, ending_of, in_transaction, is_begin, is_committed, is_waiting, ltb-false, ne_eqb, none-some, one_where, outrun, over, pending_of, prior_of, runs, same_Some, shut_out, turned_away}
 use Rattle.norec_core.specs.Phases as at
 use Rattle.tx_attempts.specs.declared.attempt.Outcome.TheVariants as outcomes
 use Rattle.norec_world.specs.Dates.{led_by, tried_by, tried_in, up_to_last}
 use Rattle.norec_world.specs.Tries.{HasStopped}
 use Rattle.norec_world.specs.Invariant.{IsDatedActor, IsDatedWorld, IsTry}
-use Rattle.tx_runs.proofs.Unbroken.{unbroken_both, unbroken_more}
+use Rattle.tx_runs.proofs.RestartLists.{few_both, few_more}
+use Rattle.tx_runs.specs.Restarts.{RestartAtMost}
+use Rattle.norec_world.specs.Tries.{IsSame}
+use Rattle.norec_world.proofs.Tries.TryEnds.{continues_same}
 use Rattle.norec_world.specs.Stages.{opens}
 use Rattle.norec_world.proofs.Tries.Stages.{open_only}
 use Rattle.norec_world.proofs.Tries.ThreadAttempts.{are_open, opens_each}
@@ -80,7 +83,7 @@ dated_by k before before' row row' led fewer nth began d =
 dated_else : (k : ℕ) (before more : List Attempt) (a : Attempt) → AreElse a.thread more → IsDated k before a → IsDated k (before ++ more) a
 dated_else k before more a n d = dated_by k before (before ++ more) a a (last_else a.thread before more n) (let both = count_committed_both before more in omega arith) refl refl d
 
-dated_as : (k : ℕ) (before : List Attempt) (row row' : Attempt) → Continues row row' → IsDated k before row → IsDated k before row'
+dated_as : (k : ℕ) (before : List Attempt) (row row' : Attempt) → IsSame row row' → IsDated k before row → IsDated k before row'
 dated_as k before row row' c d = dated_by k before before row row' (ap (λ (t : ℕ). up_to_last t before) c.thread) (let l : count_committed before ≤ count_committed before = omega arith in l) c.nth c.began d
 
 dated_both : (k : ℕ) (before xs ys : List Attempt) → AreDated k before xs → AreDated k (before ++ xs) ys → AreDated k before (xs ++ ys)
@@ -107,14 +110,16 @@ all_dated w sound d =
     (subst (λ (l : List Attempt). AreDated w.retries l opened) (append-nil w.attempts.ended) (open_dated w.retries 0 w.attempts.ended [] opened tt (are_open sound).by_actor
     (opens_each (IsDated w.retries w.attempts.ended) w.actors (λ place a row e here. ((d.each place a e).opened row here).dated))))
 
--- nor has an inner block of any run again
-open_unbroken : (xs : List Attempt) → AllByRecursion (λ (row : Attempt). row.restarts ≡ []) xs → AreUnbroken xs
-open_unbroken [] each = tt
-open_unbroken (x ∷ xs) each = (each.0, open_unbroken xs each.1)
+-- and of each no more blocks ran again than may
+few_open : (most : ℕ) (xs : List Attempt) → AllByRecursion (λ (row : Attempt). length row.restarts ≤ most) xs → RestartAtMost most xs
+few_open most [] each = tt
+few_open most (x ∷ xs) each = (each.0, few_open most xs each.1)
 
-pub all_unbroken : {P : Type 0} (w : World P) → IsDatedWorld w → AreUnbroken (attempts_of w)
-all_unbroken w d =
-    unbroken_both w.attempts.ended (opens w.actors) d.unbroken (open_unbroken (opens w.actors) (opens_each (λ (row : Attempt). row.restarts ≡ []) w.actors (λ place a row e here. ((d.each place a e).opened row here).unbroken)))
+pub all_few : {P : Type 0} {rules : Rules P} (w : World P) → AreActors rules w.cells w.attempts w.actors → CommitsInOrder w → IsDatedWorld w → RestartAtMost w.restarts (attempts_of w)
+all_few w sound commits d =
+    few_both w.restarts w.attempts.ended (opens w.actors) d.few
+    (few_open w.restarts (opens w.actors) (opens_each (λ (row : Attempt). length row.restarts ≤ w.restarts) w.actors
+    (λ place a row e here. (let s = (sound.each place a e).sound in let few = s.acts.few row here in let most = s.tied.settled.few in let same = (commits.limits place a e).restarts in omega arith))))
 
 -- ## An event
 
@@ -141,7 +146,6 @@ module _ {P : Type 0} (k clock : ℕ) (r : Rows) (a : Actor P) (counted : count_
         record {
           thread = thread;
           nth = tries ∙ sym b.tries;
-          unbroken = ap (λ (x : Attempt). x.restarts) is;
           dated = record {
             later = omega arith;
             few = omega arith;
@@ -159,7 +163,7 @@ module _ {P : Type 0} (k clock : ℕ) (r : Rows) (a : Actor P) (counted : count_
   again_dated nth false e t later at_once = between_dated (nth + 1) t (omega arith) (let l = ltb-false k nth e in omega arith) (λ f. at_once (omega (arith, f)))
 
 module _ {P : Type 0} (k clock clock' : ℕ) (p : Prior) (r : Rows) (a : Actor P) (limit : p.retries ≡ k) (counted : count_committed r.ended ≡ clock' / 2)
-    (now : (row : Attempt) → current_of p.active p.pending ≡ Some row → (row.thread ≡ a.run.thread) × (row.nth ≡ p.nth) × IsDated k p.ended row × (row.restarts ≡ [])) (some : current_of p.active p.pending ≡ None → ⊥) (all : AreDated k [] p.ended) where
+    (now : (row : Attempt) → current_of p.active p.pending ≡ Some row → (row.thread ≡ a.run.thread) × (row.nth ≡ p.nth) × IsDated k p.ended row) (some : current_of p.active p.pending ≡ None → ⊥) (all : AreDated k [] p.ended) where
   -- no attempt ended
   still_dated : r.ended ≡ p.ended → (row : Attempt) → IsDated k p.ended row → IsDated k r.ended row
   still_dated same row d = subst (λ (l : List Attempt). IsDated k l row) (sym same) d
@@ -175,7 +179,7 @@ module _ {P : Type 0} (k clock clock' : ℕ) (p : Prior) (r : Rows) (a : Actor P
       let later : tried_in (up_to_last a.run.thread r.ended) < p.nth = (let l = d.2.later in let n = d.1 in omega arith) in
       again_dated k clock' r a counted p.nth (nat_lt p.retries p.nth) (ap (λ (n : ℕ). nat_lt n p.nth) (sym limit)) t (omega arith) (λ e. absurd (omega arith))
 
-  pub dated_actor : Tries clock p clock' r a → IsDatedActor k r a
+  pub dated_actor : Tries (Continues clock) clock p clock' r a → IsDatedActor k r a
   dated_actor (between t) = absurd (some t.idle)
   dated_actor (begins t) =
       let d = now t.row (begun t.row t.none t.was) in
@@ -183,7 +187,7 @@ module _ {P : Type 0} (k clock clock' : ℕ) (p : Prior) (r : Rows) (a : Actor P
         opened = λ row e. absurd (none-some row (sym t.still ∙ e));
         next = λ on row e.
             (let same : t.row ≡ row = same_Some _ _ (sym t.now ∙ e) in
-            subst (IsTry k r a) same (record { thread = d.0; nth = d.1 ∙ sym t.tries; unbroken = d.3; dated = still_dated t.ended t.row d.2 }));
+            subst (IsTry k r a) same (record { thread = d.0; nth = d.1 ∙ sym t.tries; dated = still_dated t.ended t.row d.2 }));
       }
   dated_actor (runs t) =
       let d = now t.row t.was in
@@ -191,17 +195,16 @@ module _ {P : Type 0} (k clock clock' : ℕ) (p : Prior) (r : Rows) (a : Actor P
         opened = λ row e.
             (let same : t.row' ≡ row = same_Some _ _ (sym t.now ∙ e) in
             subst (IsTry k r a) same (record {
-              thread = t.continues.thread ∙ d.0;
-              nth = t.continues.nth ∙ (d.1 ∙ sym t.tries);
-              unbroken = t.continues.restarts ∙ d.3;
-              dated = still_dated t.ended t.row' (dated_as k p.ended t.row t.row' t.continues d.2);
+              thread = (continues_same clock t.row t.row' t.continues).thread ∙ d.0;
+              nth = (continues_same clock t.row t.row' t.continues).nth ∙ (d.1 ∙ sym t.tries);
+              dated = still_dated t.ended t.row' (dated_as k p.ended t.row t.row' (continues_same clock t.row t.row' t.continues) d.2);
             }));
         next = λ on row e. absurd (none-some row (sym (open_only _ t.now) ∙ e));
       }
   dated_actor (over t) = by_outcome t.row'.outcome refl t.after
     where
       thread : t.row'.thread ≡ a.run.thread
-      thread = t.continues.thread ∙ (now t.row t.was).0
+      thread = (continues_same clock t.row t.row' t.continues).thread ∙ (now t.row t.was).0
 
       led : up_to_last a.run.thread r.ended ≡ p.ended ++ t.row' ∷ []
       led = ap (up_to_last a.run.thread) t.ended ∙ last_own a.run.thread p.ended t.row' thread
@@ -220,7 +223,7 @@ module _ {P : Type 0} (k clock clock' : ℕ) (p : Prior) (r : Rows) (a : Actor P
       by_outcome outcomes.ReadOnly e g = first (tried outcomes.ReadOnly e) g
       by_outcome outcomes.Cancelled e g = first (tried outcomes.Cancelled e) g
       by_outcome outcomes.Conflict e g =
-          let same : t.row'.nth ≡ p.nth = t.continues.nth ∙ (now t.row t.was).1 in
+          let same : t.row'.nth ≡ p.nth = (continues_same clock t.row t.row' t.continues).nth ∙ (now t.row t.was).1 in
           let n : tried_in (up_to_last a.run.thread r.ended) ≡ t.row'.nth = tried outcomes.Conflict e in
           again_dated k clock' r a counted p.nth (nat_lt p.retries p.nth) (ap (λ (m : ℕ). nat_lt m p.nth) (sym limit)) g (omega arith) (λ f. count)
       by_outcome outcomes.Full e g = stopped_dated k clock' r a counted GaveUp g
@@ -231,8 +234,8 @@ module _ {P : Type 0} (k clock clock' : ℕ) (p : Prior) (r : Rows) (a : Actor P
   dated_actor (shut_out t) = stopped_dated k clock' r a counted GaveUp t.after
 
   -- what is true of those that had ended is true of all, if it is with one that ends
-  by_ended : (Q : List Attempt → Type 0) → Q p.ended → ((row row' : Attempt) → current_of p.active p.pending ≡ Some row → Continues row row' → Q (p.ended ++ row' ∷ [])) → Tries clock p clock' r a → Q r.ended
-  by_ended Q before more (over t) = subst Q (sym t.ended) (more t.row t.row' t.was t.continues)
+  by_ended : (Q : List Attempt → Type 0) → Q p.ended → ((row row' : Attempt) → current_of p.active p.pending ≡ Some row → Continues clock row row' → length row'.restarts ≤ p.restarts → Q (p.ended ++ row' ∷ [])) → Tries (Continues clock) clock p clock' r a → Q r.ended
+  by_ended Q before more (over t) = subst Q (sym t.ended) (more t.row t.row' t.was t.continues t.few)
   by_ended Q before more (between t) = subst Q (sym t.ended) before
   by_ended Q before more (begins t) = subst Q (sym t.ended) before
   by_ended Q before more (runs t) = subst Q (sym t.ended) before
@@ -240,11 +243,11 @@ module _ {P : Type 0} (k clock clock' : ℕ) (p : Prior) (r : Rows) (a : Actor P
   by_ended Q before more (outrun t) = subst Q (sym t.ended) before
   by_ended Q before more (shut_out t) = subst Q (sym t.ended) before
 
-  pub dated_ended : Tries clock p clock' r a → AreDated k [] r.ended
-  dated_ended = by_ended (AreDated k []) all (λ row row' was c. dated_both k [] p.ended (row' ∷ []) all (dated_as k p.ended row row' c (now row was).2, tt))
+  pub dated_ended : Tries (Continues clock) clock p clock' r a → AreDated k [] r.ended
+  dated_ended = by_ended (AreDated k []) all (λ row row' was c few. dated_both k [] p.ended (row' ∷ []) all (dated_as k p.ended row row' (continues_same clock row row' c) (now row was).2, tt))
 
-  pub unbroken_ended : Tries clock p clock' r a → AreUnbroken p.ended → AreUnbroken r.ended
-  unbroken_ended t none = by_ended AreUnbroken none (λ row row' was c. unbroken_more p.ended row' none (c.restarts ∙ (now row was).3)) t
+  pub few_ended : Tries (Continues clock) clock p clock' r a → RestartAtMost p.restarts p.ended → RestartAtMost p.restarts r.ended
+  few_ended t few = by_ended (RestartAtMost p.restarts) few (λ row row' was c most. few_more p.restarts p.ended row' few most) t
 
 -- ## In a world
 
@@ -280,8 +283,8 @@ module _ {P : Type 0} {rules : Rules P} (w : World P) (kept : IsWorld rules w) (
   same : new.run.thread ≡ got.run.thread
   same = event.others.thread
 
-  tries_now : (row : Attempt) → current_of (active_of got) (pending_of got) ≡ Some row → (row.thread ≡ new.run.thread) × (row.nth ≡ got.run.nth) × IsDated w.retries w.attempts.ended row × (row.restarts ≡ [])
-  tries_now row e = (let t = dated_now row e in (t.thread ∙ sym same, t.nth, t.dated, t.unbroken))
+  tries_now : (row : Attempt) → current_of (active_of got) (pending_of got) ≡ Some row → (row.thread ≡ new.run.thread) × (row.nth ≡ got.run.nth) × IsDated w.retries w.attempts.ended row
+  tries_now row e = (let t = dated_now row e in (t.thread ∙ sym same, t.nth, t.dated))
 
   some_now : current_of (active_of got) (pending_of got) ≡ None → ⊥
   some_now none =
@@ -290,6 +293,9 @@ module _ {P : Type 0} {rules : Rules P} (w : World P) (kept : IsWorld rules w) (
 
   limit : got.run.retries ≡ w.retries
   limit = (kept.commits.limits i got here).retries
+
+  most : got.engine.restarts ≡ w.restarts
+  most = (kept.commits.limits i got here).restarts
 
   -- another one
   other_dated : (j : ℕ) (b : Actor P) → (i ≡ j → ⊥) → slice_get w.actors j ≡ Some b → IsDatedActor w.retries r' b
@@ -301,7 +307,6 @@ module _ {P : Type 0} {rules : Rules P} (w : World P) (kept : IsWorld rules w) (
       record {
         thread = t.thread;
         nth = t.nth;
-        unbroken = t.unbroken;
         dated = subst (λ (l : List Attempt). IsDated w.retries l row) (sym own.ended)
             (dated_else w.retries w.attempts.ended own.more row (else_all row.thread got.run.thread own.more (λ z. others (sym t.thread ∙ sym z)) own.mine) t.dated);
       }) in
@@ -313,7 +318,8 @@ module _ {P : Type 0} {rules : Rules P} (w : World P) (kept : IsWorld rules w) (
   pub dated_after : IsDatedWorld (record w { cells = cells'; actors = slice_set w.actors i new; attempts = r'; events = events })
   dated_after = record {
     ended = dated_ended w.retries w.cells.clock cells'.clock (prior_of w.attempts got) r' new limit counted tries_now some_now kept.dated.ended event.tries;
-    unbroken = unbroken_ended w.retries w.cells.clock cells'.clock (prior_of w.attempts got) r' new limit counted tries_now some_now kept.dated.ended event.tries kept.dated.unbroken;
+    few = subst (λ (n : ℕ). RestartAtMost n r'.ended) most
+        (few_ended w.retries w.cells.clock cells'.clock (prior_of w.attempts got) r' new limit counted tries_now some_now kept.dated.ended event.tries (subst (λ (n : ℕ). RestartAtMost n w.attempts.ended) (sym most) kept.dated.few));
     each = λ j b e. elim (set_place w.actors i got new here j b e) [
       | inl h ↦ subst (IsDatedActor w.retries r') (sym h.1) (dated_actor w.retries w.cells.clock cells'.clock (prior_of w.attempts got) r' new limit counted tries_now some_now kept.dated.ended event.tries)
       | inr h ↦ other_dated j b h.0 h.1
@@ -324,7 +330,7 @@ module _ {P : Type 0} {rules : Rules P} (w : World P) (kept : IsWorld rules w) (
 pub dated_first : {P : Type 0} (w : World P) → w.cells.clock ≡ 0 → w.attempts.ended ≡ [] → ((place : ℕ) (a : Actor P) → slice_get w.actors place ≡ Some a → IsBetween w.cells.clock 1 a) → IsDatedWorld w
 dated_first {P} w zero_clock none first = record {
   ended = subst (AreDated w.retries []) (sym none) tt;
-  unbroken = subst AreUnbroken (sym none) tt;
+  few = subst (RestartAtMost w.restarts) (sym none) tt;
   each = λ place a e.
       (let led : up_to_last a.run.thread w.attempts.ended ≡ [] = ap (up_to_last a.run.thread) none in
       let tried : tried_in (up_to_last a.run.thread w.attempts.ended) ≡ 0 = ap tried_in led in

@@ -3,8 +3,12 @@ use Rattle.tx_runs.proofs.TookIn.{IsTaken, OpensBy, is_taken}
 use Rattle.std.proofs.Common.{◌≡◌, ◌⊎◌, inl, inr, ℕ, ◌+◌, ◌-◌, ◌/◌, ◌<◌, ◌≤◌, Bool, true, false, nat_lt, if◌then◌else◌, List, [], ◌∷◌, ◌++◌, append_assoc, append-nil, length, Option, None, Some, unwrap_or, refl, sym, ap, subst, ◌∙◌, arith, Vec, Global, vec_capacity}
 use Rattle.std.proofs.lemmas.List.{length-append}
 use Rattle.tx_attempts.specs.declared.attempt.Outcome.TheVariants as outcomes
+use Rattle.tx_runs.specs.Savepoints.{cut_back}
 use Rattle.tx_runs.specs.Tallies.{outside, begins, stage_at}
-use Rattle.norec_world.proofs.Common.{Actor, AllOf, Answer, Attempt, Begin, Busy, Call, Conflict, Core, Current, Ended, GaveUp, HasRow, IsKept, IsRestart, KeepsOthers, MAX_ACTORS, Outcome, Outside, PlayerRun, Props, Ready, Records, Replied, Reply, Restarted, Rows, Rules, Savepoint, Stage, Stand, Taken, TakesTo, Tally, Within, active_of, begun, begun_in, cancels_in, count_in, count_of, ends_in, in_transaction, irrevocable_room, moved_to, none-some, open_in, over_as, pending_of, points_in, reserved, rows_in, same_Some, sent_back, stage_of, stand_of, status_after, tally_of, took_in, tried, within}
+use Rattle.norec_world.specs.ActionRoom.{BeganIn}
+use Rattle.norec_world.specs.Sound.{HasPoints}
+use Rattle.norec_world.specs.Tries.{IsSame}
+use Rattle.norec_world.proofs.Common.{Actor, AllOf, Answer, Attempt, Begin, Busy, Call, Conflict, Core, Current, Ended, GaveUp, HasRow, IsKept, IsRestart, KeepsOthers, MAX_ACTORS, Outcome, Outside, PlayerRun, Props, Ran, Ready, Records, Replied, Reply, Restarted, Rows, Rules, Savepoint, Stage, Stand, Taken, TakesTo, Tally, Within, active_of, begun, begun_in, cancels_in, count_in, count_of, ends_in, in_transaction, irrevocable_room, moved_to, none-some, open_in, over_as, pending_of, points_in, reserved, rows_in, same_Some, sent_back, stage_of, stand_of, status_after, tally_of, took_in, tried, within}
 
 -- ## Stages
 
@@ -36,6 +40,10 @@ moved_open at c row e = absurd (cc)
 pub moved_row : (at : ℕ) (c : Current) (row : Attempt) → open_in (stage_of c) ≡ Some row → open_in (stage_of (moved_to at c)) ≡ Some (record row { at = at })
 moved_row at (Within o) row e = ap (λ (x : Attempt). Some (record x { at = at })) (same_Some _ _ e)
 moved_row at c row e = absurd (cc)
+
+pub moved_stage : (at : ℕ) (c : Current) (row : Attempt) (points : List Savepoint) → stage_of c ≡ within row points → stage_of (moved_to at c) ≡ within (record row { at = at }) points
+moved_stage at (Within o) row points e = (let r : o.row ≡ row = cc in let p : o.points ≡ points = cc in λ i. within (record (r i) { at = at }) (p i))
+moved_stage at c row points e = absurd (cc)
 
 pub moved_begun : (at : ℕ) (c : Current) → begun_in (stage_of (moved_to at c)) ≡ begun_in (stage_of c)
 moved_begun at Outside = refl
@@ -84,6 +92,23 @@ asked_begun clock a call outside row none e = absurd (cc)
 asked_begun clock a call (begins x) row none e = absurd (cc)
 asked_begun clock a call (within x points) row none e = absurd (cc)
 
+-- nor is a block begun by it
+pub asked_points : {P : Type 0} (clock : ℕ) (a : Actor P) (call : Call) (deep : ℕ) (s : Stage) → HasPoints deep s → HasPoints deep (asked_at clock a call s)
+asked_points clock a (Begin props room) deep outside h = tt
+asked_points clock a call deep outside h = tt
+asked_points clock a call deep (begins x) h = tt
+asked_points clock a call deep (within x points) h = h
+
+pub asked_began : {P : Type 0} (clock : ℕ) (a : Actor P) (call : Call) (s : Stage) → BeganIn s → BeganIn (asked_at clock a call s)
+asked_began clock a (Begin props room) outside b = tt
+asked_began clock a call outside b = tt
+asked_began clock a call (begins x) b = tt
+asked_began clock a call (within x points) b = b
+
+pub moved_points : (at deep : ℕ) (c : Current) → HasPoints deep (stage_of c) → HasPoints deep (stage_of (moved_to at c))
+moved_points at deep Outside h = tt
+moved_points at deep c h = h
+
 -- ## The open attempt, where a transaction is open
 
 module _ {P : Type 0} where
@@ -111,16 +136,25 @@ module _ {P : Type 0} where
 
 -- ## An answer
 
--- it was a reply, by which the attempt is open
-pub record IsOpen (g : Stage) (call : Call) (answer : Answer) (s : Stand) (row : Attempt) (points : List Savepoint) : Type 0 where
-  pub reply : Replied
-  pub is : answer ≡ Reply reply
-  pub either : OpensBy g call (Reply reply) s row points
+-- by which an attempt is open: a reply, or its innermost block went back to its begin
+abbrev pub IsOpen : Stage → Call → Answer → Stand → Attempt → List Savepoint → Type 0
+IsOpen g call answer s row points = ((reply : Replied) × (answer ≡ Reply reply) × OpensBy g call (Reply reply) s row points)
+    ⊎ (IsRestart answer × (old : Attempt) × (g ≡ within old points) × (row ≡ cut_back points s.arena s.ran old))
 
-open_so : (g : Stage) (call : Call) (answer : Answer) (s : Stand) (row : Attempt) (points : List Savepoint) → (IsRestart answer → ⊥) → OpensBy g call answer s row points → IsOpen g call answer s row points
-open_so g call (Reply reply) s row points whole x = record { reply = reply; is = refl; either = x }
-open_so g call (Restarted clock word) s row points whole x = absurd (whole tt)
-open_so g call answer s row points whole x = absurd x
+open_so : (g : Stage) (call : Call) (answer : Answer) (s : Stand) (row : Attempt) (points : List Savepoint) → OpensBy g call answer s row points → IsOpen g call answer s row points
+open_so g call (Reply reply) s row points x = inl (reply, refl, x)
+open_so g call (Restarted clock word) s row points x = inr (tt, x.0, x.1, x.2)
+open_so g call answer s row points x = absurd x
+
+-- what is cut back is the same attempt, as far as it has come
+pub record IsCut (row row' : Attempt) : Type 0 where
+  pub same : IsSame row row'
+  pub at : row'.at ≡ row.at
+  pub outcome : row'.outcome ≡ row.outcome
+
+pub is_cut : (points : List Savepoint) (arena : List ℕ) (due : List Ran) (row : Attempt) → IsCut row (cut_back points arena due row)
+is_cut [] arena due row = record { same = record { thread = refl; nth = refl; began = refl; props = refl; arena = refl }; at = refl; outcome = refl }
+is_cut (s ∷ outer) arena due row = record { same = record { thread = refl; nth = refl; began = refl; props = refl; arena = refl }; at = refl; outcome = refl }
 
 abbrev pub stand_at : Bool → Core → Stand
 stand_at b e = record { is_open = b; at = e.snapshot / 2; ran = e.actions.ran; arena = e.arena }
@@ -194,6 +228,10 @@ module _ {P : Type 0} where
   pub conflict_player : {rules : Rules P} {r r' : Rows} {a last : Actor P} {call : Call} {clock : ℕ} {word : Option ℕ} → Records rules r r' a last call (Conflict clock word) → (s : Stage) → stage_of a.run.current ≡ s → last.run.player ≡ sent_back rules s a.run.player
   conflict_player {rules} {a = a} {last = last} t s e = (is_tried (record (tally_at a s) { player = sent_back rules s a.run.player }) (over_as outcomes.Conflict (stand_of last.engine) s) a.run.retries (taken_at t e refl)).player
 
+  pub back_player : {rules : Rules P} {r r' : Rows} {a last : Actor P} {call : Call} {clock word : ℕ} {row : Attempt} {points : List Savepoint} → Records rules r r' a last call (Restarted clock word) → stage_of a.run.current ≡ within row points
+      → last.run.player ≡ rules.at_block a.run.player (rules.depth a.run.player)
+  back_player t e = told_player (taken_at t e refl)
+
   pub busy_player : {rules : Rules P} {r r' : Rows} {a last : Actor P} {call : Call} {clock : ℕ} → Records rules r r' a last call (Busy clock) → last.run.player ≡ a.run.player
   busy_player {a = a} t = (is_tried (tally_of a.run) [] a.run.retries t.takes).player
 
@@ -203,18 +241,18 @@ module _ {P : Type 0} where
     taken_of = is_taken call (stand_of last.engine) rules a.run.retries a.run.player a.run.nth a.run.again (stage_of a.run.current) answer
 
     -- no attempt is to be opened then
-    pub none_begun : pending_of last ≡ None
-    none_begun = told_pending t.takes ∙ by_stage _ (taken_of.begun (λ is row e. t.whole is))
+    pub none_begun : (IsRestart answer → pending_of a ≡ None) → pending_of last ≡ None
+    none_begun back = told_pending t.takes ∙ by_stage _ (taken_of.begun (λ is row e. absurd (none-some row (sym (back is) ∙ ap begun_in e))))
       where
         by_stage : (s : Stage) → ((row : Attempt) → s ≡ begins row → ⊥) → begun_in s ≡ None
         by_stage (begins row) never = absurd (never row refl)
         by_stage s never = refl
 
-    -- and an open one had its reply
+    -- and one is open so
     pub open_by : (row : Attempt) → active_of last ≡ Some row → (r'.ended ≡ r.ended) × (last.status ≡ Ready) × IsOpen (stage_of a.run.current) call answer (stand_of last.engine) row (points_in (stage_of last.run.current))
     open_by row e =
         let x = taken_of.still row (points_in (stage_of last.run.current)) (sym (told_stage t.takes) ∙ stage_open _ e) in
-        (t.takes.ended ∙ (ap (λ (l : List Attempt). r.ended ++ l) x.0 ∙ append-nil r.ended), t.takes.status ∙ ap status_after x.1, open_so _ call answer (stand_of last.engine) row (points_in (stage_of last.run.current)) t.whole x.2)
+        (t.takes.ended ∙ (ap (λ (l : List Attempt). r.ended ++ l) x.0 ∙ append-nil r.ended), t.takes.status ∙ ap status_after x.1, open_so _ call answer (stand_of last.engine) row (points_in (stage_of last.run.current)) x.2)
 
 pub sent_same : {P : Type 0} (rules : Rules P) (s : Stage) (p : P) → open_in s ≡ None → sent_back rules s p ≡ p
 sent_same rules (within row points) p none = absurd (cc)
@@ -243,8 +281,8 @@ count_less outside s' idle = (let none = ap count_in (idle refl) in omega arith)
 count_less s outside idle = omega arith
 count_less s s' idle = omega arith
 
-taken_own : {P : Type 0} {call : Call} {answer : Answer} {stand : Stand} (thread : ℕ) (s : Stage) (taken : Taken P) → IsTaken s call answer stand taken → (IsRestart answer → ⊥) → Mine thread s → IsOwn thread s taken.tally.stage taken.over
-taken_own thread s taken x whole mine = elim x.over [
+taken_own : {P : Type 0} {call : Call} {answer : Answer} {stand : Stand} (thread : ℕ) (s : Stage) (taken : Taken P) → IsTaken s call answer stand taken → (IsRestart answer → (row : Attempt) → s ≡ begins row → ⊥) → Mine thread s → IsOwn thread s taken.tally.stage taken.over
+taken_own thread s taken x back mine = elim x.over [
   | inl none ↦ (let less = count_less s taken.tally.stage x.idle in let n = ap (length {A = Attempt}) none in record { mine = subst (AllOf thread) (sym none) tt; count = omega arith })
   | inr y ↦
       (let is : s ≡ within y.0 y.1 = y.3 in
@@ -257,7 +295,7 @@ taken_own thread s taken x whole mine = elim x.over [
   where
     by_stage : (now : Stage) → taken.tally.stage ≡ now → (taken.over ≡ [] → ⊥) → taken.tally.stage ≡ outside
     by_stage outside e some = e
-    by_stage (begins row) e some = absurd (x.begun (λ is row e. whole is) row e)
+    by_stage (begins row) e some = absurd (x.begun back row e)
     by_stage (within row points) e some = absurd (some (x.still row points e).0)
 
 -- ## Its work is its own
@@ -300,9 +338,9 @@ module _ {P : Type 0} where
   }
 
   -- an answer was taken in
-  pub others_taken : {rules : Rules P} {r r' : Rows} {a last : Actor P} {call : Call} {answer : Answer} {was : Bool} → IsKept was a → Records rules r r' a last call answer → last.run.thread ≡ a.run.thread
+  pub others_taken : {rules : Rules P} {r r' : Rows} {a last : Actor P} {call : Call} {answer : Answer} {was : Bool} → IsKept was a → Records rules r r' a last call answer → (IsRestart answer → pending_of a ≡ None) → last.run.thread ≡ a.run.thread
       → r.room - length (took_in rules a.run.retries (tally_of a.run) call answer (stand_of last.engine)).over ≤ r'.room → KeepsOthers a r last r'
-  others_taken {rules} {r} {r'} {a} {last} {call} {answer} {was} kept t thread room =
+  others_taken {rules} {r} {r'} {a} {last} {call} {answer} {was} kept t back thread room =
       let taken = took_in rules a.run.retries (tally_of a.run) call answer (stand_of last.engine) in
-      let own = taken_own a.run.thread (stage_of a.run.current) taken (taken_of t) t.whole (λ row e. row_is_of was a row kept.row e) in
+      let own = taken_own a.run.thread (stage_of a.run.current) taken (taken_of t) (λ is row e. absurd (none-some row (sym (back is) ∙ ap begun_in e))) (λ row e. row_is_of was a row kept.row e) in
       others_own a last r r' taken.over thread t.takes.ended (subst (λ (s : Stage). IsOwn a.run.thread (stage_of a.run.current) s taken.over) (sym (told_stage t.takes)) own) room

@@ -1,7 +1,8 @@
 -- An open attempt that is told where its engine reads goes on with its try.
-use Rattle.std.proofs.Common.{◌≡◌, ℕ, ◌/◌, Bool, true, false, nat_lt, None, sym, subst}
-use Rattle.norec_world.proofs.Common.{Actor, GoesOnAfter, HasRow, IsKept, Outcome, Prior, ReadsAt, Rows, Tries, TriesAgain, active_of, begins, between, in_transaction, outrun, over, runs, shut_out, told, turned_away}
+use Rattle.std.proofs.Common.{◌≡◌, ℕ, ◌/◌, Bool, true, false, nat_lt, None, refl, sym, subst}
+use Rattle.norec_world.proofs.Common.{Actor, Continues, GoesOnAfter, HasRow, IsKept, Outcome, Prior, ReadsAt, Rows, Tries, TriesAgain, active_of, begins, between, in_transaction, outrun, over, runs, shut_out, told, turned_away}
 use Rattle.tx_attempts.specs.declared.attempt.Outcome.TheVariants as outcomes
+use Rattle.norec_world.proofs.Tries.TryEnds.{continues_on, extends_calls}
 use Rattle.norec_world.proofs.Tries.Stages.{moved_here, moved_none, moved_row}
 
 module _ {P : Type 0} (a : Actor P) where
@@ -25,8 +26,8 @@ none_again clock nth a true t = t.none
 none_again clock nth a false t = t.none
 
 module _ {P : Type 0} (clock clock' : ℕ) (p : Prior) (r : Rows) (a : Actor P) where
-  unchanged : active_of a ≡ None → Tries clock p clock' r a → Tries clock p clock' r (told a)
-  unchanged none t = subst (Tries clock p clock' r) (sym (told_none a none)) t
+  unchanged : active_of a ≡ None → Tries (Continues clock) clock p clock' r a → Tries (Continues clock) clock p clock' r (told a)
+  unchanged none t = subst (Tries (Continues clock) clock p clock' r) (sym (told_none a none)) t
 
   -- no row where one has stopped or is between two tries
   none_after : (o : Outcome) → GoesOnAfter o clock' p a → active_of a ≡ None
@@ -34,7 +35,7 @@ module _ {P : Type 0} (clock clock' : ℕ) (p : Prior) (r : Rows) (a : Actor P) 
   none_after outcomes.Unfinished t = absurd t
   none_after o t = t.none
 
-  pub told_tries : Tries clock p clock' r a → Tries clock p clock' r (told a)
+  pub told_tries : Tries (Continues clock) clock p clock' r a → Tries (Continues clock) clock p clock' r (told a)
   told_tries (between t) = unchanged t.between.none (between t)
   told_tries (begins t) = unchanged t.still (begins t)
   told_tries (over t) = unchanged (none_after t.row'.outcome t.after) (over t)
@@ -42,13 +43,12 @@ module _ {P : Type 0} (clock clock' : ℕ) (p : Prior) (r : Rows) (a : Actor P) 
   told_tries (shut_out t) = unchanged t.after.none (shut_out t)
   told_tries (turned_away t) = unchanged (none_again clock' p.nth a (nat_lt p.retries p.nth) t.after) (turned_away t)
   told_tries (runs t) =
-      let k = t.continues in
       runs (record {
         row = t.row;
         row' = record t.row' { at = a.engine.snapshot / 2 };
         was = t.was;
         now = moved_row (a.engine.snapshot / 2) a.run.current t.row' t.now;
-        continues = record { thread = k.thread; nth = k.nth; began = k.began; props = k.props; arena = k.arena; restarts = k.restarts; more = k.more; calls = k.calls; more_ran = k.more_ran; ran = k.ran };
+        continues = continues_on clock t.row t.row' (record t.row' { at = a.engine.snapshot / 2 }) t.continues (extends_calls t.row' t.row'.calls (a.engine.snapshot / 2) refl);
         ended = t.ended;
         half = t.half;
         tries = t.tries;

@@ -1,39 +1,67 @@
 -- What an answer does to the try that its call belongs to.
 use Rattle.tx_runs.specs.Tallies.{begins as begins_at}
-use Rattle.std.proofs.Common.{true≢false, inl, inr, ◌≡◌, ℕ, ◌+◌, ◌*◌, ◌/◌, ◌%◌, ◌<◌, ◌≤◌, Bool, true, false, nat_lt, if◌then◌else◌, is_some, List, [], ◌∷◌, ◌++◌, length, Option, None, Some, refl, sym, ap, subst, ◌∙◌, arith, append-nil, append_assoc, ◌⊎◌}
+use Rattle.std.proofs.Common.{true≢false, inl, inr, ◌≡◌, ℕ, ◌+◌, ◌*◌, ◌/◌, ◌%◌, ◌<◌, ◌≤◌, Bool, true, false, nat_lt, if◌then◌else◌, is_some, List, [], ◌∷◌, ◌++◌, length, map, Option, None, Some, refl, sym, ap, subst, ◌∙◌, arith, append-nil, append_assoc, ◌⊎◌}
 use Rattle.norec_world.proofs.Engines.PlayerLaws.{deep_of, was_open}
 use Rattle.tx_runs.proofs.OutermostBegins.{begin_goes, begin_opens, call_begins}
-use Rattle.norec_world.proofs.Common.{Actor, Agrees, Answer, Attempt, Begin, Busy, Call, CallRecord, Cells, ClosedBy, Commit, Committed, Conflict, Conflicts, ConflictsIn, Continues, Core, EndsAt, Frame, Full, GoesOnAfter, HasRow, IsBegin, IsBetween, IsLost, IsReady, IsSettledBy, IsTied, Kept, Outcome, Prior, Props, Ran, Ready, Replied, Replies, Reply, Restarted, RestsAs, Rows, Rules, Status, TakesTo, Tally, Tries, TriesAgain, WantsClock, active_of, begin_call, begins, between, by_wrote, cancels, closed, current_of, ending_as, ending_of, in_transaction, is_begin, is_done, may_go, none-some, none_inside, outrun, over, pending_of, plain_reply, prior_of, runs, same_Some, shut_out, spent, tally_of, tried, turned_away, with_call}
+use Rattle.norec_world.proofs.Common.{Actor, Agrees, Answer, Attempt, Begin, Busy, Call, CallRecord, Cells, ClosedBy, Commit, Committed, Conflict, Conflicts, ConflictsIn, Continues, Core, EndsAt, Frame, Full, GoesOnAfter, HasRow, IsBegin, IsBetween, IsLost, IsReady, IsRestart, IsSettledBy, IsTied, Kept, Outcome, Prior, Props, Ran, Ready, Replied, Replies, Reply, Restarted, RestsAs, Rows, Rules, Savepoint, Status, TakesTo, Tally, Tries, TriesAgain, WantsClock, active_of, begin_call, begins, between, by_wrote, cancels, closed, current_of, ending_as, ending_of, in_transaction, is_begin, is_done, may_go, none-some, none_inside, open_in, outrun, over, pending_of, points_in, plain_reply, prior_of, runs, same_Some, shut_out, spent, stage_of, tally_of, tried, turned_away, with_call, within}
 use Rattle.itm_types.specs.declared.call.Reply.TheVariants as replies
 use Rattle.tx_attempts.specs.declared.attempt.Outcome.TheVariants as outcomes
 use Rattle.tx_runs.specs.declared.ending.End.TheVariants as ends
 use Rattle.tx_runs.proofs.Tries.{not_closed}
-use Rattle.norec_world.proofs.Engines.Intakes.{HasAnswered, half_same, still_going, told_all}
-use Rattle.norec_world.proofs.Tries.Stages.{is_tried, tally_at, stage_begun, stage_open, stage_out, stand_at, taken_at, told_active, told_again, told_nth, told_pending, told_player, within_at}
+use Rattle.norec_world.specs.ActionRoom.{BeganIn}
+use Rattle.norec_world.specs.Sound.{HasPoints}
+use Rattle.norec_world.specs.Tries.{Extends, GoesBack, IsSame}
+use Rattle.tx_attempts.specs.Restarts.{ran_on}
+use Rattle.tx_runs.specs.Savepoints.{again_of, cut_back}
+use Rattle.norec_world.proofs.Engines.Intakes.{HasAnswered, half_same, still_going}
+use Rattle.norec_world.proofs.Tries.Stages.{is_tried, tally_at, stage_begun, stage_open, stage_out, stand_at, taken_at, told_active, told_again, told_nth, told_pending, told_player, told_stage, within_at}
 
 -- ## What stays as it is, and what ends with no call more
 
 -- with perhaps more calls and more actions that have run it is the same attempt
-continues_to : (row : Attempt) (k : Kept) (more : List CallRecord) → k.list ≡ row.calls.list ++ more → (at : ℕ) (outcome : Outcome) (ran more_ran : List Ran) → ran ≡ row.ran ++ more_ran → Continues row (record row { calls = k; at = at; ran = ran; outcome = outcome })
-continues_to row k more calls at outcome ran more_ran is = record { thread = refl; nth = refl; began = refl; props = refl; arena = refl; restarts = refl; more = more; calls = calls; more_ran = more_ran; ran = is }
+extends_to : (row : Attempt) (k : Kept) (more : List CallRecord) → k.list ≡ row.calls.list ++ more → (at : ℕ) (outcome : Outcome) (ran more_ran : List Ran) → ran ≡ row.ran ++ more_ran → Extends row (record row { calls = k; at = at; ran = ran; outcome = outcome })
+extends_to row k more calls at outcome ran more_ran is = record { same = record { thread = refl; nth = refl; began = refl; props = refl; arena = refl }; restarts = refl; more = more; calls = calls; more_ran = more_ran; ran = is }
 
 -- or with other places for its calls, elsewhere
-pub continues_calls : (row : Attempt) (k : Kept) (at : ℕ) → k.list ≡ row.calls.list → Continues row (record row { calls = k; at = at })
-continues_calls row k at same = continues_to row k [] (same ∙ sym (append-nil row.calls.list)) at row.outcome row.ran [] (sym (append-nil row.ran))
+pub extends_calls : (row : Attempt) (k : Kept) (at : ℕ) → k.list ≡ row.calls.list → Extends row (record row { calls = k; at = at })
+extends_calls row k at same = extends_to row k [] (same ∙ sym (append-nil row.calls.list)) at row.outcome row.ran [] (sym (append-nil row.ran))
 
-continues_twice : (a b c : Attempt) → Continues a b → Continues b c → Continues a c
-continues_twice a b c x y = record {
-  thread = y.thread ∙ x.thread;
-  nth = y.nth ∙ x.nth;
-  began = y.began ∙ x.began;
-  props = y.props ∙ x.props;
-  arena = y.arena ∙ x.arena;
+pub same_twice : (a b c : Attempt) → IsSame a b → IsSame b c → IsSame a c
+same_twice a b c x y = record { thread = y.thread ∙ x.thread; nth = y.nth ∙ x.nth; began = y.began ∙ x.began; props = y.props ∙ x.props; arena = y.arena ∙ x.arena }
+
+pub extends_twice : (a b c : Attempt) → Extends a b → Extends b c → Extends a c
+extends_twice a b c x y = record {
+  same = same_twice a b c x.same y.same;
   restarts = y.restarts ∙ x.restarts;
   more = x.more ++ y.more;
   calls = y.calls ∙ (ap (λ (l : List CallRecord). l ++ y.more) x.calls ∙ append_assoc a.calls.list x.more y.more);
   more_ran = x.more_ran ++ y.more_ran;
   ran = y.ran ∙ (ap (λ (l : List Ran). l ++ y.more_ran) x.ran ∙ append_assoc a.ran x.more_ran y.more_ran);
 }
+
+-- ## Where a block may have gone back
+
+pub continues_as : (clock : ℕ) (a b : Attempt) → Extends a b → Continues clock a b
+continues_as clock a b x = record { base = a; from = inl refl; on = x }
+
+pub continues_on : (clock : ℕ) (a b c : Attempt) → Continues clock a b → Extends b c → Continues clock a c
+continues_on clock a b c x y = record { base = x.base; from = x.from; on = extends_twice x.base b c x.on y }
+
+continues_back : (clock : ℕ) (a b : Attempt) → GoesBack clock a b → Continues clock a b
+continues_back clock a b x = record { base = b; from = inr x; on = extends_calls b b.calls b.at refl }
+
+pub continues_same : (clock : ℕ) (a b : Attempt) → Continues clock a b → IsSame a b
+continues_same clock a b x = elim x.from [ inl is ↦ subst (λ (y : Attempt). IsSame y b) is x.on.same | inr back ↦ same_twice a x.base b back.same x.on.same ]
+
+-- the same of the whole try
+pub tries_later : {P : Type 0} {IsLater : Attempt → Attempt → Type 0} {clock clock' : ℕ} {p : Prior} {r : Rows} {a : Actor P} → ((x y : Attempt) → Extends x y → IsLater x y) → Tries Extends clock p clock' r a → Tries IsLater clock p clock' r a
+tries_later later (between t) = between t
+tries_later later (begins t) = begins t
+tries_later later (turned_away t) = turned_away t
+tries_later later (outrun t) = outrun t
+tries_later later (shut_out t) = shut_out t
+tries_later later (runs t) = runs (record { row = t.row; row' = t.row'; was = t.was; now = t.now; continues = later t.row t.row' t.continues; ended = t.ended; half = t.half; tries = t.tries; goes_on = t.goes_on; fed = t.fed })
+tries_later later (over t) = over (record { row = t.row; row' = t.row'; was = t.was; ended = t.ended; continues = later t.row t.row' t.continues; reads = t.reads; at = t.at; closed = t.closed; spent = t.spent; few = t.few; after = t.after })
 
 -- the attempt that is open, or else is to be opened
 pub current_open : {P : Type 0} (a : Actor P) {row : Attempt} → active_of a ≡ Some row → current_of (active_of a) (pending_of a) ≡ Some row
@@ -44,18 +72,18 @@ current_shut a none e = ap (λ (o : Option Attempt). current_of o (pending_of a)
 
 module _ {P : Type 0} (seen clock clock' : ℕ) (r r' : Rows) (a a' : Actor P) (ended : r'.ended ≡ r.ended) (half : clock' / 2 ≡ clock / 2) where
   -- no try is open before, and none after
-  pub stays_between : active_of a ≡ None → pending_of a ≡ None → IsBetween clock' a.run.nth a' → Tries clock (record (prior_of r a) { seen = seen }) clock' r' a'
+  pub stays_between : active_of a ≡ None → pending_of a ≡ None → IsBetween clock' a.run.nth a' → Tries Extends clock (record (prior_of r a) { seen = seen }) clock' r' a'
   stays_between none nothing b = between (record { idle = current_shut a none nothing; ended = ended; half = half; between = b })
 
   -- the attempt is open, or was opened
-  pub stays_open : (row row' : Attempt) → current_of (active_of a) (pending_of a) ≡ Some row → active_of a' ≡ Some row' → Continues row row' → a'.run.nth ≡ a.run.nth → (ending_of a'.status ≡ Some ends.GaveUp → ⊥) → (ending_of a'.status ≡ Some ends.NoMemory → a'.engine.irrevocable ≡ true)
-      → Tries clock (record (prior_of r a) { seen = seen }) clock' r' a'
+  pub stays_open : (row row' : Attempt) → current_of (active_of a) (pending_of a) ≡ Some row → active_of a' ≡ Some row' → Extends row row' → a'.run.nth ≡ a.run.nth → (ending_of a'.status ≡ Some ends.GaveUp → ⊥) → (ending_of a'.status ≡ Some ends.NoMemory → a'.engine.irrevocable ≡ true)
+      → Tries Extends clock (record (prior_of r a) { seen = seen }) clock' r' a'
   stays_open row row' was now continues nth goes_on fed = runs (record { row = row; row' = row'; was = was; now = now; continues = continues; ended = ended; half = half; tries = nth; goes_on = goes_on; fed = fed })
 
   -- either, where the actor has changed but in this
   pub stays : (b : Bool) → HasRow b a → pending_of a ≡ None → active_of a' ≡ active_of a → pending_of a' ≡ None → a'.run.nth ≡ a.run.nth → (ending_of a'.status ≡ Some ends.GaveUp → ⊥) → (ending_of a'.status ≡ Some ends.NoMemory → a'.engine.irrevocable ≡ true)
-      → Tries clock (record (prior_of r a) { seen = seen }) clock' r' a'
-  stays true h nothing same still nth goes_on fed = stays_open h.0 h.0 (current_open a h.1) (same ∙ h.1) (continues_calls h.0 h.0.calls h.0.at refl) nth goes_on fed
+      → Tries Extends clock (record (prior_of r a) { seen = seen }) clock' r' a'
+  stays true h nothing same still nth goes_on fed = stays_open h.0 h.0 (current_open a h.1) (same ∙ h.1) (extends_calls h.0 h.0.calls h.0.at refl) nth goes_on fed
   stays false h nothing same still nth goes_on fed = stays_between h nothing (record { none = same ∙ h; tries = nth; opens = λ row e. absurd (none-some row (sym still ∙ e)); goes_on = goes_on })
 
 -- what comes after an attempt has to do with the tries alone
@@ -64,9 +92,9 @@ goes_for clock p q a nth retries outcomes.Conflict g = subst (λ (k : ℕ). Trie
 goes_for clock p q a nth retries o g = g
 
 -- the attempt that is open stood so earlier, and so did the tries
-pub tries_from : {P : Type 0} (clock0 clock clock' : ℕ) (p q : Prior) (r : Rows) (a : Actor P) (row row1 : Attempt) → p.active ≡ Some row1 → Continues row row1 → current_of q.active q.pending ≡ Some row → p.ended ≡ q.ended → p.nth ≡ q.nth → p.retries ≡ q.retries → clock / 2 ≡ clock0 / 2
-    → ((at : ℕ) (o : Outcome) → EndsAt p.max_commits clock clock' at o → EndsAt q.max_commits clock0 clock' at o) → Tries clock p clock' r a → Tries clock0 q clock' r a
-tries_from {P} clock0 clock clock' p q r a row row1 here continues was ended nth retries half ends t = by_try t
+pub tries_from : {P : Type 0} (IsLater : Attempt → Attempt → Type 0) (then_on : (x y z : Attempt) → IsLater x y → Extends y z → IsLater x z) (clock0 clock clock' : ℕ) (p q : Prior) (r : Rows) (a : Actor P) (row row1 : Attempt) → p.active ≡ Some row1 → IsLater row row1 → current_of q.active q.pending ≡ Some row → p.ended ≡ q.ended → p.nth ≡ q.nth → p.retries ≡ q.retries → p.restarts ≡ q.restarts → clock / 2 ≡ clock0 / 2
+    → ((at : ℕ) (o : Outcome) → EndsAt p.max_commits clock clock' at o → EndsAt q.max_commits clock0 clock' at o) → Tries Extends clock p clock' r a → Tries IsLater clock0 q clock' r a
+tries_from {P} IsLater then_on clock0 clock clock' p q r a row row1 here continues was ended nth retries restarts half ends t = by_try t
   where
     is_current : {o : Option Attempt} → current_of p.active p.pending ≡ o → Some row1 ≡ o
     is_current e = sym (ap (λ (o : Option Attempt). current_of o p.pending) here) ∙ e
@@ -74,10 +102,10 @@ tries_from {P} clock0 clock clock' p q r a row row1 here continues was ended nth
     not_shut : {A : Type 0} → p.active ≡ None → A
     not_shut none = absurd (none-some row1 (sym none ∙ here))
 
-    since : (row2 row3 : Attempt) → current_of p.active p.pending ≡ Some row2 → Continues row2 row3 → Continues row row3
-    since row2 row3 is c = continues_twice row row1 row3 continues (subst (λ (x : Attempt). Continues x row3) (sym (same_Some _ _ (is_current is))) c)
+    since : (row2 row3 : Attempt) → current_of p.active p.pending ≡ Some row2 → Extends row2 row3 → IsLater row row3
+    since row2 row3 is c = then_on row row1 row3 continues (subst (λ (x : Attempt). Extends x row3) (sym (same_Some _ _ (is_current is))) c)
 
-    by_try : Tries clock p clock' r a → Tries clock0 q clock' r a
+    by_try : Tries Extends clock p clock' r a → Tries IsLater clock0 q clock' r a
     by_try (between t) = absurd (none-some row1 (sym (is_current t.idle)))
     by_try (begins t) = not_shut t.none
     by_try (turned_away t) = not_shut t.none
@@ -94,37 +122,39 @@ tries_from {P} clock0 clock clock' p q r a row row1 here continues was ended nth
       at = ends t.row'.at t.row'.outcome t.at;
       closed = t.closed;
       spent = t.spent;
+      few = (let few = t.few in omega arith);
       after = goes_for clock' p q a (sym nth) (sym retries) t.row'.outcome t.after;
     })
 
 -- the open attempt ends
 pub ends_try : {P : Type 0} (seen clock clock' : ℕ) (r r' : Rows) (a a' : Actor P) (row : Attempt) (list more : List CallRecord) → list ≡ row.calls.list ++ more → (at : ℕ) (outcome : Outcome) (ran more_ran : List Ran) → ran ≡ row.ran ++ more_ran
     → active_of a ≡ Some row → r'.ended ≡ r.ended ++ record row { calls = record { list = list; room = 0 }; at = at; ran = ran; outcome = outcome } ∷ []
-    → at ≡ a'.engine.snapshot / 2 → EndsAt a.engine.max_commits clock clock' at outcome → ClosedBy outcome list → GoesOnAfter outcome clock' (prior_of r a) a' → Tries clock (record (prior_of r a) { seen = seen }) clock' r' a'
-ends_try seen clock clock' r r' a a' row list more calls at outcome ran more_ran is was ended reads ends closed goes = over (record {
+    → at ≡ a'.engine.snapshot / 2 → EndsAt a.engine.max_commits clock clock' at outcome → ClosedBy outcome list → length row.restarts ≤ a.engine.restarts → GoesOnAfter outcome clock' (prior_of r a) a' → Tries Extends clock (record (prior_of r a) { seen = seen }) clock' r' a'
+ends_try seen clock clock' r r' a a' row list more calls at outcome ran more_ran is was ended reads ends closed few goes = over (record {
   row = row;
   row' = record row { calls = record { list = list; room = 0 }; at = at; ran = ran; outcome = outcome };
   was = current_open a was;
   ended = ended;
-  continues = continues_to row (record { list = list; room = 0 }) more calls at outcome ran more_ran is;
+  continues = extends_to row (record { list = list; room = 0 }) more calls at outcome ran more_ran is;
   reads = reads;
   at = ends;
   closed = closed;
   spent = refl;
+  few = few;
   after = goes_for clock' (prior_of r a) (record (prior_of r a) { seen = seen }) a' refl refl outcome goes;
 })
 
 -- and its block has not
 pub stops_try : {P : Type 0} (seen clock clock' : ℕ) (r r' : Rows) (a a' : Actor P) (row : Attempt) (at : ℕ) (outcome : Outcome) (ran more_ran : List Ran) → ran ≡ row.ran ++ more_ran
     → active_of a ≡ Some row → r'.ended ≡ r.ended ++ record row { calls = spent row.calls; at = at; ran = ran; outcome = outcome } ∷ []
-    → at ≡ a'.engine.snapshot / 2 → EndsAt a.engine.max_commits clock clock' at outcome → is_done outcome ≡ false → GoesOnAfter outcome clock' (prior_of r a) a' → Tries clock (record (prior_of r a) { seen = seen }) clock' r' a'
-stops_try seen clock clock' r r' a a' row at outcome ran more_ran is was ended reads ends undone goes =
-    ends_try seen clock clock' r r' a a' row row.calls.list [] (sym (append-nil row.calls.list)) at outcome ran more_ran is was ended reads ends (not_closed outcome undone row.calls.list) goes
+    → at ≡ a'.engine.snapshot / 2 → EndsAt a.engine.max_commits clock clock' at outcome → is_done outcome ≡ false → length row.restarts ≤ a.engine.restarts → GoesOnAfter outcome clock' (prior_of r a) a' → Tries Extends clock (record (prior_of r a) { seen = seen }) clock' r' a'
+stops_try seen clock clock' r r' a a' row at outcome ran more_ran is was ended reads ends undone few goes =
+    ends_try seen clock clock' r r' a a' row row.calls.list [] (sym (append-nil row.calls.list)) at outcome ran more_ran is was ended reads ends (not_closed outcome undone row.calls.list) few goes
 
 pub next_try : {P : Type 0} (t : Tally P) (attempts : List Attempt) (retries : ℕ) {r r' : Rows} {a last : Actor P} → TakesTo (tried retries t attempts) r r' a last → (ending_of last.status ≡ Some ends.GaveUp → ⊥) → (last.status ≡ Ready) × (last.run.nth ≡ t.nth + 1)
 next_try t attempts retries x on = elim (is_tried t attempts retries x).either [ inl last_one ↦ absurd (on (ap ending_of last_one.1)) | inr more ↦ (more.1, more.2) ]
 
-module _ {P : Type 0} (rules : Rules P) (a last : Actor P) (was : Bool) (settled : IsSettledBy rules was a last) where
+module _ {P : Type 0} (rules : Rules P) (a last : Actor P) (was : Bool) {before : ℕ} (settled : IsSettledBy rules was before a last) where
   none_active : in_transaction a.engine ≡ false → active_of last ≡ None
   none_active closed = subst (λ (b : Bool). HasRow b last) (ap in_transaction settled.engine ∙ closed) settled.kept.row
 
@@ -159,42 +189,41 @@ module _ {P : Type 0} {rules : Rules P} {cells cells' : Cells} {r r1 : Rows} {mi
   row = m.answered.kept.row.0
 
   abbrev Tried : Type 0
-  Tried = Tries cells.clock (record (prior_of r a) { seen = seen }) cells'.clock r1 last
+  Tried = Tries Extends cells.clock (record (prior_of r a) { seen = seen }) cells'.clock r1 last
 
-  -- the actions that have run since
-  abbrev later : List Ran
-  later = (m.taken.first m.answered.kept.row.0 m.answered.kept.row.1).0
+  -- no more blocks of it ran again than may
+  few_again : length m.answered.kept.row.0.restarts ≤ a.engine.restarts
+  few_again = (let few = m.taken.few row m.answered.kept.row.1 in let most = m.taken.tied.settled.few in omega arith)
 
-  ran_later : last.engine.actions.ran ≡ m.answered.kept.row.0.ran ++ (m.taken.first m.answered.kept.row.0 m.answered.kept.row.1).0
-  ran_later = ap (λ (c : Core). c.actions.ran) m.settled.engine ∙ sym (m.taken.first row m.answered.kept.row.1).1
+  -- what has run in it then
+  abbrev told_ran : List Ran
+  told_ran = ran_on m.answered.kept.row.0.ran m.answered.kept.row.0.restarts last.engine.actions.ran
 
   -- it ends by a call of its, which closes its block
   closes : (reply : Replied) (outcome : Outcome) → in_transaction a.engine ≡ false → TakesTo (closed (record (tally_at a (within_at a (with_call call reply m.answered.kept.row.0))) { player = rules.answered a.run.player reply }) outcome (stand_at false last.engine)) r r1 a last
       → EndsAt a.engine.max_commits cells.clock cells'.clock (last.engine.snapshot / 2) outcome → ClosedBy outcome (m.answered.kept.row.0.calls.list ++ record { call = call; reply = reply } ∷ []) → (IsBetween cells'.clock 1 last → GoesOnAfter outcome cells'.clock (prior_of r a) last) → Tried
   closes reply outcome shut x ends closed goes =
-      ends_try seen cells.clock cells'.clock r r1 a last row (row.calls.list ++ record { call = call; reply = reply } ∷ []) (record { call = call; reply = reply } ∷ []) refl (last.engine.snapshot / 2) outcome last.engine.actions.ran later ran_later m.answered.kept.row.1
-      (x.ended ∙ ap (λ (l : List Ran). r.ended ++ record row { calls = record { list = row.calls.list ++ record { call = call; reply = reply } ∷ []; room = 0 }; at = last.engine.snapshot / 2; ran = l; outcome = outcome } ∷ []) (told_all m row m.answered.kept.row.1)) refl ends closed
-      (goes (is_between rules a last true m.settled cells'.clock 1 shut x.status (told_nth x)))
+      ends_try seen cells.clock cells'.clock r r1 a last row (row.calls.list ++ record { call = call; reply = reply } ∷ []) (record { call = call; reply = reply } ∷ []) refl (last.engine.snapshot / 2) outcome told_ran _ refl m.answered.kept.row.1
+      x.ended refl ends closed few_again (goes (is_between rules a last true m.settled cells'.clock 1 shut x.status (told_nth x)))
 
   -- or without one
   stops : (outcome : Outcome) → r1.ended ≡ r.ended ++ ending_as outcome (stand_at false last.engine) m.answered.kept.row.0 ∷ [] → EndsAt a.engine.max_commits cells.clock cells'.clock (last.engine.snapshot / 2) outcome → is_done outcome ≡ false → GoesOnAfter outcome cells'.clock (prior_of r a) last → Tried
-  stops outcome ended = stops_try seen cells.clock cells'.clock r r1 a last row (last.engine.snapshot / 2) outcome last.engine.actions.ran later ran_later m.answered.kept.row.1
-      (ended ∙ ap (λ (l : List Ran). r.ended ++ record row { calls = spent row.calls; at = last.engine.snapshot / 2; ran = l; outcome = outcome } ∷ []) (told_all m row m.answered.kept.row.1)) refl
+  stops outcome ended ends undone goes = stops_try seen cells.clock cells'.clock r r1 a last row (last.engine.snapshot / 2) outcome told_ran _ refl m.answered.kept.row.1 ended refl ends undone few_again goes
 
 module _ {P : Type 0} {rules : Rules P} {cells cells' : Cells} {r r1 : Rows} {mid : Core} {a last : Actor P} {call : Call} (seen : ℕ) where
-  pub open_tries : (ans : Answer) → HasAnswered rules true cells cells' r r1 mid a last call ans → Tries cells.clock (record (prior_of r a) { seen = seen }) cells'.clock r1 last
-  open_tries (Reply reply) m = by_open (in_transaction last.engine) refl
+  pub open_tries : (ans : Answer) → (IsRestart ans → ⊥) → HasAnswered rules true cells cells' r r1 mid a last call ans → Tries Extends cells.clock (record (prior_of r a) { seen = seen }) cells'.clock r1 last
+  open_tries (Reply reply) never m = by_open (in_transaction last.engine) refl
     where
       half : cells'.clock / 2 ≡ cells.clock / 2
       half = half_same m refl
 
-      by_open : (now : Bool) → in_transaction last.engine ≡ now → Tries cells.clock (record (prior_of r a) { seen = seen }) cells'.clock r1 last
+      by_open : (now : Bool) → in_transaction last.engine ≡ now → Tries Extends cells.clock (record (prior_of r a) { seen = seen }) cells'.clock r1 last
       by_open true o =
           let row = m.answered.kept.row in
+          let ran : List Ran = ran_on row.0.ran row.0.restarts last.engine.actions.ran in
           let x = taken_at m.told (stage_open _ row.1) o in
-          stays_open seen cells.clock cells'.clock r r1 a last (x.ended ∙ append-nil r.ended) half row.0 (record (with_call call reply row.0) { ran = last.engine.actions.ran }) (current_open a row.1)
-          (told_active x ∙ ap (λ (l : List Ran). Some (record (with_call call reply row.0) { ran = l })) (told_all m row.0 row.1))
-          (continues_to row.0 (with_call call reply row.0).calls (record { call = call; reply = reply } ∷ []) refl row.0.at row.0.outcome last.engine.actions.ran _ (ran_later seen m)) (told_nth x) (still_going x.status) (still_going x.status)
+          stays_open seen cells.clock cells'.clock r r1 a last (x.ended ∙ append-nil r.ended) half row.0 (record (with_call call reply row.0) { ran = ran }) (current_open a row.1) (told_active x)
+          (extends_to row.0 (with_call call reply row.0).calls (record { call = call; reply = reply } ∷ []) refl row.0.at row.0.outcome ran _ refl) (told_nth x) (still_going x.status) (still_going x.status)
       by_open false o =
           let calls : List CallRecord = m.answered.kept.row.0.calls.list in
           let shut : in_transaction a.engine ≡ false = ap in_transaction (sym m.settled.engine) ∙ o in
@@ -202,7 +231,7 @@ module _ {P : Type 0} {rules : Rules P} {cells cells' : Cells} {r r1 : Rows} {mi
           let abort = cancels mid a.engine call reply cells'.words g m.taken.was_is shut (sym m.taken.words, m.taken.tied.fit) (subst (Agrees cells'.words) (sym (m.taken.tied.settled.closed shut).0) tt) in
           closes seen m reply outcomes.Cancelled shut (taken_at m.told (stage_open _ m.answered.kept.row.1) o) (half, omega (arith, ap (λ (c : Core). c.snapshot) m.settled.engine, reached cells' a.engine m.taken.tied))
           (calls, abort.0, (λ i. calls ++ record { call = abort.1 i; reply = abort.2 i } ∷ [])) (λ b. b)
-  open_tries (Committed at wrote) m =
+  open_tries (Committed at wrote) never m =
       let calls : List CallRecord = m.answered.kept.row.0.calls.list in
       let here : at ≡ last.engine.snapshot / 2 = m.ends.at_is ∙ ap (λ (n : ℕ). n / 2) (sym (ap (λ (c : Core). c.snapshot) (m.settled.engine ∙ m.ends.stays))) in
       let by_commit : calls ++ record { call = call; reply = replies.Done } ∷ [] ≡ calls ++ record { call = Commit; reply = replies.Done } ∷ [] = λ i. calls ++ record { call = m.answered.fits.2 i; reply = replies.Done } ∷ [] in
@@ -212,7 +241,7 @@ module _ {P : Type 0} {rules : Rules P} {cells cells' : Cells} {r r1 : Rows} {mi
       (λ w. (m.taken.moves.keeps (m.ends.freed ∙ w), omega (arith, ap (λ (c : Core). c.snapshot) m.ends.stays, m.ends.at_is, reached cells' a.engine m.taken.tied)))))
       (by_wrote (λ o. ClosedBy o (calls ++ record { call = call; reply = replies.Done } ∷ [])) wrote (λ w. (calls, by_commit)) (λ w. (calls, by_commit)))
       (λ b. by_wrote (λ o. GoesOnAfter o cells'.clock (prior_of r a) last) wrote (λ w. b) (λ w. b))
-  open_tries (Conflict clock word) m =
+  open_tries (Conflict clock word) never m =
       let row = m.answered.kept.row in
       let g : Conflicts mid clock word a.engine = subst (λ (b : Bool). ConflictsIn b mid clock word a.engine) m.taken.was_is m.ends in
       let x = taken_at m.told (stage_open _ row.1) (ap in_transaction m.settled.engine ∙ m.answered.fits.1) in
@@ -223,9 +252,9 @@ module _ {P : Type 0} {rules : Rules P} {cells cells' : Cells} {r r1 : Rows} {mi
         omega (arith, ap (λ (c : Core). c.snapshot) (m.settled.engine ∙ g.stays), ap (λ (c : Core). c.clock) g.stays, g.later, g.clock_is, m.taken.tied.late),
       ) refl
       (tries_again rules a last true m.settled cells'.clock m.answered.fits.1 t gone a.run.retries x)
-  open_tries (Restarted clock word) m = absurd m.answered.fits
-  open_tries (Busy clock) m = absurd (let f : true ≡ false = m.answered.fits.0 in cc)
-  open_tries (Full at) m =
+  open_tries (Restarted clock word) never m = absurd (never tt)
+  open_tries (Busy clock) never m = absurd (let f : true ≡ false = m.answered.fits.0 in cc)
+  open_tries (Full at) never m =
       let x = taken_at m.told (stage_open _ m.answered.kept.row.1) (ap in_transaction m.settled.engine ∙ m.answered.fits.1) in
       let here : at ≡ last.engine.snapshot / 2 = m.ends.at_is ∙ ap (λ (n : ℕ). n / 2) (sym (ap (λ (c : Core). c.snapshot) m.settled.engine)) in
       stops seen m outcomes.Full x.ended (
@@ -235,6 +264,42 @@ module _ {P : Type 0} {rules : Rules P} {cells cells' : Cells} {r r1 : Rows} {mi
       ) refl
       (record { none = none_active rules a last true m.settled m.answered.fits.1; status = x.status })
 
+  -- its innermost block goes back to its begin
+  pub back_tries : (clock word : ℕ) → ((row : Attempt) → active_of a ≡ Some row → row.at ≡ mid.snapshot / 2) → HasAnswered rules true cells cells' r r1 mid a last call (Restarted clock word) → Tries (Continues cells.clock) cells.clock (record (prior_of r a) { seen = seen }) cells'.clock r1 last
+  back_tries clock word reads m =
+      let row = m.answered.kept.row in
+      let points = points_in (stage_of a.run.current) in
+      let here = stage_open _ row.1 in
+      let x = taken_at m.told here (ap in_transaction m.settled.engine ∙ m.answered.fits.1) in
+      let deep : rules.depth a.run.player ≡ length points + 1 = subst (HasPoints (rules.depth a.run.player)) here m.answered.points in
+      let back = goes_back row.0 points last.engine.arena last.engine.actions.ran (let some = m.answered.fits.3 in omega arith) (subst BeganIn here m.taken.began) (omega (arith, reads row.0 row.1, m.ends.later, ap (λ (c : Core). c.snapshot) m.ends.stays, m.taken.tied.settled.even, reached cells' a.engine m.taken.tied, half_same m refl)) in
+      runs (record {
+        row = row.0;
+        row' = cut_back points last.engine.arena last.engine.actions.ran row.0;
+        was = current_open a row.1;
+        now = told_active x;
+        continues = continues_back cells.clock row.0 (cut_back points last.engine.arena last.engine.actions.ran row.0) back;
+        ended = x.ended ∙ append-nil r.ended;
+        half = half_same m refl;
+        tries = told_nth x;
+        goes_on = still_going x.status;
+        fed = still_going x.status;
+      })
+    where
+      goes_back : (row : Attempt) (points : List Savepoint) (arena : List ℕ) (due : List Ran) → 0 < length points → BeganIn (within row points) → row.at < cells.clock / 2 → GoesBack cells.clock row (cut_back points arena due row)
+      goes_back row [] arena due some b moved = absurd (omega arith)
+      goes_back row (s ∷ outer) arena due some b moved = record {
+        moved = moved;
+        same = record { thread = refl; nth = refl; began = refl; props = refl; arena = refl };
+        again = again_of s row arena due;
+        outer = map (λ (q : Savepoint). q.kept) outer;
+        innermost = sym b.0;
+        calls = refl;
+        restarts = refl;
+        told = s.ran;
+        ran = refl;
+      }
+
 -- ## A begin is answered
 
 module _ {P : Type 0} (rules : Rules P) (r r1 : Rows) (a last : Actor P) (call : Call) (reply : Replied) where
@@ -243,7 +308,7 @@ module _ {P : Type 0} (rules : Rules P) (r r1 : Rows) (a last : Actor P) (call :
     pub row : Attempt
     pub pending : pending_of a ≡ Some row
     pub now : in_transaction last.engine ≡ true
-    pub active : active_of last ≡ Some (record row { at = last.engine.snapshot / 2 })
+    pub stage : stage_of last.run.current ≡ within (record row { at = last.engine.snapshot / 2 }) []
     pub again : last.run.again ≡ true
 
   -- the call was no begin, or one that was refused
@@ -268,7 +333,7 @@ module _ {P : Type 0} {rules : Rules P} {cells cells' : Cells} {r r1 : Rows} {mi
       by_open : (now : Bool) → in_transaction last.engine ≡ now → (p : Option Attempt) → pending_of a ≡ p → RepliedOutside rules r r1 a last call reply
       by_open true e (Some row) p =
           let x = taken_at m.told (stage_begun _ p) e in
-          record { player = told_player x; nth = told_nth x; status = x.status; ended = x.ended ∙ append-nil r.ended; pending = told_pending x; either = inl (record { row = row; pending = p; now = e; active = told_active x; again = told_again x }) }
+          record { player = told_player x; nth = told_nth x; status = x.status; ended = x.ended ∙ append-nil r.ended; pending = told_pending x; either = inl (record { row = row; pending = p; now = e; stage = told_stage x; again = told_again x }) }
       by_open false e None p =
           let x = taken_at m.told (stage_out _ m.answered.kept.row p) e in
           record { player = told_player x; nth = told_nth x; status = x.status; ended = x.ended ∙ append-nil r.ended; pending = told_pending x; either = inr (record { shut = e; again = told_again x; why = inl p }) }
@@ -289,9 +354,9 @@ module _ {P : Type 0} {rules : Rules P} {cells cells' : Cells} {r r1 : Rows} {mi
 
   -- where a step was done, the begin was not refused; the engine had seen this clock before
   pub begin_tries : (seen : ℕ) → ((props : Props) (room : ℕ) → call ≡ Begin props room → may_go mid.blocks props ≡ true) → (ans : Answer) → ((clock : ℕ) (word : Option ℕ) → ans ≡ Conflict clock word → seen ≤ mid.snapshot)
-      → HasAnswered rules false cells cells' r r1 mid a last call ans → Tries cells.clock (record (prior_of r a) { seen = seen }) cells'.clock r1 last
+      → HasAnswered rules false cells cells' r r1 mid a last call ans → Tries Extends cells.clock (record (prior_of r a) { seen = seen }) cells'.clock r1 last
   begin_tries seen may (Reply reply) early m = elim x.either [
-    | inl b ↦ stays_open seen cells.clock cells'.clock r r1 a last x.ended half b.row (record b.row { at = last.engine.snapshot / 2 }) (current_shut a m.answered.kept.row b.pending) b.active (continues_calls b.row b.row.calls (last.engine.snapshot / 2) refl) x.nth (still_going x.status) (still_going x.status)
+    | inl b ↦ stays_open seen cells.clock cells'.clock r r1 a last x.ended half b.row (record b.row { at = last.engine.snapshot / 2 }) (current_shut a m.answered.kept.row b.pending) (ap open_in b.stage) (extends_calls b.row b.row.calls (last.engine.snapshot / 2) refl) x.nth (still_going x.status) (still_going x.status)
     | inr n ↦ elim n.why [
       | inl nothing ↦
           stays_between seen cells.clock cells'.clock r r1 a last x.ended half m.answered.kept.row nothing (is_between rules a last false m.settled cells'.clock a.run.nth (ap in_transaction (sym m.settled.engine) ∙ n.shut) x.status x.nth)
@@ -361,5 +426,5 @@ module _ {P : Type 0} {rules : Rules P} {cells cells' : Cells} {r r1 : Rows} {mi
         same = out.0;
         after = record { none = none_active rules a last false m.settled m.answered.fits.1; status = x.status };
       })
-  begin_tries seen may (Restarted clock word) early m = absurd m.answered.fits
+  begin_tries seen may (Restarted clock word) early m = absurd (let f : false ≡ true = m.answered.fits.0 in cc)
   begin_tries seen may (Committed at wrote) early m = absurd (let f : false ≡ true = m.answered.fits.0 in cc)

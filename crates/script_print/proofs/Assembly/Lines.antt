@@ -1,7 +1,7 @@
 -- Each line keeps what is kept of the lines so far.
 use Rattle.std.proofs.Common.{◌≡◌, ℕ, ◌+◌, List, [], ◌∷◌, Option, Some, None, Ok, refl, subst, inl, inr}
 use Rattle.std.specs.List.{list_all}
-use Rattle.itm_types.specs.declared.limits.TheConstants.{MAX_ARENA, MAX_PATIENCE, MAX_RETRIES, MAX_COMMITS, MAX_DEPTH}
+use Rattle.itm_types.specs.declared.limits.TheConstants.{MAX_ARENA, MAX_PATIENCE, MAX_RESTARTS, MAX_RETRIES, MAX_COMMITS, MAX_DEPTH}
 use Rattle.script_fields.specs.declared.fault.AsmKind.TheVariants as faults
 use Rattle.script_fields.specs.Text.{fields, without_comment, is_allowed}
 use Rattle.script_fields.specs.Shapes.{none, size_of, limit_of, init_of, count_of}
@@ -44,27 +44,32 @@ obeyed_sound s t n words.Arena fs h e =
     let read = operands_ok n (limit_of 0 MAX_ARENA fs) (λ k. Ok (record s { limits = record s.limits { arena = Some k } })) t e in
     let is : record s { limits = record s.limits { arena = Some read.0 } } ≡ t = cc in
     let arena = (limit_of_form 0 MAX_ARENA fs read.0 read.1).1 in
-    subst IsSound is (with_limits s (record s.limits { arena = Some read.0 }) h (record { arena = arena; patience = h.limits.patience; retries = h.limits.retries; commits = h.limits.commits; depth = h.limits.depth }))
+    subst IsSound is (with_limits s (record s.limits { arena = Some read.0 }) h (record { arena = arena; patience = h.limits.patience; retries = h.limits.retries; commits = h.limits.commits; restarts = h.limits.restarts; depth = h.limits.depth }))
 obeyed_sound s t n words.Patience fs h e =
     let read = operands_ok n (limit_of 1 MAX_PATIENCE fs) (λ k. Ok (record s { limits = record s.limits { patience = Some k } })) t e in
     let is : record s { limits = record s.limits { patience = Some read.0 } } ≡ t = cc in
     let patience = limit_of_form 1 MAX_PATIENCE fs read.0 read.1 in
-    subst IsSound is (with_limits s (record s.limits { patience = Some read.0 }) h (record { arena = h.limits.arena; patience = patience; retries = h.limits.retries; commits = h.limits.commits; depth = h.limits.depth }))
+    subst IsSound is (with_limits s (record s.limits { patience = Some read.0 }) h (record { arena = h.limits.arena; patience = patience; retries = h.limits.retries; commits = h.limits.commits; restarts = h.limits.restarts; depth = h.limits.depth }))
 obeyed_sound s t n words.Retries fs h e =
     let read = operands_ok n (limit_of 0 MAX_RETRIES fs) (λ k. Ok (record s { limits = record s.limits { retries = Some k } })) t e in
     let is : record s { limits = record s.limits { retries = Some read.0 } } ≡ t = cc in
     let retries = (limit_of_form 0 MAX_RETRIES fs read.0 read.1).1 in
-    subst IsSound is (with_limits s (record s.limits { retries = Some read.0 }) h (record { arena = h.limits.arena; patience = h.limits.patience; retries = retries; commits = h.limits.commits; depth = h.limits.depth }))
+    subst IsSound is (with_limits s (record s.limits { retries = Some read.0 }) h (record { arena = h.limits.arena; patience = h.limits.patience; retries = retries; commits = h.limits.commits; restarts = h.limits.restarts; depth = h.limits.depth }))
 obeyed_sound s t n words.Commits fs h e =
     let read = operands_ok n (limit_of 1 MAX_COMMITS fs) (λ k. Ok (record s { limits = record s.limits { commits = Some k } })) t e in
     let is : record s { limits = record s.limits { commits = Some read.0 } } ≡ t = cc in
     let commits = limit_of_form 1 MAX_COMMITS fs read.0 read.1 in
-    subst IsSound is (with_limits s (record s.limits { commits = Some read.0 }) h (record { arena = h.limits.arena; patience = h.limits.patience; retries = h.limits.retries; commits = commits; depth = h.limits.depth }))
+    subst IsSound is (with_limits s (record s.limits { commits = Some read.0 }) h (record { arena = h.limits.arena; patience = h.limits.patience; retries = h.limits.retries; commits = commits; restarts = h.limits.restarts; depth = h.limits.depth }))
+obeyed_sound s t n words.Restarts fs h e =
+    let read = operands_ok n (limit_of 0 MAX_RESTARTS fs) (λ k. Ok (record s { limits = record s.limits { restarts = Some k } })) t e in
+    let is : record s { limits = record s.limits { restarts = Some read.0 } } ≡ t = cc in
+    let restarts = (limit_of_form 0 MAX_RESTARTS fs read.0 read.1).1 in
+    subst IsSound is (with_limits s (record s.limits { restarts = Some read.0 }) h (record { arena = h.limits.arena; patience = h.limits.patience; retries = h.limits.retries; commits = h.limits.commits; restarts = restarts; depth = h.limits.depth }))
 obeyed_sound s t n words.Depth fs h e =
     let read = operands_ok n (limit_of 1 MAX_DEPTH fs) (λ k. Ok (record s { limits = record s.limits { depth = Some k } })) t e in
     let is : record s { limits = record s.limits { depth = Some read.0 } } ≡ t = cc in
     let depth = limit_of_form 1 MAX_DEPTH fs read.0 read.1 in
-    subst IsSound is (with_limits s (record s.limits { depth = Some read.0 }) h (record { arena = h.limits.arena; patience = h.limits.patience; retries = h.limits.retries; commits = h.limits.commits; depth = depth }))
+    subst IsSound is (with_limits s (record s.limits { depth = Some read.0 }) h (record { arena = h.limits.arena; patience = h.limits.patience; retries = h.limits.retries; commits = h.limits.commits; restarts = h.limits.restarts; depth = depth }))
 obeyed_sound s t n words.Schedule fs h e =
     let read = operands_ok n (schedule_of fs) (scheduled s n) t e in
     scheduled_sound s t n fs read.0 h read.1 read.2

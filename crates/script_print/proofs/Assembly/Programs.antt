@@ -5,7 +5,7 @@ use Rattle.std.specs.Option.{IfSome, unwrap_or}
 use Rattle.std.specs.Str.Lines.{lines}
 use Rattle.std.proofs.lemmas.Bool.{ltb-true}
 use Rattle.itm_types.specs.Limits.{AreWithin}
-use Rattle.itm_types.specs.declared.limits.TheConstants.{MAX_ARENA, MAX_PATIENCE, MAX_RETRIES, MAX_COMMITS, MAX_DEPTH, USUAL_DEPTH}
+use Rattle.itm_types.specs.declared.limits.TheConstants.{MAX_ARENA, MAX_PATIENCE, MAX_RESTARTS, MAX_RETRIES, MAX_COMMITS, MAX_DEPTH, USUAL_DEPTH}
 use Rattle.script_fields.specs.declared.fault.AsmKind.TheVariants as faults
 use Rattle.script_fields.proofs.FirstLines.{chosen}
 use Rattle.script_program.specs.declared.limits.TheConstants.{MAX_TEXT}
@@ -39,7 +39,7 @@ limits_within b h = record {
   retries = or_else (λ n. n ≤ MAX_RETRIES) b.retries 100 h.retries (omega arith);
   commits = or_else (λ n. (1 ≤ n) × (n ≤ MAX_COMMITS)) b.commits MAX_COMMITS h.commits (omega arith, omega arith);
   depth = or_else (λ n. (1 ≤ n) × (n ≤ MAX_DEPTH)) b.depth USUAL_DEPTH h.depth (omega arith, omega arith);
-  restarts = omega arith;
+  restarts = or_else (λ n. n ≤ MAX_RESTARTS) b.restarts 0 h.restarts (omega arith);
 }
 
 -- ## The program
@@ -54,7 +54,6 @@ listing_printable s m h k r some e = record {
   inits = k.1;
   arena = arena_within s.limits h.limits;
   limits = limits_within s.limits h.limits;
-  restarts = refl;
   items = h.schedule.few;
   schedule = subst (λ n. AllByRecursion (IsItem n) s.schedule.items) (sym (threads_read s.threads)) (none_stray (thread_total s.threads) s.schedule.items s.schedule.lines h.schedule.in_lines h.schedule.each e);
   some = some_parts s.threads;

@@ -3,7 +3,7 @@ use Rattle.std.proofs.Common.{◌≡◌, ℕ, ◌+◌, ◌≤◌, ltb, leb, List
 use Rattle.std.specs.Option.{IfSome}
 use Rattle.std.specs.List.{AllByRecursion}
 use Rattle.std.proofs.lemmas.Bool.{ltb-false, leb-true}
-use Rattle.itm_types.specs.declared.limits.TheConstants.{MAX_ARENA, MAX_PATIENCE, MAX_RETRIES, MAX_COMMITS, MAX_ACTORS, MAX_DEPTH}
+use Rattle.itm_types.specs.declared.limits.TheConstants.{MAX_ARENA, MAX_PATIENCE, MAX_RESTARTS, MAX_RETRIES, MAX_COMMITS, MAX_ACTORS, MAX_DEPTH}
 use Rattle.script_fields.specs.declared.fault.AsmKind.{AsmKind}
 use Rattle.script_fields.specs.declared.fault.AsmKind.TheVariants as kinds
 use Rattle.script_fields.specs.declared.fault.AsmFault.{AsmFault}
@@ -38,6 +38,7 @@ pub record AreBounds (b : Bounds) : Type 0 where
   pub patience : IfSome b.patience (λ n. (1 ≤ n) × (n ≤ MAX_PATIENCE))
   pub retries : IfSome b.retries (λ n. n ≤ MAX_RETRIES)
   pub commits : IfSome b.commits (λ n. (1 ≤ n) × (n ≤ MAX_COMMITS))
+  pub restarts : IfSome b.restarts (λ n. n ≤ MAX_RESTARTS)
   pub depth : IfSome b.depth (λ n. (1 ≤ n) × (n ≤ MAX_DEPTH))
 
 -- what is kept after each line
@@ -52,7 +53,7 @@ pub initial_sound : IsSound initial
 unfolding thread_total instruction_total
 initial_sound = record {
   memory = tt;
-  limits = record { arena = tt; patience = tt; retries = tt; commits = tt; depth = tt };
+  limits = record { arena = tt; patience = tt; retries = tt; commits = tt; restarts = tt; depth = tt };
   schedule = record { few = omega arith; each = tt; in_lines = refl };
   sections = record { ended = tt; said = tt; levels = record { after = refl; starts = tt }; threads = omega arith; instructions = omega arith };
 }

@@ -5,7 +5,7 @@ use Rattle.std.specs.List.{AllByRecursion}
 use Rattle.std.proofs.lemmas.Bool.{cases_eq, eq-eqb, le-leb, ne_eqb}
 use Rattle.std.proofs.lemmas.List.{append-nil}
 use Rattle.itm_types.specs.Limits.{AreWithin}
-use Rattle.itm_types.specs.declared.limits.TheConstants.{MAX_MEMORY, MAX_ARENA, MAX_PATIENCE, MAX_RETRIES, MAX_COMMITS, MAX_DEPTH, USUAL_DEPTH}
+use Rattle.itm_types.specs.declared.limits.TheConstants.{MAX_MEMORY, MAX_ARENA, MAX_PATIENCE, MAX_RESTARTS, MAX_RETRIES, MAX_COMMITS, MAX_DEPTH, USUAL_DEPTH}
 use Rattle.script_fields.proofs.SpelledShapes.{size_of_again, limit_of_again, init_of_again}
 use Rattle.script_asm.specs.declared.state.State.{State}
 use Rattle.script_asm.specs.declared.words.Word.TheVariants as words
@@ -15,7 +15,7 @@ use Rattle.script_asm.specs.Standing.{has_begun, may_stand}
 use Rattle.script_asm.specs.Directives.{laid_in}
 use Rattle.script_asm.specs.Words.{word_of}
 use Rattle.script_asm.specs.Assembly.{obeyed, said, initial}
-use Rattle.script_print.specs.Printing.{number_fields, depth_lines, limit_lines, init_fields}
+use Rattle.script_print.specs.Printing.{number_fields, depth_lines, restart_lines, limit_lines, init_fields}
 use Rattle.script_print.proofs.Printable.{IsInit}
 use Rattle.script_print.proofs.Texts.Lines.{all_said, said_next}
 
@@ -48,6 +48,10 @@ commits_said : (s : State) (n k : ℕ) → may_stand s words.Commits ≡ true �
 unfolding word_of obeyed
 commits_said s n k may low high = rw (may, limit_of_again 1 MAX_COMMITS k low high (omega arith)) refl
 
+restarts_said : (s : State) (n k : ℕ) → may_stand s words.Restarts ≡ true → k ≤ MAX_RESTARTS → said s n (number_fields (codes ".restarts") k) ≡ Ok (record s { limits = record s.limits { restarts = Some k } })
+unfolding word_of obeyed
+restarts_said s n k may h = rw (may, limit_of_again 0 MAX_RESTARTS k (omega arith) h (omega arith)) refl
+
 depth_said : (s : State) (n k : ℕ) → may_stand s words.Depth ≡ true → 1 ≤ k → k ≤ MAX_DEPTH → said s n (number_fields (codes ".depth") k) ≡ Ok (record s { limits = record s.limits { depth = Some k } })
 unfolding word_of obeyed
 depth_said s n k may low high = rw (may, limit_of_again 1 MAX_DEPTH k low high (omega arith)) refl
@@ -58,8 +62,19 @@ depth_said s n k may low high = rw (may, limit_of_again 1 MAX_DEPTH k low high (
 abbrev sized : ℕ → State
 sized size = with_memory initial (empty size)
 
-abbrev bounded : ℕ → Option ℕ → Option ℕ → Option ℕ → Option ℕ → Option ℕ → State
-bounded size arena patience retries commits depth = record (sized size) { limits = record { arena = arena; patience = patience; retries = retries; commits = commits; depth = depth } }
+abbrev bounded : ℕ → Option ℕ → Option ℕ → Option ℕ → Option ℕ → Option ℕ → Option ℕ → State
+bounded size arena patience retries commits restarts depth = record (sized size) { limits = record { arena = arena; patience = patience; retries = retries; commits = commits; restarts = restarts; depth = depth } }
+
+-- the restarts that are said
+abbrev pub said_restarts : ℕ → Option ℕ
+said_restarts restarts = if restarts == 0 then None else Some restarts
+
+pub restarts_again : (restarts : ℕ) → unwrap_or (said_restarts restarts) 0 ≡ restarts
+restarts_again restarts =
+    elim (cases_eq restarts 0) [
+      | inl none ↦ rw (eq-eqb restarts 0 none) (sym none)
+      | inr some ↦ rw (ne_eqb restarts 0 some) refl
+    ]
 
 -- the depth that is said
 abbrev said_depth : ℕ → Option ℕ
@@ -73,29 +88,40 @@ depth_again depth =
     ]
 
 -- after the line of the depth, or none
-depth_lines_said : (size : ℕ) (arena patience retries commits : Option ℕ) (n k : ℕ) → 1 ≤ k → k ≤ MAX_DEPTH
-    → all_said (bounded size arena patience retries commits None) n (depth_lines k) ≡ Ok (bounded size arena patience retries commits (said_depth k))
-depth_lines_said size arena patience retries commits n k low high =
-    let before = bounded size arena patience retries commits None in
-    let after = bounded size arena patience retries commits (Some k) in
+depth_lines_said : (size : ℕ) (arena patience retries commits restarts : Option ℕ) (n k : ℕ) → 1 ≤ k → k ≤ MAX_DEPTH
+    → all_said (bounded size arena patience retries commits restarts None) n (depth_lines k) ≡ Ok (bounded size arena patience retries commits restarts (said_depth k))
+depth_lines_said size arena patience retries commits restarts n k low high =
+    let before = bounded size arena patience retries commits restarts None in
+    let after = bounded size arena patience retries commits restarts (Some k) in
     elim (cases_eq k USUAL_DEPTH) [
       | inl usual ↦ rw (eq-eqb k USUAL_DEPTH usual) refl
       | inr other ↦ rw (ne_eqb k USUAL_DEPTH other) (said_next (number_fields (codes ".depth") k) [] before after n (depth_said before n k refl low high))
     ]
 
+-- and after that of the restarts, or none
+restart_lines_said : (size : ℕ) (arena patience retries commits : Option ℕ) (n j k : ℕ) → j ≤ MAX_RESTARTS → 1 ≤ k → k ≤ MAX_DEPTH
+    → all_said (bounded size arena patience retries commits None None) n (restart_lines j ++ depth_lines k) ≡ Ok (bounded size arena patience retries commits (said_restarts j) (said_depth k))
+restart_lines_said size arena patience retries commits n j k few low high =
+    let before = bounded size arena patience retries commits None None in
+    let after = bounded size arena patience retries commits (Some j) None in
+    elim (cases_eq j 0) [
+      | inl none ↦ rw (eq-eqb j 0 none) (depth_lines_said size arena patience retries commits None n k low high)
+      | inr some ↦ rw (ne_eqb j 0 some) (said_next (number_fields (codes ".restarts") j) (depth_lines k) before after n (restarts_said before n j refl few) ∙ depth_lines_said size arena patience retries commits (Some j) (n + 1) k low high)
+    ]
+
 -- after all of them
 abbrev pub with_limits : Listing → State
-with_limits p = bounded p.memory.size (Some p.arena) (Some p.limits.patience) (Some p.limits.retries) (Some p.limits.max_commits) (said_depth p.limits.depth)
+with_limits p = bounded p.memory.size (Some p.arena) (Some p.limits.patience) (Some p.limits.retries) (Some p.limits.max_commits) (said_restarts p.limits.restarts) (said_depth p.limits.depth)
 
 pub limits_said : (p : Listing) (n : ℕ) → IsSize p.memory.size → p.arena ≤ MAX_ARENA → AreWithin p.limits → all_said initial n (limit_lines p) ≡ Ok (with_limits p)
 limits_said p n size arena within =
     let m = p.memory.size in
     let l = p.limits in
-    let one = bounded m (Some p.arena) None None None None in
-    let two = bounded m (Some p.arena) (Some l.patience) None None None in
-    let three = bounded m (Some p.arena) (Some l.patience) (Some l.retries) None None in
-    let four = bounded m (Some p.arena) (Some l.patience) (Some l.retries) (Some l.max_commits) None in
-    let last = number_fields (codes ".commits") l.max_commits ∷ depth_lines l.depth in
+    let one = bounded m (Some p.arena) None None None None None in
+    let two = bounded m (Some p.arena) (Some l.patience) None None None None in
+    let three = bounded m (Some p.arena) (Some l.patience) (Some l.retries) None None None in
+    let four = bounded m (Some p.arena) (Some l.patience) (Some l.retries) (Some l.max_commits) None None in
+    let last = number_fields (codes ".commits") l.max_commits ∷ (restart_lines l.restarts ++ depth_lines l.depth) in
     let fourth = number_fields (codes ".retries") l.retries ∷ last in
     let third = number_fields (codes ".patience") l.patience ∷ fourth in
     let second = number_fields (codes ".arena") p.arena ∷ third in
@@ -103,8 +129,8 @@ limits_said p n size arena within =
     ∙ said_next (number_fields (codes ".arena") p.arena) third (sized m) one (n + 1) (arena_said (sized m) (n + 1) p.arena refl arena)
     ∙ said_next (number_fields (codes ".patience") l.patience) fourth one two (n + 1 + 1) (patience_said one (n + 1 + 1) l.patience refl within.patience.0 within.patience.1)
     ∙ said_next (number_fields (codes ".retries") l.retries) last two three (n + 1 + 1 + 1) (retries_said two (n + 1 + 1 + 1) l.retries refl within.retries)
-    ∙ said_next (number_fields (codes ".commits") l.max_commits) (depth_lines l.depth) three four (n + 1 + 1 + 1 + 1) (commits_said three (n + 1 + 1 + 1 + 1) l.max_commits refl within.commits.0 within.commits.1)
-    ∙ depth_lines_said m (Some p.arena) (Some l.patience) (Some l.retries) (Some l.max_commits) (n + 1 + 1 + 1 + 1 + 1) l.depth within.depth.0 within.depth.1
+    ∙ said_next (number_fields (codes ".commits") l.max_commits) (restart_lines l.restarts ++ depth_lines l.depth) three four (n + 1 + 1 + 1 + 1) (commits_said three (n + 1 + 1 + 1 + 1) l.max_commits refl within.commits.0 within.commits.1)
+    ∙ restart_lines_said m (Some p.arena) (Some l.patience) (Some l.retries) (Some l.max_commits) (n + 1 + 1 + 1 + 1 + 1) l.restarts l.depth within.restarts within.depth.0 within.depth.1
 
 -- ## Bytes of the memory
 

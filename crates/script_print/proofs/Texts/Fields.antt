@@ -6,7 +6,7 @@ use Rattle.std.proofs.lemmas.Bool.{cases_eq, eq-eqb, ne_eqb}
 use Rattle.std.proofs.lemmas.List.Concat.{flat_map-cons}
 use Rattle.std.proofs.lemmas.List.Sums.{sum_by-cons}
 use Rattle.itm_types.specs.Limits.{AreWithin}
-use Rattle.itm_types.specs.declared.limits.TheConstants.{MAX_MEMORY, MAX_ARENA, MAX_ACTORS, MAX_DEPTH, USUAL_DEPTH}
+use Rattle.itm_types.specs.declared.limits.TheConstants.{MAX_MEMORY, MAX_ARENA, MAX_ACTORS, MAX_DEPTH, MAX_RESTARTS, USUAL_DEPTH}
 use Rattle.itm_entries.specs.declared.entry.Control.{Control}
 use Rattle.itm_entries.specs.declared.entry.Control.TheVariants as controls
 use Rattle.itm_entries.specs.declared.entry.Entry.TheVariants as entries
@@ -19,7 +19,7 @@ use Rattle.script_program.specs.declared.instruction.Instruction.TheVariants as 
 use Rattle.script_program.specs.declared.schedule.Item.{Item}
 use Rattle.script_program.specs.Listing.{Listing, Placed, Part}
 use Rattle.script_program.specs.Sizes.{IsSize}
-use Rattle.script_print.specs.Printing.{instruction_fields, number_fields, depth_lines, limit_lines, init_fields, item_fields, thread_fields, part_lines, program_lines}
+use Rattle.script_print.specs.Printing.{instruction_fields, number_fields, depth_lines, restart_lines, limit_lines, init_fields, item_fields, thread_fields, part_lines, program_lines}
 use Rattle.script_print.proofs.Printable.{IsSaid, IsInit, IsItem, IsPart, IsPrintable, threads_in}
 use Rattle.script_print.proofs.Texts.Words.{operation_field, load_field, save_field, entry_field}
 use Rattle.script_print.proofs.Texts.Lines.{AreFields}
@@ -71,20 +71,12 @@ depth_field depth few =
       | inr other ↦ rw (ne_eqb depth USUAL_DEPTH other) (number_field (codes ".depth") depth (lit< tt, refl) (omega arith), tt)
     ]
 
-limit_field : (p : Listing) → IsSize p.memory.size → p.arena ≤ MAX_ARENA → AreWithin p.limits → AreFields (limit_lines p)
-limit_field p size arena within = (
-  number_field (codes ".memory") p.memory.size (lit< tt, refl) (omega arith),
-  (
-    number_field (codes ".arena") p.arena (lit< tt, refl) (omega arith),
-    (
-      number_field (codes ".patience") p.limits.patience (lit< tt, refl) (omega arith),
-      (
-        number_field (codes ".retries") p.limits.retries (lit< tt, refl) (omega arith),
-        (number_field (codes ".commits") p.limits.max_commits (lit< tt, refl) (omega arith), depth_field p.limits.depth within.depth.1),
-      ),
-    ),
-  ),
-)
+restart_field : (restarts : ℕ) → restarts ≤ MAX_RESTARTS → AreFields (restart_lines restarts)
+restart_field restarts few =
+    elim (cases_eq restarts 0) [
+      | inl none ↦ rw (eq-eqb restarts 0 none) tt
+      | inr some ↦ rw (ne_eqb restarts 0 some) (number_field (codes ".restarts") restarts (lit< tt, refl) (omega arith), tt)
+    ]
 
 init_field : (size : ℕ) (i : Placed) → size ≤ MAX_MEMORY → IsInit size i → AllByRecursion IsField (init_fields i)
 init_field size i few h = ((lit< tt, refl), (decimal_field i.at (omega (arith, h.3)), (hex_field i.bytes h.0 h.1, tt)))
@@ -106,6 +98,21 @@ each P f step (x ∷ xs) h = (step x h.0, each P f step xs h.1)
 both : (ls more : List (List (List ℕ))) → AreFields ls → AreFields more → AreFields (ls ++ more)
 both [] more h k = k
 both (fs ∷ ls) more h k = (h.0, both ls more h.1 k)
+
+limit_field : (p : Listing) → IsSize p.memory.size → p.arena ≤ MAX_ARENA → AreWithin p.limits → AreFields (limit_lines p)
+limit_field p size arena within = (
+  number_field (codes ".memory") p.memory.size (lit< tt, refl) (omega arith),
+  (
+    number_field (codes ".arena") p.arena (lit< tt, refl) (omega arith),
+    (
+      number_field (codes ".patience") p.limits.patience (lit< tt, refl) (omega arith),
+      (
+        number_field (codes ".retries") p.limits.retries (lit< tt, refl) (omega arith),
+        (number_field (codes ".commits") p.limits.max_commits (lit< tt, refl) (omega arith), both (restart_lines p.limits.restarts) (depth_lines p.limits.depth) (restart_field p.limits.restarts within.restarts) (depth_field p.limits.depth within.depth.1)),
+      ),
+    ),
+  ),
+)
 
 part_field : (q : Part) → q.count ≤ MAX_ACTORS → IsPart q → AreFields (part_lines q)
 part_field q few h = (thread_field q.count few, each IsSaid instruction_fields instruction_field q.code h.1.0)

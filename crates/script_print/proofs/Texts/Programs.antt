@@ -1,5 +1,5 @@
 -- The text of a program says the program.
-use Rattle.std.proofs.Common.{◌≡◌, ℕ, ◌+◌, ◌<◌, ◌≤◌, List, [], ◌∷◌, ◌++◌, length, map, None, Ok, refl, sym, ap, ◌∙◌, arith}
+use Rattle.std.proofs.Common.{◌≡◌, ℕ, ◌+◌, ◌<◌, ◌≤◌, List, [], ◌∷◌, ◌++◌, length, map, None, Ok, refl, sym, ap, ◌∙◌, arith, unwrap_or}
 use Rattle.std.specs.List.{AllByRecursion, flat_map}
 use Rattle.std.specs.Str.Lines.{lines}
 use Rattle.std.proofs.lemmas.Bool.{lt-ltb, le-ltb}
@@ -18,7 +18,7 @@ use Rattle.script_print.specs.Printing.{limit_lines, init_fields, item_fields, p
 use Rattle.script_print.proofs.Printable.{IsItem, IsPrintable, threads_in}
 use Rattle.script_print.proofs.Texts.Lines.{all_said, lines_said, lines_made, said_on}
 use Rattle.script_print.proofs.Texts.Fields.{program_field}
-use Rattle.script_print.proofs.Texts.Directives.{with_memory, with_limits, depth_again, limits_said, inits_said}
+use Rattle.script_print.proofs.Texts.Directives.{with_memory, with_limits, depth_again, restarts_again, said_restarts, limits_said, inits_said}
 use Rattle.script_print.proofs.Texts.Items.{with_items, items_said}
 use Rattle.script_print.proofs.Texts.Sections.{with_sections, parts_said}
 
@@ -68,8 +68,8 @@ unfolding end_of
 ends_well p places t h some parts =
     let threads : thread_total t ≡ threads_in p.parts = total t ∙ ap threads_in parts in
     let named : stray_of (thread_total t) p.schedule places ≡ None = ap (λ (n : ℕ). stray_of n p.schedule places) threads ∙ no_stray (threads_in p.parts) p.schedule places h.schedule in
-    rw (lt-ltb 0 t.count some, named) (ap (λ (depth : ℕ). Ok (record p { limits = record p.limits { depth = depth; restarts = 0 }; parts = parts_of t })) (depth_again p.limits.depth)
-    ∙ ap (λ (restarts : ℕ). Ok (record p { limits = record p.limits { restarts = restarts }; parts = parts_of t })) (sym h.restarts) ∙ ap (λ (parts : List Part). Ok (record p { parts = parts })) parts)
+    rw (lt-ltb 0 t.count some, named) (ap (λ (depth : ℕ). Ok (record p { limits = record p.limits { depth = depth; restarts = unwrap_or (said_restarts p.limits.restarts) 0 }; parts = parts_of t })) (depth_again p.limits.depth)
+    ∙ ap (λ (restarts : ℕ). Ok (record p { limits = record p.limits { restarts = restarts }; parts = parts_of t })) (restarts_again p.limits.restarts) ∙ ap (λ (parts : List Part). Ok (record p { parts = parts })) parts)
 
 -- ## The text
 

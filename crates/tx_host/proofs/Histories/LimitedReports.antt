@@ -8,8 +8,8 @@ use Rattle.script_vm.specs.Threads.{thread_rules}
 use Rattle.tx_attempts.specs.declared.attempt.Attempt.{Attempt}
 use Rattle.tx_attempts.specs.Attempts.{of_thread}
 use Rattle.tx_history.specs.declared.history.Version.{Version}
-use Rattle.tx_history.specs.declared.history.Version.TheVariants.{One, Two, Three}
-use Rattle.tx_runs.specs.Unbroken.{AreUnbroken}
+use Rattle.tx_attempts.specs.declared.attempt.Again.{Again}
+use Rattle.tx_runs.specs.Restarts.{RestartAtMost}
 use Rattle.tx_runs.proofs.RunLists.{there_is}
 use Rattle.tx_history.specs.Bounds.{AreLimited, HasArenaWidth, IsLimited, IsMemorySize}
 use Rattle.tx_history.specs.Legal.{memory_at}
@@ -28,26 +28,20 @@ by_threads : (Q : Attempt → Type 0) (k n : ℕ) (all : List Attempt) → ((thr
 by_threads Q k zero all each = All-nil Q
 by_threads Q k (suc n) all each = All-append Q (of_thread k all) (by_number (k + 1) n all) (each k (omega arith)) (by_threads Q (k + 1) n all (λ thread l. each thread (omega arith)))
 
--- a version tells of an attempt in which no block ran again
-none_told : (version : Version) (a : Attempt) → a.restarts ≡ [] → MayTell version a.restarts
-none_told One a none = none
-none_told Two a none = tt
-none_told (Three depth) a none = tt
-
 -- the attempts of a thread with this number and so many tries of a block at most
-limited_each : (version : Version) (thread tries k : ℕ) → thread ≤ thread_limit version → tries ≤ MAX_RETRIES + 1 → k ≤ MAX_ARENA → (xs : List Attempt) → AreOwn thread tries xs → All (IsOwn HasArenaWidth k) xs → AreUnbroken xs → All (IsLimited version) xs
-limited_each version thread tries k t n l [] own all none = All-nil (IsLimited version)
-limited_each version thread tries k t n l (x ∷ xs) own all none =
+limited_each : (version : Version) (thread tries k restarts : ℕ) → thread ≤ thread_limit version → tries ≤ MAX_RETRIES + 1 → k ≤ MAX_ARENA → (xs : List Attempt) → ((rs : List Again) → length rs ≤ restarts → MayTell version rs) → AreOwn thread tries xs → All (IsOwn HasArenaWidth k) xs → RestartAtMost restarts xs → All (IsLimited version) xs
+limited_each version thread tries k restarts t n l [] told own all few = All-nil (IsLimited version)
+limited_each version thread tries k restarts t n l (x ∷ xs) told own all few =
     All-cons (IsLimited version) x xs
     (let is : IsOwn HasArenaWidth k x = All-head (IsOwn HasArenaWidth k) x xs all in
     record {
       thread = subst (λ (m : ℕ). m ≤ thread_limit version) (sym own.0) t;
-      nth = (is.nth, (let few = own.1 in omega arith));
+      nth = (is.nth, (let tried = own.1 in omega arith));
       arena = (let same = is.arena in omega arith);
       widths = is.calls;
-      restarts = none_told version x none.0;
+      restarts = told x.restarts few.0;
     })
-    (limited_each version thread tries k t n l xs own.2 (All-tail (IsOwn HasArenaWidth k) x xs all) none.1)
+    (limited_each version thread tries k restarts t n l xs told own.2 (All-tail (IsOwn HasArenaWidth k) x xs all) few.1)
 
 module _ (p : Listing) (shuts : Bool) (r : Report) (ran : Ran shuts p r) (limits : IsLimitedListing p) where
   limited_thread : (thread : ℕ) → thread < length (threads_of p) → All (IsLimited (version_of p)) (of_thread thread r.history.attempts)
@@ -55,9 +49,9 @@ module _ (p : Listing) (shuts : Bool) (r : Report) (ran : Ran shuts p r) (limits
       let code = there_is (threads_of p) thread l in
       let end = there_is r.ends.items thread (subst (λ (n : ℕ). thread < n) (sym ran.count) l) in
       let course : IsCourse p (commits_of r) (memory_at r.history) thread code.0 end.0 (of_thread thread r.history.attempts) = ran.threads thread code.0 end.0 code.1 end.1 in
-      limited_each (version_of p) thread (p.limits.retries + 1) p.arena (let few = limits.threads in omega arith) (let few = limits.retries in omega arith) limits.arena
-      (of_thread thread r.history.attempts) course.own
-      (own_run thread_rules HasArenaWidth script_widths p.limits.depth p.arena (commits_of r) (memory_at r.history) (Some (first_of p code.0)) (of_thread thread r.history.attempts) (length-replicate p.arena 0) course.run) course.unbroken
+      limited_each (version_of p) thread (p.limits.retries + 1) p.arena p.limits.restarts (let few = limits.threads in omega arith) (let few = limits.retries in omega arith) limits.arena
+      (of_thread thread r.history.attempts) limits.restarts course.own
+      (own_run thread_rules HasArenaWidth script_widths p.limits.depth p.arena (commits_of r) (memory_at r.history) (Some (first_of p code.0)) (of_thread thread r.history.attempts) (length-replicate p.arena 0) course.run) course.few
 
   pub limited_report : AreLimited r.history
   limited_report = record {

@@ -1,5 +1,5 @@
 -- Programs are within the limits of the version that tells of them.
-use Rattle.std.proofs.Common.{◌≡◌, ◌≢◌, ◌⊎◌, ◌==◌, inl, inr, nat_le, ◌&&◌, ◌∙◌, ℕ, suc, ◌<◌, ◌≤◌, Bool, true, false, if◌then◌else◌, length, refl, sym, true≢false, ap, subst, arith, eqb-true, leb-true}
+use Rattle.std.proofs.Common.{◌≡◌, ◌≢◌, ◌⊎◌, ◌==◌, inl, inr, nat_le, ◌&&◌, ◌∙◌, ℕ, suc, ◌<◌, ◌≤◌, Bool, true, false, if◌then◌else◌, List, [], ◌∷◌, length, refl, sym, true≢false, ap, subst, arith, eqb-true, leb-true}
 use Rattle.std.proofs.lemmas.Bool.{lt-leb, ne_eqb}
 use Rattle.itm_types.specs.Limits.{AreWithin}
 use Rattle.itm_types.specs.declared.limits.Depth.{Depth}
@@ -9,9 +9,10 @@ use Rattle.script_program.specs.Sizes.{IsSize}
 use Rattle.tx_history.specs.Bounds.{IsMemorySize}
 use Rattle.tx_history.specs.declared.history.TheConstants.{EARLY_ACTORS, EARLY_MEMORY}
 use Rattle.tx_history.specs.declared.history.Version.{Version}
-use Rattle.tx_history.specs.declared.history.Version.TheVariants.{One, Three}
+use Rattle.tx_history.specs.declared.history.Version.TheVariants.{One, Two, Three}
 use Rattle.tx_history.specs.Depths.{depth_from}
-use Rattle.tx_history.specs.Versions.{depth_of, thread_limit}
+use Rattle.tx_attempts.specs.declared.attempt.Again.{Again}
+use Rattle.tx_history.specs.Versions.{MayTell, depth_of, thread_limit}
 use Rattle.tx_history.proofs.SameDepths.{near_is, same_depth}
 use Rattle.tx_runs.proofs.ClockCalls.{both_true}
 use Rattle.tx_host.specs.Limits.{IsLimitedListing}
@@ -27,7 +28,12 @@ none_of true true true (inr (inr e)) = absurd (true≢false e)
 
 module _ (p : Listing) where
   abbrev chosen : Bool → Version
-  chosen early = if early then One else Three (depth_from p.limits.depth)
+  chosen early = if early then (if p.limits.restarts == 0 then One else Two) else Three (depth_from p.limits.depth)
+
+  -- what is so of the first two versions is so of the one of them that is chosen
+  either : (Q : Version → Type 0) → Q One → Q Two → (b : Bool) → Q (if b then One else Two)
+  either Q one two true = one
+  either Q one two false = two
 
   early_parts : is_early p ≡ true → (p.limits.depth ≡ USUAL_DEPTH) × (p.memory.size ≤ EARLY_MEMORY) × (length (threads_of p) ≤ EARLY_ACTORS)
   early_parts e =
@@ -39,24 +45,39 @@ module _ (p : Listing) where
   told_memory s = by_early (is_early p) refl
     where
       by_early : (b : Bool) → is_early p ≡ b → IsMemorySize (chosen b) p.memory.size
-      by_early true e = (s.0, (early_parts e).1, s.2)
+      by_early true e = either (λ (v : Version). IsMemorySize v p.memory.size) (s.0, (early_parts e).1, s.2) (s.0, (early_parts e).1, s.2) (p.limits.restarts == 0)
       by_early false e = s
 
   told_threads : length (threads_of p) ≤ MAX_ACTORS → length (threads_of p) ≤ suc (thread_limit (version_of p))
   told_threads few = by_early (is_early p) refl
     where
       by_early : (b : Bool) → is_early p ≡ b → length (threads_of p) ≤ suc (thread_limit (chosen b))
-      by_early true e = (let least = (early_parts e).2 in omega arith)
+      by_early true e = (let least = (early_parts e).2 in either (λ (v : Version). length (threads_of p) ≤ suc (thread_limit v)) (omega arith) (omega arith) (p.limits.restarts == 0))
       by_early false e = omega arith
 
   told_depth : 0 < p.limits.depth → p.limits.depth ≤ MAX_DEPTH → depth_of (version_of p) ≡ p.limits.depth
   told_depth some few = by_early (is_early p) refl
     where
       by_early : (b : Bool) → is_early p ≡ b → depth_of (chosen b) ≡ p.limits.depth
-      by_early true e = sym (early_parts e).0
+      by_early true e = either (λ (v : Version). depth_of v ≡ p.limits.depth) (sym (early_parts e).0) (sym (early_parts e).0) (p.limits.restarts == 0)
       by_early false e = near_is p.limits.depth (omega arith) few
 
-  -- a program that the first version does not tell of is told of by the third one, with its depth
+  told_restarts : (rs : List Again) → length rs ≤ p.limits.restarts → MayTell (version_of p) rs
+  told_restarts rs few = by_early (is_early p)
+    where
+      none : (xs : List Again) → length xs ≤ 0 → xs ≡ []
+      none [] l = refl
+      none (x ∷ xs) l = absurd (omega arith)
+
+      by_limit : (b : Bool) → (p.limits.restarts == 0) ≡ b → MayTell (if b then One else Two) rs
+      by_limit true e = (let zero = eqb-true p.limits.restarts 0 e in none rs (omega arith))
+      by_limit false e = tt
+
+      by_early : (b : Bool) → MayTell (chosen b) rs
+      by_early true = by_limit (p.limits.restarts == 0) refl
+      by_early false = tt
+
+  -- a program that the first two versions do not tell of is told of by the third one, with its depth
   pub told_by_three : (depth size threads : ℕ) (d : Depth) → depth ≡ p.limits.depth → size ≡ p.memory.size → threads ≡ length (threads_of p) → d.blocks ≡ depth
       → ((depth ≡ USUAL_DEPTH) × (size ≤ EARLY_MEMORY) × (EARLY_ACTORS < threads)) ⊎ ((depth ≡ USUAL_DEPTH) × (EARLY_MEMORY < size)) ⊎ (depth ≢ USUAL_DEPTH) → Three d ≡ version_of p
   told_by_three depth size threads d depth_is size_is threads_are same late =
@@ -75,4 +96,5 @@ module _ (p : Listing) where
     retries = within.retries;
     threads = told_threads few;
     depth = told_depth within.depth.0 within.depth.1;
+    restarts = told_restarts;
   }

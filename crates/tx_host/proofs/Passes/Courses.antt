@@ -57,6 +57,6 @@ module _ (p : Listing) (n n' : ℕ) (memory memory' : ℕ → List ℕ) (later :
     run = (run_still thread_rules p.limits.depth n n' memory memory' later same (Some (first_of p code)) xs c.run).0;
     since = c.since;
     own = c.own;
-    unbroken = c.unbroken;
+    few = c.few;
     ends = ends_still p.limits.depth n n' memory memory' later same (first_of p code) end xs c.run c.ends;
   }

@@ -24,7 +24,7 @@ module _ (s v w : View) (same : v ≡ record s { share = v.share }) (cut : w ≡
 
 -- a thread over a part that was cut is fresh
 pub is_fresh : (s v : View) (theirs : Pass) (p : Listing) (number : ℕ) (t : Standing) (player : Thread) → v ≡ record s { share = v.share } → view_of theirs ≡ cut_right v → t.pass ≡ theirs → (words : ℕ) (arena : List ℕ) (size : ℕ) (limits : Limits)
-    → t.engine ≡ opening words arena limits.patience limits.max_commits limits.depth limits.restarts → arena ≡ replicate size 0 → size ≡ p.arena → limits ≡ record p.limits { restarts = 0 } → player ≡ script_opening p.limits.depth (code_of p number) → IsFresh p s.base number t player
+    → t.engine ≡ opening words arena limits.patience limits.max_commits limits.depth limits.restarts → arena ≡ replicate size 0 → size ≡ p.arena → limits ≡ p.limits → player ≡ script_opening p.limits.depth (code_of p number) → IsFresh p s.base number t player
 is_fresh s v theirs p number t player same cut pass words arena size limits engine zeros sized within plays =
     let now : view_of t.pass ≡ cut_right v = ap view_of pass ∙ cut in
     record {
@@ -52,9 +52,9 @@ is_for words base p n retries r w is few told = record {
 pub is_outside : (base : List ℕ) (p : Listing) (n : ℕ) (t : Standing) (player : Thread) → IsFresh p base n t player → in_transaction t.engine ≡ false
 is_outside base p n t player fresh = ap in_transaction fresh.engine_is
 
--- no restart is left
-pub is_whole : (base : List ℕ) (p : Listing) (n : ℕ) (t : Standing) (player : Thread) → IsFresh p base n t player → t.engine.restarts ≡ 0
-is_whole base p n t player fresh = ap (λ (c : Core). c.restarts) fresh.engine_is
+-- its inner blocks may go back as often as the program's limits say
+pub is_limited : (base : List ℕ) (p : Listing) (n : ℕ) (t : Standing) (player : Thread) → IsFresh p base n t player → t.engine.restarts ≡ p.limits.restarts
+is_limited base p n t player fresh = ap (λ (c : Core). c.restarts) fresh.engine_is
 
 -- and its player has no block open
 pub is_flat : (base : List ℕ) (p : Listing) (n : ℕ) (t : Standing) (player : Thread) → IsFresh p base n t player → depth_of player ≡ 0

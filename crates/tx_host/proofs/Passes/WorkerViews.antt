@@ -17,6 +17,7 @@ use Rattle.tx_attempts.specs.Opacity.{Between, IsRunOf, after_try}
 use Rattle.tx_attempts.proofs.LaterClocks.{outrun_later}
 use Rattle.tx_runs.specs.declared.ending.End.{End}
 use Rattle.tx_runs.specs.declared.ending.End.TheVariants.{Finished, GaveUp, NoMemory}
+use Rattle.tx_runs.specs.Restarts.{RestartAtMost}
 use Rattle.tx_runs.specs.Runs.{begins_at}
 use Rattle.tx_worker.specs.declared.worked.Worked.{Worked}
 use Rattle.tx_worker.specs.Positions.{AreFew, AreLeft, AreOwn, AreSince, bytes_at, positions}
@@ -121,7 +122,7 @@ module _ {G : Type 0} (words : Words) (base : List ℕ) (p : Listing) (n : ℕ) 
     run = subst (λ (q : ℕ × Between Thread). IsRunOf thread_rules q.0 (length left_view.seen) (bytes_at left_view) (Some q.1) r.attempts) (λ i. (depth_is i, first_is i)) done.runs.run;
     since = subst (λ (k : ℕ). AreSince k r.attempts) known_is done.runs.since;
     own = subst (λ (q : ℕ × ℕ). AreOwn q.0 (q.1 + 1) r.attempts) (λ i. (is.number_is i, is.retries_are i)) done.runs.own;
-    unbroken = done.runs.unbroken;
+    few = subst (λ (most : ℕ). RestartAtMost most r.attempts) (ap (λ (e : Core). e.restarts) is.fresh.engine_is) done.runs.few;
     ends = subst (λ (q : ℕ × Between Thread). EndsBy q.0 (bytes_at left_view) q.1 r.end r.attempts) (λ i. (depth_is i, first_is i)) (ends_by r.end done.ends);
   }
 

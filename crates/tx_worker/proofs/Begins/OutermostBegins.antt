@@ -1,6 +1,6 @@
 -- An outermost begin.
-use Rattle.std.proofs.Common.{◌≡◌, ℕ, ◌/◌, ◌<◌, ◌≤◌, Bool, true, false, true≢false, if◌then◌else◌, List, [], ◌++◌, length, Option, None, Some, refl, sym, ap, subst, ◌∙◌, arith}
-use Rattle.itm_types.specs.Memory.{IsMemory, bytes_of}
+use Rattle.std.proofs.Common.{inl, inr, ◌≡◌, ℕ, ◌/◌, ◌<◌, ◌≤◌, ◌&&◌, not, Bool, true, false, true≢false, if◌then◌else◌, List, [], ◌++◌, length, Option, None, Some, refl, sym, ap, subst, ◌∙◌, arith}
+use Rattle.itm_types.specs.Memory.{Agrees, IsMemory, bytes_of}
 use Rattle.itm_types.specs.declared.call.Call.{Call}
 use Rattle.itm_types.specs.declared.call.Call.TheVariants.{Begin}
 use Rattle.itm_types.specs.declared.call.Props.{Props}
@@ -11,7 +11,9 @@ use Rattle.user_actions.specs.Actions.{Actions, no_actions}
 use Rattle.itm_model.specs.Machine.{after, after_unless, irrevocable_from, is_open, opened, outside, pushed, refusal, reply, reply_unless, undone}
 use Rattle.itm_model.specs.State.{State}
 use Rattle.norec_core.proofs.Engines.Blocks.{none_inside}
-use Rattle.norec_core.specs.Core.{Core, in_transaction}
+use Rattle.norec_core.proofs.Replies.AnsweredEngines.{rests}
+use Rattle.norec_core.proofs.Replies.ReplyCases.{Ways, reply_cases}
+use Rattle.norec_core.specs.Core.{Core, in_transaction, is_inside}
 use Rattle.norec_core.specs.Effects.{recoded}
 use Rattle.norec_core.specs.Stands.{stands_for}
 use Rattle.norec_core.specs.declared.answer.Answer.{Answer}
@@ -19,7 +21,7 @@ use Rattle.norec_core.specs.declared.answer.Answer.TheVariants.{Busy, Committed,
 use Rattle.shared_words.specs.declared.view.View.{View}
 use Rattle.shared_words.specs.Views.{held}
 use Rattle.itm_runtime.specs.Served.{IsUndone, Meets, Served, Start, Went, came_over, left_over, memory_in, mine_after}
-use Rattle.itm_runtime.specs.Ties.{Stands}
+use Rattle.itm_runtime.specs.Ties.{Stands, memory_of}
 use Rattle.tx_attempts.specs.Opacity.{begin_code}
 use Rattle.tx_attempts.specs.declared.attempt.Attempt.{Attempt}
 use Rattle.tx_player.specs.Depth.{depth_after}
@@ -27,12 +29,15 @@ use Rattle.tx_player.specs.Rules.{Obeys, Rules}
 use Rattle.tx_runs.proofs.Begins.{begin_here, led}
 use Rattle.tx_runs.proofs.Players.{plays}
 use Rattle.tx_runs.specs.Nesting.{IsNested}
-use Rattle.tx_runs.specs.Runs.{LeadsTo}
+use Rattle.tx_runs.proofs.TriesBegin.{IsToOpen, begins_held, begins_on}
+use Rattle.tx_runs.specs.OpenTries.{IsOpenTry}
+use Rattle.tx_runs.specs.Runs.{LeadsTo, begins_at}
+use Rattle.tx_worker.proofs.Machines.LastEvents.{IsLast}
 use Rattle.tx_worker.proofs.Runs.LaterCommits.{run_later}
 use Rattle.tx_worker.proofs.Begins.OutsideCalls.{answered_outside, left_outside, nested_outside, opened_one, revocable_outside, shut_state, stands_outside}
 use Rattle.tx_worker.proofs.Machines.PlainStates.{stands_actions, stands_arena, stands_blocks, stands_open}
 use Rattle.tx_worker.specs.Positions.{positions}
-use Rattle.tx_worker.specs.Progress.{Course, HasRun, IsOutside, IsRunning, IsTry, MayReadIn, stood}
+use Rattle.tx_worker.specs.Progress.{Course, HasRun, IsOutside, IsRunning, IsTry}
 use Rattle.tx_runs.specs.Tallies.{begun, within}
 use Rattle.tx_worker.specs.Accounts.{Account}
 use Rattle.tx_worker.proofs.Shapes.{tried}
@@ -75,6 +80,11 @@ entered_leaves : (deepest : ℕ) (arena : List ℕ) (actions : Actions) (m : Lis
     → after deepest (shut_state arena actions m) (Begin props room) ≡ opened (bytes_of m) arena props
 entered_leaves deepest arena actions m props room accepted = ap (λ (o : Option Refusal). after_unless o (shut_state arena actions m) (opened (bytes_of m) arena props)) accepted
 
+-- outside a transaction the code is that of the block
+told_outside : (again inside : Bool) → inside ≡ false → (again && not inside) ≡ again
+told_outside true inside e = ap not e
+told_outside false inside e = refl
+
 -- ## A served begin
 
 -- it commits nothing
@@ -100,17 +110,12 @@ module _ (s : Start) (v : View) (e : Core) (before : Stands s.view s.engine) (ou
         ∙ ((λ i. after s.engine.depth (stands_outside before outside m i) (is i))
         ∙ entered_leaves s.engine.depth s.engine.arena s.engine.actions m props room entered.accepted)
 
-    -- over each memory that the attempt may have read
-    begins_over : (m : List ℕ) → MayReadIn e.irrevocable v e m → stands_for e (stood e.irrevocable v m) ≡ opened (bytes_of m) s.engine.arena props
-    begins_over m may = by_mode e.irrevocable refl may
-      where
-        by_mode : (b : Bool) → e.irrevocable ≡ b → MayReadIn b v e m → stands_for e (stood b v m) ≡ opened (bytes_of m) s.engine.arena props
-        by_mode false revocable may =
-            leaves (served.tells.all (revocable_outside before outside) revocable m (subst (λ (words : ℕ). IsMemory words m) served.words may.0) may.1)
-        by_mode true irrevocable may =
-            let there : came_over s v e ≡ m = ap (λ (b : Bool). memory_in b s.view v (e.snapshot / 2)) (revocable_outside before outside) ∙ sym may in
-            let here : left_over v e ≡ held v = ap (λ (b : Bool). memory_in b v v (e.snapshot / 2)) irrevocable in
-            sym (ap (stands_for e) here) ∙ (leaves served.tells.here ∙ ap (λ (x : List ℕ). opened (bytes_of x) s.engine.arena props) there)
+    -- where it goes irrevocable, over the words that are held
+    begins_over : e.irrevocable ≡ true → stands_for e (held v) ≡ opened (bytes_of (memory_of v (e.snapshot / 2))) s.engine.arena props
+    begins_over irrevocable =
+        let there : came_over s v e ≡ memory_of v (e.snapshot / 2) = ap (λ (b : Bool). memory_in b s.view v (e.snapshot / 2)) (revocable_outside before outside) in
+        let here : left_over v e ≡ held v = ap (λ (b : Bool). memory_in b v v (e.snapshot / 2)) irrevocable in
+        sym (ap (stands_for e) here) ∙ (leaves served.tells.here ∙ ap (λ (x : List ℕ). opened (bytes_of x) s.engine.arena props) there)
 
     -- there are no actions yet
     pub begins_actions : e.actions ≡ no_actions
@@ -129,7 +134,7 @@ module _ (s : Start) (v : View) (e : Core) (before : Stands s.view s.engine) (ou
 -- ## The run goes on
 
 module _ {P : Type 0} {rules : Rules P} (laws : Obeys rules) (c : Course P) (s : Start) (t : Account P) (v : View) (e : Core)
-    (running : IsRunning rules c s.view s.engine t) (before : Stands s.view s.engine) (asks : rules.next_call t.player ≡ Some s.call) (outside : in_transaction s.engine ≡ false) where
+    (running : IsRunning rules c s.view s.engine t) (before : Stands s.view s.engine) (stands : Stands v e) (asks : rules.next_call t.player ≡ Some s.call) (outside : in_transaction s.engine ≡ false) where
   was : IsOutside rules c s.view s.engine t
   was = running.outside outside
 
@@ -139,8 +144,8 @@ module _ {P : Type 0} {rules : Rules P} (laws : Obeys rules) (c : Course P) (s :
 
   -- ## It came to nothing, and is tried again
 
-  tries_again : Went s.view v → s.engine.clock ≤ e.clock → v.mine ≡ s.view.mine → in_transaction e ≡ false → s.view.looks < v.looks → IsUndone s e → e.depth ≡ s.engine.depth → t.nth ≤ c.retries → IsRunning rules c v e (tried t t.player t.ended)
-  tries_again went rises mine shut looks undone_so same few =
+  tries_again : Went s.view v → s.engine.clock ≤ e.clock → v.mine ≡ s.view.mine → in_transaction e ≡ false → s.view.looks < v.looks → IsUndone s e → e.depth ≡ s.engine.depth → e.restarts ≡ s.engine.restarts → t.nth ≤ c.retries → IsRunning rules c v e (tried t t.player t.ended)
+  tries_again went rises mine shut looks undone_so same limit few =
       let nested = nested_outside running outside in
       let later = run_later rules c s.view v went t.ended running.has_run in
       let k = was.before in
@@ -152,6 +157,7 @@ module _ {P : Type 0} {rules : Rules P} (laws : Obeys rules) (c : Course P) (s :
         nested = subst (λ (b : Bool). IsNested rules b t.player) (sym shut) nested;
         depth = nested.deep ∙ sym (ap length (none_inside e.blocks shut));
         deepest = same ∙ running.deepest;
+        limit = limit ∙ running.limit;
         inside = λ now. absurd (true≢false (sym now ∙ shut));
         outside = λ now. record {
           between = was.between;
@@ -169,10 +175,10 @@ module _ {P : Type 0} {rules : Rules P} (laws : Obeys rules) (c : Course P) (s :
       }
 
   pub lost : (clock : ℕ) (word : Option ℕ) → Served s (Conflict clock word) v e → t.nth ≤ c.retries → IsRunning rules c v e (tried t t.player t.ended)
-  lost clock word served few = tries_again served.went served.rises served.mine served.tells.closes.closed served.tells.looks served.tells.undone served.limits.2 few
+  lost clock word served few = tries_again served.went served.rises served.mine served.tells.closes.closed served.tells.looks served.tells.undone served.limits.2 served.limits.3 few
 
   pub busy : (clock : ℕ) → Served s (Busy clock) v e → t.nth ≤ c.retries → IsRunning rules c v e (tried t t.player t.ended)
-  busy clock served few = tries_again served.went served.rises served.mine served.tells.closes.closed served.tells.looks served.tells.undone served.limits.2 few
+  busy clock served few = tries_again served.went served.rises served.mine served.tells.closes.closed served.tells.looks served.tells.undone served.limits.2 served.limits.3 few
 
   -- ## It is accepted
 
@@ -187,25 +193,65 @@ module _ {P : Type 0} {rules : Rules P} (laws : Obeys rules) (c : Course P) (s :
     abbrev row : ℕ → Attempt
     row ahead = record (begun c.number t.nth (s.engine.clock / 2) props s.engine.arena ahead) { at = e.snapshot / 2 }
 
-    tries_block : (ahead : ℕ) → IsTry rules c.depth was.between (row ahead) (rules.answered t.player r) v e
-    tries_block ahead = record {
-      of_block = record {
-        start = record { player = t.player; arena = s.engine.arena; props = props };
-        begins = led rules laws c.depth was.before.calls was.between.player was.between.arena t.player s.engine.arena was.before.leads
-            ∙ begin_here rules laws c.depth t.player s.engine.arena props room (asks ∙ ap (λ (x : Call). Some x) is) accepted;
-        arena = refl;
-        props = refl;
-        tries = was.before.tries;
-        player = ap (rules.answered t.player) told;
-      };
-      began = (let known = before.known in let seen = (served.opens outside now).seen in omega arith);
-      restarts = refl;
-      ran = sym (ap (λ (a : Actions). a.ran) (begins_actions s v e before outside props room is r served now));
-      each = λ m may. (tt, begins_over s v e before outside props room is r served now m may);
-    }
+    -- as the engine comes to its answer
+    module _ (last : IsLast s v (Reply r) e) (ahead : ℕ) where
+      abbrev mid : Core
+      mid = last.mid
 
-    pub opens : (ahead : ℕ) → IsRunning rules c v e (record t { player = rules.answered t.player r; again = true; stage = within (record (begun c.number t.nth (s.engine.clock / 2) props s.engine.arena ahead) { at = e.snapshot / 2 }) [] })
-    opens ahead =
+      abbrev next : List ℕ
+      next = memory_of v (e.snapshot / 2)
+
+      depth_mid : mid.depth ≡ c.depth
+      depth_mid = last.is_mid.kept.depth ∙ running.deepest
+
+      revocable_mid : mid.irrevocable ≡ false
+      revocable_mid = last.is_mid.kept.irrevocable ∙ revocable_outside before outside
+
+      arena_mid : mid.arena ≡ s.engine.arena
+      arena_mid = last.is_mid.kept.arena (revocable_outside before outside)
+
+      comes : begins_at rules c.depth was.between ≡ Some (record { player = t.player; arena = s.engine.arena; props = props })
+      comes =
+          led rules laws c.depth was.before.calls was.between.player was.between.arena t.player s.engine.arena was.before.leads
+          ∙ begin_here rules laws c.depth t.player s.engine.arena props room (asks ∙ ap (λ (x : Call). Some x) is) accepted
+
+      to_open : IsToOpen rules was.between (begun c.number t.nth (s.engine.clock / 2) props s.engine.arena ahead) t.player last.mid props room
+      to_open = record {
+        comes = subst (λ (x : ℕ × List ℕ). begins_at rules x.0 was.between ≡ Some (record { player = t.player; arena = x.1; props = props })) (λ i. (sym depth_mid i, sym arena_mid i)) comes;
+        asks = asks ∙ ap (λ (x : Call). Some x) is;
+        none_open = (nested_outside running outside).deep;
+        arena = sym arena_mid;
+        props = refl;
+        calls = refl;
+        ran = refl;
+        restarts = refl;
+        tries = was.before.tries;
+        outside = ap is_inside last.is_mid.kept.blocks ∙ outside;
+        empty = last.is_mid.kept.writes ∙ (before.settled.closed outside).1;
+        again = last.is_mid.kept.again ∙ (told_outside s.again (in_transaction s.engine) outside ∙ (again ∙ was.before.again));
+        revocable = revocable_mid;
+      }
+
+      began : s.engine.clock / 2 ≤ e.snapshot / 2
+      began = (let known = before.known in let seen = (served.opens outside now).seen in omega arith)
+
+      agreed_mid : (m : List ℕ) × IsMemory mid.words m × Agrees m e.log
+      agreed_mid = (let some = stands.settled.agreed in (some.0, subst (λ (n : ℕ). IsMemory n some.0) (rests mid e (Reply r) last.ends).words some.1, some.2))
+
+      by_way : Ways last.mid e (Begin props room) r → IsOpenTry rules last.mid.depth next was.between (row ahead) [] (rules.answered t.player r) e
+      by_way (inl g) = begins_on laws next to_open r e (e.snapshot / 2) began g agreed_mid now
+      by_way (inr (inl g)) = begins_held laws next to_open r e (e.snapshot / 2) began g now
+      by_way (inr (inr g)) = absurd (true≢false (sym g.irrevocable ∙ revocable_mid))
+
+      tries_block : IsTry rules c.depth was.between (row ahead) [] (rules.answered t.player r) v e
+      tries_block = record {
+        is_open = subst (λ (d : ℕ). IsOpenTry rules d next was.between (row ahead) [] (rules.answered t.player r) e) depth_mid
+            (by_way (reply_cases last.mid e (Begin props room) r (last.is_mid.kept.doing ∙ ap (λ (x : Call). Some x) is) last.ends));
+        stands_held = λ irrevocable. begins_over s v e before outside props room is r served now irrevocable;
+      }
+
+    pub opens : IsLast s v (Reply r) e → (ahead : ℕ) → IsRunning rules c v e (record t { player = rules.answered t.player r; again = true; stage = within (record (begun c.number t.nth (s.engine.clock / 2) props s.engine.arena ahead) { at = e.snapshot / 2 }) [] })
+    opens last ahead =
         let nested = nested_outside running outside in
         let later = run_later rules c s.view v served.went t.ended running.has_run in
         let deep : depth_after (rules.depth t.player) s.call r ≡ 1 = (λ i. depth_after (nested.deep i) (is i) (told i)) in
@@ -218,13 +264,14 @@ module _ {P : Type 0} {rules : Rules P} (laws : Obeys rules) (c : Course P) (s :
           nested = subst (λ (b : Bool). IsNested rules b (rules.answered t.player r)) (sym now) played.nested;
           depth = laws.nests t.player s.call r asks ∙ (deep ∙ sym (begins_one s v e before outside props room is r served now));
           deepest = served.limits.2 ∙ running.deepest;
+          limit = served.limits.3 ∙ running.limit;
           inside = λ o. record {
             between = was.between;
             row = row ahead;
             points = [];
             stage_is = refl;
             now_is = later.1 ∙ was.now_is;
-            try = tries_block ahead;
+            try = tries_block last ahead;
             again = refl;
             nth = refl;
             thread = refl;

@@ -203,6 +203,7 @@ module _ {P : Type 0} {rules : Rules P} (laws : Obeys rules) (c : Course P) (s :
         nested = subst (λ (b : Bool). IsNested rules b (rules.answered t.player r)) (sym shut) played.nested;
         depth = played.nested.deep ∙ sym (ap length (none_inside e.blocks shut));
         deepest = served.limits.2 ∙ running.deepest;
+        limit = served.limits.3 ∙ running.limit;
         inside = λ now. absurd (true≢false (sym now ∙ shut));
         outside = λ now. record {
           between = was.between;

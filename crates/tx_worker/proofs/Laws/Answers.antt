@@ -5,7 +5,7 @@ use Rattle.norec_core.specs.declared.answer.Answer.{Answer}
 use Rattle.norec_core.specs.Core.{Core, in_transaction, irrevocable_room}
 use Rattle.shared_words.specs.declared.view.View.{View}
 use Rattle.shared_words.specs.declared.words.Words.{Words}
-use Rattle.shared_words.specs.Passes.{view_of}
+use Rattle.shared_words.specs.Passes.{Owns, cells_of, view_of}
 use Rattle.itm_runtime.specs.CallResults.{IsAnswered}
 use Rattle.itm_runtime.specs.Served.{Served, Start}
 use Rattle.itm_runtime.specs.Standing.{Standing, start_of}
@@ -15,12 +15,13 @@ use Rattle.tx_runs.specs.declared.ending.End.{End}
 use Rattle.tx_runs.specs.Tallies.{Stage, outside, within, Taken, begins_again, begun, stage_at, took_in, stand_of}
 use Rattle.tx_worker.specs.Accounts.{Account, account_after, tally_in}
 use Rattle.tx_worker.specs.Calls.{asked}
-use Rattle.tx_worker.specs.Falls.{Falls}
+use Rattle.tx_runs.specs.Ranks.{Falls, restarts_left}
 use Rattle.tx_worker.specs.Progress.{Course, IsRunning}
+use Rattle.tx_worker.proofs.Machines.LastEvents.{IsLast, last_event}
 use Rattle.tx_worker.proofs.Laws.CallsOutside.{outside_falls, outside_on, outside_over}
 use Rattle.tx_worker.proofs.Laws.CallsWithin.{IsOverSo, inside_falls, inside_on, inside_over}
 
-module _ {P : Type 0} {rules : Rules P} (laws : Obeys rules) (words : Words) (c : Course P) (a : Account P) (s : Standing) (running : IsRunning rules c (view_of s.pass) s.engine a) (stands : Stands (view_of s.pass) s.engine) (whole : s.engine.restarts ≡ 0)
+module _ {P : Type 0} {rules : Rules P} (laws : Obeys rules) (words : Words) (c : Course P) (a : Account P) (s : Standing) (running : IsRunning rules c (view_of s.pass) s.engine a) (own : Owns words s.pass) (stands : Stands (view_of s.pass) s.engine)
     (number retries : ℕ) (number_is : number ≡ c.number) (retries_is : retries ≡ c.retries) (call : Call) (asks : rules.next_call a.player ≡ Some call) (answer : Answer) (s' : Standing) (answered : IsAnswered words (start_of s call (begins_again a.stage a.again call)) answer s'.pass s'.engine) where
   abbrev e : Core
   e = s'.engine
@@ -49,32 +50,38 @@ module _ {P : Type 0} {rules : Rules P} (laws : Obeys rules) (words : Words) (c 
   served_at : (g : Stage) → a.stage ≡ g → Served (start_at g) answer v e
   served_at g is = subst (λ (x : Stage). Served (start_at x) answer v e) is answered.served
 
+  -- as its engine came to it
+  last_at : (g : Stage) → a.stage ≡ g → IsLast (start_at g) v answer e
+  last_at g is = subst (λ (x : Stage). IsLast (start_at x) v answer e) is (last_event (cells_of words) (start_at a.stage) answer v e own.over stands answered.driven)
+
   abbrev pub Both : Taken P → Type 0
-  Both x = (x.end ≡ None → IsRunning rules c v e (account_after a x) × Falls rules c.retries (in_transaction s.engine) (in_transaction e) a.nth x.tally.nth a.player x.tally.player)
+  Both x = (x.end ≡ None → IsRunning rules c v e (account_after a x) × Falls rules c.retries c.restarts (in_transaction s.engine) (in_transaction e) a.nth x.tally.nth (restarts_left s.engine) (restarts_left e) a.player x.tally.player)
       × ((end : End) → x.end ≡ Some end → IsOverSo rules c s.engine.max_commits end v e (account_after a x))
 
   by_mode : (i : Bool) → in_transaction s.engine ≡ i → Both Took
   by_mode true inside =
       let h = running.inside inside in
       let served = served_at (within h.row h.points) h.stage_is in
+      let last = last_at (within h.row h.points) h.stage_is in
       subst Both (took_so (within h.row h.points) h.stage_is) (
         λ none. (
-          inside_on laws c (start_at (within h.row h.points)) a v e running stands answered.stands whole asks refl inside ahead answer served none,
-          subst (λ (i : Bool). Falls rules c.retries i (in_transaction e) a.nth (Took_at (within h.row h.points)).tally.nth a.player (Took_at (within h.row h.points)).tally.player) (sym inside)
-              (inside_falls laws c (start_at (within h.row h.points)) a v e running stands answered.stands whole asks refl inside ahead answer served none),
+          inside_on laws c (start_at (within h.row h.points)) a v e running stands answered.stands asks refl inside ahead answer served last none,
+          subst (λ (i : Bool). Falls rules c.retries c.restarts i (in_transaction e) a.nth (Took_at (within h.row h.points)).tally.nth (restarts_left s.engine) (restarts_left e) a.player (Took_at (within h.row h.points)).tally.player) (sym inside)
+              (inside_falls laws c (start_at (within h.row h.points)) a v e running stands answered.stands asks refl inside ahead answer served last none),
         ),
-        λ end some. inside_over laws c (start_at (within h.row h.points)) a v e running stands answered.stands whole asks refl inside ahead answer end served some,
+        λ end some. inside_over laws c (start_at (within h.row h.points)) a v e running stands answered.stands asks refl inside ahead answer end served some,
       )
   by_mode false shut =
       let o = running.outside shut in
       let served = served_at outside o.stage_is in
+      let last = last_at outside o.stage_is in
       subst Both (took_so outside o.stage_is) (
         λ none. (
-          outside_on laws c (start_at outside) a v e running stands asks shut ahead refl answer served none,
-          subst (λ (i : Bool). Falls rules c.retries i (in_transaction e) a.nth (Took_at outside).tally.nth a.player (Took_at outside).tally.player) (sym shut)
-              (outside_falls laws c (start_at outside) a v e running stands asks shut ahead refl answer served none),
+          outside_on laws c (start_at outside) a v e running stands answered.stands asks shut ahead refl answer served last none,
+          subst (λ (i : Bool). Falls rules c.retries c.restarts i (in_transaction e) a.nth (Took_at outside).tally.nth (restarts_left s.engine) (restarts_left e) a.player (Took_at outside).tally.player) (sym shut)
+              (outside_falls laws c (start_at outside) a v e running stands answered.stands asks shut ahead refl answer served last none),
         ),
-        λ end some. outside_over laws c (start_at outside) a v e running stands asks shut ahead refl answer end served some,
+        λ end some. outside_over laws c (start_at outside) a v e running stands answered.stands asks shut ahead refl answer end served some,
       )
 
   pub both : Both Took

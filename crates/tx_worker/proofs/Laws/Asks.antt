@@ -92,7 +92,7 @@ module _ {P : Type 0} {rules : Rules P} {words : Words} {c : Course P} {b : Boun
           roomy = subst (λ (x : Worker P). HasPlaces old.thread.engine x.ended x.run.current) (sym is) (places mid.run.current prepared.ready);
           ended = ap (λ (w : Worker P). w.ended.items) is ∙ prepared.ended;
           begins = λ none. by_begin (is_begin call) refl none;
-          short = λ row points inside. inr (inr (inr (inr starves)));
+          short = λ row points inside. inr (inr (inr starves));
         };
       }
     where
@@ -118,6 +118,6 @@ module _ {P : Type 0} {rules : Rules P} {words : Words} {c : Course P} {b : Boun
       record {
         works = works;
         asks = asks;
-        prepared = subst (IsPrepared words rules old call) (sym is) (record { came = prepared.came; ready = prepared.ready; blocks = prepared.blocks; thread = prepared.thread; retries = prepared.retries; ended = prepared.ended });
+        prepared = subst (IsPrepared words rules old call) (sym is) (record { came = prepared.came; ready = prepared.ready; blocks = prepared.blocks; actions = prepared.actions; thread = prepared.thread; retries = prepared.retries; ended = prepared.ended });
         answered = subst (λ (x : Standing × Bool). IsAnswered words (start_of x.0 call x.1) answer new.thread.pass new.thread.engine) (λ i. ((same i).thread, again i)) a;
       }

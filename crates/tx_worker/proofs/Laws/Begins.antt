@@ -1,11 +1,10 @@
 -- A worker before its first call.
-use Rattle.std.proofs.Common.{◌≡◌, ℕ, ◌/◌, ◌≤◌, Bool, false, true≢false, List, [], ◌∷◌, length, Vec, Global, refl, sym, ap, subst, ◌∙◌, arith, append-nil}
+use Rattle.std.proofs.Common.{◌≡◌, ℕ, ◌/◌, ◌^◌, ◌<◌, ◌≤◌, Bool, false, true≢false, List, [], ◌∷◌, length, Vec, Global, refl, sym, ap, subst, ◌∙◌, arith, append-nil}
 use Rattle.itm_types.specs.declared.limits.TheConstants.{MAX_RETRIES}
 use Rattle.nest_frames.specs.Nest.{Frame}
 use Rattle.norec_core.specs.Core.{in_transaction, is_inside}
 use Rattle.shared_words.specs.declared.words.Words.{Words}
 use Rattle.shared_words.specs.Passes.{Owns, view_of}
-use Rattle.itm_runtime.specs.Served.{Went}
 use Rattle.itm_runtime.specs.Standing.{Standing}
 use Rattle.itm_runtime.specs.Ties.{Stands}
 use Rattle.tx_attempts.specs.declared.attempt.Attempt.{Attempt}
@@ -20,27 +19,25 @@ use Rattle.tx_worker.specs.Positions.{AreFew, AreOver}
 use Rattle.tx_worker.specs.Progress.{HasRun, IsRunning}
 use Rattle.tx_worker.specs.Workers.{IsWorking, bounds_of}
 use Rattle.tx_worker.specs.Works.{course_of}
+use Rattle.tx_worker.proofs.Runs.LaterCommits.{went_self}
 
 none_open : (bs : List Frame) → is_inside bs ≡ false → length bs ≡ 0
 none_open [] e = refl
 none_open (b ∷ bs) e = absurd (cc)
 
-module _ {P : Type 0} (rules : Rules P) (words : Words) (thread : Standing) (player : P) (number retries : ℕ) (own : Owns words thread.pass) (stands : Stands (view_of thread.pass) thread.engine) (outside : in_transaction thread.engine ≡ false) (depth : rules.depth player ≡ 0) (whole_is : thread.engine.restarts ≡ 0) (few : retries ≤ MAX_RETRIES) where
+module _ {P : Type 0} (rules : Rules P) (words : Words) (thread : Standing) (player : P) (number retries : ℕ) (own : Owns words thread.pass) (stands : Stands (view_of thread.pass) thread.engine) (outside : in_transaction thread.engine ≡ false) (depth : rules.depth player ≡ 0) (limit : thread.engine.restarts < 2 ^ 32) (few : retries ≤ MAX_RETRIES) where
   pub begins_bound : whole rules (in_transaction thread.engine) player ≤ rules.calls_left player
   begins_bound = subst (λ (i : Bool). whole rules i player ≤ rules.calls_left player) (sym outside) (let l : rules.calls_left player ≤ rules.calls_left player = omega arith in l)
 
-  still : Went (view_of thread.pass) (view_of thread.pass)
-  still = record { base = refl; share = refl; grows = ([], sym (append-nil (view_of thread.pass).seen)); looks = omega arith; high = omega arith }
-
   no_run : HasRun rules (course_of thread player number retries) (view_of thread.pass) []
   no_run = record {
-    went = still;
+    went = went_self (view_of thread.pass);
     run = tt;
     left = tt;
     since = tt;
     known = stands.known;
     own = tt;
-    unbroken = tt;
+    few = tt;
     outrun = outrun_none (view_of thread.pass).high;
   }
 
@@ -53,6 +50,7 @@ module _ {P : Type 0} (rules : Rules P) (words : Words) (thread : Standing) (pla
     nested = subst (λ (i : Bool). IsNested rules i player) (sym outside) (nested_outside rules player depth);
     depth = depth ∙ sym (none_open thread.engine.blocks outside);
     deepest = refl;
+    limit = refl;
     inside = λ i. absurd (true≢false (sym i ∙ outside));
     outside = λ o. record {
       between = record { player = player; arena = thread.engine.arena; again = false; tries = 0 };
@@ -78,14 +76,15 @@ module _ {P : Type 0} (rules : Rules P) (words : Words) (thread : Standing) (pla
           number = refl;
           retries = refl;
           few = few;
+          limit = limit;
           over = subst AreOver (sym empty) tt;
           below = subst (AreFew thread.engine.max_commits) (sym empty) tt;
           bounds = refl;
-          whole = whole_is;
         };
         running = subst (IsRunning rules (course_of thread player number retries) (view_of thread.pass) thread.engine) first_is first_running;
         roomy = tt;
         blocks = tt;
+        actions = tt;
       },
       sym first_is,
     )

@@ -1,7 +1,6 @@
 -- What a run leaves, however it ended.
 use Rattle.std.proofs.Common.{true≢false, ◌≡◌, ◌⊎◌, ℕ, zero, suc, ◌+◌, ◌/◌, ◌≤◌, Bool, true, false, if◌then◌else◌, List, [], ◌∷◌, ◌++◌, length, None, Some, Result, Ok, Err, refl, sym, ap, subst, ◌∙◌, inl, inr, append-nil}
 use Rattle.itm_types.specs.declared.call.Call.TheVariants.{Commit}
-use Rattle.itm_types.specs.declared.call.Ran.{Ran}
 use Rattle.norec_core.specs.Core.{Core, in_transaction, rolled_back}
 use Rattle.norec_core.specs.Phases.{Idle}
 use Rattle.norec_core.proofs.Engines.HeldStores.{shut_revocable}
@@ -14,9 +13,7 @@ use Rattle.itm_runtime.specs.Ties.{Stands}
 use Rattle.tx_attempts.specs.declared.attempt.Attempt.{Attempt}
 use Rattle.tx_attempts.specs.declared.attempt.Outcome.TheVariants as outcomes
 use Rattle.tx_attempts.specs.Attempts.{alone}
-use Rattle.tx_attempts.proofs.RanOn.{ran_on_none}
 use Rattle.tx_attempts.specs.Opacity.{begin_within}
-use Rattle.tx_attempts.specs.Restarts.{ran_on}
 use Rattle.tx_player.specs.Rules.{Obeys, Rules}
 use Rattle.tx_runs.proofs.Begins.{led}
 use Rattle.tx_runs.specs.declared.ending.End.{End}
@@ -31,7 +28,6 @@ use Rattle.tx_worker.specs.Works.{AreHeld, EndsAs, EndsOpen, IsBack, IsFinished,
 use Rattle.tx_worker.proofs.Laws.Answers.{both}
 use Rattle.tx_worker.proofs.Laws.Rows.{few_more}
 use Rattle.tx_worker.proofs.Shapes.{ended_at}
-use Rattle.tx_worker.proofs.Machines.PlainActions.{given_up_runs}
 use Rattle.tx_worker.proofs.Transactions.Stops.{starved_run, unfinished_mode, unfinished_run}
 
 -- ## The pass
@@ -73,7 +69,7 @@ pub record IsTold {P : Type 0} (rules : Rules P) (c : Course P) (max_commits : �
   pub kept : t.engine.irrevocable ≡ true → EndsOpen attempts
   pub ends : EndsAs rules c max_commits shuts end (view_of t.pass) attempts
 
-module _ {P : Type 0} {rules : Rules P} (laws : Obeys rules) (words : Words) (c : Course P) (max_commits : ℕ) (shuts : Bool) (a : Account P) (s : Standing) (running : IsRunning rules c (view_of s.pass) s.engine a) (stands : Stands (view_of s.pass) s.engine) (whole : s.engine.restarts ≡ 0) (over : AreOver a.ended) (bound : s.engine.max_commits ≡ max_commits) where
+module _ {P : Type 0} {rules : Rules P} (laws : Obeys rules) (words : Words) (c : Course P) (max_commits : ℕ) (shuts : Bool) (a : Account P) (s : Standing) (running : IsRunning rules c (view_of s.pass) s.engine a) (own : Owns words s.pass) (stands : Stands (view_of s.pass) s.engine) (over : AreOver a.ended) (bound : s.engine.max_commits ≡ max_commits) where
   -- ## It stands as it was
 
   -- none is open
@@ -109,14 +105,7 @@ module _ {P : Type 0} {rules : Rules P} (laws : Obeys rules) (words : Words) (c 
     last = ended_at outcomes.Unfinished (s.engine.snapshot / 2) s.engine.actions.ran (running.inside inside).row
 
     told_inside : told a (stand_of s.engine) ≡ a.ended ++ last ∷ []
-    told_inside =
-        let h = running.inside inside in
-        let all : ran_on h.row.ran h.row.restarts s.engine.actions.ran ≡ s.engine.actions.ran = ran_on_none h.row.ran h.row.restarts s.engine.actions.ran h.try.restarts ([], append-nil h.row.ran ∙ h.try.ran) in
-        ap (λ (g : Stage). a.ended ++ over_as outcomes.Unfinished (stand_of s.engine) g) h.stage_is
-        ∙ ap (λ (ran : List Ran). a.ended ++ ended_at outcomes.Unfinished (s.engine.snapshot / 2) ran h.row ∷ []) all
-
-    last_is : ended_at outcomes.Unfinished (s.engine.snapshot / 2) (running.inside inside).row.ran (running.inside inside).row ≡ last
-    last_is = ap (λ (ran : List Ran). ended_at outcomes.Unfinished (s.engine.snapshot / 2) ran (running.inside inside).row) (running.inside inside).try.ran
+    told_inside = ap (λ (g : Stage). a.ended ++ over_as outcomes.Unfinished (stand_of s.engine) g) (running.inside inside).stage_is
 
     ends_inside : (rules.next_call a.player ≡ None) → EndsAs rules c max_commits shuts ends.Finished (view_of s.pass) (a.ended ++ last ∷ [])
     ends_inside none =
@@ -128,17 +117,17 @@ module _ {P : Type 0} {rules : Rules P} (laws : Obeys rules) (words : Words) (c 
           unfinished = refl;
           between = h.between;
           now_is = h.now_is;
-          start = h.try.of_block.start;
-          begins = h.try.of_block.begins;
-          none = ap rules.next_call (sym h.try.of_block.player) ∙ none;
+          start = h.try.is_open.of_block.start;
+          begins = h.try.is_open.of_block.begins;
+          none = ap rules.next_call (sym h.try.is_open.of_block.player) ∙ none;
         })
 
     still_inside : (end : End) → EndsAs rules c max_commits shuts end (view_of s.pass) (a.ended ++ last ∷ []) → IsTold rules c max_commits shuts end s (told a (stand_of s.engine))
     still_inside end ended =
         let run = unfinished_run laws c (start_of s Commit false) a running stands inside in
         subst (IsTold rules c max_commits shuts end s) (sym told_inside) (record {
-          run = subst (λ (x : Attempt). HasRun rules c (view_of s.pass) (a.ended ++ x ∷ [])) last_is run.0;
-          mine = run.1 ∙ ap (λ (x : Attempt). c.view.mine ++ positions (a.ended ++ x ∷ [])) last_is;
+          run = run.0;
+          mine = run.1;
           held = last_held c.depth (view_of s.pass) s.engine.irrevocable a.ended last over (unfinished_mode laws c (start_of s Commit false) a running stands inside);
           kept = λ i. (a.ended, last, refl, refl);
           ends = ended;
@@ -164,7 +153,7 @@ module _ {P : Type 0} {rules : Rules P} (laws : Obeys rules) (words : Words) (c 
 
   made_told : (number retries : ℕ) → number ≡ c.number → retries ≡ c.retries → (left : Account P) (t : Standing) → IsMade words rules number retries a s (Some ends.GaveUp) left t → AreOver left.ended → IsTold rules c max_commits shuts ends.GaveUp t (told left (stand_of t.engine))
   made_told number retries number_is retries_is left t m ended =
-      let o = (both laws words c a s running stands whole number retries number_is retries_is m.call m.asks m.answer t m.answered).1 ends.GaveUp m.end_is in
+      let o = (both laws words c a s running own stands number retries number_is retries_is m.call m.asks m.answer t m.answered).1 ends.GaveUp m.end_is in
       let stage : left.stage ≡ outside = ap (λ (x : Account P). x.stage) m.account ∙ o.stage in
       let told_is : told left (stand_of t.engine) ≡ left.ended = ap (λ (g : Stage). left.ended ++ over_as outcomes.Unfinished (stand_of t.engine) g) stage ∙ append-nil left.ended in
       let same : left.ended ≡ _ = ap (λ (x : Account P). x.ended) m.account in
@@ -201,12 +190,6 @@ module _ {P : Type 0} {rules : Rules P} (laws : Obeys rules) (words : Words) (c 
             ends = tt;
           })
         where
-          told_all : s.engine.irrevocable ≡ false → (inside : in_transaction s.engine ≡ true) → ran_on (running.inside inside).row.ran (running.inside inside).row.restarts t.engine.actions.ran ≡ t.engine.actions.ran
-          told_all revocable inside =
-              let h = running.inside inside in
-              let r = given_up_runs (start_of s Commit false) t.engine stands revocable k.engine in
-              ran_on_none h.row.ran h.row.restarts t.engine.actions.ran h.try.restarts (r.later, ap (λ (ran : List Ran). ran ++ r.later) h.try.ran ∙ sym r.ran)
-
           freed : s.engine.irrevocable ≡ false → t.engine.irrevocable ≡ false
           freed revocable = ap (λ (x : Core). x.irrevocable) k.engine ∙ ap (λ (h : Bool). (if h then s.engine else record (rolled_back s.engine) { stage = Idle; tries = 0 }).irrevocable) (stands.mode ∙ revocable)
 
@@ -215,8 +198,7 @@ module _ {P : Type 0} {rules : Rules P} (laws : Obeys rules) (words : Words) (c 
           runs revocable view = by_mode (HasRun rules c (view_of t.pass) (a.ended ++ over_as outcomes.NoMemory (stand_of t.engine) a.stage) × ((view_of t.pass).mine ≡ c.view.mine ++ positions (a.ended ++ over_as outcomes.NoMemory (stand_of t.engine) a.stage)))
               (λ inside. subst (λ (g : Stage). HasRun rules c (view_of t.pass) (a.ended ++ over_as outcomes.NoMemory (stand_of t.engine) g) × ((view_of t.pass).mine ≡ c.view.mine ++ positions (a.ended ++ over_as outcomes.NoMemory (stand_of t.engine) g)))
               (sym (running.inside inside).stage_is)
-              (subst (λ (ran : List Ran). HasRun rules c (view_of t.pass) (a.ended ++ ended_at outcomes.NoMemory (t.engine.snapshot / 2) ran (running.inside inside).row ∷ []) × ((view_of t.pass).mine ≡ c.view.mine ++ positions (a.ended ++ ended_at outcomes.NoMemory (t.engine.snapshot / 2) ran (running.inside inside).row ∷ [])))
-              (sym (told_all revocable inside)) (starved_run laws c (start_of s Commit false) a running stands inside (view_of t.pass) t.engine revocable k.engine view)))
+              (starved_run laws c (start_of s Commit false) a running stands inside (view_of t.pass) t.engine revocable k.engine view))
               (λ shut. subst (λ (x : View × List Attempt). HasRun rules c x.0 x.1 × (x.0.mine ≡ c.view.mine ++ positions x.1))
               (λ i. (sym view i, (sym (append-nil a.ended) ∙ ap (λ (g : Stage). a.ended ++ over_as outcomes.NoMemory (stand_of t.engine) g) (sym (running.outside shut).stage_is)) i)) (running.has_run, running.mine))
 

@@ -1,5 +1,5 @@
 -- The room that is made before a call serves whatever comes of its answer.
-use Rattle.std.proofs.Common.{◌≡◌, inl, inr, ℕ, suc, ◌+◌, ◌/◌, ◌<◌, ◌≤◌, Bool, true, false, true≢false, nat_lt, if◌then◌else◌, List, [], ◌++◌, length, length-append, is_some, refl, sym, ap, subst, ◌∙◌, arith, unwrap_or, ltb-false}
+use Rattle.std.proofs.Common.{◌≡◌, inl, inr, ℕ, suc, ◌+◌, ◌/◌, ◌<◌, ◌≤◌, Bool, true, false, true≢false, nat_lt, if◌then◌else◌, List, [], ◌∷◌, ◌++◌, length, length-append, is_some, None, Some, refl, sym, ap, subst, ◌∙◌, arith, unwrap_or, ltb-false}
 use Rattle.itm_types.specs.Calls.{is_abort, is_begin, registered_by}
 use Rattle.itm_types.specs.declared.call.Call.{Call}
 use Rattle.itm_types.specs.declared.call.Call.TheVariants.{Begin, CommitAction, UndoAction}
@@ -9,29 +9,36 @@ use Rattle.norec_core.proofs.Replies.ActionCounts.{registers}
 use Rattle.norec_core.specs.declared.answer.Answer.{Answer}
 use Rattle.norec_core.specs.declared.answer.Answer.TheVariants.{Busy, Committed, Conflict, Full, Reply, Restarted}
 use Rattle.norec_core.specs.Core.{Core, in_transaction, irrevocable_room}
+use Rattle.norec_core.specs.Restarts.{IsRestart}
 use Rattle.user_actions.specs.Actions.{total}
 use Rattle.shared_words.specs.declared.words.Words.{Words}
+use Rattle.shared_words.specs.Passes.{cells_of}
 use Rattle.itm_runtime.specs.Served.{Served, Start}
 use Rattle.itm_runtime.specs.Standing.{start_of}
 use Rattle.tx_attempts.specs.declared.attempt.Attempt.{Attempt}
 use Rattle.tx_attempts.specs.declared.attempt.Outcome.{Outcome}
-use Rattle.tx_attempts.specs.Beginnings.{IsBeginningOf}
 use Rattle.tx_attempts.specs.Kept.{Kept, reserved}
 use Rattle.tx_player.specs.Rules.{Rules}
-use Rattle.tx_runs.proofs.OpenRooms.{opens_most, told_none}
+use Rattle.tx_runs.proofs.OpenRooms.{opens_most}
 use Rattle.tx_runs.proofs.StepCalls.{cancels_register_none}
 use Rattle.tx_runs.proofs.TookIn.{OpensBy}
+use Rattle.tx_runs.proofs.TriesBack.{began_now, is_cut}
 use Rattle.tx_runs.specs.declared.player_run.Current.{Current}
 use Rattle.tx_runs.specs.declared.player_run.Current.TheVariants.{Outside, Begins, Within}
-use Rattle.tx_runs.specs.OpenAttempts.{Open, HasRoom, told_in}
-use Rattle.tx_runs.specs.PlayerRuns.{KeepsPlaces, MayTakeIn, MayTell, stage_of}
+use Rattle.tx_runs.specs.Nesting.{IsDeep}
+use Rattle.tx_runs.specs.OpenAttempts.{BeganBy, HasRoom, MayRenew, Open, told_in}
+use Rattle.tx_runs.specs.PlayerRuns.{KeepsPlaces, MayGoBack, MayTakeIn, MayTell, stage_of}
+use Rattle.tx_runs.specs.Savepoints.{due_at}
 use Rattle.tx_runs.specs.declared.savepoint.Savepoint.{Savepoint}
 use Rattle.tx_runs.specs.Tallies.{Stage, outside, begins, within, Stand, begins_again, begun, over_as, stage_at, stand_of}
 use Rattle.tx_worker.specs.declared.worker.Worker.{Worker}
 use Rattle.tx_worker.specs.Accounts.{account_of}
 use Rattle.tx_worker.specs.Progress.{Course, IsRunning}
-use Rattle.tx_worker.specs.Workers.{Bounds, HasBlockPlaces, IsAsked, KeepsBlockPlaces, IsReadyFor, IsRoomier, again_for, view_in}
+use Rattle.tx_worker.specs.Workers.{Bounds, HasActionPlaces, HasBlockPlaces, IsAsked, KeepsBlockPlaces, IsReadyFor, IsRoomier, IsToldBy, again_for, arena_ahead, view_in}
+use Rattle.tx_worker.proofs.Machines.ActionRooms.{goes_plainly, ran_held, room_asked, room_on}
+use Rattle.tx_worker.proofs.Machines.LastEvents.{IsLast, last_event}
 use Rattle.tx_worker.proofs.Machines.PlainActions.{served_ran, served_runs}
+use Rattle.tx_worker.proofs.Machines.RestartingCalls.{arena_long, registers_none, restarting}
 
 -- ## What a begin is told
 
@@ -70,26 +77,26 @@ room_after (CommitAction action) before after room few more l = (let m = more re
 room_after (UndoAction action) before after room few more l = (let m = more refl in omega arith)
 room_after call before after room few more l = omega arith
 
--- ## What is told
-
--- where no block has run again, it begins what has come to run
-pub told_few : (row : Attempt) (due : List Ran) → row.restarts ≡ [] → IsBeginningOf row.ran due → told_in row ≤ length due
-told_few row due none h = (let told = told_none row none in let both = ap (length {A = Ran}) h.1 in let parts = length-append row.ran h.0 in omega arith)
-
 -- ## Places for blocks
 
--- a call opens one block at most, and takes a place of the room
-pub blocks_opened : (call : Call) (answer : Answer) (s : Stand) (ran : List Ran) (x : Current) (o : Open) → ((clock word : ℕ) → answer ≡ Restarted clock word → ⊥) → KeepsPlaces ran x (Within o) → KeepsBlockPlaces x → OpensBy (stage_of x) call answer s o.row o.points → HasBlockPlaces (Within o)
-blocks_opened call answer s ran Outside o back keeps had opens = absurd keeps
-blocks_opened call (Reply r) s ran (Begins was) o back keeps had (inl h) = absurd (let e = h.2 in cc)
-blocks_opened call (Reply r) s ran (Begins was) o back keeps had (inr h) = λ some.
+-- a place for a block of each of the calls serves in either mode
+places_for_all : (irrevocable : Bool) (o : Open) → (0 < o.row.calls.room → length o.points + o.row.calls.room ≤ o.deep) → HasBlockPlaces irrevocable (Within o)
+places_for_all true o has = has
+places_for_all false o has = λ more. has (omega arith)
+
+-- a call opens one block at most, and takes a place of the room; one by which a block goes back leaves both as they were
+pub blocks_opened : (call : Call) (answer : Answer) (s : Stand) (ran : List Ran) (x : Current) (o : Open) (irrevocable : Bool) → ((clock word : ℕ) → answer ≡ Restarted clock word → irrevocable ≡ false) → KeepsPlaces ran x (Within o) → KeepsBlockPlaces x → OpensBy (stage_of x) call answer s o.row o.points
+    → HasBlockPlaces irrevocable (Within o)
+blocks_opened call answer s ran Outside o irrevocable back keeps had opens = absurd keeps
+blocks_opened call (Reply r) s ran (Begins was) o irrevocable back keeps had (inl h) = absurd (let e = h.2 in cc)
+blocks_opened call (Reply r) s ran (Begins was) o irrevocable back keeps had (inr h) = places_for_all irrevocable o (λ some.
     (let same : was.row ≡ h.0 = (let e = h.1 in cc) in
     let room = ap (λ (a : Attempt). a.calls.room) same in
     let now = ap (λ (a : Attempt). a.calls.room) h.2 in
     let none = ap (length {A = Savepoint}) h.3 in
     let deep = keeps.2 in
-    omega arith)
-blocks_opened call (Reply r) s ran (Within was) o back keeps had (inl h) = λ some.
+    omega arith))
+blocks_opened call (Reply r) s ran (Within was) o irrevocable back keeps had (inl h) = places_for_all irrevocable o (λ some.
     (let same : was.row ≡ h.0 = (let e = h.2 in cc) in
     let points : was.points ≡ h.1 = (let e = h.2 in cc) in
     let room = ap (λ (a : Attempt). a.calls.room) same in
@@ -100,17 +107,31 @@ blocks_opened call (Reply r) s ran (Within was) o back keeps had (inl h) = λ so
     let one = one_most (is_begin call) in
     let deep = keeps.2 in
     let had_so = had (omega arith) in
-    omega arith)
+    omega arith))
   where
     one_most : (b : Bool) → (if b then 1 else 0) ≤ 1
     one_most true = omega arith
     one_most false = omega arith
-blocks_opened call (Reply r) s ran (Within was) o back keeps had (inr h) = absurd (let e = h.1 in cc)
-blocks_opened call (Restarted clock word) s ran x o back keeps had opens = absurd (back clock word refl)
-blocks_opened call (Committed at wrote) s ran x o back keeps had opens = absurd opens
-blocks_opened call (Conflict clock word) s ran x o back keeps had opens = absurd opens
-blocks_opened call (Busy clock) s ran x o back keeps had opens = absurd opens
-blocks_opened call (Full at) s ran x o back keeps had opens = absurd opens
+blocks_opened call (Reply r) s ran (Within was) o irrevocable back keeps had (inr h) = absurd (let e = h.1 in cc)
+blocks_opened call (Restarted clock word) s ran (Begins was) o irrevocable back keeps had opens = absurd (let e = opens.1 in cc)
+blocks_opened call (Restarted clock word) s ran (Within was) o irrevocable back keeps had opens =
+    let same : was.row ≡ opens.0 = (let e = opens.1 in cc) in
+    let points : was.points ≡ o.points = (let e = opens.1 in cc) in
+    let room = ap (λ (a : Attempt). a.calls.room) same in
+    let now = ap (λ (a : Attempt). a.calls.room) opens.2 in
+    let fewer = (is_cut o.points s.arena s.ran opens.0).room in
+    let as_many = ap (length {A = Savepoint}) points in
+    let deep = keeps.2 in
+    subst (λ (b : Bool). HasBlockPlaces b (Within o)) (sym (back clock word refl)) (λ more. (let had_so = had (omega arith) in let r : length o.points + o.row.calls.room ≤ o.deep = omega arith in r))
+blocks_opened call (Committed at wrote) s ran x o irrevocable back keeps had opens = absurd opens
+blocks_opened call (Conflict clock word) s ran x o irrevocable back keeps had opens = absurd opens
+blocks_opened call (Busy clock) s ran x o irrevocable back keeps had opens = absurd opens
+blocks_opened call (Full at) s ran x o irrevocable back keeps had opens = absurd opens
+
+-- what had come to run as the innermost block began has, with more calls in the attempt's room, and once more has come to run
+began_later : (points : List Savepoint) (row : Attempt) (calls : Kept) (n m : ℕ) → n ≤ m → BeganBy points row n → BeganBy points (record row { calls = calls }) m
+began_later [] row calls n m l began = tt
+began_later (s ∷ outer) row calls n m l began = (let r : due_at s row.restarts ≤ m = omega (arith, began, l) in r)
 
 -- ## The same attempt with more room
 
@@ -133,14 +154,14 @@ module _ {P : Type 0} {rules : Rules P} {c : Course P} (w : Worker P) (running :
       by_mode false shut = let none : outside ≡ begins row = sym (running.outside shut).stage_is ∙ is in cc
 
   -- one is open just within a transaction
-  pub within_inside : (row : Attempt) (points : List Savepoint) → stage_of w.run.current ≡ within row points → (i : in_transaction w.thread.engine ≡ true) × ((running.inside i).row ≡ row)
+  pub within_inside : (row : Attempt) (points : List Savepoint) → stage_of w.run.current ≡ within row points → (i : in_transaction w.thread.engine ≡ true) × ((running.inside i).row ≡ row) × ((running.inside i).points ≡ points)
   within_inside row points is = by_mode (in_transaction w.thread.engine) refl
     where
-      same : (x : Attempt) (at : List Savepoint) → within x at ≡ within row points → x ≡ row
-      same x at e = cc
+      same : (x : Attempt) (at : List Savepoint) → within x at ≡ within row points → (x ≡ row) × (at ≡ points)
+      same x at e = ((let f : x ≡ row = cc in f), (let f : at ≡ points = cc in f))
 
-      by_mode : (b : Bool) → in_transaction w.thread.engine ≡ b → (i : in_transaction w.thread.engine ≡ true) × ((running.inside i).row ≡ row)
-      by_mode true inside = (inside, same _ _ (sym (running.inside inside).stage_is ∙ is))
+      by_mode : (b : Bool) → in_transaction w.thread.engine ≡ b → (i : in_transaction w.thread.engine ≡ true) × ((running.inside i).row ≡ row) × ((running.inside i).points ≡ points)
+      by_mode true inside = (let e = same _ _ (sym (running.inside inside).stage_is ∙ is) in (inside, e.0, e.1))
       by_mode false shut = let none : outside ≡ within row points = sym (running.outside shut).stage_is ∙ is in absurd (cc)
 
 module _ {P : Type 0} {rules : Rules P} {words : Words} {c : Course P} {b : Bounds} {old new : Worker P} {call : Call} {answer : Answer} (k : IsAsked rules words c b old call answer new) where
@@ -154,69 +175,146 @@ module _ {P : Type 0} {rules : Rules P} {words : Words} {c : Course P} {b : Boun
   abbrev opens : Worker P → Props → Attempt
   opens w props = begun w.run.thread w.run.nth (w.thread.engine.clock / 2) props w.thread.engine.arena (unwrap_or (irrevocable_room w.thread.engine call) 0)
 
+  -- as its engine came to the answer
+  pub last : IsLast (start_of old.thread call (begins_again (stage_of old.run.current) old.run.again call)) (view_in new) answer new.thread.engine
+  last = last_event (cells_of words) s answer (view_in new) e k.works.same.own.over k.works.same.stands k.answered.driven
+
+  -- an irrevocable transaction is open
+  pub held_inside : new.thread.engine.irrevocable ≡ true → in_transaction new.thread.engine ≡ true
+  held_inside held = (let settled = k.answered.stands.settled in (settled.holder (settled.irrevocable held).0).0)
+
   -- where the open attempt is at hand
-  module _ (o : Open) (is : new.run.current ≡ Within o) (ready : IsReadyFor old.thread.engine call (unwrap_or (irrevocable_room old.thread.engine call) 0) new.ended (Within o)) (row : Attempt) (row_is : o.row ≡ record row { calls = reserved row.calls (unwrap_or (irrevocable_room old.thread.engine call) 0 + 1) })
-      (inside : in_transaction old.thread.engine ≡ true) (same : (k.works.running.inside inside).row ≡ row) where
+  module _ (o : Open) (is : new.run.current ≡ Within o) (ready : IsReadyFor old.thread.engine call (unwrap_or (irrevocable_room old.thread.engine call) 0) new.ended (Within o)) (row : Attempt) (points : List Savepoint) (row_is : o.row ≡ record row { calls = reserved row.calls (unwrap_or (irrevocable_room old.thread.engine call) 0 + 1) })
+      (points_are : o.points ≡ points) (inside : in_transaction old.thread.engine ≡ true) (same : (k.works.running.inside inside).row ≡ row) (same_points : (k.works.running.inside inside).points ≡ points) where
     runs : (later : List Ran) × (old.thread.engine.actions.ran ++ later ≡ new.thread.engine.actions.ran) × (total new.thread.engine.actions ≤ total old.thread.engine.actions + registers call)
     runs = (let r = served_runs s (view_in new) e k.works.same.stands inside k.answered.served in (r.later, sym r.ran, r.most))
 
-    ran_is : o.row.ran ≡ old.thread.engine.actions.ran
-    ran_is = ap (λ (x : Attempt). x.ran) row_is ∙ (ap (λ (x : Attempt). x.ran) (sym same) ∙ (k.works.running.inside inside).try.ran)
+    -- all that had come to run is told
+    told_is : told_in o.row ≡ length old.thread.engine.actions.ran
+    told_is = ap told_in row_is ∙ (ap told_in (sym same) ∙ sym (k.works.running.inside inside).try.is_open.due)
+
+    longer : length old.thread.engine.actions.ran ≤ length new.thread.engine.actions.ran
+    longer = omega (arith, ap (length {A = Ran}) runs.1, length-append old.thread.engine.actions.ran runs.0)
+
+    told_so : told_in o.row ≤ length new.thread.engine.actions.ran
+    told_so = omega (arith, told_is, longer)
 
     still_places : total new.thread.engine.actions ≤ o.ends
     still_places = room_after call (total old.thread.engine.actions) (total e.actions) o.ends ready.1 ready.2.ends runs.2
 
-    open_cancels : (x : Answer) → Served s x (view_in new) new.thread.engine → in_transaction new.thread.engine ≡ true → length o.row.ran < length new.thread.engine.actions.ran → length new.thread.engine.actions.ran ≤ o.cancels
-    open_cancels (Reply r) served now less = by_abort (is_abort call) refl
+    open_cancels : (x : Answer) → Served s x (view_in new) new.thread.engine → (IsRestart x → ⊥) → in_transaction new.thread.engine ≡ true → told_in o.row < length new.thread.engine.actions.ran → length new.thread.engine.actions.ran ≤ o.cancels
+    open_cancels (Reply r) served whole now less = by_abort (is_abort call) refl
       where
         by_abort : (a : Bool) → is_abort call ≡ a → length e.actions.ran ≤ o.cancels
         by_abort true is = (let places = ready.2.cancels is in let most = runs.2 in let none = cancels_register_none call is in omega arith)
-        by_abort false is = (let ran = ap length (served_ran s (view_in new) e k.works.same.stands inside r served is now) in let had = ap length ran_is in absurd (omega arith))
-    open_cancels (Committed at wrote) served now less = absurd (true≢false (sym now ∙ served.tells.closes.closed))
-    open_cancels (Conflict clock word) served now less = absurd (true≢false (sym now ∙ served.tells.closes.closed))
-    open_cancels (Restarted clock word) served now less = (let whole = k.works.same.whole in let left = served.tells.left in absurd (omega arith))
-    open_cancels (Busy clock) served now less = absurd (true≢false (sym now ∙ served.tells.closes.closed))
-    open_cancels (Full at) served now less = absurd (true≢false (sym now ∙ served.tells.closes.closed))
+        by_abort false is = (let ran = ap (length {A = Ran}) (served_ran s (view_in new) e k.works.same.stands inside r served is now) in let had = told_is in absurd (omega arith))
+    open_cancels (Committed at wrote) served whole now less = absurd (true≢false (sym now ∙ served.tells.closes.closed))
+    open_cancels (Conflict clock word) served whole now less = absurd (true≢false (sym now ∙ served.tells.closes.closed))
+    open_cancels (Restarted clock word) served whole now less = absurd (whole tt)
+    open_cancels (Busy clock) served whole now less = absurd (true≢false (sym now ∙ served.tells.closes.closed))
+    open_cancels (Full at) served whole now less = absurd (true≢false (sym now ∙ served.tells.closes.closed))
 
-    row_restarts : o.row.restarts ≡ []
-    row_restarts = ap (λ (x : Attempt). x.restarts) row_is ∙ (ap (λ (x : Attempt). x.restarts) (sym same) ∙ (k.works.running.inside inside).try.restarts)
-
-    has_room : HasRoom call (stand_of new.thread.engine) o
-    has_room = record {
+    has_room : (IsRestart answer → ⊥) → HasRoom call (stand_of new.thread.engine) o
+    has_room whole = record {
       entry = subst (λ (x : Attempt). 0 < x.calls.room) (sym row_is) (some_room row.calls (unwrap_or (irrevocable_room old.thread.engine call) 0));
       begins = ready.2.begins;
-      told = told_few o.row new.thread.engine.actions.ran row_restarts (runs.0, ap (λ (x : List Ran). x ++ runs.0) ran_is ∙ runs.1);
+      told = told_so;
       ends = (let places = still_places in omega arith);
-      cancels = λ now less. open_cancels answer k.answered.served now (let told = told_none o.row row_restarts in omega arith);
+      cancels = λ now less. open_cancels answer k.answered.served whole now less;
     }
 
-  the_row : (o : Open) (row : Attempt) (points : List Savepoint) → within o.row o.points ≡ within row points → o.row ≡ row
-  the_row o row points e = cc
+    may_renew : (clock word : ℕ) → answer ≡ Restarted clock word → MayRenew (stand_of new.thread.engine) o
+    may_renew clock word is =
+        let served : Served s (Restarted clock word) (view_in new) e = subst (λ (x : Answer). Served s x (view_in new) e) is k.answered.served in
+        let try = (k.works.running.inside inside).try.is_open in
+        let had : BeganBy points row (length old.thread.engine.actions.ran) = subst (λ (x : List Savepoint × Attempt). BeganBy x.0 x.1 (length old.thread.engine.actions.ran)) (λ i. (same_points i, same i)) (began_now try served.tells.revocable.0) in
+        let ahead : arena_ahead old.thread.engine call ≡ Some (length old.thread.engine.arena) = ap (λ (b : Bool). if b then Some (length old.thread.engine.arena) else None) (restarting s (view_in new) e k.works.same.stands clock word served) in
+        let backed = ready.2.again (length old.thread.engine.arena) ahead in
+        let long = arena_long s (view_in new) e k.works.same.stands clock word served in
+        let most = runs.2 in
+        let none = registers_none s (view_in new) e k.works.same.stands clock word served in
+        record {
+          told = told_so;
+          began = subst (λ (x : List Savepoint × Attempt). BeganBy x.0 x.1 (length e.actions.ran)) (λ i. (sym points_are i, sym row_is i)) (began_later points row (reserved row.calls (unwrap_or (irrevocable_room old.thread.engine call) 0 + 1)) (length old.thread.engine.actions.ran) (length e.actions.ran) longer had);
+          backed = record { room = backed.room; has = backed.has; records = backed.records; arena = (let fits = backed.arena in omega arith); undone = (let fits = backed.undone in omega arith) };
+        }
+
+    -- each commit action that an irrevocable transaction may still register finds a place, and none has come to run
+    abbrev HasPromised : Type 0
+    HasPromised = (total new.thread.engine.actions + new.thread.engine.room ≤ o.ends) × (total new.thread.engine.actions + new.thread.engine.room ≤ o.cancels) × (told_in o.row ≡ length new.thread.engine.actions.ran)
+
+    promised : (x : Answer) → Served s x (view_in new) e → IsLast s (view_in new) x e → HasActionPlaces old.thread.engine (Within o) → e.irrevocable ≡ true → 0 < e.room → HasPromised
+    promised (Reply r) served last had held some = by_mode old.thread.engine.irrevocable refl
+      where
+        by_mode : (b : Bool) → old.thread.engine.irrevocable ≡ b → HasPromised
+        by_mode true was =
+            let on = room_on s (view_in new) e k.works.same.stands r served last was some in
+            let places = had was on.0 in
+            let most = on.1 in
+            let ends = places.0 in
+            let cancels = places.1 in
+            (omega arith, omega arith, told_is ∙ sym (ap (length {A = Ran}) (ran_held s (view_in new) e k.works.same.stands r served last was (held_inside held))))
+        by_mode false was =
+            let asked = room_asked s (view_in new) e k.works.same.stands r served last was held in
+            let plain = goes_plainly s (view_in new) e k.works.same.stands r served last was held in
+            let none = plain.1 in
+            let most = runs.2 in
+            let ahead : 0 < unwrap_or (irrevocable_room old.thread.engine call) 0 = omega arith in
+            let ends = ready.2.ahead_ends ahead in
+            let cancels = ready.2.ahead_cancels ahead in
+            (omega arith, omega arith, told_is ∙ sym (ap (length {A = Ran}) (served_ran s (view_in new) e k.works.same.stands inside r served plain.0 (held_inside held))))
+    promised (Committed at wrote) served last had held some = absurd (true≢false (sym (held_inside held) ∙ served.tells.closes.closed))
+    promised (Conflict clock word) served last had held some = absurd (true≢false (sym (held_inside held) ∙ served.tells.closes.closed))
+    promised (Restarted clock word) served last had held some = absurd (true≢false (sym held ∙ served.tells.revocable.1))
+    promised (Busy clock) served last had held some = absurd (true≢false (sym (held_inside held) ∙ served.tells.closes.closed))
+    promised (Full at) served last had held some = absurd (true≢false (sym (held_inside held) ∙ served.tells.closes.closed))
+
+  the_row : (o : Open) (row : Attempt) (points : List Savepoint) → within o.row o.points ≡ within row points → (o.row ≡ row) × (o.points ≡ points)
+  the_row o row points e = ((let f : o.row ≡ row = cc in f), (let f : o.points ≡ points = cc in f))
 
   -- the attempt that is at hand is the open one, with room for the call
-  at_hand : (old_stage : Stage) → stage_of old.run.current ≡ old_stage → (o : Open) (row : Props → Attempt) (ahead : ℕ) → within o.row o.points ≡ stage_at old_stage call row ahead → (r : Attempt) × (points : List Savepoint) × (old_stage ≡ within r points) × (o.row ≡ record r { calls = reserved r.calls (ahead + 1) })
+  at_hand : (old_stage : Stage) → stage_of old.run.current ≡ old_stage → (o : Open) (row : Props → Attempt) (ahead : ℕ) → within o.row o.points ≡ stage_at old_stage call row ahead → (r : Attempt) × (points : List Savepoint) × (old_stage ≡ within r points) × (o.row ≡ record r { calls = reserved r.calls (ahead + 1) }) × (o.points ≡ points)
   at_hand outside was o row ahead is = absurd (by_call call is)
     where
       by_call : (x : Call) → within o.row o.points ≡ stage_at outside x row ahead → ⊥
       by_call (Begin props room) e = cc
       by_call x e = cc
   at_hand (begins r) was o row ahead is = absurd (cc)
-  at_hand (within r points) was o row ahead is = (r, points, refl, the_row o _ _ is)
+  at_hand (within r points) was o row ahead is = (let e = the_row o _ _ is in (r, points, refl, e.0, e.1))
 
   module _ (x : Current) (is : new.run.current ≡ x) where
     stage_is : stage_of x ≡ stage_at (stage_of old.run.current) call (opens old) (unwrap_or (irrevocable_room old.thread.engine call) 0)
     stage_is = ap stage_of (sym is) ∙ ap (λ (t : _). t.stage) k.prepared.came
 
-  pub may_take_in : MayTakeIn call (stand_of new.thread.engine) new.run.current
-  may_take_in = by_current new.run.current refl
-    where
-      by_current : (x : Current) → new.run.current ≡ x → MayTakeIn call (stand_of e) x
-      by_current Outside is = tt
-      by_current (Begins o) is = tt
-      by_current (Within o) is =
-          let hand = at_hand (stage_of old.run.current) refl o (opens old) (unwrap_or (irrevocable_room old.thread.engine call) 0) (stage_is (Within o) is) in
-          let inside = within_inside old k.works.running hand.0 hand.1 hand.2 in
-          has_room o is (subst (IsReadyFor old.thread.engine call (unwrap_or (irrevocable_room old.thread.engine call) 0) new.ended) is k.prepared.ready) hand.0 hand.3 inside.0 inside.1
+  -- what is known of the attempt at hand
+  module _ (Q : Current → Type 0) (none : Q Outside) (begun : (o : Open) → Q (Begins o))
+      (open_so : (o : Open) (is : new.run.current ≡ Within o) (ready : IsReadyFor old.thread.engine call (unwrap_or (irrevocable_room old.thread.engine call) 0) new.ended (Within o)) (row : Attempt) (points : List Savepoint)
+      (row_is : o.row ≡ record row { calls = reserved row.calls (unwrap_or (irrevocable_room old.thread.engine call) 0 + 1) }) (points_are : o.points ≡ points) (inside : in_transaction old.thread.engine ≡ true) (same : (k.works.running.inside inside).row ≡ row)
+      (same_points : (k.works.running.inside inside).points ≡ points) → Q (Within o)) where
+    by_hand : (x : Current) → new.run.current ≡ x → Q x
+    by_hand Outside is = none
+    by_hand (Begins o) is = begun o
+    by_hand (Within o) is =
+        let hand = at_hand (stage_of old.run.current) refl o (opens old) (unwrap_or (irrevocable_room old.thread.engine call) 0) (stage_is (Within o) is) in
+        let inside = within_inside old k.works.running hand.0 hand.1 hand.2 in
+        open_so o is (subst (IsReadyFor old.thread.engine call (unwrap_or (irrevocable_room old.thread.engine call) 0) new.ended) is k.prepared.ready) hand.0 hand.1 hand.3 hand.4 inside.0 inside.1 inside.2
+
+  pub may_take_in : (IsRestart answer → ⊥) → MayTakeIn call (stand_of new.thread.engine) new.run.current
+  may_take_in whole = by_hand (MayTakeIn call (stand_of new.thread.engine)) tt (λ o. tt) (λ o is ready row points row_is points_are inside same same_points. has_room o is ready row points row_is points_are inside same same_points whole) new.run.current refl
+
+  -- and where a block goes back
+  pub may_go_back : (clock word : ℕ) → answer ≡ Restarted clock word → (0 < rules.depth new.run.player) × MayGoBack (stand_of new.thread.engine) new.run.current
+  may_go_back clock word is =
+      let served : Served s (Restarted clock word) (view_in new) e = subst (λ (x : Answer). Served s x (view_in new) e) is k.answered.served in
+      let deep : 0 < rules.depth old.run.player = subst (λ (i : Bool). IsDeep i (rules.depth old.run.player)) served.tells.still.0 k.works.running.nested.deep in
+      let player : new.run.player ≡ old.run.player = ap (λ (t : _). t.player) k.prepared.came in (
+        subst (λ (p : P). 0 < rules.depth p) (sym player) deep,
+        by_hand (MayGoBack (stand_of new.thread.engine)) tt (λ o. tt) (λ o at ready row points row_is points_are inside same same_points. may_renew o at ready row points row_is points_are inside same same_points clock word is) new.run.current refl,
+      )
+
+  -- what is told has come to run
+  pub told_by : IsToldBy new.thread.engine.actions.ran new.run.current
+  told_by = by_hand (IsToldBy new.thread.engine.actions.ran) tt (λ o. tt) (λ o is ready row points row_is points_are inside same same_points. told_so o is ready row points row_is points_are inside same same_points) new.run.current refl
 
   pub may_tell : MayTell new.run.current new.ended
   may_tell = by_current new.run.current refl
@@ -253,4 +351,12 @@ module _ {P : Type 0} {rules : Rules P} {words : Words} {c : Course P} {b : Boun
   still_within o is ready =
       let hand = at_hand (stage_of old.run.current) refl o (opens old) (unwrap_or (irrevocable_room old.thread.engine call) 0) (stage_is (Within o) is) in
       let inside = within_inside old k.works.running hand.0 hand.1 hand.2 in
-      still_places o is ready hand.0 hand.3 inside.0 inside.1
+      still_places o is ready hand.0 hand.1 hand.3 hand.4 inside.0 inside.1 inside.2
+
+  -- and so for each commit action that may still be registered with no memory
+  pub open_places : (o : Open) → new.run.current ≡ Within o → IsReadyFor old.thread.engine call (unwrap_or (irrevocable_room old.thread.engine call) 0) new.ended (Within o) → new.thread.engine.irrevocable ≡ true → 0 < new.thread.engine.room
+      → (total new.thread.engine.actions + new.thread.engine.room ≤ o.ends) × (total new.thread.engine.actions + new.thread.engine.room ≤ o.cancels) × (told_in o.row ≡ length new.thread.engine.actions.ran)
+  open_places o is ready held some =
+      let hand = at_hand (stage_of old.run.current) refl o (opens old) (unwrap_or (irrevocable_room old.thread.engine call) 0) (stage_is (Within o) is) in
+      let inside = within_inside old k.works.running hand.0 hand.1 hand.2 in
+      promised o is ready hand.0 hand.1 hand.3 hand.4 inside.0 inside.1 inside.2 answer k.answered.served last (subst (HasActionPlaces old.thread.engine) is k.prepared.actions) held some

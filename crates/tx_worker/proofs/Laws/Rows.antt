@@ -1,5 +1,5 @@
 -- What a worker's next call makes of it.
-use Rattle.std.proofs.Common.{◌≡◌, ℕ, ◌+◌, ◌/◌, ◌<◌, Bool, true, false, true≢false, nat_lt, if◌then◌else◌, List, [], ◌∷◌, ◌++◌, length, Option, None, Some, refl, sym, ap, subst, ◌∙◌, arith, inr, unwrap_or, vec_len, vec_capacity}
+use Rattle.std.proofs.Common.{◌≡◌, ℕ, ◌+◌, ◌/◌, ◌<◌, ◌≤◌, Bool, true, false, true≢false, nat_lt, if◌then◌else◌, List, [], ◌∷◌, ◌++◌, length, Option, None, Some, refl, sym, ap, subst, ◌∙◌, arith, inr, unwrap_or, vec_len, vec_capacity}
 use Rattle.itm_types.specs.declared.call.Call.{Call}
 use Rattle.itm_types.specs.declared.call.Call.TheVariants.{Begin}
 use Rattle.itm_types.specs.declared.call.Props.{Props}
@@ -33,12 +33,15 @@ use Rattle.tx_runs.specs.Tallies.{Stage, outside, begins, within, Stand, Taken, 
 use Rattle.tx_worker.specs.declared.worker.Worker.{Worker}
 use Rattle.tx_worker.specs.Accounts.{Account, account_after, account_of}
 use Rattle.tx_worker.specs.Calls.{IsMade, StopsAs, asked}
-use Rattle.tx_worker.specs.Falls.{Falls}
+use Rattle.tx_runs.specs.Ranks.{Falls, restarts_left}
 use Rattle.tx_worker.specs.Positions.{AreFew, AreOver}
 use Rattle.tx_worker.specs.Progress.{Course, IsRunning}
-use Rattle.tx_worker.specs.Workers.{Bounds, GoesOnOrStops, HasBlockPlaces, HasPlaces, IsAsked, IsReadyFor, IsSame, IsStopped, IsWorking, bounds_of, view_in}
+use Rattle.tx_worker.specs.Workers.{Bounds, GoesOnOrStops, HasActionPlaces, HasBlockPlaces, HasPlaces, IsAsked, IsReadyFor, IsSame, IsStopped, IsWorking, bounds_of, view_in}
 use Rattle.tx_worker.proofs.Begins.OutermostBegins.{begins_actions, no_commit}
-use Rattle.tx_worker.proofs.Laws.Rooms.{begins_call, blocks_opened, still_within}
+use Rattle.tx_worker.proofs.Laws.Rooms.{begins_call, blocks_opened, held_inside, last, open_places, still_within}
+use Rattle.tx_worker.proofs.Machines.ActionRooms.{room_asked}
+use Rattle.tx_worker.proofs.Machines.LastEvents.{IsLast}
+use Rattle.norec_core.proofs.Engines.HeldStores.{shut_revocable}
 use Rattle.tx_worker.proofs.Laws.Answers.{Both, both}
 
 -- what is over has ended
@@ -128,6 +131,26 @@ begins_none s v e (Restarted clock word) before shut props room is served now = 
 begins_none s v e (Busy clock) before shut props room is served now = absurd (true≢false (sym now ∙ served.tells.closes.closed))
 begins_none s v e (Full at) before shut props room is served now = absurd (true≢false (sym now ∙ served.tells.closes.closed))
 
+-- of one that goes irrevocable each commit action for which it asks finds a place
+begun_places : {P : Type 0} {rules : Rules P} {words : Words} {c : Course P} {b : Bounds} {old new : Worker P} {call : Call} {answer : Answer} (k : IsAsked rules words c b old call answer new) (o : Open) → new.run.current ≡ Begins o
+    → IsReadyFor old.thread.engine call (unwrap_or (irrevocable_room old.thread.engine call) 0) new.ended (Begins o) → new.thread.engine.irrevocable ≡ true → (total new.thread.engine.actions + new.thread.engine.room ≤ o.ends) × (total new.thread.engine.actions + new.thread.engine.room ≤ o.cancels)
+begun_places {old = old} {new = new} {call = call} {answer = answer} k o is ready held = by_answer answer k.answered.served (last k)
+  where
+    by_answer : (x : Answer) → Served (start_of old.thread call (begins_again (stage_of old.run.current) old.run.again call)) x (view_in new) new.thread.engine → IsLast (start_of old.thread call (begins_again (stage_of old.run.current) old.run.again call)) (view_in new) x new.thread.engine
+        → (total new.thread.engine.actions + new.thread.engine.room ≤ o.ends) × (total new.thread.engine.actions + new.thread.engine.room ≤ o.cancels)
+    by_answer (Reply r) served came =
+        let begin = begins_call k o is in
+        let none = begins_none (start_of old.thread call (begins_again (stage_of old.run.current) old.run.again call)) (view_in new) new.thread.engine (Reply r) k.works.same.stands begin.3 begin.0 begin.1 begin.2 served (held_inside k held) in
+        let asked = room_asked (start_of old.thread call (begins_again (stage_of old.run.current) old.run.again call)) (view_in new) new.thread.engine k.works.same.stands r served came (shut_revocable old.thread.engine k.works.same.stands.settled begin.3) held in
+        let ends = ready.1 in
+        let cancels = ready.2 in
+        (omega arith, omega arith)
+    by_answer (Committed at wrote) served came = absurd (true≢false (sym (held_inside k held) ∙ served.tells.closes.closed))
+    by_answer (Conflict clock word) served came = absurd (true≢false (sym (held_inside k held) ∙ served.tells.closes.closed))
+    by_answer (Restarted clock word) served came = absurd (true≢false (sym held ∙ served.tells.revocable.1))
+    by_answer (Busy clock) served came = absurd (true≢false (sym (held_inside k held) ∙ served.tells.closes.closed))
+    by_answer (Full at) served came = absurd (true≢false (sym (held_inside k held) ∙ served.tells.closes.closed))
+
 -- what the worker is after it
 pub record Took_in {P : Type 0} (rules : Rules P) (call : Call) (answer : Answer) (mid : Worker P) (end : Option End) (new : Worker P) : Type 0 where
   pub thread : new.thread ≡ mid.thread
@@ -141,9 +164,9 @@ pub record Took_in {P : Type 0} (rules : Rules P) (call : Call) (answer : Answer
   pub places : KeepsPlaces mid.thread.engine.actions.ran mid.run.current new.run.current
 
 -- what it makes of the worker's run
-asked_both : {P : Type 0} {rules : Rules P} (laws : Obeys rules) {words : Words} {c : Course P} {b : Bounds} {old mid : Worker P} {call : Call} {answer : Answer} (k : IsAsked rules words c b old call answer mid) → Both laws words c (account_of old) old.thread k.works.running k.works.same.stands k.works.same.whole old.run.thread old.run.retries k.works.same.number k.works.same.retries call k.asks answer mid.thread k.answered
+asked_both : {P : Type 0} {rules : Rules P} (laws : Obeys rules) {words : Words} {c : Course P} {b : Bounds} {old mid : Worker P} {call : Call} {answer : Answer} (k : IsAsked rules words c b old call answer mid) → Both laws words c (account_of old) old.thread k.works.running k.works.same.own k.works.same.stands old.run.thread old.run.retries k.works.same.number k.works.same.retries call k.asks answer mid.thread k.answered
     (took_in rules old.run.retries (asked words rules old.run.thread old.run.retries old.thread (account_of old) call) call answer (stand_of mid.thread.engine))
-asked_both laws {words} {c} {b} {old} {mid} {call} {answer} k = both laws words c (account_of old) old.thread k.works.running k.works.same.stands k.works.same.whole old.run.thread old.run.retries k.works.same.number k.works.same.retries call k.asks answer mid.thread k.answered
+asked_both laws {words} {c} {b} {old} {mid} {call} {answer} k = both laws words c (account_of old) old.thread k.works.running k.works.same.own k.works.same.stands old.run.thread old.run.retries k.works.same.number k.works.same.retries call k.asks answer mid.thread k.answered
 
 module _ {P : Type 0} {rules : Rules P} (laws : Obeys rules) {words : Words} {c : Course P} {b : Bounds} {old mid : Worker P} {call : Call} {answer : Answer} (k : IsAsked rules words c b old call answer mid) (new : Worker P) (end : Option End) (t : Took_in rules call answer mid end new) where
   abbrev Told : Taken P
@@ -181,12 +204,12 @@ module _ {P : Type 0} {rules : Rules P} (laws : Obeys rules) {words : Words} {c 
         number = t.number ∙ (k.prepared.thread ∙ k.works.same.number);
         retries = t.retries ∙ (k.prepared.retries ∙ k.works.same.retries);
         few = k.works.same.few;
+        limit = k.works.same.limit;
         over = subst AreOver (sym ended_is) (over_more old.ended.items TookIn.over k.works.same.over (over_ended rules old.run.retries (asked words rules old.run.thread old.run.retries old.thread (account_of old) call) call answer (stand_of mid.thread.engine)));
         below = subst (AreFew b.max_commits) (sym ended_is)
             (few_more b.max_commits old.ended.items TookIn.over k.works.same.below
             (subst (λ (n : ℕ). AreFew n TookIn.over) (ap (λ (x : Bounds). x.max_commits) k.works.same.bounds) (over_few rules old.run.retries (asked words rules old.run.thread old.run.retries old.thread (account_of old) call) call (start_of old.thread call (begins_again (stage_of old.run.current) old.run.again call)) answer (view_in mid) mid.thread.engine k.answered.served)));
         bounds = ap (λ (x : Standing). bounds_of x.engine) t.thread ∙ bounds;
-        whole = ap (λ (x : Standing). x.engine.restarts) t.thread ∙ (limits.3 ∙ k.works.same.whole);
       }
 
   -- ## Room
@@ -215,7 +238,7 @@ module _ {P : Type 0} {rules : Rules P} (laws : Obeys rules) {words : Words} {c 
       within_so o' is (Begins o) was =
           let begin = begins_call k o was in
           let none = begins_none (start_of old.thread call (begins_again (stage_of old.run.current) old.run.again call)) (view_in mid) mid.thread.engine answer k.works.same.stands begin.3 begin.0 begin.1 begin.2 k.answered.served now in
-          (place_still o' is (ready_as (Begins o) was), (let z = none in omega arith))
+          (place_still o' is (ready_as (Begins o) was).0, (let z = none in omega arith))
       within_so o' is (Within o) was =
           let ready = ready_as (Within o) was in
           let still = still_within k o was ready in
@@ -228,23 +251,41 @@ module _ {P : Type 0} {rules : Rules P} (laws : Obeys rules) {words : Words} {c 
       by_current (Within o') is = within_so o' is mid.run.current refl
 
   -- each call that there is room for finds a place for a block still
-  blocks_now : HasBlockPlaces new.run.current
+  blocks_now : HasBlockPlaces mid.thread.engine.irrevocable new.run.current
   blocks_now = by_current new.run.current refl
     where
-      back : (clock : ℕ) (word : ℕ) → answer ≡ Restarted clock word → ⊥
+      back : (clock word : ℕ) → answer ≡ Restarted clock word → mid.thread.engine.irrevocable ≡ false
       back clock word is =
           let served : Served (start_of old.thread call (begins_again (stage_of old.run.current) old.run.again call)) (Restarted clock word) (view_in mid) mid.thread.engine = subst (λ (x : Answer). Served (start_of old.thread call (begins_again (stage_of old.run.current) old.run.again call)) x (view_in mid) mid.thread.engine) is k.answered.served in
-          (let whole = k.works.same.whole in let left = served.tells.left in omega arith)
+          served.tells.revocable.1
 
-      within_so : (o' : Open) → new.run.current ≡ Within o' → HasBlockPlaces (Within o')
+      within_so : (o' : Open) → new.run.current ≡ Within o' → HasBlockPlaces mid.thread.engine.irrevocable (Within o')
       within_so o' is =
           let opens = ((is_taken call (stand_of mid.thread.engine) rules mid.run.retries mid.run.player mid.run.nth mid.run.again (stage_of mid.run.current) answer).still o'.row o'.points (stage_within o' is)).2 in
-          blocks_opened call answer (stand_of mid.thread.engine) mid.thread.engine.actions.ran mid.run.current o' back (places_as mid.run.current (Within o') refl is) k.prepared.blocks opens
+          blocks_opened call answer (stand_of mid.thread.engine) mid.thread.engine.actions.ran mid.run.current o' mid.thread.engine.irrevocable back (places_as mid.run.current (Within o') refl is) k.prepared.blocks opens
 
-      by_current : (y : Current) → new.run.current ≡ y → HasBlockPlaces y
+      by_current : (y : Current) → new.run.current ≡ y → HasBlockPlaces mid.thread.engine.irrevocable y
       by_current Outside is = tt
       by_current (Begins o) is = tt
       by_current (Within o') is = within_so o' is
+
+  -- and each commit action that an irrevocable transaction may still register
+  actions_now : HasActionPlaces mid.thread.engine new.run.current
+  actions_now = by_current new.run.current refl
+    where
+      within_so : (o' : Open) → new.run.current ≡ Within o' → (x : Current) → mid.run.current ≡ x → HasActionPlaces mid.thread.engine (Within o')
+      within_so o' is Outside was = absurd (places_as Outside (Within o') was is)
+      within_so o' is (Begins o) was =
+          let places = places_as (Begins o) (Within o') was is in
+          λ held some. (let had = begun_places k o was (ready_as (Begins o) was) held in let a = had.0 in let b = had.1 in (omega arith, omega arith))
+      within_so o' is (Within o) was =
+          let places = places_as (Within o) (Within o') was is in
+          λ held some. (let had = open_places k o was (ready_as (Within o) was) held some in let a = had.0 in let b = had.1 in let same = places.1 had.2 in (omega arith, omega arith))
+
+      by_current : (y : Current) → new.run.current ≡ y → HasActionPlaces mid.thread.engine y
+      by_current Outside is = tt
+      by_current (Begins o) is = tt
+      by_current (Within o') is = within_so o' is mid.run.current refl
 
   -- ## It goes on, or it has stopped
 
@@ -268,15 +309,18 @@ module _ {P : Type 0} {rules : Rules P} (laws : Obeys rules) {words : Words} {c 
     same = same_now;
     running = subst (λ (x : Standing). IsRunning rules c (view_of x.pass) x.engine (account_of new)) (sym t.thread) (goes none);
     roomy = subst (λ (x : Standing). HasPlaces x.engine new.ended new.run.current) (sym t.thread) (roomy_after none);
-    blocks = blocks_now;
+    actions = subst (λ (x : Standing). HasActionPlaces x.engine new.run.current) (sym t.thread) actions_now;
+    blocks = subst (λ (x : Standing). HasBlockPlaces x.engine.irrevocable new.run.current) (sym t.thread) blocks_now;
   })
 
-  falls_on : end ≡ None → Falls rules old.run.retries (in_transaction old.thread.engine) (in_transaction new.thread.engine) old.run.nth new.run.nth old.run.player new.run.player
+  abbrev FallsTo : ℕ → ℕ → Core → ℕ → P → Type 0
+  FallsTo retries restarts e nth player = Falls rules retries restarts (in_transaction old.thread.engine) (in_transaction e) old.run.nth nth (restarts_left old.thread.engine) (restarts_left e) old.run.player player
+
+  falls_on : end ≡ None → Falls rules old.run.retries old.thread.engine.restarts (in_transaction old.thread.engine) (in_transaction new.thread.engine) old.run.nth new.run.nth (restarts_left old.thread.engine) (restarts_left new.thread.engine) old.run.player new.run.player
   falls_on is =
       let falls = ((asked_both laws k).0 (sym end_told ∙ is)).1 in
-      let here : Falls rules c.retries (in_transaction old.thread.engine) (in_transaction mid.thread.engine) old.run.nth new.run.nth old.run.player new.run.player =
-      subst (λ (x : Tally P). Falls rules c.retries (in_transaction old.thread.engine) (in_transaction mid.thread.engine) old.run.nth x.nth old.run.player x.player) (sym tally_is) falls in
-      subst (λ (x : ℕ × Standing). Falls rules x.0 (in_transaction old.thread.engine) (in_transaction x.1.engine) old.run.nth new.run.nth old.run.player new.run.player) (λ i. (sym k.works.same.retries i, sym t.thread i)) here
+      let here : FallsTo c.retries c.restarts mid.thread.engine new.run.nth new.run.player = subst (λ (x : Tally P). FallsTo c.retries c.restarts mid.thread.engine x.nth x.player) (sym tally_is) falls in
+      subst (λ (x : ℕ × ℕ × Standing). FallsTo x.0 x.1 x.2.engine new.run.nth new.run.player) (λ i. (sym k.works.same.retries i, sym k.works.running.limit i, sym t.thread i)) here
 
   none_open : stage_of new.run.current ≡ outside → new.run.current ≡ Outside
   none_open is = by_current new.run.current is

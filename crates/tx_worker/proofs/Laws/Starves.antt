@@ -1,5 +1,5 @@
 -- A worker to whose player's next call memory was refused.
-use Rattle.std.proofs.Common.{◌≡◌, ◌/◌, Bool, true, false, true≢false, if◌then◌else◌, List, [], ◌++◌, refl, sym, ap, subst, ◌∙◌, arith, append-nil}
+use Rattle.std.proofs.Common.{◌≡◌, ◌/◌, Bool, true, false, true≢false, if◌then◌else◌, List, ◌++◌, ◌≤◌, length, length-append, refl, sym, ap, subst, ◌∙◌, arith}
 use Rattle.itm_types.specs.declared.call.Call.{Call}
 use Rattle.itm_types.specs.declared.call.Call.TheVariants.{Commit}
 use Rattle.itm_types.specs.declared.call.Ran.{Ran}
@@ -19,15 +19,15 @@ use Rattle.tx_player.specs.Rules.{Rules}
 use Rattle.tx_runs.specs.declared.ending.End.TheVariants as ends
 use Rattle.tx_runs.specs.declared.player_run.Current.{Current}
 use Rattle.tx_runs.specs.declared.player_run.Current.TheVariants.{Outside, Begins, Within}
-use Rattle.tx_runs.specs.OpenAttempts.{Open}
+use Rattle.tx_runs.specs.OpenAttempts.{Open, told_in}
 use Rattle.tx_runs.specs.PlayerRuns.{MayStop, MayTell, stage_of}
 use Rattle.tx_runs.specs.Tallies.{Stage, outside, begins, within, over_as, stand_of}
 use Rattle.tx_worker.specs.declared.worker.Worker.{Worker}
 use Rattle.tx_worker.specs.Accounts.{Account, account_of}
 use Rattle.tx_worker.specs.Positions.{AreFew, AreOver}
 use Rattle.tx_worker.specs.Progress.{Course}
-use Rattle.tx_worker.specs.Workers.{Bounds, HasPlaces, IsHungry, IsRoomier, IsSame, IsStopped, bounds_of}
-use Rattle.tx_worker.proofs.Laws.Rooms.{same_over, told_few, within_inside}
+use Rattle.tx_worker.specs.Workers.{Bounds, HasPlaces, IsHungry, IsRoomier, IsSame, IsStopped, IsToldBy, bounds_of}
+use Rattle.tx_worker.proofs.Laws.Rooms.{same_over, within_inside}
 use Rattle.tx_worker.proofs.Laws.Rows.{few_more, over_more}
 use Rattle.tx_worker.proofs.Machines.PlainActions.{given_up_runs}
 
@@ -40,6 +40,26 @@ held_clock false false e = absurd (cc)
 free_clock : (holds inside : Bool) → ((if holds then Held else (if inside then Done else Nothing)) ≡ Held → ⊥) → holds ≡ false
 free_clock true inside n = absurd (n refl)
 free_clock false inside n = refl
+
+module _ {P : Type 0} {rules : Rules P} {words : Words} {c : Course P} {b : Bounds} {old self : Worker P} {call : Call} (k : IsHungry rules words c b old call self) where
+  -- all that had come to run is told in the open attempt
+  told_is : (o' : Open) → self.run.current ≡ Within o' → told_in o'.row ≡ length old.thread.engine.actions.ran
+  told_is o' is = by_old old.run.current refl (subst (IsRoomier old.run.current) is k.unprepared.roomier)
+    where
+      by_old : (x : Current) → old.run.current ≡ x → IsRoomier x (Within o') → told_in o'.row ≡ length old.thread.engine.actions.ran
+      by_old Outside was r = absurd r
+      by_old (Begins o) was r = absurd r
+      by_old (Within o) was r =
+          let inside = within_inside old k.works.running o.row o.points (ap stage_of was) in
+          ap told_in r.0 ∙ (ap told_in (sym inside.1) ∙ sym (k.works.running.inside inside.0).try.is_open.due)
+
+  pub told_by : IsToldBy self.thread.engine.actions.ran self.run.current
+  told_by = by_current self.run.current refl
+    where
+      by_current : (x : Current) → self.run.current ≡ x → IsToldBy self.thread.engine.actions.ran x
+      by_current Outside is = tt
+      by_current (Begins o) is = tt
+      by_current (Within o) is = (let told = told_is o is in let same = ap (λ (t : Standing). length t.engine.actions.ran) k.thread in let r : told_in o.row ≤ length self.thread.engine.actions.ran = omega arith in r)
 
 module _ {P : Type 0} {rules : Rules P} {words : Words} {c : Course P} {b : Bounds} {old self : Worker P} {call : Call} (k : IsHungry rules words c b old call self) (thread : Standing) (engine : thread.engine ≡ after_undoing self.thread.engine) (pass : thread.pass ≡ self.thread.pass) where
   abbrev e : Core
@@ -58,13 +78,6 @@ module _ {P : Type 0} {rules : Rules P} {words : Words} {c : Course P} {b : Boun
       by_held true = refl
       by_held false = refl
 
-  restarts_same : (x : Core) → (after_undoing x).restarts ≡ x.restarts
-  restarts_same x = by_held x.holds
-    where
-      by_held : (h : Bool) → (if h then x else record (rolled_back x) { stage = Idle; tries = 0 }).restarts ≡ x.restarts
-      by_held true = refl
-      by_held false = refl
-
   same_with : Stands (view_of thread.pass) thread.engine → (new : Worker P) → new.thread ≡ thread → new.run.thread ≡ old.run.thread → new.run.retries ≡ old.run.retries → AreOver new.ended.items → AreFew b.max_commits new.ended.items → IsSame words c b new
   same_with stands new is number retries over below = record {
     own = subst (λ (t : Standing). Owns words t.pass) (sym is) (subst (Owns words) (sym pass_is) k.works.same.own);
@@ -72,24 +85,11 @@ module _ {P : Type 0} {rules : Rules P} {words : Words} {c : Course P} {b : Boun
     number = number ∙ k.works.same.number;
     retries = retries ∙ k.works.same.retries;
     few = k.works.same.few;
+    limit = k.works.same.limit;
     over = over;
     below = below;
     bounds = ap (λ (t : Standing). bounds_of t.engine) is ∙ (ap bounds_of engine_is ∙ (limits e ∙ k.works.same.bounds));
-    whole = ap (λ (t : Standing). t.engine.restarts) is ∙ (ap (λ (x : Core). x.restarts) engine_is ∙ (restarts_same e ∙ k.works.same.whole));
   }
-
-  -- the open attempt, with the actions that it had
-  row_ran : (o' : Open) → self.run.current ≡ Within o' → (o'.row.ran ≡ old.thread.engine.actions.ran) × (o'.row.restarts ≡ [])
-  row_ran o' is = by_old old.run.current refl (subst (IsRoomier old.run.current) is k.unprepared.roomier)
-    where
-      by_old : (x : Current) → old.run.current ≡ x → IsRoomier x (Within o') → (o'.row.ran ≡ old.thread.engine.actions.ran) × (o'.row.restarts ≡ [])
-      by_old Outside was r = absurd r
-      by_old (Begins o) was r = absurd r
-      by_old (Within o) was r =
-          let inside = within_inside old k.works.running o.row o.points (ap stage_of was) in
-          let try = (k.works.running.inside inside.0).try in
-          let same = r.0 ∙ ap (λ (x : Attempt). record x { calls = record x.calls { room = o'.row.calls.room } }) (sym inside.1) in
-          (ap (λ (x : Attempt). x.ran) same ∙ try.ran, ap (λ (x : Attempt). x.restarts) same ∙ try.restarts)
 
   roomy : HasPlaces old.thread.engine self.ended self.run.current
   roomy = k.unprepared.roomy
@@ -113,11 +113,14 @@ module _ {P : Type 0} {rules : Rules P} {words : Words} {c : Course P} {b : Boun
         by_current Outside is = tt
         by_current (Begins o) is = tt
         by_current (Within o) is =
-            let row = row_ran o is in
+            let told = told_is k o is in
             let places = subst (HasPlaces old.thread.engine self.ended) is roomy in
             let f = runs in
             let most = f.most in
-            (told_few o.row thread.engine.actions.ran row.1 (f.later, ap (λ (x : List Ran). x ++ f.later) row.0 ∙ sym f.ran), (let room = places.1 in omega arith))
+            let longer = ap (length {A = Ran}) f.ran ∙ length-append old.thread.engine.actions.ran f.later in (
+              (let r : told_in o.row ≤ length thread.engine.actions.ran = omega arith in r),
+              (let room = places.1 in omega arith),
+            )
 
     pub may_tell : MayTell self.run.current self.ended
     may_tell = by_current self.run.current refl
@@ -196,10 +199,12 @@ module _ {P : Type 0} {rules : Rules P} {words : Words} {c : Course P} {b : Boun
       by_current still Outside is = tt
       by_current still (Begins o) is = tt
       by_current still (Within o) is =
-          let row = row_ran o is in
-          let ran : o.row.ran ≡ thread.engine.actions.ran = row.0 ∙ ap (λ (x : Core). x.actions.ran) (sym still) in
-          let places = subst (HasPlaces old.thread.engine self.ended) is roomy in
-          (told_few o.row thread.engine.actions.ran row.1 ([], append-nil o.row.ran ∙ ran), (let room = places.1 in let same = ap (λ (x : Core). total x.actions) still in omega arith))
+          let told = told_is k o is in
+          let same = ap (λ (x : Core). length x.actions.ran) still in
+          let places = subst (HasPlaces old.thread.engine self.ended) is roomy in (
+            (let r : told_in o.row ≤ length thread.engine.actions.ran = omega arith in r),
+            (let room = places.1 in let all = ap (λ (x : Core). total x.actions) still in omega arith),
+          )
 
       tells : (x : Current) → self.run.current ≡ x → MayTell x self.ended
       tells Outside is = tt

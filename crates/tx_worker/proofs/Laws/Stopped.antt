@@ -1,18 +1,18 @@
 -- A worker that stops where it stands, and one whose calls are counted.
-use Rattle.std.proofs.Common.{◌≡◌, ℕ, ◌/◌, Bool, [], Option, None, Some, refl, sym, ap, subst, ◌∙◌, arith, append-nil}
+use Rattle.std.proofs.Common.{◌≡◌, ℕ, ◌/◌, Bool, length, Option, None, Some, refl, sym, ap, subst, ◌∙◌, arith}
 use Rattle.shared_words.specs.declared.words.Words.{Words}
-use Rattle.tx_attempts.specs.declared.attempt.Attempt.{Attempt}
 use Rattle.tx_player.specs.Rules.{Rules}
 use Rattle.tx_runs.specs.declared.ending.End.{End}
 use Rattle.tx_runs.specs.declared.player_run.Current.{Current}
 use Rattle.tx_runs.specs.declared.player_run.Current.TheVariants.{Outside, Begins, Within}
+use Rattle.tx_runs.specs.OpenAttempts.{told_in}
 use Rattle.tx_runs.specs.PlayerRuns.{MayStop, MayTell, stage_of}
 use Rattle.tx_worker.specs.declared.worker.Worker.{Worker}
 use Rattle.tx_worker.specs.Accounts.{account_of}
 use Rattle.tx_worker.specs.Calls.{StopsAs}
 use Rattle.tx_worker.specs.Progress.{Course}
 use Rattle.tx_worker.specs.Workers.{Bounds, GoesOnOrStops, HasPlaces, IsSame, IsStopped, IsWorking}
-use Rattle.tx_worker.proofs.Laws.Rooms.{told_few, within_inside}
+use Rattle.tx_worker.proofs.Laws.Rooms.{within_inside}
 
 module _ {P : Type 0} {rules : Rules P} {words : Words} {c : Course P} {b : Bounds} {w : Worker P} (k : IsWorking rules words c b w) where
   pub may_stop_here : MayStop (w.thread.engine.snapshot / 2) w.thread.engine.actions.ran w.run.current
@@ -23,11 +23,9 @@ module _ {P : Type 0} {rules : Rules P} {words : Words} {c : Course P} {b : Boun
       by_current (Begins o) is = tt
       by_current (Within o) is =
           let inside = within_inside w k.running o.row o.points (ap stage_of is) in
-          let h = k.running.inside inside.0 in
-          let ran : o.row.ran ≡ w.thread.engine.actions.ran = ap (λ (x : Attempt). x.ran) (sym inside.1) ∙ h.try.ran in
-          let restarts : o.row.restarts ≡ [] = ap (λ (x : Attempt). x.restarts) (sym inside.1) ∙ h.try.restarts in
+          let told : told_in o.row ≡ length w.thread.engine.actions.ran = ap told_in (sym inside.1) ∙ sym (k.running.inside inside.0).try.is_open.due in
           let places = subst (HasPlaces w.thread.engine w.ended) is k.roomy in
-          (told_few o.row w.thread.engine.actions.ran restarts ([], append-nil o.row.ran ∙ ran), (let room = places.1 in omega arith))
+          (omega (arith, told), (let room = places.1 in omega arith))
 
   pub may_tell_here : MayTell w.run.current w.ended
   may_tell_here = by_current w.run.current refl
@@ -43,12 +41,12 @@ module _ {P : Type 0} {rules : Rules P} {words : Words} {c : Course P} {b : Boun
 -- ## The number of calls matters to nothing
 
 same_counted : {P : Type 0} (n : ℕ) (words : Words) (c : Course P) (b : Bounds) (w : Worker P) → IsSame words c b w → IsSame words c b (record w { calls = n })
-same_counted n words c b w s = record { own = s.own; stands = s.stands; number = s.number; retries = s.retries; few = s.few; over = s.over; below = s.below; bounds = s.bounds; whole = s.whole }
+same_counted n words c b w s = record { own = s.own; stands = s.stands; number = s.number; retries = s.retries; few = s.few; over = s.over; below = s.below; bounds = s.bounds; limit = s.limit }
 
 pub turns_counted : {P : Type 0} (rules : Rules P) (words : Words) (shuts : Bool) (old new : Worker P) (n : ℕ) (end : Option End) → GoesOnOrStops rules words shuts old end new → GoesOnOrStops rules words shuts old end (record new { calls = n })
 turns_counted rules words shuts old new n None t = record {
   made = t.made;
-  works = λ c b k. (let w = t.works c b k in record { same = same_counted n words c b new w.same; running = w.running; roomy = w.roomy; blocks = w.blocks });
+  works = λ c b k. (let w = t.works c b k in record { same = same_counted n words c b new w.same; running = w.running; roomy = w.roomy; blocks = w.blocks; actions = w.actions });
   falls = t.falls;
   thread = t.thread;
   retries = t.retries;

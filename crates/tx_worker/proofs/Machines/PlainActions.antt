@@ -170,7 +170,7 @@ again_runs (b ∷ bs) s = runs_both (back_runs s s.blocks) (entered_runs (back s
 -- ## A served call of an open transaction
 
 -- the first rows agree with what all agree with
-agrees_cut : (m : List ℕ) (log : List LogRow) (n : ℕ) → Agrees m log → Agrees m (take n log)
+pub agrees_cut : (m : List ℕ) (log : List LogRow) (n : ℕ) → Agrees m log → Agrees m (take n log)
 agrees_cut m log n a = agrees_less m (take n log) (drop n log) (subst (Agrees m) (sym (take-append-drop n log)) a)
 
 module _ (s : Start) (v : View) (e : Core) (before : Stands s.view s.engine) (inside : in_transaction s.engine ≡ true) where

@@ -7,7 +7,8 @@ use Rattle.norec_core.specs.Stands.{stands_for}
 use Rattle.shared_words.specs.declared.view.View.{View}
 use Rattle.itm_runtime.proofs.Steps.CallsInHand.{is_memory}
 use Rattle.itm_runtime.specs.Ties.{Stands, memory_of}
-use Rattle.tx_worker.specs.Progress.{MayRead, MayReadIn}
+use Rattle.tx_runs.specs.OpenTries.{ReadsFrom}
+use Rattle.tx_worker.specs.Progress.{MayRead}
 pub use Rattle.tx_runs.proofs.EngineStates.{stands_actions, stands_arena, stands_blocks, stands_mode, stands_open}
 
 none_inside : (bs : List Frame) → is_inside bs ≡ false → length bs ≡ 0
@@ -23,8 +24,8 @@ stands_shut c m o = (let none = none_inside c.blocks o in let same = stands_bloc
 
 -- the memory of its position is one that an open attempt may have read
 pub may_here : (v : View) (e : Core) → Stands v e → in_transaction e ≡ true → MayRead v e (memory_of v (e.snapshot / 2))
-may_here v e stands o = by_mode e.irrevocable
+may_here v e stands o = (is_memory e.words v stands.over (e.snapshot / 2), by_mode e.irrevocable)
   where
-    by_mode : (b : Bool) → MayReadIn b v e (memory_of v (e.snapshot / 2))
+    by_mode : (b : Bool) → ReadsFrom b (memory_of v (e.snapshot / 2)) e.log (memory_of v (e.snapshot / 2))
     by_mode true = refl
-    by_mode false = (is_memory e.words v stands.over (e.snapshot / 2), (stands.reads o).agrees)
+    by_mode false = (stands.reads o).agrees

@@ -1,8 +1,8 @@
--- What a call of an open transaction found, over each memory that the attempt may have read once it is answered.
-use Rattle.std.proofs.Common.{inl, inr, ◌≡◌, ℕ, ◌/◌, ◌&&◌, Bool, true, false, not, List, [], ◌∷◌, length, refl, sym, true≢false, ap, subst, ◌∙◌, arith}
+-- What a call of an open transaction found, over the memory of the position that it comes to.
+use Rattle.std.proofs.Common.{◌≡◌, ℕ, ◌/◌, ◌&&◌, Bool, true, false, not, List, [], ◌∷◌, length, refl, sym, true≢false, ap, subst, ◌∙◌, arith}
 use Rattle.itm_types.specs.declared.call.Reply.{Reply as Replied}
 use Rattle.itm_types.specs.Memory.{Agrees, IsMemory}
-use Rattle.itm_model.specs.Machine.{is_open, reply}
+use Rattle.itm_model.specs.Machine.{reply}
 use Rattle.itm_model.specs.State.{State}
 use Rattle.nest_frames.specs.Nest.{Frame}
 use Rattle.norec_core.specs.declared.answer.Answer.{Answer}
@@ -11,16 +11,16 @@ use Rattle.norec_core.specs.Core.{Core, in_transaction}
 use Rattle.norec_core.specs.Effects.{recoded}
 use Rattle.norec_core.specs.Stands.{blocks_over, stands_for, state_in}
 use Rattle.norec_core.proofs.Replies.AnsweredEngines.{told_plainly}
-use Rattle.norec_core.proofs.Accesses.Logs.{agrees_less}
 use Rattle.shared_words.specs.declared.view.View.{View}
 use Rattle.itm_runtime.proofs.Steps.CallsInHand.{is_memory}
 use Rattle.itm_runtime.specs.Served.{Meets, Served, Start, came_over, left_over, memory_in}
 use Rattle.itm_runtime.specs.Ties.{Stands, memory_of}
 use Rattle.tx_player.specs.Depth.{depth_after, is_code}
-use Rattle.tx_runs.proofs.PlainCalls.{AllSaved, CanGoBack, depth_then, stays_irrevocable}
+use Rattle.tx_runs.proofs.PlainCalls.{AllSaved, CanGoBack, depth_then}
 use Rattle.tx_worker.proofs.Runs.LaterCommits.{memory_later}
-use Rattle.tx_worker.proofs.Machines.PlainStates.{stands_blocks, stands_mode, stands_open}
-use Rattle.tx_worker.specs.Progress.{MayRead, MayReadIn, stood}
+use Rattle.tx_worker.proofs.Machines.PlainStates.{stands_blocks}
+use Rattle.tx_runs.specs.OpenTries.{ReadsFrom}
+use Rattle.tx_worker.specs.Progress.{MayRead, stood}
 
 -- the call came over the words that the engine stood over, and left those that it stands over
 pub came_stood : (s : Start) (v : View) (e : Core) → came_over s v e ≡ stood s.engine.irrevocable s.view (memory_of v (e.snapshot / 2))
@@ -40,10 +40,10 @@ left_stood v e = by_mode e.irrevocable
 module _ (s : Start) (v : View) (e : Core) (before : Stands s.view s.engine) (stands : Stands v e) (inside : in_transaction s.engine ≡ true) where
   -- the memory of its position is one that the attempt may have read before
   pub position_read : (a : Answer) → Served s a v e → Agrees (memory_of v (e.snapshot / 2)) s.engine.log → MayRead s.view s.engine (memory_of v (e.snapshot / 2))
-  position_read a served agrees = by_mode s.engine.irrevocable refl
+  position_read a served agrees = (subst (λ (n : ℕ). IsMemory n (memory_of v (e.snapshot / 2))) served.words (is_memory e.words v stands.over (e.snapshot / 2)), by_mode s.engine.irrevocable refl)
     where
-      by_mode : (b : Bool) → s.engine.irrevocable ≡ b → MayReadIn b s.view s.engine (memory_of v (e.snapshot / 2))
-      by_mode false was = (subst (λ (n : ℕ). IsMemory n (memory_of v (e.snapshot / 2))) served.words (is_memory e.words v stands.over (e.snapshot / 2)), agrees)
+      by_mode : (b : Bool) → s.engine.irrevocable ≡ b → ReadsFrom b (memory_of s.view (s.engine.snapshot / 2)) s.engine.log (memory_of v (e.snapshot / 2))
+      by_mode false was = agrees
       by_mode true was =
           let fixed = served.fixed was in
           let count = (before.reads inside).count in
@@ -51,44 +51,10 @@ module _ (s : Start) (v : View) (e : Core) (before : Stands s.view s.engine) (st
 
   module _ (r : Replied) (served : Served s (Reply r) v e) where
     -- from the one memory to the other the call was the plain machine's
-    abbrev Told : List ℕ → Type 0
-    Told m = MayRead s.view s.engine m × Meets s r e (stood s.engine.irrevocable s.view m) (stood e.irrevocable v m)
-
     pub met_here : Meets s r e (stood s.engine.irrevocable s.view (memory_of v (e.snapshot / 2))) (stood e.irrevocable v (memory_of v (e.snapshot / 2)))
     met_here =
         let from : Meets s r e (stood s.engine.irrevocable s.view (memory_of v (e.snapshot / 2))) (left_over v e) = subst (λ (m : List ℕ). Meets s r e m (left_over v e)) (came_stood s v e) served.tells.here in
         subst (Meets s r e (stood s.engine.irrevocable s.view (memory_of v (e.snapshot / 2)))) (left_stood v e) from
-
-    -- a transaction that stays open is irrevocable where it was
-    stays_so : in_transaction e ≡ true → s.engine.irrevocable ≡ true → e.irrevocable ≡ true
-    stays_so o was =
-        let m : List ℕ = stood s.engine.irrevocable s.view (memory_of v (e.snapshot / 2)) in
-        let left : List ℕ = stood e.irrevocable v (memory_of v (e.snapshot / 2)) in
-        sym (ap (λ (x : State). x.irrevocable) (sym met_here.state) ∙ stands_mode e left)
-        ∙ stays_irrevocable s.engine.depth (stands_for s.engine m) s.call (stands_open s.engine m inside) (stands_mode s.engine m ∙ was) (ap is_open (sym met_here.state) ∙ stands_open e left o)
-
-    pub told_before : in_transaction e ≡ true → (m : List ℕ) → MayRead v e m
-        → MayRead s.view s.engine m × Meets s r e (stood s.engine.irrevocable s.view m) (stood e.irrevocable v m)
-    told_before o m read = by_after e.irrevocable refl read
-      where
-        logged_less : e.irrevocable ≡ false → Agrees m e.log → Agrees m s.engine.log
-        logged_less now agrees = elim ((served.grows inside o (λ r. r)).log) [
-          | inl more ↦ agrees_less m s.engine.log more.0 (subst (Agrees m) more.1 agrees)
-          | inr over ↦ absurd (true≢false (sym over.is ∙ now))
-        ]
-
-        by_before : (b : Bool) → s.engine.irrevocable ≡ b → e.irrevocable ≡ false → MayReadIn false v e m → Told m
-        by_before true was now read = absurd (true≢false (sym (stays_so o was) ∙ now))
-        by_before false was now read =
-            let memory : IsMemory s.engine.words m = subst (λ (n : ℕ). IsMemory n m) served.words read.0 in
-            let all : Meets s r e m m = served.tells.all was now m memory read.1 in (
-              subst (λ (b : Bool). MayReadIn b s.view s.engine m) (sym was) (memory, logged_less now read.1),
-              subst (Meets s r e (stood s.engine.irrevocable s.view m)) (ap (λ (b : Bool). stood b v m) (sym now)) (subst (λ (x : List ℕ). Meets s r e x m) (ap (λ (b : Bool). stood b s.view m) (sym was)) all),
-            )
-
-        by_after : (b : Bool) → e.irrevocable ≡ b → MayReadIn b v e m → Told m
-        by_after true now is = subst Told (sym is) (position_read (Reply r) served (served.grows inside o (λ r. r)).agrees, met_here)
-        by_after false now read = by_before s.engine.irrevocable refl now read
 
   -- ## The reply
 

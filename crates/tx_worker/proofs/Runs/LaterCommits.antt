@@ -1,5 +1,5 @@
 -- A run over commits that were seen later, and with one attempt more.
-use Rattle.std.proofs.Common.{◌≡◌, ℕ, zero, suc, ◌+◌, ◌≤◌, Bool, true, false, if◌then◌else◌, List, [], ◌∷◌, ◌++◌, length, take, Some, refl, sym, ap, ◌∙◌, ◌*◌, ◌<◌, arith, length-append, append_assoc}
+use Rattle.std.proofs.Common.{◌≡◌, ℕ, zero, suc, ◌+◌, ◌≤◌, Bool, true, false, if◌then◌else◌, List, [], ◌∷◌, ◌++◌, length, take, Some, refl, sym, ap, ◌∙◌, ◌*◌, ◌<◌, arith, length-append, append-nil, append_assoc}
 use Rattle.itm_types.specs.Memory.{bytes_of}
 use Rattle.shared_words.specs.declared.view.View.{View}
 use Rattle.shared_words.specs.Commits.{StartsWith, after, memory_at}
@@ -12,7 +12,7 @@ use Rattle.tx_attempts.proofs.LaterClocks.{outrun_later, outrun_more}
 use Rattle.tx_player.specs.Rules.{Rules}
 use Rattle.tx_runs.specs.Runs.{begins_at}
 use Rattle.tx_runs.proofs.RunLists.{run_more, run_still}
-use Rattle.tx_runs.proofs.Unbroken.{unbroken_more}
+use Rattle.tx_runs.proofs.RestartLists.{few_more}
 use Rattle.tx_attempts.specs.declared.attempt.Outcome.TheVariants.{Conflict, Unfinished}
 use Rattle.tx_worker.specs.Positions.{AreLeft, AreOver, AreOwn, AreSince, IsLeft, bytes_at, known_after, known_by, positions}
 use Rattle.tx_worker.specs.Progress.{Course, HasRun, now_at}
@@ -74,6 +74,10 @@ went_on u v w a b = record {
   high = (let x = a.high in let y = b.high in omega arith);
 }
 
+-- where nothing was looked at
+pub went_self : (v : View) → Went v v
+went_self v = record { base = refl; share = refl; grows = ([], sym (append-nil v.seen)); looks = omega arith; high = omega arith }
+
 -- ## One attempt more
 
 left_more : (deepest : ℕ) (v : View) (xs : List Attempt) (a : Attempt) → AreLeft deepest v xs → (is_committed a.outcome ≡ true → IsLeft deepest v a) → AreLeft deepest v (xs ++ a ∷ [])
@@ -111,15 +115,15 @@ module _ {P : Type 0} (rules : Rules P) (c : Course P) where
       let more = seen_later v w went in
       let known = h.known in
       let still = run_still rules c.depth (length v.seen) (length w.seen) (bytes_at v) (bytes_at w) more (bytes_later v w went) (Some c.first) xs h.run in (
-        record { went = went_on c.view v w h.went went; run = still.0; left = all_left_in c.depth v w (later_of v w went) xs h.left; since = h.since; known = omega arith; own = h.own; unbroken = h.unbroken; outrun = outrun_later v.high w.high went.high xs h.outrun },
+        record { went = went_on c.view v w h.went went; run = still.0; left = all_left_in c.depth v w (later_of v w went) xs h.left; since = h.since; known = omega arith; own = h.own; few = h.few; outrun = outrun_later v.high w.high went.high xs h.outrun },
         still.1,
       )
 
   -- with one attempt more
   pub run_with : (v : View) (xs : List Attempt) (b : Between P) (a : Attempt) → HasRun rules c v xs → now_at rules c v xs ≡ Some b → IsTryAt rules c.depth (length v.seen) (bytes_at v) b (begins_at rules c.depth b) a
-      → (is_committed a.outcome ≡ true → IsLeft c.depth v a) → known_after c.known xs ≤ a.began → known_by a ≤ length v.seen → a.thread ≡ c.number → a.nth ≤ c.retries + 1 → a.restarts ≡ [] → (a.outcome ≡ Conflict → 2 * a.at < v.high)
+      → (is_committed a.outcome ≡ true → IsLeft c.depth v a) → known_after c.known xs ≤ a.began → known_by a ≤ length v.seen → a.thread ≡ c.number → a.nth ≤ c.retries + 1 → length a.restarts ≤ c.restarts → (a.outcome ≡ Conflict → 2 * a.at < v.high)
       → HasRun rules c v (xs ++ a ∷ []) × (now_at rules c v (xs ++ a ∷ []) ≡ after_try rules c.depth (bytes_at v) b (begins_at rules c.depth b) a)
-  run_with v xs b a h now try left began known thread nth none outrun =
+  run_with v xs b a h now try left began known thread nth few outrun =
       let more = run_more rules c.depth (length v.seen) (bytes_at v) (Some c.first) xs b a h.run now try in (
         record {
           went = h.went;
@@ -128,7 +132,7 @@ module _ {P : Type 0} (rules : Rules P) (c : Course P) where
           since = since_more c.known xs a h.since began;
           known = (let k = known_more c.known xs a in omega arith);
           own = own_more c.number (c.retries + 1) xs a h.own thread nth;
-          unbroken = unbroken_more xs a h.unbroken none;
+          few = few_more c.restarts xs a h.few few;
           outrun = outrun_more v.high xs a h.outrun outrun;
         },
         more.1,

@@ -5,10 +5,11 @@ use Rattle.itm_types.specs.declared.call.Call.TheVariants.{Abort, Commit}
 use Rattle.itm_types.specs.declared.call.Reply.{Reply as Replied}
 use Rattle.itm_types.specs.declared.call.Reply.TheVariants.{Code, Done}
 use Rattle.itm_types.specs.Calls.{is_abort}
-use Rattle.itm_types.specs.Memory.{Agrees, bytes_of}
+use Rattle.itm_types.specs.Memory.{Agrees}
 use Rattle.itm_model.specs.Machine.{after, is_open, reply}
 use Rattle.itm_model.specs.State.{Block, State}
-use Rattle.norec_core.specs.declared.answer.Answer.TheVariants.{Committed, Reply}
+use Rattle.nest_frames.specs.Nest.{Frame}
+use Rattle.norec_core.specs.declared.answer.Answer.TheVariants.{Committed, Reply, Restarted}
 use Rattle.norec_core.specs.Core.{Core, in_transaction}
 use Rattle.norec_core.specs.Order.{stage_at}
 use Rattle.norec_core.specs.Stands.{stands_for, state_in}
@@ -17,23 +18,26 @@ use Rattle.norec_core.proofs.Engines.HeldStores.{shut_revocable}
 use Rattle.shared_words.specs.declared.view.View.{View}
 use Rattle.itm_runtime.specs.Served.{Meets, Served, Start, came_over, mine_if}
 use Rattle.itm_runtime.specs.Ties.{Stands, memory_of}
-use Rattle.tx_attempts.proofs.AloneCalls.{player_snoc}
-use Rattle.tx_attempts.specs.Opacity.{begin_code}
 use Rattle.tx_attempts.specs.declared.attempt.Outcome.TheVariants as outcomes
 use Rattle.tx_player.specs.Depth.{depth_after}
 use Rattle.tx_player.specs.Rules.{Obeys, Rules}
-use Rattle.tx_runs.specs.declared.savepoint.Savepoint.{Savepoint}
+use Rattle.tx_runs.specs.Nesting.{IsNested}
+use Rattle.tx_runs.specs.Savepoints.{cut_back, savepoints_after}
 use Rattle.tx_runs.proofs.PlainCalls.{aborts_close, commit_reply}
-use Rattle.tx_runs.proofs.Tries.{closing_alone, closing_state}
+use Rattle.tx_runs.proofs.Players.{nested_again}
+use Rattle.tx_runs.proofs.TriesBack.{is_cut}
 use Rattle.tx_worker.proofs.Runs.LaterCommits.{run_later}
 use Rattle.tx_worker.proofs.Runs.OpenCloses.{Closes, closes_running}
-use Rattle.tx_worker.proofs.Runs.OpenRuns.{depth_now, led, made_open, nested_now, stood_led}
-use Rattle.tx_worker.proofs.Runs.EarlierReads.{came_stood, depth_told, met_here, position_read, told_before, told_plain}
+use Rattle.tx_worker.proofs.Runs.OpenRuns.{depth_now, nested_now}
+use Rattle.tx_worker.proofs.Runs.EarlierReads.{came_stood, depth_told, met_here, position_read, told_plain}
 use Rattle.tx_worker.proofs.Machines.PlainStates.{stands_actions, stands_arena, stands_blocks, stands_open, stands_shut}
 use Rattle.tx_worker.specs.Positions.{bytes_at}
-use Rattle.tx_worker.specs.Progress.{Course, IsRunning, IsTry, MayRead, stood}
+use Rattle.tx_worker.specs.Progress.{Course, IsRunning, MayRead, stood}
 use Rattle.tx_worker.specs.Accounts.{Account}
-use Rattle.tx_worker.proofs.Shapes.{closed, ended_at, goes_on, row_with}
+use Rattle.tx_worker.proofs.Machines.LastEvents.{IsLast}
+use Rattle.tx_worker.proofs.Machines.RestartingCalls.{renewed_long}
+use Rattle.tx_worker.proofs.Shapes.{closed, ended_at, goes_on, replied_row, row_with, with_room}
+use Rattle.tx_worker.proofs.Transactions.OpenTries.{try_back, try_on}
 
 -- the commit of the outermost block ends its transaction
 pub commit_closes : (deepest : ℕ) (s : State) → length s.blocks ≡ 1 → is_open (after deepest s Commit) ≡ false
@@ -49,39 +53,12 @@ module _ {P : Type 0} {rules : Rules P} (laws : Obeys rules) (c : Course P) (s :
   -- ## It goes on
 
   module _ (r : Replied) (served : Served s (Reply r) v e) where
-    try_goes_on : (room : ℕ) → in_transaction e ≡ true → IsTry rules c.depth (running.inside inside).between (row_with room s.call r e.actions.ran (running.inside inside).row) (rules.answered t.player r) v e
-    try_goes_on room o =
-        let h = running.inside inside in
-        let try = h.try in
-        let grows = served.grows inside o (λ r. r) in
-        record {
-          of_block = record {
-            start = try.of_block.start;
-            begins = try.of_block.begins;
-            arena = try.of_block.arena;
-            props = try.of_block.props;
-            tries = try.of_block.tries;
-            player = ap (λ (q : P). rules.answered q r) try.of_block.player ∙ sym (player_snoc rules.answered (rules.answered try.of_block.start.player (begin_code h.between.again)) h.row.calls.list (record { call = s.call; reply = r }));
-          };
-          began = (let up = grows.snapshot in let began = try.began in omega arith);
-          restarts = try.restarts;
-          ran = refl;
-          each = λ m read.
-              (let told = told_before s v e before stands inside r served o m read in
-              let made = made_open laws c t s.view v s.engine running inside served.went m told.0 in
-              let is = stood_led laws c t s.view v s.engine running inside served.went m told.0 in
-              let replied : r ≡ reply c.depth (led laws c t s.view v s.engine running inside served.went (bytes_of m)) s.call =
-              told_plain s v e before stands inside r first_time (stood s.engine.irrevocable s.view m) (stood e.irrevocable v m) told.1 ∙ (λ i. reply (running.deepest i) (is i) s.call) in (
-                closing_alone laws c.depth try.of_block (bytes_of m) s.call r made asks replied,
-                told.1.state ∙ ((λ i. after (running.deepest i) (is i) s.call) ∙ sym (closing_state laws c.depth try.of_block (bytes_of m) s.call r made asks replied)),
-              ));
-        }
-
     depth_is : length e.blocks ≡ depth_after (length s.engine.blocks) s.call r
     depth_is = depth_told s v e before stands inside r first_time _ _ (met_here s v e before stands inside r served)
 
-    pub stays : (room : ℕ) (points : List Savepoint) → in_transaction e ≡ true → IsRunning rules c v e (goes_on t (rules.answered t.player r) (row_with room s.call r e.actions.ran (running.inside inside).row) points)
-    stays room points o =
+    pub stays : (ahead : ℕ) → IsLast s v (Reply r) e → in_transaction e ≡ true
+        → IsRunning rules c v e (goes_on t (rules.answered t.player r) (replied_row s.call r e.actions.ran (with_room ahead (running.inside inside).row)) (savepoints_after (running.inside inside).points (with_room ahead (running.inside inside).row) (record { call = s.call; reply = r })))
+    stays ahead last o =
         let h = running.inside inside in
         let later = run_later rules c s.view v served.went t.ended running.has_run in
         record {
@@ -92,13 +69,14 @@ module _ {P : Type 0} {rules : Rules P} (laws : Obeys rules) (c : Course P) (s :
           nested = nested_now rules laws t.player s.call r asks s.engine e running.depth depth_is running.nested;
           depth = depth_now rules laws t.player s.call r asks s.engine e running.depth depth_is;
           deepest = served.limits.2 ∙ running.deepest;
+          limit = served.limits.3 ∙ running.limit;
           inside = λ o. record {
             between = h.between;
-            row = row_with room s.call r e.actions.ran h.row;
-            points = points;
+            row = replied_row s.call r e.actions.ran (with_room ahead h.row);
+            points = savepoints_after h.points (with_room ahead h.row) (record { call = s.call; reply = r });
             stage_is = refl;
             now_is = later.1 ∙ h.now_is;
-            try = try_goes_on room o;
+            try = try_on laws c s t v e running before stands asks first_time inside ahead r served last o;
             again = h.again;
             nth = h.nth;
             thread = h.thread;
@@ -146,13 +124,13 @@ module _ {P : Type 0} {rules : Rules P} (laws : Obeys rules) (c : Course P) (s :
       not_wrote : (stands_for e left).wrote ≡ false
       not_wrote = λ i. (state_in (shut_revocable e stands.settled shut i) ((stands.settled.closed shut).1 i) e.blocks e.arena e.actions left).wrote
 
-      pub cancels : IsRunning rules c v e (closed t (rules.answered t.player r) (ended_at outcomes.Cancelled (e.snapshot / 2) e.actions.ran (row_with 0 s.call r e.actions.ran (running.inside inside).row)))
+      pub cancels : IsRunning rules c v e (closed t (rules.answered t.player r) (ended_at outcomes.Cancelled (e.snapshot / 2) e.actions.ran (row_with 0 s.call r (running.inside inside).row)))
       cancels =
           let calls = (running.inside inside).row.calls.list in
           let same = at_once.1 in
           let count = (before.reads inside).count in
           let seen = ap (λ (x : View). length x.seen) at_once.0 in
-          closes_running laws c s t v e running served.went asks inside r read replied_plain outcomes.Cancelled (record {
+          closes_running laws c s t v e running before served.went asks inside r read replied_plain outcomes.Cancelled (record {
             done = refl;
             shut = shut;
             ends = (ap is_open (sym met_state) ∙ stands_shut e left shut, ap (λ (x : State). x.wrote) (sym met_state) ∙ not_wrote);
@@ -165,6 +143,7 @@ module _ {P : Type 0} {rules : Rules P} (laws : Obeys rules) (c : Course P) (s :
             mine = served.mine ∙ sym (append-nil s.view.mine);
             depth = depth_is;
             deepest = served.limits.2;
+            limit = served.limits.3;
             clock = (let up = stands.settled.reached in omega arith);
           })
 
@@ -195,7 +174,7 @@ module _ {P : Type 0} {rules : Rules P} (laws : Obeys rules) (c : Course P) (s :
         ap length (none_inside e.blocks served.tells.closes.closed)
         ∙ (sym (ap (λ (n : ℕ). depth_after n Commit Done) served.tells.outermost) ∙ ap (λ (call : Call). depth_after (length s.engine.blocks) call Done) (sym served.tells.call))
 
-    by_wrote : (w : Bool) → wrote ≡ w → Closes laws c s t v e running served.went asks inside Done commit_read done_plain (if w then outcomes.Committed else outcomes.ReadOnly)
+    by_wrote : (w : Bool) → wrote ≡ w → Closes laws c s t v e running before served.went asks inside Done commit_read done_plain (if w then outcomes.Committed else outcomes.ReadOnly)
     by_wrote true is =
         let calls = (running.inside inside).row.calls.list in
         let at_is = served.tells.closes.at_is in
@@ -214,6 +193,7 @@ module _ {P : Type 0} {rules : Rules P} (laws : Obeys rules) (c : Course P) (s :
           mine = served.mine ∙ (λ i. mine_if (is i) s.view.mine (at_is i));
           depth = depth_over;
           deepest = served.limits.2;
+          limit = served.limits.3;
           clock = (let up = served.tells.clock is in omega arith);
         }
     by_wrote false is =
@@ -233,8 +213,47 @@ module _ {P : Type 0} {rules : Rules P} (laws : Obeys rules) (c : Course P) (s :
           mine = served.mine ∙ (ap (λ (w : Bool). mine_if w s.view.mine at) is ∙ sym (append-nil s.view.mine));
           depth = depth_over;
           deepest = served.limits.2;
+          limit = served.limits.3;
           clock = (let up = stands.settled.reached in omega arith);
         }
 
-    pub commits : IsRunning rules c v e (closed t (rules.answered t.player Done) (ended_at (if wrote then outcomes.Committed else outcomes.ReadOnly) (e.snapshot / 2) e.actions.ran (row_with 0 s.call Done e.actions.ran (running.inside inside).row)))
-    commits = closes_running laws c s t v e running served.went asks inside Done commit_read done_plain (if wrote then outcomes.Committed else outcomes.ReadOnly) (by_wrote wrote refl)
+    pub commits : IsRunning rules c v e (closed t (rules.answered t.player Done) (ended_at (if wrote then outcomes.Committed else outcomes.ReadOnly) (e.snapshot / 2) e.actions.ran (row_with 0 s.call Done (running.inside inside).row)))
+    commits = closes_running laws c s t v e running before served.went asks inside Done commit_read done_plain (if wrote then outcomes.Committed else outcomes.ReadOnly) (by_wrote wrote refl)
+
+  -- ## Its innermost block goes back
+
+  module _ (clock word : ℕ) (served : Served s (Restarted clock word) v e) where
+    nested : IsNested rules true t.player
+    nested = subst (λ (b : Bool). IsNested rules b t.player) inside running.nested
+
+    pub backs : (ahead : ℕ) → IsLast s v (Restarted clock word) e
+        → IsRunning rules c v e (goes_on t (rules.at_block t.player (rules.depth t.player)) (cut_back (running.inside inside).points e.arena e.actions.ran (with_room ahead (running.inside inside).row)) (running.inside inside).points)
+    backs ahead last =
+        let h = running.inside inside in
+        let now = served.tells.still.1 in
+        let later = run_later rules c s.view v served.went t.ended running.has_run in
+        let cut = is_cut h.points e.arena e.actions.ran (with_room ahead h.row) in
+        record {
+          has_run = later.0;
+          mine = served.mine ∙ running.mine;
+          tried = running.tried;
+          tries = running.tries;
+          nested = subst (λ (b : Bool). IsNested rules b (rules.at_block t.player (rules.depth t.player))) (sym now) (nested_again rules t.player nested);
+          depth = (nested.blocks (rules.depth t.player) nested.deep (omega arith)).depth ∙ (running.depth ∙ (sym (renewed_long s.engine.blocks) ∙ ap (length {A = Frame}) (sym served.tells.blocks)));
+          deepest = served.limits.2 ∙ running.deepest;
+          limit = served.limits.3 ∙ running.limit;
+          inside = λ o. record {
+            between = h.between;
+            row = cut_back h.points e.arena e.actions.ran (with_room ahead h.row);
+            points = h.points;
+            stage_is = refl;
+            now_is = later.1 ∙ h.now_is;
+            try = try_back laws c s t v e running before stands asks first_time inside ahead clock word served last;
+            again = h.again;
+            nth = cut.nth ∙ h.nth;
+            thread = cut.thread ∙ h.thread;
+            known = (let known = h.known in let began = cut.began in omega arith);
+            looked = (let looked = h.looked in let looks = served.went.looks in omega arith);
+          };
+          outside = λ shut. absurd (true≢false (sym now ∙ shut));
+        }

@@ -1,5 +1,5 @@
 -- The open attempt ends without its block, or is told as it stands.
-use Rattle.std.proofs.Common.{◌≡◌, ℕ, ◌/◌, ◌≤◌, Bool, true, false, List, [], ◌∷◌, ◌++◌, length, map, Option, Some, refl, sym, true≢false, ap, subst, ◌∙◌, arith, append-nil, if◌then◌else◌}
+use Rattle.std.proofs.Common.{◌≡◌, ℕ, ◌/◌, ◌≤◌, Bool, true, false, List, [], ◌∷◌, ◌++◌, length, map, Option, Some, refl, sym, true≢false, ap, subst, ◌∙◌, arith, if◌then◌else◌}
 use Rattle.itm_types.specs.Memory.{Agrees, IsMemory}
 use Rattle.itm_model.specs.Machine.{after, reply, undone}
 use Rattle.itm_model.specs.State.{State}
@@ -15,7 +15,9 @@ use Rattle.shared_words.specs.declared.view.View.{View}
 use Rattle.itm_runtime.proofs.Steps.CallsInHand.{is_memory}
 use Rattle.itm_runtime.specs.Served.{IsUndone, Served, Start, Went}
 use Rattle.itm_runtime.specs.Ties.{Stands, memory_of}
+use Rattle.itm_types.specs.declared.call.Ran.{Ran}
 use Rattle.tx_attempts.specs.Attempts.{alone}
+use Rattle.tx_attempts.proofs.ToldRuns.{telling}
 use Rattle.tx_attempts.specs.Opacity.{LacksClock, after_try, answered_all, begin_code, takes_clock}
 use Rattle.tx_attempts.specs.declared.attempt.CallRecord.{CallRecord}
 use Rattle.tx_attempts.specs.declared.attempt.Outcome.TheVariants as outcomes
@@ -23,21 +25,17 @@ use Rattle.tx_player.specs.Rules.{Obeys, Rules}
 use Rattle.tx_runs.proofs.GivenUp.{given_up_as}
 use Rattle.tx_runs.proofs.Players.{nested_outside}
 use Rattle.tx_runs.proofs.Tries.{lacks_clock}
+use Rattle.tx_runs.proofs.TriesTold.{closes_as}
 use Rattle.tx_runs.specs.Nesting.{IsNested}
 use Rattle.tx_worker.proofs.Machines.ClockCalls.{wants_revocable, wants_taking}
-use Rattle.tx_worker.proofs.Runs.OpenRuns.{alone_stood, led, made_open, stood_led, stop_ended, stop_mine}
+use Rattle.tx_worker.proofs.Runs.OpenRuns.{alone_told, arena_given_up, led, led_told, made_open, open_whole, ran_given_up, ran_standing, stood_whole, stop_ended, stop_mine, whole}
 use Rattle.tx_worker.proofs.Runs.EarlierReads.{position_read}
-use Rattle.tx_worker.proofs.Runs.LaterCommits.{known_more}
+use Rattle.tx_worker.proofs.Runs.LaterCommits.{known_more, went_self}
 use Rattle.tx_worker.proofs.Machines.PlainStates.{may_here, stands_actions, stands_arena, stands_mode, stands_open}
 use Rattle.tx_worker.specs.Positions.{bytes_at, positions}
 use Rattle.tx_worker.specs.Progress.{Course, HasRun, IsRunning, MayRead, now_at, stood}
 use Rattle.tx_worker.specs.Accounts.{Account}
 use Rattle.tx_worker.proofs.Shapes.{ended_at, tried}
-
--- ## Where nothing was looked at
-
-still_went : (v : View) → Went v v
-still_went v = record { base = refl; share = refl; grows = ([], sym (append-nil v.seen)); looks = omega arith; high = omega arith }
 
 -- ## By an answer
 
@@ -66,16 +64,17 @@ module _ {P : Type 0} {rules : Rules P} (laws : Obeys rules) (c : Course P) (s :
 
     conflict_ended : HasRun rules c v (t.ended ++ ended_at outcomes.Conflict (e.snapshot / 2) e.actions.ran (running.inside inside).row ∷ [])
         × (now_at rules c v (t.ended ++ ended_at outcomes.Conflict (e.snapshot / 2) e.actions.ran (running.inside inside).row ∷ [])
-        ≡ after_try rules c.depth (bytes_at v) (running.inside inside).between (Some (running.inside inside).try.of_block.start) (ended_at outcomes.Conflict (e.snapshot / 2) e.actions.ran (running.inside inside).row))
+        ≡ after_try rules c.depth (bytes_at v) (running.inside inside).between (Some (running.inside inside).try.is_open.of_block.start) (ended_at outcomes.Conflict (e.snapshot / 2) e.actions.ran (running.inside inside).row))
     conflict_ended =
         let m : List ℕ = stood s.engine.irrevocable s.view position in
         let late = served.tells.closes.late inside in
-        let began = (running.inside inside).try.began in
-        stop_ended laws c t s.view v s.engine running inside served.went (e.snapshot / 2) outcomes.Conflict e.actions.ran refl conflict_read
-        (stands_open s.engine m inside, stands_mode s.engine m ∙ served.tells.revocable) (ran_undone (Conflict clock word) served served.tells.revocable served.tells.undone) (omega arith) served.tells.closes.seen (λ lost. (let later = served.tells.later in let clock = served.tells.clock_is in let known = stands.over.high in omega arith)) (λ f. absurd (cc))
+        let began = (running.inside inside).try.is_open.began in
+        stop_ended laws c t s.view v s.engine running before inside served.went (e.snapshot / 2) outcomes.Conflict e.actions.ran refl conflict_read
+        (stands_open s.engine m inside, stands_mode s.engine m ∙ served.tells.revocable)
+        (ran_given_up laws c t s.view v s.engine running before inside served.went position conflict_read e.actions.ran (ran_undone (Conflict clock word) served served.tells.revocable served.tells.undone) outcomes.Conflict refl (λ x. absurd (cc))) (omega arith) served.tells.closes.seen (λ lost. (let later = served.tells.later in let clock = served.tells.clock_is in let known = stands.over.high in omega arith)) (λ f. absurd (cc))
 
     conflict_mine : v.mine ≡ c.view.mine ++ positions (t.ended ++ ended_at outcomes.Conflict (e.snapshot / 2) e.actions.ran (running.inside inside).row ∷ [])
-    conflict_mine = stop_mine laws c t s.view v s.engine running inside served.went (e.snapshot / 2) outcomes.Conflict e.actions.ran refl conflict_read served.mine
+    conflict_mine = stop_mine laws c t s.view v s.engine running before inside served.went (e.snapshot / 2) outcomes.Conflict e.actions.ran refl conflict_read served.mine
 
     pub conflict_run : HasRun rules c v (t.ended ++ ended_at outcomes.Conflict (e.snapshot / 2) e.actions.ran (running.inside inside).row ∷ [])
         × (v.mine ≡ c.view.mine ++ positions (t.ended ++ ended_at outcomes.Conflict (e.snapshot / 2) e.actions.ran (running.inside inside).row ∷ []))
@@ -87,10 +86,9 @@ module _ {P : Type 0} {rules : Rules P} (laws : Obeys rules) (c : Course P) (s :
         let h = running.inside inside in
         let shut = served.tells.closes.closed in
         let begun : rules.depth (rules.restarted t.player) ≡ 0 = running.nested.begun inside in
-        let player : rules.restarted (answered_all rules.answered (rules.answered h.try.of_block.start.player (begin_code h.between.again)) (map (λ (x : CallRecord). x.reply) h.row.calls.list)) ≡ rules.restarted t.player = ap rules.restarted (sym h.try.of_block.player) in
-        let left : State = alone c.depth (bytes_at v (e.snapshot / 2)) (ended_at outcomes.Conflict (e.snapshot / 2) e.actions.ran h.row) in
-        let arena : (undone left).arena ≡ e.arena =
-        ap (λ (x : State). (undone x).arena) (alone_stood laws c t s.view v s.engine running inside served.went position conflict_read)
+        let player : rules.restarted (answered_all rules.answered (rules.answered h.try.is_open.of_block.start.player (begin_code h.between.again)) (map (λ (x : CallRecord). x.reply) h.row.calls.list)) ≡ rules.restarted t.player = ap rules.restarted (sym h.try.is_open.of_block.player) in
+        let arena : (undone (alone c.depth (bytes_at v (e.snapshot / 2)) (ended_at outcomes.Conflict (e.snapshot / 2) e.actions.ran h.row))).arena ≡ e.arena =
+        arena_given_up laws c t s.view v s.engine running before inside served.went position conflict_read e.actions.ran (ran_undone (Conflict clock word) served served.tells.revocable served.tells.undone)
         ∙ (ap (λ (x : State). x.arena) (sym (state_undone (Conflict clock word) served served.tells.revocable served.tells.undone)) ∙ stands_arena e position) in
         record {
           has_run = conflict_ended.0;
@@ -100,6 +98,7 @@ module _ {P : Type 0} {rules : Rules P} (laws : Obeys rules) (c : Course P) (s :
           nested = subst (λ (b : Bool). IsNested rules b (rules.restarted t.player)) (sym shut) (nested_outside rules (rules.restarted t.player) begun);
           depth = begun ∙ sym (ap length (none_inside e.blocks shut));
           deepest = served.limits.2 ∙ running.deepest;
+          limit = served.limits.3 ∙ running.limit;
           inside = λ o. absurd (true≢false (sym o ∙ shut));
           outside = λ o. record {
             between = record { player = rules.restarted t.player; arena = e.arena; again = true; tries = h.row.nth };
@@ -121,15 +120,18 @@ module _ {P : Type 0} {rules : Rules P} (laws : Obeys rules) (c : Course P) (s :
         position_read s v e before stands inside (Full at) served
         (subst (λ (n : ℕ). Agrees (memory_of v n) s.engine.log) served.tells.closes.at_is (served.tells.closes.agrees inside))
 
-    lacks : LacksClock rules c.depth (rules.answered (running.inside inside).try.of_block.start.player (begin_code (running.inside inside).between.again)) (running.inside inside).row (bytes_at v (e.snapshot / 2))
+    lacks : LacksClock rules c.depth (rules.answered (running.inside inside).try.is_open.of_block.start.player (begin_code (running.inside inside).between.again)) (running.inside inside).row (bytes_at v (e.snapshot / 2))
     lacks =
         let m : List ℕ = stood s.engine.irrevocable s.view position in
-        let stands_led = stood_led laws c t s.view v s.engine running inside served.went position full_read in
-        let made = made_open laws c t s.view v s.engine running inside served.went position full_read in
-        lacks_clock laws c.depth (running.inside inside).try.of_block (bytes_at v (e.snapshot / 2)) s.call
-        (reply c.depth (led laws c t s.view v s.engine running inside served.went (bytes_at v (e.snapshot / 2))) s.call) made asks refl
-        (ap (λ (x : State). x.irrevocable) (sym stands_led) ∙ (stands_mode s.engine m ∙ full_revocable))
-        ((λ i. takes_clock (after (sym running.deepest i) (sym stands_led i) s.call)) ∙ wants_taking s.engine m full_revocable inside s.call served.tells.wants)
+        let stands_whole = stood_whole laws c t s.view v s.engine running before inside served.went position full_read in
+        let made = made_open laws c t s.view v s.engine running before inside served.went position full_read in
+        let still_open = open_whole laws c t s.view v s.engine running before inside served.went position full_read in
+        let due : List Ran = (after c.depth (whole laws c t s.view v s.engine running before inside served.went position) s.call).actions.ran in
+        lacks_clock laws c.depth (running.inside inside).try.is_open.of_block (bytes_at v (e.snapshot / 2)) s.call
+        (reply c.depth (led laws c t s.view v s.engine running before inside served.went (bytes_at v (e.snapshot / 2))) s.call) made asks refl
+        (ap (λ (x : State). x.irrevocable) (led_told laws c t s.view v s.engine running before inside served.went position full_read ∙ ap (λ (x : State). telling x (running.inside inside).row.ran) (sym stands_whole)) ∙ (stands_mode s.engine m ∙ full_revocable))
+        (ap takes_clock (closes_as (running.inside inside).try.is_open position full_read.0 full_read.1 s.call due still_open refl)
+        ∙ ((λ i. takes_clock (after (sym running.deepest i) (sym stands_whole i) s.call)) ∙ wants_taking s.engine m full_revocable inside s.call served.tells.wants))
 
     pub full_run : HasRun rules c v (t.ended ++ ended_at outcomes.Full (e.snapshot / 2) e.actions.ran (running.inside inside).row ∷ [])
         × (v.mine ≡ c.view.mine ++ positions (t.ended ++ ended_at outcomes.Full (e.snapshot / 2) e.actions.ran (running.inside inside).row ∷ []))
@@ -140,10 +142,10 @@ module _ {P : Type 0} {rules : Rules P} (laws : Obeys rules) (c : Course P) (s :
         let seen = served.tells.closes.seen in
         let full = served.tells.full in
         let late = served.tells.closes.late inside in
-        let began = (running.inside inside).try.began in (
-          (stop_ended laws c t s.view v s.engine running inside served.went (e.snapshot / 2) outcomes.Full e.actions.ran refl full_read (stands_open s.engine m inside, stands_mode s.engine m ∙ full_revocable)
-              (ran_undone (Full at) served full_revocable served.tells.undone) (omega arith) (omega arith) (λ lost. absurd (cc)) (λ f. lacks)).0,
-          stop_mine laws c t s.view v s.engine running inside served.went (e.snapshot / 2) outcomes.Full e.actions.ran refl full_read served.mine,
+        let began = (running.inside inside).try.is_open.began in (
+          (stop_ended laws c t s.view v s.engine running before inside served.went (e.snapshot / 2) outcomes.Full e.actions.ran refl full_read (stands_open s.engine m inside, stands_mode s.engine m ∙ full_revocable)
+              (ran_given_up laws c t s.view v s.engine running before inside served.went position full_read e.actions.ran (ran_undone (Full at) served full_revocable served.tells.undone) outcomes.Full refl (λ x. absurd (cc))) (omega arith) (omega arith) (λ lost. absurd (cc)) (λ f. lacks)).0,
+          stop_mine laws c t s.view v s.engine running before inside served.went (e.snapshot / 2) outcomes.Full e.actions.ran refl full_read served.mine,
           omega arith,
         )
 
@@ -158,31 +160,35 @@ module _ {P : Type 0} {rules : Rules P} (laws : Obeys rules) (c : Course P) (s :
       let free : s.engine.holds ≡ false = before.mode ∙ revocable in
       let snapshot : e.snapshot ≡ s.engine.snapshot = ap (λ (x : Core). x.snapshot) is ∙ ap (λ (h : Bool). (if h then s.engine else record (rolled_back s.engine) { stage = Idle; tries = 0 }).snapshot) free in
       let m : List ℕ = stood s.engine.irrevocable s.view (memory_of v (e.snapshot / 2)) in
-      let went : Went s.view v = subst (Went s.view) (sym same) (still_went s.view) in
+      let went : Went s.view v = subst (Went s.view) (sym same) (went_self s.view) in
       let read : MayRead s.view s.engine (memory_of v (e.snapshot / 2)) = subst (MayRead s.view s.engine) (λ i. memory_of (sym same i) (sym snapshot i / 2)) (may_here s.view s.engine before inside) in
-      let began = (running.inside inside).try.began in
+      let began = (running.inside inside).try.is_open.began in
       let count = (before.reads inside).count in
       let seen = ap (λ (x : View). length x.seen) same in (
-        (stop_ended laws c t s.view v s.engine running inside went (e.snapshot / 2) outcomes.NoMemory e.actions.ran refl read (stands_open s.engine m inside, stands_mode s.engine m ∙ revocable)
-            (given_up_as s.engine e m free revocable is) (omega arith) (omega arith) (λ lost. absurd (cc)) (λ f. absurd (cc))).0,
-        stop_mine laws c t s.view v s.engine running inside went (e.snapshot / 2) outcomes.NoMemory e.actions.ran refl read (ap (λ (x : View). x.mine) same),
+        (stop_ended laws c t s.view v s.engine running before inside went (e.snapshot / 2) outcomes.NoMemory e.actions.ran refl read (stands_open s.engine m inside, stands_mode s.engine m ∙ revocable)
+            (ran_given_up laws c t s.view v s.engine running before inside went (memory_of v (e.snapshot / 2)) read e.actions.ran (given_up_as s.engine e m free revocable is) outcomes.NoMemory refl (λ x. absurd (cc))) (omega arith) (omega arith) (λ lost. absurd (cc)) (λ f. absurd (cc))).0,
+        stop_mine laws c t s.view v s.engine running before inside went (e.snapshot / 2) outcomes.NoMemory e.actions.ran refl read (ap (λ (x : View). x.mine) same),
       )
 
   -- the thread stops, and it is told as it stands
-  pub unfinished_run : HasRun rules c s.view (t.ended ++ ended_at outcomes.Unfinished (s.engine.snapshot / 2) (running.inside inside).row.ran (running.inside inside).row ∷ [])
-      × (s.view.mine ≡ c.view.mine ++ positions (t.ended ++ ended_at outcomes.Unfinished (s.engine.snapshot / 2) (running.inside inside).row.ran (running.inside inside).row ∷ []))
+  pub unfinished_run : HasRun rules c s.view (t.ended ++ ended_at outcomes.Unfinished (s.engine.snapshot / 2) s.engine.actions.ran (running.inside inside).row ∷ [])
+      × (s.view.mine ≡ c.view.mine ++ positions (t.ended ++ ended_at outcomes.Unfinished (s.engine.snapshot / 2) s.engine.actions.ran (running.inside inside).row ∷ []))
   unfinished_run =
       let h = running.inside inside in
       let m : List ℕ = stood s.engine.irrevocable s.view (memory_of s.view (s.engine.snapshot / 2)) in
       let read = may_here s.view s.engine before inside in
       let count = (before.reads inside).count in (
-        (stop_ended laws c t s.view s.view s.engine running inside (still_went s.view) (s.engine.snapshot / 2) outcomes.Unfinished h.row.ran refl read (stands_open s.engine m inside)
-            (h.try.ran ∙ ap (λ (x : Actions). x.ran) (sym (stands_actions s.engine m))) h.try.began (omega arith) (λ lost. absurd (cc)) (λ f. absurd (cc))).0,
-        stop_mine laws c t s.view s.view s.engine running inside (still_went s.view) (s.engine.snapshot / 2) outcomes.Unfinished h.row.ran refl read refl,
+        (stop_ended laws c t s.view s.view s.engine running before inside (went_self s.view) (s.engine.snapshot / 2) outcomes.Unfinished s.engine.actions.ran refl read (stands_open s.engine m inside)
+            (ran_standing laws c t s.view s.view s.engine running before inside (went_self s.view) (memory_of s.view (s.engine.snapshot / 2)) read) h.try.is_open.began (omega arith) (λ lost. absurd (cc)) (λ f. absurd (cc))).0,
+        stop_mine laws c t s.view s.view s.engine running before inside (went_self s.view) (s.engine.snapshot / 2) outcomes.Unfinished s.engine.actions.ran refl read refl,
       )
 
   -- and whether it is irrevocable, by its calls alone
   pub unfinished_mode : (alone c.depth (bytes_at s.view (s.engine.snapshot / 2)) (running.inside inside).row).irrevocable ≡ s.engine.irrevocable
   unfinished_mode =
-      ap (λ (x : State). x.irrevocable) (alone_stood laws c t s.view s.view s.engine running inside (still_went s.view) (memory_of s.view (s.engine.snapshot / 2)) (may_here s.view s.engine before inside))
-      ∙ stands_mode s.engine (stood s.engine.irrevocable s.view (memory_of s.view (s.engine.snapshot / 2)))
+      let here : List ℕ = memory_of s.view (s.engine.snapshot / 2) in
+      let read = may_here s.view s.engine before inside in
+      ap (λ (x : State). x.irrevocable)
+      (alone_told laws c t s.view s.view s.engine running before inside (went_self s.view) here read
+      ∙ (led_told laws c t s.view s.view s.engine running before inside (went_self s.view) here read ∙ ap (λ (x : State). telling x (running.inside inside).row.ran) (sym (stood_whole laws c t s.view s.view s.engine running before inside (went_self s.view) here read))))
+      ∙ stands_mode s.engine (stood s.engine.irrevocable s.view here)

@@ -1,5 +1,5 @@
 -- The history of a world is within the limits of a run.
-use Rattle.std.proofs.Common.{◌≡◌, ℕ, ◌+◌, ◌/◌, ◌<◌, ◌≤◌, All, List, [], ◌∷◌, ◌++◌, length, get_or, Some, arith}
+use Rattle.std.proofs.Common.{ℕ, ◌+◌, ◌/◌, ◌<◌, ◌≤◌, All, List, [], ◌∷◌, ◌++◌, length, get_or, Some, refl, arith}
 use Rattle.std.proofs.lemmas.List.{length-replicate}
 use Rattle.std.proofs.lemmas.List.Elements.{All-nil, All-cons}
 use Rattle.tx_attempts.specs.declared.attempt.Attempt.{Attempt}
@@ -8,14 +8,15 @@ use Rattle.tx_history.specs.Bounds.{AreLimited, HasArenaWidth, IsLimited}
 use Rattle.tx_history.specs.declared.history.Version.{Version}
 use Rattle.tx_history.specs.declared.history.Version.TheVariants.{One, Two, Three}
 use Rattle.tx_history.specs.Versions.{MayTell}
-use Rattle.tx_runs.specs.Unbroken.{AreUnbroken}
+use Rattle.tx_attempts.specs.declared.attempt.Again.{Again}
+use Rattle.tx_runs.specs.Restarts.{RestartAtMost}
 use Rattle.tx_player.specs.Rules.{Rules}
 use Rattle.norec_world.specs.Dates.{AreDated}
 use Rattle.norec_world.specs.Headline.{AreOfActors, AreOpaque, bytes_at, first_of}
 use Rattle.norec_world.specs.World.{World, attempts_of, observed}
 use Rattle.norec_world.proofs.Events.SoundOthers.{there_is}
 use Rattle.tx_history.proofs.Runs.LimitedRuns.{IsOwn, own_run}
-use Rattle.world_laws.specs.Limits.{HasArenaWidths, IsLimitedWorld}
+use Rattle.world_laws.specs.Limits.{HasArenaWidths, IsLimitedWorld, MayRestart}
 use Rattle.world_laws.specs.Told.{told_of}
 use Rattle.world_laws.proofs.LegalHistories.EachThread.{of_threads}
 
@@ -29,16 +30,17 @@ all_few : (retries : ℕ) (before xs : List Attempt) → AreDated retries before
 all_few retries before [] d = All-nil (λ (a : Attempt). a.nth ≤ retries + 1)
 all_few retries before (x ∷ xs) d = All-cons (λ (a : Attempt). a.nth ≤ retries + 1) x xs d.0.few (all_few retries (before ++ x ∷ []) xs d.1)
 
--- no inner block of any ran again
-each_unbroken : (xs : List Attempt) → AreUnbroken xs → All (λ (a : Attempt). a.restarts ≡ []) xs
-each_unbroken [] none = All-nil (λ (a : Attempt). a.restarts ≡ [])
-each_unbroken (x ∷ xs) none = All-cons (λ (a : Attempt). a.restarts ≡ []) x xs none.0 (each_unbroken xs none.1)
+-- no more inner blocks of any ran again than may
+each_restarts : (most : ℕ) (xs : List Attempt) → RestartAtMost most xs → All (λ (a : Attempt). length a.restarts ≤ most) xs
+each_restarts most [] few = All-nil (λ (a : Attempt). length a.restarts ≤ most)
+each_restarts most (x ∷ xs) few = All-cons (λ (a : Attempt). length a.restarts ≤ most) x xs few.0 (each_restarts most xs few.1)
 
--- a version tells of an attempt in which no block ran again
-none_told : (version : Version) (a : Attempt) → a.restarts ≡ [] → MayTell version a.restarts
-none_told One a none = none
-none_told Two a none = tt
-none_told (Three depth) a none = tt
+-- a version tells of those that may have run again
+may_tell : (version : Version) (most : ℕ) (restarts : List Again) → MayRestart version most → length restarts ≤ most → MayTell version restarts
+may_tell One most [] none few = refl
+may_tell One most (x ∷ xs) none few = absurd (omega (arith, none, few))
+may_tell Two most restarts none few = tt
+may_tell (Three depth) most restarts none few = tt
 
 module _ {P : Type 0} (rules : Rules P) (widths : HasArenaWidths rules) (version : Version) (w : World P) (opaque : AreOpaque rules (observed w)) where
   all_own : All (IsOwn HasArenaWidth w.arena) (attempts_of w)
@@ -47,17 +49,17 @@ module _ {P : Type 0} (rules : Rules P) (widths : HasArenaWidths rules) (version
       own_run rules HasArenaWidth widths w.depth w.arena (w.cells.clock / 2) (bytes_at w.depth w.base (attempts_of w)) (Some (first_of p.0 w.arena)) (of_thread thread (attempts_of w))
       (length-replicate w.arena 0) (opaque.runs thread p.0 p.1)))
 
-  limited_by : IsLimitedWorld version w → (a : Attempt) → IsOwn HasArenaWidth w.arena a → a.thread < length w.opening → a.nth ≤ w.retries + 1 → a.restarts ≡ [] → IsLimited version a
-  limited_by h a own of few none = record {
+  limited_by : IsLimitedWorld version w → (a : Attempt) → IsOwn HasArenaWidth w.arena a → a.thread < length w.opening → a.nth ≤ w.retries + 1 → length a.restarts ≤ w.restarts → IsLimited version a
+  limited_by h a own of few again = record {
     thread = (let most = h.actors in omega arith);
     nth = (own.nth, (let most = h.retries in omega arith));
     arena = (let most = h.arena in let same = own.arena in omega arith);
     widths = own.calls;
-    restarts = none_told version a none;
+    restarts = may_tell version w.restarts a.restarts h.restarts again;
   }
 
   pub limited_world : IsLimitedWorld version w → AreLimited (told_of version w)
   limited_world h = record {
     memory = h.memory;
-    attempts = λ k d l. limited_by h (get_or (attempts_of w) k d) (all_own k d l) (all_of_actors (length w.opening) (attempts_of w) opaque.threads k d l) (all_few w.retries [] (attempts_of w) opaque.dated k d l) (each_unbroken (attempts_of w) opaque.unbroken k d l);
+    attempts = λ k d l. limited_by h (get_or (attempts_of w) k d) (all_own k d l) (all_of_actors (length w.opening) (attempts_of w) opaque.threads k d l) (all_few w.retries [] (attempts_of w) opaque.dated k d l) (each_restarts w.restarts (attempts_of w) opaque.few k d l);
   }

@@ -41,7 +41,7 @@ module _ {P : Type 0} where
   after_held outcomes.NoMemory clock p a g = none_held a g.none
   after_held outcomes.Unfinished clock p a g = absurd g
 
-  tries_held : (clock : ℕ) (p : Prior) (clock' : ℕ) (r : Rows) (a : Actor P) → Tries clock p clock' r a → StaysHeld a
+  tries_held : {IsLater : Attempt → Attempt → Type 0} (clock : ℕ) (p : Prior) (clock' : ℕ) (r : Rows) (a : Actor P) → Tries IsLater clock p clock' r a → StaysHeld a
   tries_held clock p clock' r a (between t) = none_held a t.between.none
   tries_held clock p clock' r a (begins t) = none_held a t.still
   tries_held clock p clock' r a (runs t) = λ e row unclosed. t.fed e

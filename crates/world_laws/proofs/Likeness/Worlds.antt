@@ -60,6 +60,7 @@ opening_same v w v' w' s f g = record {
   patience = g.patience ∙ (s.patience ∙ sym f.patience);
   max_commits = g.max_commits ∙ (s.max_commits ∙ sym f.max_commits);
   depth = g.depth ∙ (s.depth ∙ sym f.depth);
+  restarts = g.restarts ∙ (s.restarts ∙ sym f.restarts);
   retries = g.retries ∙ (s.retries ∙ sym f.retries);
 }
 

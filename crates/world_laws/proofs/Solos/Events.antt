@@ -9,7 +9,9 @@ use Rattle.world_laws.specs.Sole.{AreSole, EndsWith, IsFirstTry, IsOnWay, IsSole
 use Rattle.world_laws.specs.Solo.{one_if}
 use Rattle.tx_attempts.specs.declared.attempt.Outcome.TheVariants as outcomes
 use Rattle.norec_world.proofs.Tries.ToldTries.{none_again}
-use Rattle.norec_world.specs.Tries.{EndsIt}
+use Rattle.norec_world.specs.Tries.{EndsIt, Extends, GoesBack}
+use Rattle.tx_attempts.specs.Restarts.{open_in}
+use Rattle.tx_attempts.specs.declared.attempt.CallRecord.{CallRecord}
 use Rattle.norec_core.specs.Core.{may_go}
 use Rattle.world_laws.specs.Sole.{IsIdle, IsKeptOut}
 use Rattle.tx_runs.proofs.RunLists.{try_begun}
@@ -61,7 +63,7 @@ module _ {P : Type 0} (rules : Rules P) (max_commits : ℕ) (deepest : ℕ) (bas
         nth = b.tries;
         current = λ row e.
             (let is = b.opens row (ap (λ (o : Option Attempt). current_of o (pending_of a)) (sym b.none) ∙ e) in
-            record { thread = ap (λ (x : Attempt). x.thread) is ∙ mine; nth = ap (λ (x : Attempt). x.nth) is; began = ap (λ (x : Attempt). x.began) is });
+            record { thread = ap (λ (x : Attempt). x.thread) is ∙ mine; nth = ap (λ (x : Attempt). x.nth) is; began = ap (λ (x : Attempt). x.began) is; unbroken = ap (λ (x : Attempt). x.restarts) is });
       }) finishes b.goes_on (λ e. inl (b.none, inl ended))
 
   -- a block that is to begin goes on where its attempts have led
@@ -72,15 +74,39 @@ module _ {P : Type 0} (rules : Rules P) (max_commits : ℕ) (deepest : ℕ) (bas
     pub begins : begins_at rules deepest before ≡ Some start
     pub props : start.props ≡ row.props
 
-  continued : (n : ℕ) (row row' : Attempt) → Continues row row' → IsFirstTry n row → IsFirstTry n row'
-  continued n row row' c f = record { thread = c.thread ∙ f.thread; nth = c.nth ∙ f.nth; began = c.began ∙ f.began }
+  continued : (n clock : ℕ) (row row' : Attempt) → Continues clock row row' → ((base : Attempt) → GoesBack clock row base → ⊥) → IsFirstTry n row → IsFirstTry n row'
+  continued n clock row row' c never f = elim c.from [
+    | inl is ↦ later_first c.base c.on (subst (IsFirstTry n) (sym is) f)
+    | inr back ↦ absurd (never c.base back)
+  ]
+    where
+      later_first : (base : Attempt) → Extends base row' → IsFirstTry n base → IsFirstTry n row'
+      later_first base on b = record { thread = on.same.thread ∙ b.thread; nth = on.same.nth ∙ b.nth; began = on.same.began ∙ b.began; unbroken = on.restarts ∙ b.unbroken }
 
-  module _ (clock clock' : ℕ) (r r' : Rows) (a a' : Actor P) (going : ending_of a.status ≡ None) (old : IsSole rules max_commits deepest base begin clock r a) (here : a.run.thread ≡ 0) (mine : a'.run.thread ≡ 0) (limit : a.engine.max_commits ≡ max_commits)
+  module _ (clock clock' : ℕ) (r r' : Rows) (a a' : Actor P) (going : ending_of a.status ≡ None) (read : (row : Attempt) → active_of a ≡ Some row → row.began ≤ row.at) (uncalled : (row : Attempt) → active_of a ≡ None → pending_of a ≡ Some row → row.calls.list ≡ []) (old : IsSole rules max_commits deepest base begin clock r a) (here : a.run.thread ≡ 0) (mine : a'.run.thread ≡ 0) (limit : a.engine.max_commits ≡ max_commits)
       (free : active_of a ≡ None → a.engine.holds ≡ false) (to_begin : (row : Attempt) → active_of a ≡ None → pending_of a ≡ Some row → may_go [] row.props ≡ true → IsToBegin r a row)
       (seen : a'.engine.holds ≡ false → a'.engine.clock ≡ clock')
       (shut : active_of a' ≡ None → clock' % 2 ≡ 0) (early : (row : Attempt) → r'.ended ≡ r.ended ++ row ∷ [] → row.began ≤ row.at) (finishes : ending_of a'.status ≡ Some Finished → (rules.next_call a'.run.player ≡ None) × IsIdle a'.engine) where
     way : IsOnWay rules max_commits deepest base begin old.past (clock / 2) r a
     way = subst (λ (o : Option End). StandsSole rules max_commits deepest base begin o old.past (clock / 2) r a) going old.stands
+
+    -- no block of its own goes back, since no other one commits
+    never_back : (row base : Attempt) → current_of (active_of a) (pending_of a) ≡ Some row → GoesBack clock row base → ⊥
+    never_back row base is back = by_active (active_of a) refl
+      where
+        by_active : (o : Option Attempt) → active_of a ≡ o → ⊥
+        by_active (Some x) e =
+            let same : x ≡ row = same_Some _ _ (sym (ap (λ (o : Option Attempt). current_of o (pending_of a)) e) ∙ is) in
+            let early = read row (e ∙ ap (λ (y : Attempt). Some y) same) in
+            let first = (way.current row is).began in
+            let moved = back.moved in
+            omega (arith, first)
+        by_active None e =
+            let calls = uncalled row e (sym (ap (λ (o : Option Attempt). current_of o (pending_of a)) e) ∙ is) in
+            absurd (let n : [] ≡ back.again.kept ∷ back.outer = sym (ap (λ (l : List CallRecord). open_in l) calls) ∙ back.innermost in cc)
+
+    goes_first : (row row' : Attempt) → current_of (active_of a) (pending_of a) ≡ Some row → Continues clock row row' → IsFirstTry (clock / 2) row'
+    goes_first row row' is c = continued (clock / 2) clock row row' c (λ base. never_back row base is) (way.current row is)
 
     -- no attempt has ended
     goes_on : clock' / 2 ≡ clock / 2 → StandsSole rules max_commits deepest base begin (ending_of a'.status) old.past (clock' / 2) r' a' → IsSole rules max_commits deepest base begin clock' r' a'
@@ -106,9 +132,9 @@ module _ {P : Type 0} (rules : Rules P) (max_commits : ℕ) (deepest : ℕ) (bas
         }
 
     -- one has ended, and if not by its commit it was the last one
-    module _ (t : EndsIt clock (prior_of r a) clock' r' a') where
+    module _ (t : EndsIt (Continues clock) clock (prior_of r a) clock' r' a') where
       first : IsFirstTry (clock / 2) t.row'
-      first = continued (clock / 2) t.row t.row' t.continues (way.current t.row t.was)
+      first = goes_first t.row t.row' t.was t.continues
 
       later : clock / 2 ≤ t.row'.at
       later = (let b = first.began in let e = early t.row' t.ended in omega arith)
@@ -141,7 +167,7 @@ module _ {P : Type 0} (rules : Rules P) (max_commits : ℕ) (deepest : ℕ) (bas
           goes_on at.0 (stands_so NoMemory g.status (inl (g.none, inr (last outcomes.NoMemory o at.0))))
       by_outcome outcomes.Unfinished o at g = absurd at
 
-    pub sole_after : Tries clock (prior_of r a) clock' r' a' → IsSole rules max_commits deepest base begin clock' r' a'
+    pub sole_after : Tries (Continues clock) clock (prior_of r a) clock' r' a' → IsSole rules max_commits deepest base begin clock' r' a'
     sole_after (between t) =
         goes_on t.half (stands_between clock' old.past r' a' mine (t.ended ∙ way.ended) (subst (λ (n : ℕ). IsBetween clock' n a') way.nth t.between) finishes)
     sole_after (begins t) =
@@ -158,7 +184,7 @@ module _ {P : Type 0} (rules : Rules P) (max_commits : ℕ) (deepest : ℕ) (bas
           nth = t.tries ∙ way.nth;
           current = λ row e.
               (let same : t.row' ≡ row = same_Some _ _ (ap (λ (o : Option Attempt). current_of o (pending_of a')) (sym t.now) ∙ e) in
-              subst (IsFirstTry (clock' / 2)) same (now t.row' t.half (continued (clock / 2) t.row t.row' t.continues (way.current t.row t.was))));
+              subst (IsFirstTry (clock' / 2)) same (now t.row' t.half (goes_first t.row t.row' t.was t.continues)));
         } in
         goes_on t.half (stands_on on finishes t.goes_on (λ e. inr (t.fed e, on)))
     sole_after (over t) = by_outcome t t.row'.outcome refl t.at t.after

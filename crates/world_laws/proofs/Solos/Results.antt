@@ -10,7 +10,11 @@ use Rattle.tx_runs.specs.declared.ending.End.TheVariants.{Finished, GaveUp, NoMe
 use Rattle.world_laws.specs.Sole.{AreSole, EndsWith, IsFirstTry, IsOnWay, IsSole, StandsSole}
 use Rattle.world_laws.specs.Solo.{one_if, row_of, solo_within, stopped, with_all, with_first, without_room}
 use Rattle.world_laws.specs.ShownAlone.{ShowsAlone}
-use Rattle.tx_runs.specs.Unbroken.{AreUnbroken}
+use Rattle.tx_attempts.specs.Restarts.{breaks_in, breaks_of}
+use Rattle.tx_attempts.specs.Attempts.{alone_whole, calls_of}
+use Rattle.tx_attempts.specs.declared.attempt.Again.{Again}
+use Rattle.itm_model.specs.Runs.{state_through}
+use Rattle.norec_world.proofs.Common.{open_in}
 use Rattle.norec_world.proofs.Runs.Begins.{led_before}
 use Rattle.itm_types.specs.declared.call.Reply.{Reply}
 use Rattle.tx_attempts.specs.declared.attempt.Outcome.TheVariants as outcomes
@@ -97,7 +101,7 @@ module _ {P : Type 0} (rules : Rules P) (laws : Obeys rules) (w : World P) (comm
       arrives rules laws w.max_commits w.depth w.base (attempts_of w) (w.cells.clock / 2) (record { player = p; arena = replicate w.arena 0; memory = w.base; commits = 0 }) sole.past tail (w.cells.clock / 2) refl
       (λ j l. ap (λ (xs : List Attempt). committed_at xs j) is)
       (subst (IsRunOf rules w.depth (w.cells.clock / 2) (bytes_at w.depth w.base (attempts_of w)) (Some (first_of p w.arena))) (of_thread_all (attempts_of w) all_mine ∙ is) (opaque.runs 0 p player_here))
-      sole.commit (let few = commits.few in omega arith) (subst AreUnbroken is opaque.unbroken)
+      sole.commit (let few = commits.few in omega arith)
 
   so_far : (tail : List Attempt) (x : Arrived tail) (outcome : Outcome) → (attempts_of w ≡ sole.past) ⊎ IsBegun rules w.depth w.max_commits 0 x.before sole.past outcome (attempts_of w) → So (w.cells.clock / 2) x.before.memory outcome
   so_far tail x outcome rows = record { before = x.before; past = sole.past; whole = x.whole; commits_are = sym x.commits; memory_is = refl; left = x.memory ∙ ap (bytes_at w.depth w.base (attempts_of w)) x.commits; rows_are = rows }
@@ -145,7 +149,7 @@ module _ {P : Type 0} (rules : Rules P) (laws : Obeys rules) (w : World P) (comm
 
   module _ (row : Attempt) (is : attempts_of w ≡ sole.past ++ row ∷ []) (first : IsFirstTry (w.cells.clock / 2) row) (x : Arrived (row ∷ [])) where
     y : IsNext rules laws w.max_commits w.depth w.base (attempts_of w) (w.cells.clock / 2) x.before row
-    y = is_next rules laws w.max_commits w.depth w.base (attempts_of w) (w.cells.clock / 2) x.before row [] x.run x.restarts.0
+    y = is_next rules laws w.max_commits w.depth w.base (attempts_of w) (w.cells.clock / 2) x.before row [] x.run first.unbroken
 
     first_here : IsFirstTry x.before.commits row
     first_here = subst (λ (n : ℕ). IsFirstTry n row) (sym x.commits) first
@@ -214,6 +218,12 @@ module _ {P : Type 0} (rules : Rules P) (laws : Obeys rules) (w : World P) (comm
       read_at : row.at ≡ a.engine.snapshot / 2
       read_at = tied.reads 0 a row here some
 
+      -- no block of it has run again
+      whole_alone : (memory : List ℕ) → alone_whole w.depth memory row ≡ alone w.depth memory row
+      whole_alone memory =
+          ap (λ (rs : List Again). state_through w.depth (breaks_in rs) (opened memory row.arena row.props) (calls_of row)) first.unbroken
+          ∙ sym (ap (λ (rs : List Again). state_through w.depth (breaks_of rs) (opened memory row.arena row.props) (calls_of row)) first.unbroken)
+
       -- it is not irrevocable where its engine is not
       revocable_here : a.engine.irrevocable ≡ false → (state_then w.depth unbroken from row.calls.list).irrevocable ≡ false
       revocable_here e = ap (λ (s : State). s.irrevocable) (sym state_here) ∙ (tied.modes 0 a row here some ∙ e)
@@ -222,8 +232,8 @@ module _ {P : Type 0} (rules : Rules P) (laws : Obeys rules) (w : World P) (comm
       held_here : IsIdle a.engine → a.engine.irrevocable ≡ true → stands_for a.engine w.cells.words ≡ state_then w.depth unbroken from row.calls.list
       held_here idle e =
           let n : w.cells.clock / 2 ≡ row.at = sym (at_here ∙ x.commits) in
-          subst (λ (o : Option Step). StandsIn w.depth o a.engine.doing a.engine w.cells.words (alone w.depth (bytes_at w.depth w.base (attempts_of w) (w.cells.clock / 2)) row)) idle.0 (tied.stored 0 a row here some e)
-          ∙ (ap (λ (k : ℕ). alone w.depth (bytes_at w.depth w.base (attempts_of w) k) row) n ∙ state_here)
+          subst (λ (o : Option Step). StandsIn w.depth o a.engine.doing a.engine w.cells.words (alone_whole w.depth (bytes_at w.depth w.base (attempts_of w) (w.cells.clock / 2)) row)) idle.0 (tied.stored 0 a row here some e)
+          ∙ (whole_alone (bytes_at w.depth w.base (attempts_of w) (w.cells.clock / 2)) ∙ ap (λ (k : ℕ). alone w.depth (bytes_at w.depth w.base (attempts_of w) k) row) n ∙ state_here)
 
       -- fewer have committed than may
       few_here : a.engine.irrevocable ≡ true → nat_le w.max_commits x.before.commits ≡ false
@@ -251,9 +261,10 @@ module _ {P : Type 0} (rules : Rules P) (laws : Obeys rules) (w : World P) (comm
     stands_so ended some =
         let t = (tied.players 0 p a player_here here).inside (row_open (in_transaction a.engine) a row row_kept some) in
         let place : t.0 ≡ between x.before = same_Some _ _ (sym t.2 ∙ led (row ∷ []) x ended) in
-        let start : t.4.block.start ≡ y.start = same_Some _ _ (sym t.4.block.begins ∙ (ap (λ (b : Between P). begin_of rules w.depth b.player b.arena) place ∙ y.comes)) in
-        let same : t.1 ≡ row = same_Some _ _ (sym t.3 ∙ some) in
-        t.4.block.player ∙ (λ i. player_then rules.answered (rules.answered (start i).player (begin_code (place i).again)) (same i).calls.list)
+        let block = t.5.open_try.of_block in
+        let start : block.start ≡ y.start = same_Some _ _ (sym block.begins ∙ (ap (λ (b : Between P). begin_of rules w.depth b.player b.arena) place ∙ y.comes)) in
+        let same : t.1 ≡ row = same_Some _ _ (sym (ap open_in t.4) ∙ some) in
+        block.player ∙ (λ i. player_then rules.answered (rules.answered (start i).player (begin_code (place i).again)) (same i).calls.list)
 
   -- ## By how it stands
 

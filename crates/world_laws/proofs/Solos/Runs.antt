@@ -8,7 +8,6 @@ use Rattle.norec_world.proofs.Common.{Attempt, Begin, Beginning, Between, Block,
 use Rattle.itm_model.specs.Runs.{answers_through, unbroken}
 use Rattle.tx_attempts.specs.Opacity.{answers_on}
 use Rattle.tx_attempts.specs.Restarts.{breaks_of}
-use Rattle.tx_runs.specs.Unbroken.{AreUnbroken}
 use Rattle.world_laws.specs.Sole.{AreSole, IsFirstTry}
 use Rattle.world_laws.specs.Solo.{Progress, Solo, ended_as, one_if, row_of, solo_within, with_all, with_first}
 use Rattle.itm_types.specs.declared.call.Reply.{Reply}
@@ -308,24 +307,22 @@ module _ {P : Type 0} (rules : Rules P) (laws : Obeys rules) (max_commits : ℕ)
     pub memory : before.memory ≡ bytes_at deepest base all before.commits
     pub run : IsRunOf rules deepest total (bytes_at deepest base all) (Some (between before)) tail
     pub led : run_after rules deepest (bytes_at deepest base all) (Some (between b)) past ≡ Some (between before)
-    pub restarts : AreUnbroken tail
 
   pub arrives : (b : Progress P) (past tail : List Attempt) (k : ℕ) → b.memory ≡ bytes_at deepest base all b.commits → ((j : ℕ) → b.commits ≤ j → committed_at all j ≡ committed_at (past ++ tail) j)
-      → IsRunOf rules deepest total (bytes_at deepest base all) (Some (between b)) (past ++ tail) → AreSole b.commits past k → k ≤ max_commits → AreUnbroken (past ++ tail) → Arrives b past tail k
-  arrives b [] tail k now found r sole few none = record { before = b; whole = refl; commits = sole; memory = now; run = r; led = refl; restarts = none }
-  arrives b (a ∷ past) tail k now found r sole few none =
-      let x = is_next b a (past ++ tail) r none.0 in
+      → IsRunOf rules deepest total (bytes_at deepest base all) (Some (between b)) (past ++ tail) → AreSole b.commits past k → k ≤ max_commits → Arrives b past tail k
+  arrives b [] tail k now found r sole few = record { before = b; whole = refl; commits = sole; memory = now; run = r; led = refl }
+  arrives b (a ∷ past) tail k now found r sole few =
+      let x = is_next b a (past ++ tail) r sole.0.unbroken in
       let q : Progress P = after_it b a x now sole.0 sole.1 sole.2 in
       let led = leads_past b a x now sole.0 sole.1 sole.2 in
       let up = sole_up q.commits past k sole.4 in
       let rest = arrives q past tail k (memory_past b a x now sole.0 sole.1 sole.2 (past ++ tail) found) (found_past b a x now sole.0 sole.1 sole.2 (past ++ tail) found)
-      (subst (λ (o : Option (Between P)). IsRunOf rules deepest total (bytes_at deepest base all) o (past ++ tail)) led r.1) sole.4 few none.1 in
+      (subst (λ (o : Option (Between P)). IsRunOf rules deepest total (bytes_at deepest base all) o (past ++ tail)) led r.1) sole.4 few in
       record {
         before = rest.before;
         whole = goes_past b a x now sole.0 sole.1 sole.2 sole.3 (λ w. (let one = ap one_if w in omega arith)) ∙ ap (with_first a) rest.whole;
         commits = rest.commits;
         memory = rest.memory;
         run = rest.run;
-        restarts = rest.restarts;
         led = ap (λ (o : Option (Between P)). run_after rules deepest (bytes_at deepest base all) o past) led ∙ rest.led;
       }

@@ -1,12 +1,12 @@
 -- A world that one player has to itself, from its beginning on.
-use Rattle.std.proofs.Common.{Result, ◌<◌, ◌≡◌, inl, inr, ℕ, ◌/◌, ◌%◌, true, false, List, [], ◌∷◌, ◌++◌, None, Some, slice_get, slice_set, length, refl, sym, ap, subst, ◌∙◌, arith}
-use Rattle.norec_world.proofs.Common.{AreOfActors, Attempt, CommitsInOrder, IsEvent, IsRunOf, Rules, World, active_of, bytes_at, ending_of, false_from_ne_true, first_of, of_thread, slice_get-set_same, slice_get_within, same_Some, both_ways, in_transaction, AreTied, AreOpaque, SameOpening, Goes, observed, attempts_of, is_waiting, pending_of, cases_Bool, none-some}
+use Rattle.std.proofs.Common.{Result, ◌<◌, ◌≤◌, ◌≡◌, inl, inr, ℕ, ◌/◌, ◌%◌, true, false, List, [], ◌∷◌, ◌++◌, None, Some, slice_get, slice_set, length, refl, sym, ap, subst, ◌∙◌, arith}
+use Rattle.norec_world.proofs.Common.{AreOfActors, Attempt, CommitsInOrder, IsEvent, IsRunOf, Rules, World, active_of, bytes_at, ending_of, false_from_ne_true, first_of, of_thread, slice_get-set_same, slice_get_within, same_Some, both_ways, in_transaction, open_in, AreTied, AreOpaque, SameOpening, Goes, observed, attempts_of, is_waiting, pending_of, cases_Bool, none-some}
 use Rattle.norec_world.specs.declared.actor.Actor.{Actor}
 use Rattle.tx_runs.specs.declared.ending.End.TheVariants.{Finished}
 use Rattle.norec_world.specs.declared.fault.WorldFault.{WorldFault}
 use Rattle.world_laws.specs.Sole.{IsSole}
 use Rattle.norec_world.proofs.Events.SoundOthers.{odd_or_even}
-use Rattle.norec_world.proofs.Tries.Stages.{row_shut}
+use Rattle.norec_world.proofs.Tries.Stages.{row_open, row_shut}
 use Rattle.norec_core.specs.Core.{may_go}
 use Rattle.world_laws.specs.Sole.{IsIdle}
 use Rattle.world_laws.proofs.Likeness.Starts.{none_first}
@@ -65,6 +65,20 @@ module _ {P : Type 0} (rules : Rules P) where
       let t = (tied.players 0 p a player here).between shut (λ e. absurd (let both = sym going ∙ e in cc)) (λ e. absurd (let both = sym going ∙ e in cc)) in
       record { before = t.0; led = t.1; start = _; begins = (t.2.pending row was).4 may; props = refl }
 
+  -- where its attempt is open, it did not begin after it read
+  read_since : (w : World P) → AreTied rules w → (p : P) (a : Actor P) → slice_get w.opening 0 ≡ Some p → slice_get w.actors 0 ≡ Some a → (row : Attempt) → active_of a ≡ Some row → row.began ≤ row.at
+  read_since w tied p a player here row some =
+      let t = (tied.players 0 p a player here).inside (row_open (in_transaction a.engine) a row (tied.rows 0 a here) some) in
+      let same : t.1 ≡ row = same_Some _ _ (sym (ap open_in t.4) ∙ some) in
+      omega (arith, t.5.open_try.began, tied.reads 0 a row here some, ap (λ (x : Attempt). x.began) same)
+
+  -- one that is to be opened has no call
+  none_called : (w : World P) → AreTied rules w → (p : P) (a : Actor P) → slice_get w.opening 0 ≡ Some p → slice_get w.actors 0 ≡ Some a → ending_of a.status ≡ None → (row : Attempt) → active_of a ≡ None → pending_of a ≡ Some row → row.calls.list ≡ []
+  none_called w tied p a player here going row none was =
+      let shut = row_shut (in_transaction a.engine) a (tied.rows 0 a here) none in
+      let t = (tied.players 0 p a player here).between shut (λ e. absurd (let both = sym going ∙ e in cc)) (λ e. absurd (let both = sym going ∙ e in cc)) in
+      (t.2.pending row was).2
+
   -- over an event of its actor
   module _ (w new : World P) (one : length w.opening ≡ 1) (commits : CommitsInOrder w) (tied : AreTied rules w) (sole : HasSole w)
       (same : SameOpening w new) (commits' : CommitsInOrder new) (opaque' : AreOpaque rules (observed new)) (tied' : AreTied rules new)
@@ -94,7 +108,7 @@ module _ {P : Type 0} (rules : Rules P) where
         let mine = tied'.threads 0 next placed in
         let was_sole = sole p got player was in
         let player' : slice_get new.opening 0 ≡ Some p = ap (λ (l : List P). slice_get l 0) same.opening ∙ player in
-        sole_after rules w.max_commits w.depth w.base (first_of p w.arena) w.cells.clock new.cells.clock w.attempts new.attempts got next going was_sole (tied.threads 0 got was) mine (commits.limits i got here).max_commits
+        sole_after rules w.max_commits w.depth w.base (first_of p w.arena) w.cells.clock new.cells.clock w.attempts new.attempts got next going (read_since w tied p got player was) (none_called w tied p got player was going) was_sole (tied.threads 0 got was) mine (commits.limits i got here).max_commits
         (shut_free rules w tied got was) (to_begin_of w tied p got player was going) (event.clocks.seen was_sole.seen)
         (even_shut rules new tied' commits' still_one next placed)
         (λ row ended.

@@ -1,11 +1,12 @@
+use Rattle.std.proofs.Common.{◌<◌, ◌^◌, ℕ}
 use Rattle.norec_world.proofs.{Core, IsBetween, IsSettled, PlayerRun, RunsFrom, begun_in, bytes_of, count_in, first_of, fresh_runs, is_ready, laid_first, open_in, opening, opening_settled, prior_of, rows_in, stage_of, starts_between, ◌≡◌, refl, replicate, length, ◌∙◌, ap, subst, sym, rules, arith}
 use Rattle.norec_world.proofs.start.start.Goals.{After-new-actor, After-work}
 use Rattle.norec_world.proofs.start.start.Goals as goal
 
 -- the engine that it begins with
-engine_is : (g : _) (c : After-new-actor g) → c.new-actor.result.engine ≡ opening (length c.args.memory.now.words) (replicate c.args.terms.arena 0) c.args.terms.limits.patience c.args.terms.limits.max_commits c.args.terms.limits.depth 0
+engine_is : (g : _) (c : After-new-actor g) → c.new-actor.result.engine ≡ opening (length c.args.memory.now.words) (replicate c.args.terms.arena 0) c.args.terms.limits.patience c.args.terms.limits.max_commits c.args.terms.limits.depth c.args.terms.limits.restarts
 engine_is g c =
-    c.new-actor.ensures.engine ∙ (c.in_ok-engine.ensures.ok ∙ (λ i. opening (c.words.ensures i) (c.in_ok-arena.ensures i) c.args.terms.limits.patience c.args.terms.limits.max_commits c.args.terms.limits.depth (c.args.terms.alone i)))
+    c.new-actor.ensures.engine ∙ (c.in_ok-engine.ensures.ok ∙ (λ i. opening (c.words.ensures i) (c.in_ok-arena.ensures i) c.args.terms.limits.patience c.args.terms.limits.max_commits c.args.terms.limits.depth c.args.terms.limits.restarts))
 
 -- it is between two tries, and none has ended
 begins_between : (g : _) (c : After-work g) → IsBetween c.args.memory.now.clock 1 c.work.new.self × (c.work.new.ended.items ≡ c.args.ended.now.items)
@@ -23,8 +24,8 @@ work-requires g c =
         fit = c.requires.fit;
         late = search rules;
         holder = search rules;
-        restarts = ap (λ (e : Core). e.restarts) engine;
-        settled = subst IsSettled (sym engine) (opening_settled (length c.args.memory.now.words) (replicate c.args.terms.arena 0) c.args.terms.limits.patience c.args.terms.limits.max_commits c.args.terms.limits.depth c.args.terms.commits c.args.terms.deep);
+        small = (let small : c.args.terms.limits.restarts < 2 ^ 32 = omega arith in subst (λ (n : ℕ). n < 2 ^ 32) (sym (ap (λ (e : Core). e.restarts) engine)) small);
+        settled = subst IsSettled (sym engine) (opening_settled (length c.args.memory.now.words) (replicate c.args.terms.arena 0) c.args.terms.limits.patience c.args.terms.limits.max_commits c.args.terms.limits.depth c.args.terms.limits.restarts c.args.terms.commits c.args.terms.deep);
       };
       kept = search rules;
       acts = search rules;
@@ -42,7 +43,7 @@ returns-in_default-clause-first g c =
       patience_is = worked.limit.1 ∙ ap (λ (e : Core). e.patience) engine;
       limit = worked.limit.0 ∙ ap (λ (e : Core). e.max_commits) engine;
       depth_is = worked.limit.2 ∙ ap (λ (e : Core). e.depth) engine;
-      restarts_none = worked.limit.3 ∙ ap (λ (e : Core). e.restarts) engine;
+      restarts_are = worked.limit.3 ∙ ap (λ (e : Core). e.restarts) engine;
       seen = worked.clock ∙ (ap (λ (e : Core). e.clock) engine ∙ sym c.requires.clock);
     }
 
@@ -53,8 +54,8 @@ pub returns-in_default-clause-runs : goal.returns-in_default-clause-runs
 returns-in_default-clause-runs g c none =
     let cells = c.args.memory.now in
     let run = c.new-actor.ensures.run in
-    let fresh = fresh_runs g.P.Player g.met.P.Player.laws cells (rows_in c.args.ended.now) c.new-actor.result c.args.terms.limits.depth (bytes_of cells.words) c.args.terms.arena c.args.terms.limits.patience c.args.terms.limits.max_commits
-    (engine_is g (goal.at.returns-in_default-clause-runs g c).After-new-actor) none (ap (λ (x : PlayerRun g.row.P.Denot). x.nth) run) (ap (λ (x : PlayerRun g.row.P.Denot). x.again) run) (ap (λ (x : PlayerRun g.row.P.Denot). x.current) run) c.new-actor.ensures.status in
+    let fresh = fresh_runs g.P.Player g.met.P.Player.laws cells (rows_in c.args.ended.now) c.new-actor.result c.args.terms.limits.depth (bytes_of cells.words) c.args.terms.arena c.args.terms.limits.patience c.args.terms.limits.max_commits c.args.terms.limits.restarts
+    (subst (λ (p : g.row.P.Denot). g.P.Player.depth p ≡ 0) (sym (ap (λ (x : PlayerRun g.row.P.Denot). x.player) run)) c.requires.outside) (engine_is g (goal.at.returns-in_default-clause-runs g c).After-new-actor) none (ap (λ (x : PlayerRun g.row.P.Denot). x.nth) run) (ap (λ (x : PlayerRun g.row.P.Denot). x.again) run) (ap (λ (x : PlayerRun g.row.P.Denot). x.current) run) c.new-actor.ensures.status in
     (c.work.ensures.worked.runs (first_of c.args.player c.args.terms.arena) c.args.terms.limits.depth (bytes_of cells.words) (laid_first c.args.terms.limits.depth (bytes_of cells.words) cells (rows_in c.args.ended.now) refl c.requires.fit c.requires.clock none)
     (subst (λ (p : g.row.P.Denot). RunsFrom g.P.Player (first_of p c.args.terms.arena) c.args.terms.limits.depth (bytes_of cells.words) cells (rows_in c.args.ended.now) c.new-actor.result) (ap (λ (x : PlayerRun g.row.P.Denot). x.player) run) fresh)).1
 

@@ -37,7 +37,7 @@ loop-player-preserved g c =
           (actors_joined g.P.Player c.args.memory.now (rows_in c.loop-player.ended) (rows_in c.start.new.ended) before i.sound actor c.in_ok-actor.ensures.sound c.in_ok-actor.ensures.done thread fewer o c.in_ok-actor.ensures.free);
       ended = ended ∙ i.ended;
       tries = λ place a e. elim (placed place a e) [
-        | inl h ↦ subst (IsFirst c.args.memory.now.clock c.args.terms.limits.patience c.args.terms.limits.max_commits c.args.terms.limits.retries c.args.terms.limits.depth) (sym h.1) c.in_ok-actor.ensures.first
+        | inl h ↦ subst (IsFirst c.args.memory.now.clock c.args.terms.limits.patience c.args.terms.limits.max_commits c.args.terms.limits.retries c.args.terms.limits.depth c.args.terms.limits.restarts) (sym h.1) c.in_ok-actor.ensures.first
         | inr h ↦ i.tries place a h.1
       ];
       rest = sym here.1 ∙ ap (λ (k : ℕ). drop k c.into_iter-player-iterator.result.rest.items) (let e : suc (length before) ≡ length c.push.new.self.items = omega arith in e);
@@ -55,7 +55,7 @@ loop-player-preserved g c =
         | inl h ↦
             (let Started : ℕ → g.row.P.Denot → Actor g.row.P.Denot → Type 0 =
             HasStarted g.P.Player c.args.memory.now.clock
-            (opening (length c.args.memory.now.words) (replicate c.args.terms.arena 0) c.args.terms.limits.patience c.args.terms.limits.max_commits c.args.terms.limits.depth 0) c.args.terms.limits.retries in
+            (opening (length c.args.memory.now.words) (replicate c.args.terms.arena 0) c.args.terms.limits.patience c.args.terms.limits.max_commits c.args.terms.limits.depth c.args.terms.limits.restarts) c.args.terms.limits.retries in
             subst (Started place p) (sym h.1) (subst (λ (q : g.row.P.Denot). Started place q actor) (same_player place p h.0 e)
             (subst (λ (n : ℕ). Started n c.in-Some.player actor) (sym numbered ∙ (thread ∙ h.0)) c.in_ok-actor.ensures.starts)))
         | inr h ↦ i.starts place p a e h.1

@@ -3,7 +3,7 @@ use Rattle.std.specs.Prelude.{codes}
 use Rattle.std.proofs.lemmas.Result.{on_ok_weaker}
 use Rattle.itm_types.specs.declared.limits.Limits.{Limits}
 use Rattle.script_print.specs.Fields.{lines_text}
-use Rattle.script_print.specs.Printing.{number_fields, depth_lines}
+use Rattle.script_print.specs.Printing.{number_fields, depth_lines, restart_lines}
 use Rattle.script_print.proofs.Texts.LineTexts.{lines_put}
 use Rattle.script_print.proofs.whole.put_limits.Goals as goal
 
@@ -27,5 +27,7 @@ returns c =
     let second = lines_put old (memory ∷ arena ∷ []) (patience ∷ []) c.put_number-2.new.text.items c.put_number-3.new.text.items first of_patience in
     let third = lines_put old (memory ∷ arena ∷ patience ∷ []) (retries ∷ []) c.put_number-3.new.text.items c.put_number-4.new.text.items second of_retries in
     let fourth = lines_put old (memory ∷ arena ∷ patience ∷ retries ∷ []) (commits ∷ []) c.put_number-4.new.text.items c.put_number-5.new.text.items third of_commits in
-    on_ok_weaker c.put_depth.result (lines_put old (memory ∷ arena ∷ patience ∷ retries ∷ commits ∷ []) (depth_lines p.limits.depth) c.put_number-5.new.text.items c.put_depth.new.text.items fourth)
+    let of_restarts : c.put_restarts.new.text.items ≡ c.put_number-5.new.text.items ++ lines_text (restart_lines p.limits.restarts) = rw c.limits-limits.ensures.value at (c.in_ok-put_restarts.ensures {u = tt}) in
+    let fifth = lines_put old (memory ∷ arena ∷ patience ∷ retries ∷ commits ∷ []) (restart_lines p.limits.restarts) c.put_number-5.new.text.items c.put_restarts.new.text.items fourth of_restarts in
+    on_ok_weaker c.put_depth.result (lines_put old (memory ∷ arena ∷ patience ∷ retries ∷ commits ∷ restart_lines p.limits.restarts) (depth_lines p.limits.depth) c.put_restarts.new.text.items c.put_depth.new.text.items fifth)
     (rw c.limits-limits.ensures.value at c.put_depth.ensures)

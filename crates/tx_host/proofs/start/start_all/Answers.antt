@@ -1,11 +1,11 @@
-use Rattle.std.proofs.Common.{rules, ◌≡◌, ◌+◌, ℕ, List, sym, ap, subst, length, vec_len}
+use Rattle.std.proofs.Common.{rules, arith, ◌≡◌, ◌+◌, ℕ, List, sym, ap, subst, length, vec_len}
 use Rattle.std.specs.Vec.Iter.{into_iter_items}
 use Rattle.itm_types.specs.declared.limits.Limits.{Limits}
 use Rattle.shared_words.specs.Passes.{view_of}
 use Rattle.script_program.specs.Listing.{Listing}
 use Rattle.tx_host.specs.Starts.{Promised, AllReady}
 use Rattle.tx_host.proofs.Numbers.{numbered_push}
-use Rattle.tx_host.proofs.Passes.Parts.{is_for, is_outside, is_flat, is_whole}
+use Rattle.tx_host.proofs.Passes.Parts.{is_for, is_outside, is_flat, is_limited}
 use Rattle.tx_host.proofs.start.start_all.Goals as goal
 
 pub start_one-requires : goal.start_one-requires
@@ -25,7 +25,10 @@ start_one-requires g c =
               (
                 is_flat base p _ c.in-Some.ready.thread c.in-Some.ready.player rest.0.fresh,
                 (
-                  is_whole base p _ c.in-Some.ready.thread c.in-Some.ready.player rest.0.fresh,
+                  (let same = is_limited base p _ c.in-Some.ready.thread c.in-Some.ready.player rest.0.fresh in
+                      let few = c.limits-retries.ensures.within.restarts in
+                      let here = ap (λ (l : Limits). l.restarts) c.limits-retries.ensures.value in
+                      omega arith),
                   c.limits-retries.ensures.within.retries,
                 ),
               ),

@@ -14,14 +14,14 @@ use Rattle.tx_worker.proofs.run.work.Goals as goal
 pub loop-end-init : goal.loop-end-init
 loop-end-init g c =
     let r = c.requires in
-    let first = begins_works g.P.Player c.args.words.now c.args.thread c.args.player c.args.number c.args.retries r.own r.stands r.outside r.depth r.whole r.few c.new-2.result c.new-2.ensures.items
+    let first = begins_works g.P.Player c.args.words.now c.args.thread c.args.player c.args.number c.args.retries r.own r.stands r.outside r.depth r.limit r.few c.new-2.result c.new-2.ensures.items
     (record { run = c.new.result; thread = c.args.thread; ended = c.new-2.result; calls = 0 }) (ap (λ (run : PlayerRun g.row.P.Denot). record { run = run; thread = c.args.thread; ended = c.new-2.result; calls = 0 }) c.new.ensures) in
     record {
       works = first.0;
       made = (0, (first.1, refl));
       bound =
           (subst (λ (run : PlayerRun g.row.P.Denot). whole g.P.Player (in_transaction c.args.thread.engine) run.player ≤ g.P.Player.calls_left c.args.player) (sym c.new.ensures)
-          (begins_bound g.P.Player c.args.words.now c.args.thread c.args.player c.args.number c.args.retries r.own r.stands r.outside r.depth r.whole r.few));
+          (begins_bound g.P.Player c.args.words.now c.args.thread c.args.player c.args.number c.args.retries r.own r.stands r.outside r.depth r.limit r.few));
       number = ap (λ (run : PlayerRun g.row.P.Denot). run.thread) c.new.ensures;
       retries = ap (λ (run : PlayerRun g.row.P.Denot). run.retries) c.new.ensures;
     }
@@ -56,7 +56,7 @@ returns-in-Some g c =
         attempts = e.attempts ∙ x.told_is;
         pass = e.pass;
       };
-      finished = finished g.met.P.Player.laws c.args.words.now course c.args.thread.engine.max_commits g.G.Gate.shuts (account_of w) w.thread old.works.running old.works.same.stands old.works.same.whole old.works.same.over (ap (λ (b : Bounds). b.max_commits) old.works.same.bounds)
+      finished = finished g.met.P.Player.laws c.args.words.now course c.args.thread.engine.max_commits g.G.Gate.shuts (account_of w) w.thread old.works.running old.works.same.own old.works.same.stands old.works.same.over (ap (λ (b : Bounds). b.max_commits) old.works.same.bounds)
           c.args.number c.args.retries refl refl c.finish.result x.left c.call_next.new.self.thread stops x.over x.below x.same.own x.same.stands e.pass (e.attempts ∙ x.told_is);
     }
 

@@ -3,7 +3,7 @@ use Rattle.norec_core.specs.Core.{in_transaction}
 use Rattle.tx_runs.specs.Nesting.{whole}
 use Rattle.tx_worker.specs.Accounts.{account_of, first_account}
 use Rattle.tx_worker.specs.Calls.{HasMade}
-use Rattle.tx_worker.specs.Falls.{rank}
+use Rattle.tx_runs.specs.Ranks.{rank, restarts_left}
 use Rattle.tx_worker.specs.Workers.{IsWorking, bounds_of}
 use Rattle.tx_worker.specs.Works.{course_of}
 use Rattle.tx_worker.proofs.run.work.Given as goal
@@ -18,4 +18,4 @@ invariant-loop-end g l = record {
 }
 
 abbrev pub decreases-loop-end : goal.decreases-loop-end
-decreases-loop-end g l = rank g.P.Player l.fn.retries (g.P.Player.calls_left l.fn.player) (in_transaction l.worker.thread.engine) l.worker.run.nth l.worker.run.player
+decreases-loop-end g l = rank g.P.Player l.fn.retries l.fn.thread.engine.restarts (g.P.Player.calls_left l.fn.player) (in_transaction l.worker.thread.engine) l.worker.run.nth (restarts_left l.worker.thread.engine) l.worker.run.player

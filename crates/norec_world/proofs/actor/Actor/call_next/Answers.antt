@@ -1,5 +1,7 @@
 use Rattle.std.proofs.Common.{◌≡◌, ℕ, true, Option, None, Some, refl, sym, ap, subst, ◌∙◌, ◌++◌}
-use Rattle.norec_world.proofs.{Actor, Answer, Answers, Asks, Core, IsBacked, IsSettled, IsTied, MayRunOn, Outcome, PlayerRun, Stage, Stand, Starves, StatusIs, Step, Waits, after_undoing, answer_falls, call_taken, call_worked, calling, due, finish_worked, idle_still, in_transaction, next_in, others_place, others_twice, over_as, rests, rows_in, stage_of, stand_of, starve_worked, tally_of, used_up, with_room}
+use Rattle.norec_world.proofs.{Actor, Answer, Answers, Asks, Core, IsPromised, IsSettled, IsTied, MayRunOn, Outcome, PlayerRun, Stage, Stand, Starves, StatusIs, Step, Waits, after_undoing, answer_falls, call_taken, call_worked, calling, due, finish_worked, idle_still, in_transaction, next_in, others_place, others_twice, over_as, rests, rows_in, stage_of, stand_of, starve_worked, tally_of, used_up, with_room}
+use Rattle.norec_world.proofs.Engines.SoundSteps.{mid}
+use Rattle.tx_runs.specs.Ranks.{restarts_left}
 use Rattle.tx_runs.specs.Tallies.{begins, outside, within}
 use Rattle.tx_attempts.specs.declared.attempt.Outcome.TheVariants as outcomes
 use Rattle.norec_world.proofs.actor.Actor.call_next.Goals as goal
@@ -24,6 +26,7 @@ pub settle-requires : goal.settle-requires
 settle-requires g c = record {
   answered = (
     in_transaction c.args.self.now.engine,
+    _,
     due (call_taken (calling c.requires.sound c.requires.ready (as_answer c.ask.new.answer c.in-Ok-None.field-0-is) c.in-Ok-None.ensures.asked c.in-Ok-None.ensures.told c.ask.ensures.place)),
   );
   place = c.ask.ensures.place;
@@ -43,13 +46,13 @@ returns-in-Ok-None-clause-worked g c =
     let m = calling c.requires.sound c.requires.ready (as_answer c.ask.new.answer c.in-Ok-None.field-0-is) c.in-Ok-None.ensures.asked c.in-Ok-None.ensures.told c.ask.ensures.place in
     let was = in_transaction c.args.self.now.engine in
     let d = due (call_taken m) in
-    call_worked g.met.P.Player.laws m (rows_in c.settle.new.ended) c.settle.new.self ((c.settle.ensures.recorded was d).done) ((c.settle.ensures.recorded was d).tells) (sym c.next.ensures ∙ c.in-Some.is)
-    (others_twice c.args.self.now c.ask.new.self c.settle.new.self (rows_in c.args.ended.now) (rows_in c.ask.new.ended) (rows_in c.settle.new.ended) c.ask.ensures.others ((c.settle.ensures.recorded was d).others)) c.settle.ensures.acts
+    call_worked g.met.P.Player.laws m (rows_in c.settle.new.ended) c.settle.new.self ((c.settle.ensures.recorded was (restarts_left (mid m)) d).done) ((c.settle.ensures.recorded was (restarts_left (mid m)) d).tells) (sym c.next.ensures ∙ c.in-Some.is)
+    (others_twice c.args.self.now c.ask.new.self c.settle.new.self (rows_in c.args.ended.now) (rows_in c.ask.new.ended) (rows_in c.settle.new.ended) c.ask.ensures.others ((c.settle.ensures.recorded was (restarts_left (mid m)) d).others)) c.settle.ensures.acts
 
 pub returns-in-Ok-None-clause-falls : goal.returns-in-Ok-None-clause-falls
 returns-in-Ok-None-clause-falls g c =
     let m = calling c.requires.sound c.requires.ready (as_answer c.ask.new.answer c.in-Ok-None.field-0-is) c.in-Ok-None.ensures.asked c.in-Ok-None.ensures.told c.ask.ensures.place in
-    answer_falls m (c.settle.ensures.recorded (in_transaction c.args.self.now.engine) (due (call_taken m))).done
+    answer_falls m (c.settle.ensures.recorded (in_transaction c.args.self.now.engine) (restarts_left (mid m)) (due (call_taken m))).done
 
 pub returns-in-Err-clause-worked : goal.returns-in-Err-clause-worked
 returns-in-Err-clause-worked g c =
@@ -70,7 +73,7 @@ returns-in-Err-clause-worked g c =
       next_is = sym c.next.ensures ∙ c.in-Some.is;
       grows = c.in-Err.ensures.grows;
       short = c.in-Err.ensures.short;
-      used = λ h. used_up a c.in-Some.call (subst (IsBacked a) c.requires.ready c.requires.sound.acts.backed) (c.in-Err.ensures.short (is_open c.requires.sound.tied.settled h)) h;
+      used = λ h. used_up a c.in-Some.call (subst (IsPromised a) c.requires.ready c.requires.sound.acts.backed) (c.in-Err.ensures.short (is_open c.requires.sound.tied.settled h)) h;
       status = starved.status;
       same = record { thread = starved.same.0 ∙ ap (λ (y : PlayerRun g.row.P.Denot). y.thread) run; retries = starved.same.1 ∙ ap (λ (y : PlayerRun g.row.P.Denot). y.retries) run; nothing = λ e. absurd (let z = sym starved.status ∙ e in cc) };
       engine = left;

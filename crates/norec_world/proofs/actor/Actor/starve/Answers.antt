@@ -1,7 +1,6 @@
-use Rattle.norec_world.proofs.{Actor, Attempt, Begins, Core, Current, IsRefused, IsTied, Outside, Ran, Stand, Within, after_undoing, count_in, ends_in, given_up_free, given_up_later, given_up_most, in_transaction, open_in, others_same, others_stopped, over_as, room_less, rows_in, stage_of, tied_undone, ◌≡◌, ◌∙◌, ◌++◌, ◌/◌, List, Vec, [], length, refl, sym, ap, subst, arith, true, ℕ, vec_capacity, false}
+use Rattle.norec_world.proofs.{Actor, Attempt, Begins, Core, Current, IsRefused, IsTied, Outside, Ran, Stand, Within, after_undoing, count_in, ends_in, given_up_free, given_up_later, given_up_most, in_transaction, open_in, others_same, others_stopped, over_as, room_less, rows_in, stage_of, tied_undone, ◌≡◌, ◌∙◌, ◌/◌, List, Vec, [], length, refl, sym, ap, subst, arith, true, ℕ, vec_capacity, false}
 use Rattle.{std.specs.declared.alloc.Global.Global, tx_attempts.specs.declared.attempt.Outcome.TheVariants.NoMemory, tx_runs.specs.PlayerRuns.MayStop}
 use Rattle.std.proofs.lemmas.List.{length-append}
-use Rattle.tx_runs.proofs.OpenRooms.{told_none}
 use Rattle.norec_world.proofs.actor.Actor.starve.Goals.{in-Done, in_default}
 use Rattle.norec_world.proofs.actor.Actor.starve.Goals as goal
 
@@ -14,8 +13,8 @@ may_stop a new at (Within o) is refused free after =
     let place = refused.places o.row here in
     let same = ap ends_in is in
     let most = given_up_most a.engine new free after in
-    let told = told_none o.row (refused.whole o.row here) in
-    let long = ap (length {A = Ran}) (later.1 ∙ ap (λ (ran : List Ran). ran ++ later.0) (sym (refused.all o.row here))) ∙ length-append o.row.ran later.0 in
+    let all = refused.all o.row here in
+    let long = ap (length {A = Ran}) later.1 ∙ length-append a.engine.actions.ran later.0 in
     (omega arith, omega arith)
 
 pub stop-requires-clause-room : goal.stop-requires-clause-room

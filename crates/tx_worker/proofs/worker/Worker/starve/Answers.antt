@@ -5,8 +5,11 @@ use Rattle.tx_runs.specs.PlayerRuns.{MayStop, stage_of}
 use Rattle.tx_runs.specs.Tallies.{Stand, over_as, stand_of}
 use Rattle.norec_core.specs.declared.answer.Undone.TheVariants.{Held}
 use Rattle.norec_core.specs.Undoing.{undone_of}
-use Rattle.tx_worker.proofs.Laws.Starves.{holds_on, may_stop, may_tell, starves}
+use Rattle.tx_worker.proofs.Laws.Starves.{holds_on, may_stop, may_tell, starves, told_by}
 use Rattle.tx_worker.proofs.worker.Worker.starve.Goals as goal
+
+pub ran-told-requires : goal.ran-told-requires
+ran-told-requires g c = told_by c.requires.5
 
 pub stop-requires : goal.stop-requires
 stop-requires g c =

@@ -1,16 +1,27 @@
 use Rattle.std.proofs.Common.{◌≡◌, ◌∙◌, ◌/◌, ◌+◌, ◌++◌, length, refl, sym, subst, vec_len}
-use Rattle.tx_runs.specs.PlayerRuns.{KeepsPlaces, MayTakeIn, tally_of}
+use Rattle.tx_runs.specs.PlayerRuns.{KeepsPlaces, MayGoBack, MayTakeIn, tally_of}
 use Rattle.tx_runs.specs.Tallies.{Stand, took_in, stand_of}
 use Rattle.tx_worker.specs.declared.worker.Worker.{Worker}
-use Rattle.tx_worker.proofs.Laws.Rooms.{may_take_in}
+use Rattle.tx_worker.proofs.Laws.Rooms.{may_go_back, may_take_in, told_by}
 use Rattle.tx_worker.proofs.Laws.Rows.{turns}
 use Rattle.tx_worker.proofs.worker.Worker.take_in.Goals as goal
 
+-- where the thread stands, as its own calls tell it
 pub take_in-end-requires-clause-room : goal.take_in-end-requires-clause-room
-take_in-end-requires-clause-room g c =
+take_in-end-requires-clause-room g c whole =
     let told : Stand = record { is_open = c.is_open-is_open.result; at = c.snapshot-at.result / 2; ran = c.due.result.now; arena = c.bytes.result.now } in
     let same : told ≡ stand_of c.args.self.now.thread.engine = λ i. record { is_open = c.is_open-is_open.ensures i; at = c.snapshot-at.ensures.value i / 2; ran = c.due.ensures i; arena = (c.bytes.ensures ∙ c.arena.ensures) i } in
-    subst (λ (s : Stand). MayTakeIn c.args.call s c.args.self.now.run.current) (sym same) (may_take_in c.requires.asked.4)
+    subst (λ (s : Stand). MayTakeIn c.args.call s c.args.self.now.run.current) (sym same) (may_take_in c.requires.asked.4 whole)
+
+pub take_in-end-requires-clause-again : goal.take_in-end-requires-clause-again
+take_in-end-requires-clause-again g c clock word is =
+    let told : Stand = record { is_open = c.is_open-is_open.result; at = c.snapshot-at.result / 2; ran = c.due.result.now; arena = c.bytes.result.now } in
+    let same : told ≡ stand_of c.args.self.now.thread.engine = λ i. record { is_open = c.is_open-is_open.ensures i; at = c.snapshot-at.ensures.value i / 2; ran = c.due.ensures i; arena = (c.bytes.ensures ∙ c.arena.ensures) i } in
+    let back = may_go_back c.requires.asked.4 clock word is in
+    (back.0, subst (λ (s : Stand). MayGoBack s c.args.self.now.run.current) (sym same) back.1)
+
+pub ran-told-requires : goal.ran-told-requires
+ran-told-requires g c = told_by c.requires.asked.4
 
 pub returns : goal.returns
 returns g c words course b old shuts k =
