@@ -25,8 +25,12 @@ struct Order {
 }
 
 fn order_of(words: &[String]) -> Result<Order, Fault> {
-    let [_, workload, threads, size, milliseconds] = words else {
-        return Err(Fault::Usage);
+    let (workload, threads, size, milliseconds, restarts) = match words {
+        [_, workload, threads, size, milliseconds] => (workload, threads, size, milliseconds, 0),
+        [_, workload, threads, size, milliseconds, restarts] => {
+            (workload, threads, size, milliseconds, restarts.parse()?)
+        }
+        _ => return Err(Fault::Usage),
     };
     let workload = named(workload).ok_or(Fault::Usage)?;
     let threads: u8 = threads.parse()?;
@@ -39,6 +43,7 @@ fn order_of(words: &[String]) -> Result<Order, Fault> {
         workload,
         size,
         count: 0,
+        restarts,
     };
     Ok(Order {
         task,
@@ -80,6 +85,7 @@ fn check<R: Threads + Clock + AllocGlobal + Print + Sync>(rt: &R) -> Result<(), 
             workload,
             size: 16,
             count: COMMITS,
+            restarts: 0,
         };
         let outcome = measure(rt, 1, &task, 0)?;
         let name = name_of(workload);

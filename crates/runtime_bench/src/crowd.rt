@@ -5,6 +5,7 @@ ghost use Rattle.std.specs.Prelude.{◌≡◌, ◌+◌, ◌<◌, ◌≤◌, fals
 ghost use Rattle.shared_words.specs.Passes.{Owns, view_of};
 
 use crate::worker::{Tally, Task, Worked, serve};
+use crate::workload::Workload;
 use shared_words::{Pass, Words};
 use std::alloc::Global;
 use std::rt::Clock;
@@ -34,7 +35,8 @@ fn seed_of(number: u64) -> u64 {
     88_172_645_463_325_252u64.wrapping_add(1_442_695_040_888_963_407u64.wrapping_mul(number))
 }
 
-/// This thread and as many more beside it as the count says do the task until they are told to stop.
+/// This thread and as many more beside it as the count says do the task until they are told to stop. Of several the last one
+/// disturbs the others, where the task is to have that.
 fn serve_all<R: Threads + Sync>(
     rt: &R,
     alloc: Global,
@@ -42,6 +44,7 @@ fn serve_all<R: Threads + Sync>(
     pass: Pass,
     more: u8,
     task: &Task,
+    beside: bool,
     stop: &AtomicBool,
 ) -> Worked
     requires own { Owns words.now pass }
@@ -52,7 +55,7 @@ fn serve_all<R: Threads + Sync>(
 {
     let seed = seed_of(u64::from(more));
     if more == 0 {
-        return serve(alloc, words, pass, task, seed, stop);
+        return serve(alloc, words, pass, task, seed, beside, stop);
     }
     let mut rest = pass;
     let own = words.split(&mut rest);
@@ -61,11 +64,11 @@ fn serve_all<R: Threads + Sync>(
         move || -> Worked
             requires { Owns words.now own × ((view_of own).holds ≡ false) }
             ensures { IfOk result (λ r. Owns words.entry.now r.0 × ((view_of r.0).holds ≡ false)) }
-        { serve(alloc, words, own, task, seed, stop) },
+        { serve(alloc, words, own, task, seed, false, stop) },
         move || -> Worked
             requires { IsSync R.row × Owns words.now rest × ((view_of rest).holds ≡ false) × (0 < more) × (more < (view_of rest).share + 1) }
             ensures { IfOk result (λ r. Owns words.entry.now r.0 × ((view_of r.0).holds ≡ false)) }
-        { serve_all(rt, alloc, words, rest, more - 1, task, stop) },
+        { serve_all(rt, alloc, words, rest, more - 1, task, beside, stop) },
     );
     add_up(words, mine, theirs)
 }
@@ -95,15 +98,16 @@ pub fn serve_for<R: Threads + Clock + Sync>(
     let flag = AtomicBool::new(false);
     let stop = &flag;
     if task.count > 0 {
-        return serve_all(rt, alloc, words, pass, more, task, stop);
+        return serve_all(rt, alloc, words, pass, more, task, false, stop);
     }
+    let beside = more > 0 && task.workload == Workload::Nested;
     let (_, worked) = join(
         rt,
         move || time_out(rt, milliseconds, stop),
         move || -> Worked
             requires { IsSync R.row × Owns words.now pass × ((view_of pass).holds ≡ false) × (more < (view_of pass).share) }
             ensures { IfOk result (λ r. Owns words.entry.now r.0 × ((view_of r.0).holds ≡ false)) }
-        { serve_all(rt, alloc, words, pass, more, task, stop) },
+        { serve_all(rt, alloc, words, pass, more, task, beside, stop) },
     );
     worked
 }

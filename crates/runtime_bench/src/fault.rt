@@ -42,7 +42,7 @@ impl From<ParseIntError> for Fault {
 pub fn tell(rt: &impl Eprint, fault: Fault) -> u8 {
     let (text, status) = match fault {
         Fault::Usage => (
-            "usage: runtime_bench [counter|transfer|readonly|writes THREADS SIZE MILLISECONDS]",
+            "usage: runtime_bench [counter|transfer|readonly|writes|nested THREADS SIZE MILLISECONDS [RESTARTS]]",
             1,
         ),
         Fault::Memory => ("no memory", 4),

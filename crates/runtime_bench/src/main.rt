@@ -1,11 +1,12 @@
-//! How many transactions a second threads run over shared words: `runtime_bench WORKLOAD THREADS SIZE MILLISECONDS`.
-//! With no words it runs some of each workload on one thread, and prints what they came to.
+//! How many transactions a second threads run over shared words: `runtime_bench WORKLOAD THREADS SIZE MILLISECONDS`,
+//! and how often inner blocks may go back to their begins alone in a transaction where a further word says so. With no words it runs some of each workload on one thread, and prints what they came to.
 #![tactic(auto)]
 
 mod command;
 mod crowd;
 mod fault;
 mod measure;
+mod nested;
 mod worker;
 mod workload;
 

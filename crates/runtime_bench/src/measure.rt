@@ -106,9 +106,11 @@ pub fn is_right(task: &Task, outcome: &Outcome) -> bool {
         Workload::Counter => commits,
         Workload::Writes => outcome.sum,
         Workload::Transfer | Workload::ReadOnly => 0,
+        Workload::Nested => outcome.clock / 2,
     };
     let wrote = match task.workload {
         Workload::ReadOnly => 0,
+        Workload::Nested => outcome.clock / 2,
         _ => commits,
     };
     outcome.sum == sum && outcome.clock == wrote.wrapping_mul(2)

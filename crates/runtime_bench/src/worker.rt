@@ -4,6 +4,7 @@ ghost use Rattle.std.specs.Prelude.{◌≡◌, ◌<◌, false, IfOk};
 ghost use Rattle.shared_words.specs.Passes.{Owns, view_of};
 
 use crate::fault::Fault;
+use crate::nested::disturb;
 use crate::workload::{Block, WORDS, Workload, work};
 use itm_runtime::Thread;
 use itm_types::{Limits, MAX_COMMITS, Props, USUAL_DEPTH};
@@ -30,6 +31,8 @@ pub struct Task {
     pub size: u64,
     /// How many transactions each thread commits, or 0 where only the time ends them.
     pub count: u64,
+    /// How often inner blocks may go back to their begins alone, in one transaction.
+    pub restarts: u32,
 }
 
 /// What threads did.
@@ -87,7 +90,7 @@ fn next(number: u64) -> u64 {
 fn draw(task: &Task, random: u64, done: u64) -> (Block, u64) {
     let size = task.size.min(WORDS as u64);
     let (first, second, random) = match task.workload {
-        Workload::Counter | Workload::Writes => (0, 0, random),
+        Workload::Counter | Workload::Writes | Workload::Nested => (0, 0, random),
         Workload::Transfer => draw_two(random, size.max(1)),
         Workload::ReadOnly => draw_two(random, WORDS as u64 - size + 1),
     };
@@ -149,13 +152,55 @@ fn run(
     Ok(tally)
 }
 
-/// One thread with this pass.
+/// Disturbs those that read until it is told to stop. Its own commits are not counted.
+fn run_beside(
+    words: &Words,
+    thread: &mut Thread,
+    task: &Task,
+    stop: &AtomicBool,
+) -> Result<Tally, AllocError>
+    requires own { Owns words.now thread.old.pass }
+    ensures own { Owns words.now thread.new.pass }
+{
+    for _ in 0..u64::MAX {
+        if stop.load(Ordering::SeqCst) {
+            break;
+        }
+        disturb(words, thread, task.size)?;
+    }
+    Ok(Tally {
+        commits: 0,
+        attempts: 0,
+    })
+}
+
+/// Does the task or, `beside` those that do, disturbs them.
+fn run_part(
+    words: &Words,
+    thread: &mut Thread,
+    task: &Task,
+    seed: u64,
+    beside: bool,
+    stop: &AtomicBool,
+) -> Result<Tally, AllocError>
+    requires own { Owns words.now thread.old.pass }
+    ensures own { Owns words.now thread.new.pass }
+{
+    if beside {
+        run_beside(words, thread, task, stop)
+    } else {
+        run(words, thread, task, seed, stop)
+    }
+}
+
+/// One thread with this pass, of those that do the task or, `beside` them, of who disturbs.
 pub fn serve(
     alloc: Global,
     words: &Words,
     pass: Pass,
     task: &Task,
     seed: u64,
+    beside: bool,
     stop: &AtomicBool,
 ) -> Worked
     requires own { Owns words.now pass }
@@ -164,8 +209,12 @@ pub fn serve(
     ensures idle { IfOk result (λ r. (view_of r.0).holds ≡ false) }
 {
     let arena = Arena::new(alloc, 0)?;
-    let mut thread = Thread::new(alloc, words, pass, arena, LIMITS)?;
-    let tally = run(words, &mut thread, task, seed, stop)?;
+    let limits = Limits {
+        restarts: task.restarts,
+        ..LIMITS
+    };
+    let mut thread = Thread::new(alloc, words, pass, arena, limits)?;
+    let tally = run_part(words, &mut thread, task, seed, beside, stop)?;
     match thread.into_parts() {
         Ok((pass, _)) => Ok((pass, tally)),
         Err(_) => Err(Fault::Held),

@@ -3,6 +3,7 @@
 ghost use Rattle.std.specs.Prelude.{◌≡◌};
 ghost use Rattle.shared_words.specs.Passes.{Owns};
 
+use crate::nested::read_nested;
 use itm_runtime::Thread;
 use itm_types::{Datum, ReadHint, Reply, Width, WriteHint};
 use norec_core::Answer;
@@ -23,14 +24,18 @@ pub enum Workload {
     ReadOnly,
     /// Writes so many words, from word 0 on.
     Writes,
+    /// Reads so many words, from word 0 on, and then the next ones, a tenth as many, in an inner block. One of several threads
+    /// does not read: it adds 1 to the first word of that tenth, again and again.
+    Nested,
 }
 
 /// Each of them.
-pub const WORKLOADS: [Workload; 4] = [
+pub const WORKLOADS: [Workload; 5] = [
     Workload::Counter,
     Workload::Transfer,
     Workload::ReadOnly,
     Workload::Writes,
+    Workload::Nested,
 ];
 
 /// The word by which it is called.
@@ -40,6 +45,7 @@ pub fn name_of(workload: Workload) -> &'static str {
         Workload::Transfer => "transfer",
         Workload::ReadOnly => "readonly",
         Workload::Writes => "writes",
+        Workload::Nested => "nested",
     }
 }
 
@@ -50,6 +56,7 @@ pub fn named(name: &str) -> Option<Workload> {
         "transfer" => Some(Workload::Transfer),
         "readonly" => Some(Workload::ReadOnly),
         "writes" => Some(Workload::Writes),
+        "nested" => Some(Workload::Nested),
         _ => None,
     }
 }
@@ -68,7 +75,7 @@ pub struct Block {
 }
 
 /// The place of a word.
-fn place_of(word: u64) -> u64 {
+pub fn place_of(word: u64) -> u64 {
     8 * (word % WORDS as u64)
 }
 
@@ -104,7 +111,7 @@ fn put(words: &Words, thread: &mut Thread, word: u64, value: u64) -> Result<bool
 }
 
 /// Adds to a word; whether the transaction is still open.
-fn add(words: &Words, thread: &mut Thread, word: u64, more: u64) -> Result<bool, AllocError>
+pub fn add(words: &Words, thread: &mut Thread, word: u64, more: u64) -> Result<bool, AllocError>
     requires own { Owns words.now thread.old.pass }
     ensures own { Owns words.now thread.new.pass }
 {
@@ -127,7 +134,7 @@ fn shift(words: &Words, thread: &mut Thread, from: u64, to: u64) -> Result<bool,
 }
 
 /// Reads so many words; whether the transaction is still open.
-fn get_all(words: &Words, thread: &mut Thread, from: u64, size: u64) -> Result<bool, AllocError>
+pub fn get_all(words: &Words, thread: &mut Thread, from: u64, size: u64) -> Result<bool, AllocError>
     requires own { Owns words.now thread.old.pass }
     ensures own { Owns words.now thread.new.pass }
 {
@@ -162,5 +169,6 @@ pub fn work(words: &Words, thread: &mut Thread, block: &Block) -> Result<bool, A
         Workload::Transfer => shift(words, thread, block.first, block.second),
         Workload::ReadOnly => get_all(words, thread, block.first, block.size),
         Workload::Writes => put_all(words, thread, block.size, block.value),
+        Workload::Nested => read_nested(words, thread, block.size),
     }
 }
