@@ -6,7 +6,7 @@ ghost use Rattle.user_actions.specs.Actions.{total};
 ghost use Rattle.norec_core.specs.Proceeds.{IsUndone};
 ghost use Rattle.norec_core.specs.Restarts.{IsRestart};
 ghost use Rattle.norec_core.specs.Undoing.{after_undoing, undone_of};
-ghost use Rattle.norec_engine.specs.RestartingCalls.{can_restart};
+ghost use Rattle.norec_engine.specs.RestartingCalls.{arena_ahead};
 ghost use Rattle.shared_words.specs.Passes.{Owns, view_of, cells_of};
 ghost use Rattle.itm_runtime.specs.Ties.{Stands};
 ghost use Rattle.itm_runtime.specs.CallResults.{IsAnswered, Returns};
@@ -233,12 +233,12 @@ impl Thread {
         self.engine.irrevocable_room(call)
     }
 
-    /// Whether the innermost block may go back to its begin by the call: it is within another one, a restart is left, and the
-    /// call reads shared bytes or takes the clock.
-    pub fn can_restart(&self, call: &Call) -> bool
-        ensures { result ≡ can_restart self.now.engine call.now }
+    /// How many bytes the arena has, where the innermost block may go back to its begin by the call: it is within another one, a
+    /// restart is left, the transaction is not irrevocable, and the call reads shared bytes or takes the clock.
+    pub fn arena_ahead(&self, call: &Call) -> Option<usize>
+        ensures { result ≡ arena_ahead self.now.engine call.now }
     {
-        self.engine.can_restart(call)
+        self.engine.arena_ahead(call)
     }
 
     /// How many actions there are in all: those that are registered, and those that have come to run. Takes no memory.

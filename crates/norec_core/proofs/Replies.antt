@@ -3,6 +3,5 @@ pub mod ReplyCases
 pub mod ActionCounts
 pub mod AnsweredEngines
 pub mod Outcomes
-pub mod NoRestarts
 pub mod RefusedCalls
 pub mod CopyRefusals

@@ -6,3 +6,4 @@ pub mod RevocableTurns
 pub mod EitherTurns
 pub mod WholeReads
 pub mod FastSteps
+pub mod RestartingCalls

@@ -1,5 +1,5 @@
 -- Which calls may make the innermost block go back to its begin: who tells of that makes room before them.
-use Rattle.std.specs.Prelude.{Bool, true, false, ◌&&◌, not, nat_lt}
+use Rattle.std.specs.Prelude.{ℕ, Bool, true, false, ◌&&◌, not, nat_lt, if◌then◌else◌, length, Option, None, Some}
 use Rattle.itm_types.specs.declared.call.Call.{Call}
 use Rattle.itm_types.specs.declared.call.Call.TheVariants.{Begin, Mode, Read, Copy}
 use Rattle.itm_types.specs.declared.copy.CopyPair.{CopyPair}
@@ -23,3 +23,7 @@ may_validate _ = false
 -- the innermost block may go back by it
 abbrev pub can_restart : Core → Call → Bool
 can_restart e call = nat_lt e.restarted e.restarts && (not e.irrevocable && (is_within e.blocks && may_validate call))
+
+-- so many bytes its arena has, where it may
+abbrev pub arena_ahead : Core → Call → Option ℕ
+arena_ahead e call = if can_restart e call then Some (length e.arena) else None

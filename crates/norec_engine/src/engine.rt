@@ -6,7 +6,7 @@ ghost use Rattle.norec_core.specs.Core.{in_transaction, opening, irrevocable_roo
 ghost use Rattle.norec_core.specs.Proceeds.{IsUndone, Fits};
 ghost use Rattle.norec_data.specs.View.{phase_of};
 ghost use Rattle.norec_engine.specs.Modes.{IsSoundIn};
-ghost use Rattle.norec_engine.specs.RestartingCalls.{can_restart};
+ghost use Rattle.norec_engine.specs.RestartingCalls.{arena_ahead, can_restart};
 ghost use Rattle.norec_core.specs.Undoing.{undone_of, after_undoing};
 ghost use Rattle.norec_engine.specs.NextSteps.{next_in, ComesInto};
 ghost use Rattle.norec_core.specs.Moves.{IsResumed};
@@ -262,10 +262,23 @@ impl Engine {
         }
     }
 
-    /// Whether the innermost block may go back to its begin by the call: it is within another one, a restart is left, and the
-    /// call reads shared bytes or takes the clock.
+    /// How many bytes the arena has, where the innermost block may go back to its begin by the call: it is within another one, a
+    /// restart is left, the transaction is not irrevocable, and the call reads shared bytes or takes the clock. Whoever tells of
+    /// a block that goes back makes room for so many before the call.
     #[inline(always)]
-    pub fn can_restart(&self, call: &Call) -> bool
+    pub fn arena_ahead(&self, call: &Call) -> Option<usize>
+        ensures { result ≡ arena_ahead self.now call.now }
+    {
+        if self.can_restart(call) {
+            Some(self.state.arena.bytes().len())
+        } else {
+            None
+        }
+    }
+
+    /// Whether the innermost block may go back to its begin by the call.
+    #[inline(always)]
+    fn can_restart(&self, call: &Call) -> bool
         ensures { result ≡ can_restart self.now call.now }
     {
         self.state.restarted < self.state.limits.restarts

@@ -84,6 +84,8 @@ pub use Rattle.tx_attempts.specs.declared.attempt.Outcome.TheVariants.{Unfinishe
 pub use Rattle.tx_player.specs.Depth.{depth_after, opens}
 pub use Rattle.tx_player.specs.Replies.{MayReply}
 pub use Rattle.tx_player.specs.Rules.{Obeys, Rules}
+pub use Rattle.tx_runs.proofs.OpenRooms.{on_err}
+pub use Rattle.tx_runs.proofs.RunLists.{there_is}
 pub use Rattle.tx_runs.proofs.EngineReplies.{cancels, plain_reply}
 pub use Rattle.tx_runs.proofs.IrrevocableCalls.{asks_no_room, goes_same}
 pub use Rattle.tx_runs.proofs.RunLists.{run_still, run_with}

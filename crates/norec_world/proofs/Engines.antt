@@ -7,4 +7,3 @@ pub mod HeldCalls
 pub mod HeldMoves
 pub mod PlayerLaws
 pub mod SoundSteps
-pub mod OpenEngines

@@ -1,6 +1,7 @@
 -- The attempts: their rows, the tries that they are, and when each began.
 pub mod Stages
 pub mod ReadPositions
+pub mod LaterTries
 pub mod TryEnds
 pub mod AnswerEndings
 pub mod ThreadAttempts

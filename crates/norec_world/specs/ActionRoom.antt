@@ -5,7 +5,6 @@ use Rattle.user_actions.specs.Actions.{total}
 use Rattle.norec_core.specs.Core.{Core, irrevocable_room, in_transaction, is_within}
 use Rattle.norec_core.specs.Restarts.{IsRestart}
 use Rattle.itm_types.specs.declared.call.Call.{Call}
-use Rattle.norec_engine.specs.RestartingCalls.{can_restart}
 use Rattle.norec_core.specs.declared.answer.Answer.{Answer as Given}
 use Rattle.norec_core.specs.declared.answer.Next.{Next}
 use Rattle.norec_core.specs.declared.answer.Next.TheVariants.{Step, Answer}
@@ -44,10 +43,6 @@ promised e = if e.irrevocable then e.room else 0
 -- and how many the call in progress asks for, where it makes the transaction so
 abbrev pub wanted : Core → ℕ
 wanted e = unwrap_or (goes_in e e.doing) 0
-
--- the bytes of the arena, where the innermost block may run again by the call
-abbrev pub arena_ahead : Core → Call → Option ℕ
-arena_ahead e call = if can_restart e call then Some (length e.arena) else None
 
 -- an inner block is open that may go back to its begin, and a restart is left; by a call that waits for a step it may
 abbrev pub may_go_back : Core → Bool

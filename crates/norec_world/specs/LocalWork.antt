@@ -1,14 +1,11 @@
 -- What an actor does with the value of its step, and in the local work that follows, up to its next step or its end.
-use Rattle.std.specs.Prelude.{◌≡◌, ◌⊎◌, ℕ, zero, suc, ◌<◌, ◌≤◌, true, false, is_some, None, Some}
+use Rattle.std.specs.Prelude.{◌≡◌, ℕ, zero, suc, true, false, None, Some}
 use Rattle.itm_types.specs.declared.call.Call.{Call}
 use Rattle.itm_types.specs.declared.step.Step.{Step}
 use Rattle.norec_core.specs.declared.answer.Next.{Next}
 use Rattle.norec_core.specs.Moves.{IsResumed}
-use Rattle.norec_core.specs.Proceeds.{MayStarve}
 use Rattle.norec_core.specs.Undoing.{after_undoing}
-use Rattle.norec_engine.specs.RestartingCalls.{can_restart}
-use Rattle.itm_types.specs.Calls.{is_abort, is_begin, registered_by}
-use Rattle.user_actions.specs.Actions.{total}
+use Rattle.itm_types.specs.Calls.{is_begin}
 use Rattle.norec_core.specs.Core.{in_transaction}
 use Rattle.tx_attempts.specs.declared.attempt.Attempt.{Attempt}
 use Rattle.tx_attempts.specs.declared.attempt.Outcome.TheVariants as outcomes
@@ -17,7 +14,7 @@ use Rattle.norec_world.specs.declared.actor.Actor.{Actor}
 use Rattle.norec_world.specs.declared.actor.Status.TheVariants.{Ready, Waits, Ended}
 use Rattle.norec_world.specs.Cells.{Cells, found}
 use Rattle.norec_world.specs.Rows.{Rows}
-use Rattle.norec_world.specs.Stages.{active_of, cancels_in, ends_in, pending_of, with_room}
+use Rattle.norec_world.specs.Stages.{active_of, pending_of, with_room}
 use Rattle.norec_world.specs.Records.{Asks, TakesTo, Tells, told}
 use Rattle.tx_runs.specs.PlayerRuns.{stage_of, tally_of}
 use Rattle.tx_runs.specs.Tallies.{stand_of, stopped}
@@ -29,13 +26,9 @@ pub record SameActor {P : Type 0} (a a' : Actor P) : Type 0 where
   pub retries : a'.run.retries ≡ a.run.retries
   pub nothing : a'.status ≡ Ready → pending_of a' ≡ None
 
--- There is no room for one action more that runs at the attempt's end, or for those that have run once a cancel is done; or room is wanted for what is told of the innermost block, which may run again by the call. Of an irrevocable attempt that is so only once its commit actions have used its room up.
-abbrev pub LacksRoom : {P : Type 0} → Actor P → Call → Type 0
-LacksRoom a call = (a.engine.irrevocable ≡ true → a.engine.room ≡ 0) × (((is_some (registered_by call) ≡ true) × (ends_in a.run.current ≤ total a.engine.actions)) ⊎ ((is_abort call ≡ true) × (cancels_in a.run.current < total a.engine.actions)) ⊎ (can_restart a.engine call ≡ true))
-
--- within a block memory is wanted for the call with its reply where there is no room left for them, likewise for the actions that it leaves, or by the call for itself
-abbrev pub IsShort : {P : Type 0} → Actor P → Call → Type 0
-IsShort a call = (row : Attempt) → active_of a ≡ Some row → (row.calls.room ≡ 0) ⊎ LacksRoom a call ⊎ MayStarve a.engine call
+-- an irrevocable attempt has used up the room that it asked for
+abbrev pub HasUsedUp : {P : Type 0} → Actor P → Type 0
+HasUsedUp a = a.engine.irrevocable ≡ true → (row : Attempt) → active_of a ≡ Some row → row.calls.room ≡ 0
 
 -- its step was done on these cells: its engine is handed what was found, and of what comes the call waits for the next step, or is answered
 pub record TakesIn {P : Type 0} (rules : Rules P) (cells : Cells) (r : Rows) (a : Actor P) (r' : Rows) (a' : Actor P) : Type 0 where
@@ -81,8 +74,7 @@ module _ {P : Type 0} (rules : Rules P) where
     pub call : Call
     pub next_is : rules.next_call a.run.player ≡ Some call
     pub grows : in_transaction a.engine ≡ false → is_begin call ≡ true  -- outside a block memory is wanted for a begin alone
-    pub short : in_transaction a.engine ≡ true → IsShort a call
-    pub used : a.engine.irrevocable ≡ true → (row : Attempt) → active_of a ≡ Some row → row.calls.room ≡ 0  -- an irrevocable attempt has used up the room that it asked for
+    pub used : HasUsedUp a
     pub status : a'.status ≡ Ended NoMemory
     pub same : SameActor a a'
     pub engine : a'.engine ≡ after_undoing a.engine

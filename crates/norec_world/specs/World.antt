@@ -8,6 +8,7 @@ use Rattle.tx_runs.specs.declared.ending.End.{End}
 use Rattle.tx_runs.specs.declared.ending.End.TheVariants.{Finished, GaveUp, NoMemory}
 use Rattle.norec_world.specs.declared.fault.WorldFault.{WorldFault}
 use Rattle.norec_world.specs.declared.fault.WorldFault.TheVariants as faults
+use Rattle.norec_world.specs.declared.setup.Setup.{Setup}
 use Rattle.norec_world.specs.Rows.{Rows}
 use Rattle.norec_world.specs.Stages.{opens}
 use Rattle.norec_world.specs.declared.actor.Actor.{Actor}
@@ -28,6 +29,16 @@ pub record World (P : Type 0) : Type 0 where
   pub actors : List (Actor P)
   pub attempts : Rows  -- those that have ended
   pub events : ℕ
+
+-- it has this memory, arenas of this size and these limits
+pub record IsSetUp {P : Type 0} (setup : Setup) (w : World P) : Type 0 where
+  pub base : w.base ≡ setup.bytes
+  pub arena : w.arena ≡ setup.arena
+  pub patience : w.patience ≡ setup.limits.patience
+  pub max_commits : w.max_commits ≡ setup.limits.max_commits
+  pub retries : w.retries ≡ setup.limits.retries
+  pub depth : w.depth ≡ setup.limits.depth
+  pub restarts : w.restarts ≡ setup.limits.restarts
 
 -- it is a world of the same beginning
 pub record SameOpening {P : Type 0} (old new : World P) : Type 0 where

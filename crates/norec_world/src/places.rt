@@ -3,7 +3,7 @@
 ghost use Rattle.std.specs.Prelude.{◌≡◌, ◌+◌, ◌^◌, ◌<◌, ◌≤◌, OnOk, OnErr, length, unwrap_or};
 ghost use Rattle.user_actions.specs.Actions.{total};
 ghost use Rattle.norec_core.specs.Core.{irrevocable_room};
-ghost use Rattle.norec_world.specs.ActionRoom.{arena_ahead};
+ghost use Rattle.norec_engine.specs.RestartingCalls.{arena_ahead};
 ghost use Rattle.tx_attempts.specs.Kept.{reserved};
 ghost use Rattle.tx_runs.specs.OpenAttempts.{HasPlacesFor, LacksPlaces};
 
@@ -29,7 +29,7 @@ pub(crate) fn prepare(
     ensures points { attempt.new.points ≡ attempt.old.points }
     ensures kept { (attempt.old.ends ≤ attempt.new.ends) × (attempt.old.cancels ≤ attempt.new.cancels) × (attempt.old.deep ≤ attempt.new.deep) }
 {
-    let arena = arena_ahead(engine, call);
+    let arena = engine.arena_ahead(call);
     if arena.is_none() {
         if let Call::Read { .. } | Call::Write { .. } | Call::Commit = call {
             return attempt.prepare(call, 0, 0, None);
@@ -37,16 +37,4 @@ pub(crate) fn prepare(
     }
     let ahead = ahead_of(engine.irrevocable_room(call));
     attempt.prepare(call, engine.actions(), ahead, arena)
-}
-
-/// How many bytes the arena has, where the innermost block may run again by the call.
-#[inline(always)]
-fn arena_ahead(engine: &Engine, call: &Call) -> Option<usize>
-    ensures { result ≡ arena_ahead engine.now call.now }
-{
-    if engine.can_restart(call) {
-        Some(engine.arena().bytes().len())
-    } else {
-        None
-    }
 }

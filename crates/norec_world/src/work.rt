@@ -24,7 +24,7 @@ impl<P: Player> Actor<P> {
     ghost use Rattle.norec_core.specs.Proceeds.{IsSettled};
     ghost use Rattle.norec_core.specs.Undoing.{after_undoing};
     ghost use Rattle.itm_types.specs.Calls.{is_begin};
-    ghost use Rattle.norec_world.specs.LocalWork.{IsShort};
+    ghost use Rattle.norec_world.specs.LocalWork.{HasUsedUp};
     ghost use Rattle.norec_world.specs.Moments.{HasWorked};
     ghost use Rattle.norec_world.specs.ActionRoom.{MayRunOn, IsActing, IsRefused, MayRun};
     ghost use Rattle.norec_world.specs.Sound.{IsTied, IsKept, IsReady, IsSound, IsAsked, IsUnasked, MayRecord, WritesDown, Falls};
@@ -85,7 +85,7 @@ impl<P: Player> Actor<P> {
         ensures unasked { OnErr result (IsUnasked P.Player self.old self.new) }
         ensures refused { OnErr result (IsRefused self.new) }
         ensures grows { OnErr result (in_transaction self.old.engine ≡ false → is_begin call.now ≡ true) }
-        ensures short { OnErr result (in_transaction self.old.engine ≡ true → IsShort self.old call.now) }
+        ensures used { OnErr result (HasUsedUp self.old) }
         ensures ended { ended.new.items ≡ ended.old.items }
         ensures place { count_of self.new ≤ (rows_in ended.new).room }
         ensures others { KeepsOthers self.old (rows_in ended.old) self.new (rows_in ended.new) }

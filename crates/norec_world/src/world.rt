@@ -44,7 +44,7 @@ impl<P: Player> Model for World<P> {
 }
 
 impl<P: Player> World<P> {
-    ghost use Rattle.norec_world.specs.World.{observed, counted, ending_at, waits_at, memory_of, attempts_of, SameOpening};
+    ghost use Rattle.norec_world.specs.World.{observed, counted, ending_at, waits_at, memory_of, attempts_of, IsSetUp, SameOpening};
     ghost use Rattle.std.specs.Prelude.{slice_get, take, drop};
     ghost use Rattle.std.specs.Option.{option_map};
     ghost use Rattle.norec_world.specs.Status.{is_waiting};
@@ -52,9 +52,7 @@ impl<P: Player> World<P> {
     ghost use Rattle.norec_world.specs.Rows.{AreOpen};
     ghost use Rattle.norec_world.specs.Stages.{opens};
     ghost use Rattle.norec_world.specs.Listed.{left_of};
-    ghost use Rattle.norec_world.specs.Tries.{IsBetween};
     ghost use Rattle.norec_world.specs.Starts.{IsNew};
-    ghost use Rattle.norec_world.specs.declared.actor.Actor.{Actor};
     ghost use Rattle.norec_world.specs.Commits.{CommitsInOrder};
     ghost use Rattle.norec_world.specs.Headline.{AreOpaque};
     ghost use Rattle.norec_world.specs.Tied.{AreTied};
@@ -74,15 +72,7 @@ impl<P: Player> World<P> {
         requires outside { All (λ p. P.depth p ≡ 0) players.items }
         ensures opening { IfOk result (λ w. w.opening ≡ players.items) }
         ensures memory { IfOk result (λ w. memory_of w ≡ setup.bytes) }
-        ensures base { IfOk result (λ w. w.base ≡ setup.bytes) }
-        ensures arena { IfOk result (λ w. w.arena ≡ setup.arena) }
-        ensures patience { IfOk result (λ w. w.patience ≡ setup.limits.patience) }
-        ensures limit { IfOk result (λ w. w.max_commits ≡ setup.limits.max_commits) }
-        ensures retries { IfOk result (λ w. w.retries ≡ setup.limits.retries) }
-        ensures depth { IfOk result (λ w. w.depth ≡ setup.limits.depth) }
-        ensures restarts { IfOk result (λ w. w.restarts ≡ setup.limits.restarts) }
-        ensures first { IfOk result (λ w. (place : ℕ) (a : Actor P) → slice_get w.actors place ≡ Some a
-            → IsBetween 0 1 a) }
+        ensures setup { IfOk result (IsSetUp setup) }
         ensures commits { IfOk result (λ w. CommitsInOrder w) }
         ensures opaque { IfOk result (λ w. AreOpaque P.Player (observed w)) }
         ensures tied { IfOk result (AreTied P.Player) }

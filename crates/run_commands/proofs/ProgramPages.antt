@@ -3,7 +3,6 @@ use Rattle.std.proofs.Common.{◌≡◌, inl, inr, ℕ, zero, suc, ◌+◌, ◌*
 use Rattle.std.specs.Prelude.{slice_index_or}
 use Rattle.std.proofs.lemmas.List.{length-map}
 use Rattle.itm_types.specs.declared.limits.TheConstants.{MAX_ARENA, MAX_RETRIES}
-use Rattle.tx_attempts.specs.declared.attempt.Again.{Again}
 use Rattle.tx_attempts.specs.declared.attempt.Attempt.{Attempt}
 use Rattle.tx_runs.specs.declared.ending.End.{End}
 use Rattle.tx_runs.specs.declared.ending.End.TheVariants.{Finished, GaveUp, NoMemory}
@@ -14,26 +13,24 @@ use Rattle.world_laws.specs.SoFar.{IsSoFar}
 use Rattle.norec_world.specs.Commits.{CommitsInOrder}
 use Rattle.norec_world.specs.Headline.{AreOpaque}
 use Rattle.norec_world.specs.Tied.{AreTied}
-use Rattle.norec_world.specs.World.{World, attempts_of, ending_at, memory_of, observed}
+use Rattle.norec_world.specs.World.{IsSetUp, World, attempts_of, ending_at, memory_of, observed}
 use Rattle.script_program.specs.declared.instruction.Instruction.{Instruction}
 use Rattle.script_program.specs.Listing.{Listing, opening_of, threads_of}
 use Rattle.script_vm.specs.Threads.{Thread, opening, thread_rules}
-use Rattle.run_commands.specs.Scheduled.{Leaves, schedule_of, players_of}
+use Rattle.run_commands.specs.Scheduled.{Leaves, schedule_of, setup_of, players_of}
 use Rattle.run_commands.specs.Pages.{first_thread, solo_of, page, roomless, IsOf, IsWorldOf}
 use Rattle.world_laws.specs.Told.{told_of}
 use Rattle.history_reader.proofs.Canon.LegalTexts.{legal_text}
 use Rattle.history_reader.specs.LegalTexts.{IsLegalText}
 use Rattle.tx_history.specs.Bounds.{HistoryFits, IsMemorySize}
-use Rattle.tx_history.specs.Versions.{MayTell, thread_limit}
-use Rattle.tx_history.specs.declared.history.Version.{Version}
-use Rattle.tx_history.specs.declared.history.Version.TheVariants.{One, Two, Three}
+use Rattle.tx_history.specs.Versions.{MayRestart, thread_limit}
 use Rattle.tx_history.specs.Histories.{history_text}
 use Rattle.tx_host.proofs.Histories.ScriptWidths.{script_widths}
 use Rattle.tx_host.specs.Limits.{IsLimitedListing}
 use Rattle.tx_host.specs.Versions.{version_of}
 use Rattle.world_laws.proofs.LegalHistories.LegalWorlds.{legal_world}
 use Rattle.world_laws.proofs.LegalHistories.LimitedWorlds.{limited_world}
-use Rattle.world_laws.specs.Limits.{IsLimitedWorld, MayRestart}
+use Rattle.world_laws.specs.Limits.{IsLimitedWorld}
 use Rattle.world_laws.specs.ShownAlone.{DoneBy}
 use Rattle.world_laws.proofs.Solos.Schedules.{led_alone}
 use Rattle.script_vm.specs.ThreadLaws.{thread_laws}
@@ -57,43 +54,33 @@ doubled n = omega (arith, parity (n % 2) (omega arith))
 -- the world began with the program's memory, limits and threads
 record BeganAs (p : Listing) (w : World Thread) : Type 0 where
   pub players : w.opening ≡ players_of p
-  pub base : w.base ≡ opening_of p
-  pub arena : w.arena ≡ p.arena
-  pub limit : w.max_commits ≡ p.limits.max_commits
-  pub retries : w.retries ≡ p.limits.retries
-  pub depth : w.depth ≡ p.limits.depth
-  pub restarts : w.restarts ≡ p.limits.restarts
+  pub setup : IsSetUp (setup_of p) w
 
 began_as : (p : Listing) (w : World Thread) → Leaves p w → BeganAs p w
 began_as p w (first, begins, leads) =
-    let kept = items_keep first w (schedule_of p) leads in
+    let same = (items_keep first w (schedule_of p) leads).opening in
+    let s = begins.setup in
     record {
-      players = kept.opening.opening ∙ begins.players;
-      base = kept.opening.base ∙ begins.base;
-      arena = kept.opening.arena ∙ begins.arena;
-      limit = kept.opening.max_commits ∙ begins.limit;
-      retries = kept.opening.retries ∙ begins.retries;
-      depth = kept.opening.depth ∙ begins.depth;
-      restarts = kept.opening.restarts ∙ begins.restarts;
+      players = same.opening ∙ begins.players;
+      setup = record {
+        base = same.base ∙ s.base;
+        arena = same.arena ∙ s.arena;
+        patience = same.patience ∙ s.patience;
+        max_commits = same.max_commits ∙ s.max_commits;
+        retries = same.retries ∙ s.retries;
+        depth = same.depth ∙ s.depth;
+        restarts = same.restarts ∙ s.restarts;
+      };
     }
-
--- a version that tells of that many blocks which ran again lets that many
-may_restart : (version : Version) (n : ℕ) → ((restarts : List Again) → length restarts ≤ n → MayTell version restarts) → MayRestart version n
-may_restart One zero told = refl
-may_restart One (suc n) told =
-    let one : Again = record { kept = 0; arena = []; undone = [] } in
-    absurd (let none : one ∷ [] ≡ [] = told (one ∷ []) (omega arith) in cc)
-may_restart Two n told = tt
-may_restart (Three depth) n told = tt
 
 -- a world of a program within the limits of a run is within them too
 limited_as : (p : Listing) (w : World Thread) → BeganAs p w → IsLimitedListing p → IsLimitedWorld (version_of p) w
 limited_as p w began limits = record {
-  memory = subst (λ (bytes : List ℕ). IsMemorySize (version_of p) (length bytes)) (sym began.base) limits.memory;
-  arena = subst (λ (n : ℕ). n ≤ MAX_ARENA) (sym began.arena) limits.arena;
-  retries = subst (λ (n : ℕ). n ≤ MAX_RETRIES) (sym began.retries) limits.retries;
+  memory = subst (λ (bytes : List ℕ). IsMemorySize (version_of p) (length bytes)) (sym began.setup.base) limits.memory;
+  arena = subst (λ (n : ℕ). n ≤ MAX_ARENA) (sym began.setup.arena) limits.arena;
+  retries = subst (λ (n : ℕ). n ≤ MAX_RETRIES) (sym began.setup.retries) limits.retries;
   actors = subst (λ (n : ℕ). n ≤ suc (thread_limit (version_of p))) (sym (ap (λ (l : List Thread). length l) began.players ∙ length-map (threads_of p) (opening p.limits.depth))) limits.threads;
-  restarts = subst (MayRestart (version_of p)) (sym began.restarts) (may_restart (version_of p) p.limits.restarts limits.restarts);
+  restarts = subst (MayRestart (version_of p)) (sym began.setup.restarts) limits.restarts;
 }
 
 -- its history's text is read as a legal one
@@ -105,24 +92,24 @@ module _ (p : Listing) (w : World Thread) (began : BeganAs p w) (player : Thread
   -- what the player does alone is what the program's thread does
   alone_is : solo thread_rules w.depth w.max_commits 0 player w.base (replicate w.arena 0) ≡ solo_of p
   unfolding solo_of
-  alone_is = λ i. solo thread_rules (began.depth i) (began.limit i) 0 (player_is i) (began.base i) (replicate (began.arena i) 0)
+  alone_is = λ i. solo thread_rules (began.setup.depth i) (began.setup.max_commits i) 0 (player_is i) (began.setup.base i) (replicate (began.setup.arena i) 0)
 
   so_far : (commits : ℕ) (memory : List ℕ) (outcome : Outcome) (rows : List Attempt)
       → IsSoFar thread_rules w.depth w.max_commits 0 player w.base (replicate w.arena 0) commits memory outcome rows
       → IsSoFar thread_rules p.limits.depth p.limits.max_commits 0 (first_thread p) (opening_of p) (replicate p.arena 0) commits memory outcome rows
   so_far commits memory outcome rows s =
-      subst (λ (n : ℕ). IsSoFar thread_rules p.limits.depth p.limits.max_commits 0 (first_thread p) (opening_of p) (replicate n 0) commits memory outcome rows) began.arena
-      (subst (λ (base : List ℕ). IsSoFar thread_rules p.limits.depth p.limits.max_commits 0 (first_thread p) base (replicate w.arena 0) commits memory outcome rows) began.base
+      subst (λ (n : ℕ). IsSoFar thread_rules p.limits.depth p.limits.max_commits 0 (first_thread p) (opening_of p) (replicate n 0) commits memory outcome rows) began.setup.arena
+      (subst (λ (base : List ℕ). IsSoFar thread_rules p.limits.depth p.limits.max_commits 0 (first_thread p) base (replicate w.arena 0) commits memory outcome rows) began.setup.base
       (subst (λ (t : Thread). IsSoFar thread_rules p.limits.depth p.limits.max_commits 0 t w.base (replicate w.arena 0) commits memory outcome rows) player_is
-      (subst (λ (n : ℕ). IsSoFar thread_rules p.limits.depth n 0 player w.base (replicate w.arena 0) commits memory outcome rows) began.limit
-      (subst (λ (n : ℕ). IsSoFar thread_rules n w.max_commits 0 player w.base (replicate w.arena 0) commits memory outcome rows) began.depth s))))
+      (subst (λ (n : ℕ). IsSoFar thread_rules p.limits.depth n 0 player w.base (replicate w.arena 0) commits memory outcome rows) began.setup.max_commits
+      (subst (λ (n : ℕ). IsSoFar thread_rules n w.max_commits 0 player w.base (replicate w.arena 0) commits memory outcome rows) began.setup.depth s))))
 
   is_page : (end : End) → solo_of p ≡ record { attempts = map without_room (attempts_of w); memory = memory_of w; commits = w.cells.clock / 2; held = w.cells.clock % 2 == 1; ending = end }
       → roomless (told_of (version_of p) w) ≡ page p
   unfolding page
   is_page end all = λ i. record {
     version = version_of p;
-    memory = began.base i;
+    memory = began.setup.base i;
     attempts = (ap (λ (s : Solo). s.attempts) (sym all)) i;
     clock = (doubled w.cells.clock ∙ ap (λ (s : Solo). 2 * s.commits + one_if s.held) (sym all)) i;
     bytes = (ap (λ (s : Solo). s.memory) (sym all)) i;
@@ -133,10 +120,10 @@ module _ (p : Listing) (w : World Thread) (began : BeganAs p w) (player : Thread
   shows end all = (let same = is_page end all in (ap (λ (s : Solo). s.ending) all, same, sym (roomless_text (told_of (version_of p) w)) ∙ ap history_text same))
 
   of_ending : (ending : Option End) → (ending ≡ Some NoMemory → w.cells.clock % 2 ≡ 0) → DoneBy thread_rules w player ending → IsOf p ending (told_of (version_of p) w)
-  of_ending None even (memory, part, told) = (began.base, memory, so_far (w.cells.clock / 2) memory outcomes.Unfinished (attempts_of w) part, told)
+  of_ending None even (memory, part, told) = (began.setup.base, memory, so_far (w.cells.clock / 2) memory outcomes.Unfinished (attempts_of w) part, told)
   of_ending (Some Finished) even all = shows Finished (sym alone_is ∙ all)
   of_ending (Some GaveUp) even all = shows GaveUp (sym alone_is ∙ all)
-  of_ending (Some NoMemory) even (inl part) = (began.base, part.0, so_far (w.cells.clock / 2) (memory_of w) outcomes.NoMemory (attempts_of w) part.1)
+  of_ending (Some NoMemory) even (inl part) = (began.setup.base, part.0, so_far (w.cells.clock / 2) (memory_of w) outcomes.NoMemory (attempts_of w) part.1)
   of_ending (Some NoMemory) even (inr part) = absurd (let odd : w.cells.clock % 2 ≡ 1 = part.0 in let none : w.cells.clock % 2 ≡ 0 = even refl in omega arith)
 
 pub world_of_run : (p : Listing) (w : World Thread) → HasNestedCode p → IsLimitedListing p → Leaves p w → CommitsInOrder w → AreOpaque thread_rules (observed w) → AreTied thread_rules w → IsWorldOf p w
@@ -144,13 +131,13 @@ world_of_run p w nested limits leaves commits opaque tied =
     let led = items_led leaves.0 w (schedule_of p) leaves.2 in
     record {
       leaves = leaves;
-      base = (began_as p w leaves).base;
+      base = (began_as p w leaves).setup.base;
       commits = commits;
       opaque = opaque;
       tied = tied;
       fed = fed p nested leaves.0 w leaves.1 led.0 led.1 commits tied;
       none_open = none_open p nested leaves.0 w leaves.1 led.0 led.1 commits tied;
-      legal = legal_world thread_rules (version_of p) w (limits.depth ∙ sym (began_as p w leaves).depth) commits opaque tied;
+      legal = legal_world thread_rules (version_of p) w (limits.depth ∙ sym (began_as p w leaves).setup.depth) commits opaque tied;
       alone = λ one.
           let began = began_as p w leaves in
           let first = leaves.1 in

@@ -1,13 +1,12 @@
 -- The run of a program: its players, the world that begins with them, and what its schedule makes of that world.
-use Rattle.std.specs.Prelude.{◌≡◌, ℕ, List, [], ◌∷◌, length, map, Option, Some, slice_get}
+use Rattle.std.specs.Prelude.{◌≡◌, ℕ, List, [], ◌∷◌, length, map, Option}
 use Rattle.std.specs.List.{range_with_len}
 use Rattle.tx_runs.specs.declared.ending.End.{End}
-use Rattle.norec_world.specs.declared.actor.Actor.{Actor}
-use Rattle.norec_world.specs.World.{World, ending_at, memory_of, observed}
+use Rattle.norec_world.specs.declared.setup.Setup.{Setup}
+use Rattle.norec_world.specs.World.{IsSetUp, World, ending_at, memory_of, observed}
 use Rattle.norec_world.specs.Commits.{CommitsInOrder}
 use Rattle.norec_world.specs.Headline.{AreOpaque}
 use Rattle.norec_world.specs.Tied.{AreTied}
-use Rattle.norec_world.specs.Tries.{IsBetween}
 use Rattle.norec_world.specs.Starts.{IsNew}
 use Rattle.script_program.specs.declared.schedule.Item.{Item}
 use Rattle.script_program.specs.declared.schedule.Item.TheVariants.{Out}
@@ -19,19 +18,16 @@ use Rattle.run_commands.specs.Items.{ItemsLead}
 abbrev pub players_of : Listing → List Thread
 players_of p = map (opening p.limits.depth) (threads_of p)
 
+-- what its world begins with
+abbrev pub setup_of : Listing → Setup
+setup_of p = record { bytes = opening_of p; arena = p.arena; limits = p.limits }
+
 -- the world has these players and just began
 pub record Begins (p : Listing) (w : World Thread) : Type 0 where
   pub players : w.opening ≡ players_of p
-  pub base : w.base ≡ opening_of p
+  pub setup : IsSetUp (setup_of p) w
   pub memory : memory_of w ≡ opening_of p
-  pub arena : w.arena ≡ p.arena
-  pub patience : w.patience ≡ p.limits.patience
-  pub limit : w.max_commits ≡ p.limits.max_commits
-  pub retries : w.retries ≡ p.limits.retries
-  pub depth : w.depth ≡ p.limits.depth
-  pub restarts : w.restarts ≡ p.limits.restarts
   pub anew : IsNew thread_rules w  -- before its first event, each thread having done its local work up to its first step
-  pub first : (place : ℕ) (a : Actor Thread) → slice_get w.actors place ≡ Some a → IsBetween 0 1 a  -- each is before its first try
   pub commits : CommitsInOrder w
   pub opaque : AreOpaque thread_rules (observed w)
   pub tied : AreTied thread_rules w

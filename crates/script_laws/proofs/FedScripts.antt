@@ -5,7 +5,7 @@ use Rattle.itm_types.specs.declared.call.Call.{Call}
 use Rattle.itm_types.specs.declared.call.Call.TheVariants.{Begin, Mode}
 use Rattle.norec_world.specs.PlayerRooms.{ComesTo, EndsWithin, GoesTo, TellsRoom, going_room}
 use Rattle.norec_world.proofs.Common.{slice_get_within}
-use Rattle.norec_world.proofs.Events.SoundOthers.{there_is}
+use Rattle.norec_world.proofs.Common.{there_is}
 use Rattle.script_laws.specs.Fed.{AreFed, TellRoom, TellsEachRoom}
 use Rattle.script_program.specs.declared.instruction.Instruction.{Instruction}
 use Rattle.script_program.specs.Listing.{threads_of}

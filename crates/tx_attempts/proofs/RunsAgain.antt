@@ -1,24 +1,18 @@
 -- Runs with records: of two that tell alike, and of a block that runs again.
-use Rattle.std.proofs.Common.{◌≡◌, ℕ, zero, suc, ◌<◌, Bool, true, false, List, [], ◌∷◌, ◌++◌, length, map, Option, None, Some, refl, sym, ap, subst, ◌∙◌, arith}
+use Rattle.std.proofs.Common.{◌≡◌, ℕ, zero, suc, ◌<◌, Bool, true, false, List, [], ◌∷◌, ◌++◌, length, Option, None, Some, refl, sym, ap, subst, ◌∙◌, arith}
 use Rattle.std.specs.Prelude.{nat_lt, ◌==◌, if◌then◌else◌, slice_get}
 use Rattle.std.proofs.lemmas.List.{take-append-le}
 use Rattle.std.proofs.lemmas.Option.{slice_get_within}
 use Rattle.std.proofs.lemmas.Bool.{eq-eqb, lt-ltb, ltb-false, ltb-true, ne_eqb}
 use Rattle.itm_model.specs.State.{State}
 use Rattle.itm_model.specs.Machine.{after}
-use Rattle.itm_model.specs.Runs.{Breaks, later, state_after}
+use Rattle.itm_model.specs.Runs.{Breaks, later}
 use Rattle.tx_player.specs.Rules.{Rules}
 use Rattle.tx_attempts.specs.declared.attempt.Again.{Again}
 use Rattle.tx_attempts.specs.declared.attempt.CallRecord.{CallRecord}
 use Rattle.tx_attempts.specs.Alone.{IsAlone, state_then}
 use Rattle.tx_attempts.specs.Restarts.{AreAgain, AtEach, IsAgain, IsInnerBegin, again_at, arena_set, before, breaks_in, breaks_of, run_on, with_again}
 use Rattle.tx_attempts.proofs.AloneCalls.{state_snoc}
-
--- ## With no record
-
--- it is a run that is never broken off
-pub none_alone : (deepest : ℕ) (s : State) (xs : List CallRecord) → state_then deepest (breaks_of []) s xs ≡ state_after deepest s (map (λ x. x.call) xs)
-none_alone deepest s xs = refl
 
 -- ## Breaks that are alike between the calls
 
@@ -97,22 +91,6 @@ module _ (a : Again) where
   pub state_again_in : (deepest : ℕ) (rs : List Again) (s : State) (xs : List CallRecord) (x : CallRecord) → suc (length xs) ≡ a.kept
       → state_then deepest (breaks_in (with_again a rs)) s (xs ++ x ∷ []) ≡ run_on (Some a) (after deepest (state_then deepest (breaks_in rs) s xs) x.call)
   state_again_in deepest rs s xs x e = state_by run_on deepest rs s xs x e
-
-  module _ {P : Type 0} (rules : Rules P) (deepest : ℕ) where
-    -- the calls up to its begin are its player's alone
-    alone_by : (does : Option Again → State → State) (rs : List Again) (p : P) (s : State) (xs ys : List CallRecord) → length xs ≡ a.kept
-        → IsAlone rules deepest (by does rs) p s (xs ++ ys) → IsAlone rules deepest (by does (with_again a rs)) p s xs
-    alone_by does rs p s xs ys e h =
-        alone_alike rules deepest (by does rs) (by does (with_again a rs)) p s xs (subst (λ (k : ℕ). AreAlike k (by does rs) (by does (with_again a rs))) (sym e) (alike_before does rs))
-        (alone_start rules deepest (by does rs) p s xs ys h)
-
-    pub alone_again : (rs : List Again) (p : P) (s : State) (xs ys : List CallRecord) → length xs ≡ a.kept
-        → IsAlone rules deepest (breaks_of rs) p s (xs ++ ys) → IsAlone rules deepest (breaks_of (with_again a rs)) p s xs
-    alone_again rs p s xs ys e h = alone_by arena_set rs p s xs ys e h
-
-    pub alone_again_in : (rs : List Again) (p : P) (s : State) (xs ys : List CallRecord) → length xs ≡ a.kept
-        → IsAlone rules deepest (breaks_in rs) p s (xs ++ ys) → IsAlone rules deepest (breaks_in (with_again a rs)) p s xs
-    alone_again_in rs p s xs ys e h = alone_by run_on rs p s xs ys e h
 
 -- ## One call more
 

@@ -1,6 +1,6 @@
 //! The inner blocks of an attempt that ran again, and the room that is made ahead for one more.
 
-ghost use Rattle.std.specs.Prelude.{◌≡◌, ◌<◌, ◌≤◌, true, [], length, vec_capacity, IfOk, OnErr};
+ghost use Rattle.std.specs.Prelude.{◌≡◌, ◌↔◌, ◌<◌, ◌≤◌, [], length, vec_capacity, IfOk, IsTrue, OnErr};
 ghost use Rattle.tx_attempts.specs.Kept.{blocks_again};
 ghost use Rattle.tx_attempts.specs.Restarts.{before};
 
@@ -54,7 +54,7 @@ impl AgainRoom {
 
     /// Whether it has as much.
     pub fn has(&self, records: usize, arena: usize, undone: usize) -> bool
-        ensures { result ≡ true → (records ≤ self.now.records) × (arena ≤ self.now.arena) × (undone ≤ self.now.undone) }
+        ensures { IsTrue result ↔ ((records ≤ self.now.records) × (arena ≤ self.now.arena) × (undone ≤ self.now.undone)) }
     {
         records <= self.items.capacity()
             && arena <= self.arena.capacity()

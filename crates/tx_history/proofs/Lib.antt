@@ -8,5 +8,6 @@ pub mod WorkedLines
 pub mod WorkedStreams
 mod WorkedRestarts
 pub mod PlainSizes
+pub mod ToldRestarts
 mod WorkedBounds
 pub mod Runs

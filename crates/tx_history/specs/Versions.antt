@@ -29,3 +29,9 @@ abbrev pub MayTell : Version → List Again → Type 0
 MayTell One restarts = restarts ≡ []
 MayTell Two restarts = Unit {0}
 MayTell (Three depth) restarts = Unit {0}
+
+-- so none may in a run that it tells of, where they may run again so often at most
+abbrev pub MayRestart : Version → ℕ → Type 0
+MayRestart One most = most ≡ 0
+MayRestart Two most = Unit {0}
+MayRestart (Three depth) most = Unit {0}

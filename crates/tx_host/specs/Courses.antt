@@ -48,5 +48,5 @@ pub record IsCourse (p : Listing) (n : ℕ) (memory : ℕ → List ℕ) (number 
   pub run : IsRunOf thread_rules p.limits.depth n memory (Some (first_of p code)) attempts  -- its code's run, in order, each of them opaque
   pub since : AreSince 0 attempts  -- each began with the commits that the one before it told of
   pub own : AreOwn number (p.limits.retries + 1) attempts  -- none is of another thread, or of more tries than there may be
-  pub few : RestartAtMost p.limits.restarts attempts  -- in each, inner blocks run again so often at most
+  pub few : RestartAtMost p.limits.restarts attempts  -- none tells of more inner blocks that ran again
   pub ends : EndsBy p.limits.depth memory (first_of p code) end attempts

@@ -50,9 +50,9 @@ fn closed(words: Words, pass: Pass, room: Vec<u8>) -> (u64, Bytes)
 
 /// Runs the scripts of a program on threads of their own, each up to its end.
 ///
-/// Each thread's transactions are tried again as often as the program's limits say, and so often their inner blocks go back
-/// to their begins alone. The gate and the sink are called from all threads. Takes memory before the first thread starts,
-/// for what its thread does, and for the report.
+/// Each thread's transactions are tried again at most as often as the program's limits say, and within one inner blocks go
+/// back to their begins alone, at most as often as these say of that. The gate and the sink are called from all threads.
+/// Takes memory before the first thread starts, for what its thread does, and for the report.
 pub fn run_threads<R: Threads + Wait, G: Gate + Sync, A: ActionSink + Sync>(
     rt: &R,
     alloc: Global,

@@ -7,8 +7,8 @@ use itm_types::{Depth, USUAL_DEPTH};
 use script_program::Program;
 use tx_history::{EARLY_ACTORS, EARLY_MEMORY, Version};
 
-/// The first version, where the program has the usual depth and no larger a memory and no more threads than that one tells
-/// of, and no inner block may run again; the second one where some may; else the third one, with the program's depth.
+/// Where the program has the usual depth, and no larger a memory and no more threads than the first two versions tell of, the
+/// second one if inner blocks may run again, and the first one if none may; else the third one, with the program's depth.
 pub fn version_of(program: &Program) -> Version
     ensures { result ≡ version_of program.now }
 {

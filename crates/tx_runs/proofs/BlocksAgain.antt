@@ -15,7 +15,7 @@ use Rattle.itm_model.specs.State.{State}
 use Rattle.itm_model.specs.Machine.{after, after_unless, back, effect, entered, irrevocable_from, is_open, opened, pushed, refusal, reply, reply_unless}
 use Rattle.itm_model.specs.Runs.{Breaks, later}
 use Rattle.nest_frames.specs.Nest.{Frame}
-use Rattle.undo_log.specs.Rollback.{Old, kept_of, put_back}
+use Rattle.undo_log.specs.Rollback.{kept_of, put_back}
 use Rattle.norec_core.proofs.Engines.BlocksAgain.{blocks_sized}
 use Rattle.norec_core.specs.Core.{Core, renewed}
 use Rattle.norec_core.specs.Restarts.{begun_again}
@@ -138,10 +138,6 @@ pub under_still : (e e' : Core) (b : Frame) (outer : List Frame) (due : ℕ) (m 
 under_still e e' b outer due m size commits undos ran =
     let around = blocks_sized outer e'.arena e.arena m size in
     λ i. record (state_under e' b outer due m) { blocks = around i; actions = record { commits = commits i; undos = undos i; ran = ran i } }
-
--- a block that closes within it changes its log alone
-pub under_closed : (e : Core) (b : Frame) (log : List Old) (outer : List Frame) (due : ℕ) (m : List ℕ) → state_under e (record b { log = log }) outer due m ≡ state_under e b outer due m
-under_closed e b log outer due m = refl
 
 -- an open inner block is so known after one more call within the transaction, or within it and its block
 pub begun_still : {P : Type 0} (rules : Rules P) (deepest : ℕ) (by : P) (row : Attempt) (e e' : Core) (b : Frame) (outer : List Frame) (s : Savepoint) (x : CallRecord) (room : ℕ) (more : List Ran) → HasBegun rules deepest by row e b outer s

@@ -10,6 +10,7 @@ pub mod OpenBegins
 pub mod OpenCalls
 pub mod OpenRooms
 pub mod TookIn
+pub mod RestartsLeft
 pub mod OutermostBegins
 pub mod EngineReplies
 pub mod IrrevocableCalls

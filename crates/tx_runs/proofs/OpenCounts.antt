@@ -1,5 +1,5 @@
 -- Counts of an open attempt: its open blocks after a call, and what it tells of actions as its innermost block goes back.
-use Rattle.std.proofs.Common.{◌≡◌, ℕ, suc, ◌+◌, ◌-◌, ◌<◌, ◌≤◌, Bool, true, false, if◌then◌else◌, List, [], ◌∷◌, ◌++◌, drop, length, length-append, take, Option, None, Some, arith}
+use Rattle.std.proofs.Common.{◌≡◌, ℕ, suc, ◌+◌, ◌-◌, ◌<◌, ◌≤◌, Bool, true, false, List, [], ◌∷◌, drop, length, length-append, Option, None, Some, arith}
 use Rattle.std.proofs.lemmas.List.{length-drop, length-take}
 use Rattle.itm_types.specs.Calls.{abort_of, is_begin, is_commit}
 use Rattle.itm_types.specs.declared.call.Call.{Call}

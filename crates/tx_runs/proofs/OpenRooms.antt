@@ -1,24 +1,19 @@
 -- The room of an open attempt serves whatever comes of an answer.
-use Rattle.std.proofs.Common.{◌≡◌, Bool, true, false, if◌then◌else◌, ℕ, ◌+◌, ◌<◌, ◌≤◌, max, List, [], ◌∷◌, drop, length, Option, None, Some, Result, Ok, Err, OnErr, refl, ap, subst, arith}
+use Rattle.std.proofs.Common.{◌≡◌, Bool, true, false, if◌then◌else◌, ℕ, ◌+◌, ◌<◌, ◌≤◌, max, List, [], ◌∷◌, drop, length, Option, None, Some, Result, Ok, Err, OnErr, refl, arith}
 use Rattle.itm_types.specs.declared.call.Call.{Call}
 use Rattle.itm_types.specs.declared.call.Reply.{Reply}
 use Rattle.tx_attempts.specs.Kept.{Kept, reserved}
 use Rattle.tx_runs.specs.declared.player_run.Current.{Current}
 use Rattle.tx_runs.specs.declared.player_run.Current.TheVariants.{Outside}
-use Rattle.tx_runs.specs.PlayerRuns.{current_with, stage_of}
+use Rattle.tx_runs.specs.PlayerRuns.{stage_of}
 use Rattle.tx_attempts.specs.declared.attempt.CallRecord.{CallRecord}
-use Rattle.tx_attempts.specs.Restarts.{count_undone, open_after, open_by}
-use Rattle.tx_runs.specs.OpenAttempts.{HasPlacesFor, IsBacked, Open, told_in}
-use Rattle.tx_runs.specs.Tallies.{Stage, outside, begins_again, stage_at, stage_with}
+use Rattle.tx_attempts.specs.Restarts.{open_after, open_by}
+use Rattle.tx_runs.specs.Tallies.{Stage, outside, begins_again, stage_at}
 use Rattle.itm_types.specs.Calls.{abort_of, is_begin, is_commit}
 use Rattle.itm_types.specs.declared.call.Reply.TheVariants.{Code, Done}
 use Rattle.itm_types.specs.declared.call.Call.TheVariants.{Begin}
 use Rattle.itm_types.specs.declared.call.Props.{Props}
 use Rattle.tx_attempts.specs.declared.attempt.Attempt.{Attempt}
-
-pub stage_added : (call : Call) (reply : Reply) (x : Current) → stage_of (current_with call reply x) ≡ stage_with call reply (stage_of x)
-stage_added call reply Outside = refl
-stage_added call reply x = refl
 
 -- ## Where memory is refused
 
@@ -29,10 +24,6 @@ on_err (Err e) a = a
 pub err_with : {T E A B : Type 0} (r : Result T E) → (A → B) → OnErr r A → OnErr r B
 err_with (Ok v) f a = tt
 err_with (Err e) f a = f a
-
--- where no block has run again, what has run is told
-pub told_none : (row : Attempt) → row.restarts ≡ [] → told_in row ≡ length row.ran
-told_none row none = (let zero : count_undone row.restarts ≡ 0 = ap count_undone none in omega arith)
 
 -- a call opens one inner block, or none
 pub opens_most : {A : Type 0} (new : A) (begins : List A) (e : CallRecord) → length (open_after new begins e) ≤ length begins + (if is_begin e.call then 1 else 0)
@@ -77,15 +68,3 @@ begins_none call row ahead other = refl
 pub again_none : (s : Stage) (again : Bool) (call : Call) → is_begin call ≡ false → begins_again s again call ≡ false
 again_none outside again (Begin props room) other = absurd (cc)
 again_none s again call other = refl
-
--- with room for a block that runs again
-pub places_backed : (call : Call) (actions ahead bytes : ℕ) (o new : Open) → HasPlacesFor call actions ahead None o → new ≡ record o { again = new.again } → IsBacked bytes actions new → HasPlacesFor call actions ahead (Some bytes) new
-places_backed call actions ahead bytes o new places same backed = record {
-  begins = λ is. (let l = places.begins is in omega (arith, ap (λ (x : Open). length x.points) same, ap (λ (x : Open). x.deep) same));
-  ends = λ is. (let l = places.ends is in omega (arith, ap (λ (x : Open). x.ends) same));
-  cancels = λ is. (let l = places.cancels is in omega (arith, ap (λ (x : Open). x.cancels) same));
-  ahead_begins = λ l. (let m = places.ahead_begins l in omega (arith, ap (λ (x : Open). length x.points) same, ap (λ (x : Open). x.deep) same));
-  ahead_ends = λ l. (let m = places.ahead_ends l in omega (arith, ap (λ (x : Open). x.ends) same));
-  ahead_cancels = λ l. (let m = places.ahead_cancels l in omega (arith, ap (λ (x : Open). x.cancels) same));
-  again = λ b is. subst (λ (n : ℕ). IsBacked n actions new) (let e : bytes ≡ b = cc in e) backed;
-}

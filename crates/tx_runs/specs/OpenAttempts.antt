@@ -54,9 +54,13 @@ pub record HasPlacesFor (call : Call) (actions ahead : ℕ) (arena : Option ℕ)
   pub ahead_cancels : 0 < ahead → actions + ahead ≤ o.cancels
   pub again : (bytes : ℕ) → arena ≡ Some bytes → IsBacked bytes actions o
 
--- there is none for the call, or for its actions, or it asks for more, or the innermost block may run again by it
+-- the innermost block may run again by the call, and there is no room for what is told of that
+abbrev pub LacksRecord : ℕ → Option ℕ → Open → Type 0
+LacksRecord actions arena o = (bytes : ℕ) × (arena ≡ Some bytes) × (IsBacked bytes actions o → ⊥)
+
+-- there is none for the call, or for its block, or for its actions; or it asks for more; or there is none for a block that runs again by it
 abbrev pub LacksPlaces : Call → ℕ → ℕ → Option ℕ → Open → Type 0
-LacksPlaces call actions ahead arena o = (o.row.calls.room ≡ 0) ⊎ ((is_begin call ≡ true) × (o.deep ≤ length o.points)) ⊎ ((is_some (registered_by call) ≡ true) × (o.ends ≤ actions)) ⊎ ((is_abort call ≡ true) × (o.cancels < actions)) ⊎ (0 < ahead) ⊎ (is_some arena ≡ true)
+LacksPlaces call actions ahead arena o = (o.row.calls.room ≡ 0) ⊎ ((is_begin call ≡ true) × (o.deep ≤ length o.points)) ⊎ ((is_some (registered_by call) ≡ true) × (o.ends ≤ actions)) ⊎ ((is_abort call ≡ true) × (o.cancels < actions)) ⊎ (0 < ahead) ⊎ LacksRecord actions arena o
 
 -- so many of the actions that have come to run in the transaction are told already
 abbrev pub told_in : Attempt → ℕ

@@ -10,7 +10,7 @@ mod player_run;
 mod savepoint;
 
 pub use ending::End;
-pub use open_attempt::OpenAttempt;
+pub use open_attempt::{OpenAttempt, told_of};
 pub use outcome::{ahead_of, outcome_of};
 pub use player_run::{Current, PlayerRun};
 pub use savepoint::Savepoint;

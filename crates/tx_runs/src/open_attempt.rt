@@ -138,6 +138,7 @@ impl OpenAttempt {
         requires few { length self.old.row.restarts < 2 ^ 32 }
         ensures backed { OnOk result (IsBacked arena actions self.new) }
         ensures same { OnOk result (self.new ≡ record self.old { again = self.new.again }) }
+        ensures short { OnErr result (IsBacked arena actions self.old → ⊥) }
         ensures err { OnErr result (self.new ≡ self.old) }
     {
         let records = self.row.restarts.as_slice().len() + 1;
@@ -186,10 +187,7 @@ impl OpenAttempt {
         ensures same { (self.new.points ≡ self.old.points) × (self.new.ends ≡ self.old.ends) × (self.new.deep ≡ self.old.deep) }
         ensures kept { told_in self.old.row ≡ length due.now → self.new.cancels ≡ self.old.cancels }
     {
-        if due.is_empty() {
-            return;
-        }
-        let told = told(&self.row);
+        let told = told_of(&self.row, due);
         if told < due.len() {
             if let Some(places) = &mut self.places {
                 places.run(&mut self.row.ran, &due[told..]);
@@ -232,7 +230,7 @@ impl OpenAttempt {
             alloc: _,
         } = self;
         if let Some(mut places) = places {
-            let told = told(&row);
+            let told = told_of(&row, due);
             places.run_last(&mut row.ran, &due[told..]);
         }
         row.calls.give_up_room();
@@ -242,11 +240,15 @@ impl OpenAttempt {
     }
 }
 
-/// How many of the actions that have come to run are told.
+/// How many of these actions, which have come to run in its transaction in all, the attempt tells: as run, or as undone in its
+/// blocks that ran again. Nearly always none has run.
 #[inline(always)]
-fn told(row: &Attempt) -> usize
-    requires { told_in row.now < 2 ^ 64 }
+pub fn told_of(row: &Attempt, due: &[Ran]) -> usize
+    requires { told_in row.now ≤ length due.now }
     ensures { result ≡ told_in row.now }
 {
+    if due.is_empty() {
+        return 0;
+    }
     row.ran.as_slice().len() + count_undone(row.restarts.as_slice())
 }

@@ -128,6 +128,7 @@ impl Places {
     ) -> Result<(), AllocError>
         ensures backed { OnOk result ((row : Attempt) → length row.restarts < records → IsBacked arena actions (open_of row self.new)) }
         ensures same { OnOk result (self.new ≡ record self.old { again = self.new.again }) }
+        ensures short { OnErr result ((row : Attempt) → records ≤ length row.restarts + 1 → IsBacked arena actions (open_of row self.old) → ⊥) }
         ensures err { OnErr result (self.new ≡ self.old) }
     {
         if let Some(room) = &self.again {

@@ -1,12 +1,10 @@
 -- A player's run on a thread as a row of calls, each with its answer and with what the answer made of the run.
-use Rattle.std.specs.Prelude.{◌≡◌, ◌⊎◌, ℕ, zero, suc, ◌/◌, ◌<◌, Bool, true, false, List, ◌++◌, Option, None, Some, is_some, unwrap_or}
-use Rattle.itm_types.specs.Calls.{is_abort, is_begin, registered_by}
+use Rattle.std.specs.Prelude.{◌≡◌, ◌⊎◌, ℕ, zero, suc, ◌/◌, Bool, true, false, List, ◌++◌, Option, None, Some, unwrap_or}
+use Rattle.itm_types.specs.Calls.{is_begin}
 use Rattle.itm_types.specs.declared.call.Call.{Call}
 use Rattle.norec_core.specs.declared.answer.Answer.{Answer}
-use Rattle.norec_core.specs.Core.{Core, irrevocable_room}
-use Rattle.norec_core.specs.Proceeds.{MayStarve}
+use Rattle.norec_core.specs.Core.{irrevocable_room}
 use Rattle.norec_core.specs.Undoing.{after_undoing}
-use Rattle.norec_engine.specs.RestartingCalls.{can_restart}
 use Rattle.shared_words.specs.declared.words.Words.{Words}
 use Rattle.itm_runtime.specs.CallResults.{IsAnswered}
 use Rattle.itm_runtime.specs.Standing.{Standing, start_of}
@@ -19,19 +17,13 @@ use Rattle.tx_runs.specs.declared.savepoint.Savepoint.{Savepoint}
 use Rattle.tx_runs.specs.Tallies.{outside, within, Tally, begins_again, came, over_as, took_in, stand_of}
 use Rattle.tx_worker.specs.Accounts.{Account, account_after, tally_in}
 
--- Within a block memory is wanted for the call with its reply, where there is no room left for them; for the actions that it leaves, of an irrevocable transaction only once its commit actions have used its room up; in one that may be tried again, for the block that it begins, for the room that it asks for, or where the innermost block may run again by it; or by the call for itself.
-abbrev pub IsShort : Core → Call → Attempt → Type 0
-IsShort e call row =
-    (row.calls.room ≡ 0) ⊎ ((e.irrevocable ≡ true → e.room ≡ 0) × ((is_some (registered_by call) ≡ true) ⊎ (is_abort call ≡ true)))
-    ⊎ ((e.irrevocable ≡ false) × ((is_begin call ≡ true) ⊎ (0 < unwrap_or (irrevocable_room e call) 0) ⊎ (can_restart e call ≡ true))) ⊎ MayStarve e call
-
 module _ {P : Type 0} (rules : Rules P) where
   -- memory was refused to the player's next call, which begins a block where none is open. What was open is given up, unless it is irrevocable
   pub record IsStarved (a : Account P) (s : Standing) (a' : Account P) (s' : Standing) : Type 0 where
     pub call : Call
     pub asks : rules.next_call a.player ≡ Some call
     pub begins : a.stage ≡ outside → is_begin call ≡ true
-    pub short : (row : Attempt) (points : List Savepoint) → a.stage ≡ within row points → IsShort s.engine call row
+    pub used : s.engine.irrevocable ≡ true → (row : Attempt) (points : List Savepoint) → a.stage ≡ within row points → row.calls.room ≡ 0  -- an irrevocable attempt has used up the room that it asked for
     pub pass : s'.pass ≡ s.pass
     pub engine : s'.engine ≡ after_undoing s.engine
     pub held : s.engine.irrevocable ≡ true → a' ≡ a

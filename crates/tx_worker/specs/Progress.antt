@@ -60,7 +60,7 @@ module _ {P : Type 0} (rules : Rules P) where
     pub since : AreSince c.known ended
     pub known : known_after c.known ended ≤ length v.seen
     pub own : AreOwn c.number (c.retries + 1) ended
-    pub few : RestartAtMost c.restarts ended  -- inner blocks run again so often at most in each
+    pub few : RestartAtMost c.restarts ended  -- none tells of more inner blocks that ran again
     pub outrun : AreOutrun v.high ended  -- the clock was seen past where each that ended in a conflict had read
 
   -- where the run stands after them

@@ -1,5 +1,5 @@
 -- A worker between two calls, and one that has stopped.
-use Rattle.std.specs.Prelude.{◌≡◌, ℕ, ◌+◌, ◌/◌, ◌^◌, ◌<◌, ◌≤◌, Bool, true, false, if◌then◌else◌, List, length, Option, None, Some, unwrap_or, Vec, vec_len, vec_capacity}
+use Rattle.std.specs.Prelude.{◌≡◌, ◌⊎◌, ℕ, ◌+◌, ◌/◌, ◌^◌, ◌<◌, ◌≤◌, Bool, true, false, if◌then◌else◌, List, length, Option, None, Some, unwrap_or, Vec, vec_len, vec_capacity}
 use Rattle.std.specs.declared.alloc.Global.{Global}
 use Rattle.itm_types.specs.declared.limits.TheConstants.{MAX_RETRIES}
 use Rattle.itm_types.specs.Calls.{is_begin}
@@ -8,7 +8,8 @@ use Rattle.itm_types.specs.declared.call.Call.TheVariants.{Begin}
 use Rattle.itm_types.specs.declared.call.Ran.{Ran}
 use Rattle.norec_core.specs.declared.answer.Answer.{Answer}
 use Rattle.norec_core.specs.Core.{Core, in_transaction, irrevocable_room}
-use Rattle.norec_engine.specs.RestartingCalls.{can_restart}
+use Rattle.norec_core.specs.Proceeds.{MayStarve}
+use Rattle.norec_engine.specs.RestartingCalls.{arena_ahead}
 use Rattle.user_actions.specs.Actions.{total}
 use Rattle.shared_words.specs.declared.view.View.{View}
 use Rattle.shared_words.specs.declared.words.Words.{Words}
@@ -20,15 +21,14 @@ use Rattle.tx_attempts.specs.declared.attempt.Attempt.{Attempt}
 use Rattle.tx_runs.specs.declared.ending.End.{End}
 use Rattle.tx_runs.specs.declared.player_run.Current.{Current}
 use Rattle.tx_runs.specs.declared.player_run.Current.TheVariants.{Outside, Begins, Within}
-use Rattle.tx_runs.specs.OpenAttempts.{HasPlacesFor, told_in}
+use Rattle.tx_runs.specs.OpenAttempts.{HasPlacesFor, LacksPlaces, told_in}
 use Rattle.tx_runs.specs.PlayerRuns.{MayStop, MayTell, stage_of, tally_of}
 use Rattle.tx_runs.specs.Ranks.{Falls, restarts_left}
-use Rattle.tx_runs.specs.declared.savepoint.Savepoint.{Savepoint}
-use Rattle.tx_runs.specs.Tallies.{begins_again, outside, within, stand_of}
+use Rattle.tx_runs.specs.Tallies.{begins_again, outside, stand_of}
 use Rattle.tx_player.specs.Rules.{Rules}
 use Rattle.tx_worker.specs.declared.worker.Worker.{Worker}
 use Rattle.tx_worker.specs.Accounts.{Account, account_of, told}
-use Rattle.tx_worker.specs.Calls.{IsMade, IsShort, StopsAs, asked}
+use Rattle.tx_worker.specs.Calls.{IsMade, StopsAs, asked}
 use Rattle.tx_worker.specs.Positions.{AreFew, AreOver}
 use Rattle.tx_worker.specs.Progress.{Course, IsRunning}
 
@@ -43,10 +43,6 @@ bounds_of e = record { max_commits = e.max_commits; patience = e.patience; depth
 
 -- ## Room
 
--- the bytes of the arena, where the innermost block may run again by the call
-abbrev pub arena_ahead : Core → Call → Option ℕ
-arena_ahead e call = if can_restart e call then Some (length e.arena) else None
-
 -- there is a place for the open attempt among those that have ended, and in it for each action that may still run
 abbrev pub HasPlaces : Core → Vec Attempt Global → Current → Type 0
 HasPlaces e ended Outside = Unit {0}
@@ -59,20 +55,31 @@ IsToldBy due Outside = Unit {0}
 IsToldBy due (Begins o) = Unit {0}
 IsToldBy due (Within o) = told_in o.row ≤ length due
 
+-- how many actions the open attempt tells
+abbrev pub told_by : Current → Option ℕ
+told_by Outside = None
+told_by (Begins o) = None
+told_by (Within o) = Some (told_in o.row)
+
 -- and for what comes of this call, which asks for so many more
 abbrev pub IsReadyFor : Core → Call → ℕ → Vec Attempt Global → Current → Type 0
 IsReadyFor e call ahead ended Outside = Unit {0}
 IsReadyFor e call ahead ended (Begins o) = (vec_len ended < vec_capacity ended) × (ahead ≤ o.ends) × (ahead ≤ o.cancels)
 IsReadyFor e call ahead ended (Within o) = (vec_len ended < vec_capacity ended) × (total e.actions ≤ o.ends) × HasPlacesFor call (total e.actions) ahead (arena_ahead e call) o
 
--- each call that the open attempt has room for finds a place for a block that it begins; while the transaction may be tried again, each but one, since a call by which a block runs again leaves its room
-abbrev pub HasBlockPlaces : Bool → Current → Type 0
-HasBlockPlaces irrevocable Outside = Unit {0}
-HasBlockPlaces irrevocable (Begins o) = Unit {0}
-HasBlockPlaces true (Within o) = 0 < o.row.calls.room → length o.points + o.row.calls.room ≤ o.deep
-HasBlockPlaces false (Within o) = 1 < o.row.calls.room → length o.points + o.row.calls.room ≤ o.deep
+-- the open attempt lacks room for what comes of this call, or more is asked for
+abbrev pub LacksFor : Core → Call → Current → Type 0
+LacksFor e call Outside = Unit {0}
+LacksFor e call (Begins o) = Unit {0}
+LacksFor e call (Within o) = LacksPlaces call (total e.actions) (unwrap_or (irrevocable_room e call) 0) (arena_ahead e call) o
 
--- and so it is once the next call has come
+-- each call that the open attempt has room for finds a place for a block that it begins
+abbrev pub HasBlockPlaces : Current → Type 0
+HasBlockPlaces Outside = Unit {0}
+HasBlockPlaces (Begins o) = Unit {0}
+HasBlockPlaces (Within o) = 0 < o.row.calls.room → length o.points + o.row.calls.room ≤ o.deep
+
+-- and so does each after the next one, once that has come
 abbrev pub KeepsBlockPlaces : Current → Type 0
 KeepsBlockPlaces Outside = Unit {0}
 KeepsBlockPlaces (Begins o) = o.row.calls.room ≤ o.deep
@@ -83,6 +90,15 @@ abbrev pub HasActionPlaces : Core → Current → Type 0
 HasActionPlaces e Outside = Unit {0}
 HasActionPlaces e (Begins o) = Unit {0}
 HasActionPlaces e (Within o) = e.irrevocable ≡ true → 0 < e.room → (total e.actions + e.room ≤ o.ends) × (total e.actions + e.room ≤ o.cancels)
+
+-- how many calls the open attempt may have room for between two calls, at most: one that is irrevocable for as many as its engine has room, one that may be tried again for none
+abbrev pub promised : Core → ℕ
+promised e = if e.irrevocable then e.room else 0
+
+abbrev pub IsPromised : Core → Current → Type 0
+IsPromised e Outside = Unit {0}
+IsPromised e (Begins o) = Unit {0}
+IsPromised e (Within o) = o.row.calls.room ≤ promised e
 
 -- a begin is told whether an earlier try of its block got past it, where it is to open an attempt
 abbrev pub again_for : Current → Bool → Call → Bool
@@ -130,15 +146,15 @@ module _ {P : Type 0} where
     pub roomy : HasPlaces old.thread.engine new.ended new.run.current
     pub ended : new.ended.items ≡ old.ended.items
     pub begins : stage_of old.run.current ≡ outside → is_begin call ≡ true
-    pub short : (row : Attempt) (points : List Savepoint) → stage_of old.run.current ≡ within row points → IsShort old.thread.engine call row
 
 module _ {P : Type 0} (rules : Rules P) where
   pub record IsWorking (words : Words) (c : Course P) (b : Bounds) (w : Worker P) : Type 0 where
     pub same : IsSame words c b w
     pub running : IsRunning rules c (view_in w) w.thread.engine (account_of w)
     pub roomy : HasPlaces w.thread.engine w.ended w.run.current
-    pub blocks : HasBlockPlaces w.thread.engine.irrevocable w.run.current
+    pub blocks : HasBlockPlaces w.run.current
     pub actions : HasActionPlaces w.thread.engine w.run.current
+    pub promises : IsPromised w.thread.engine w.run.current
 
   -- its player's next call is answered, and nothing has come of that yet
   pub record IsAsked (words : Words) (c : Course P) (b : Bounds) (old : Worker P) (call : Call) (answer : Answer) (new : Worker P) : Type 0 where
@@ -154,6 +170,7 @@ module _ {P : Type 0} (rules : Rules P) where
     pub thread : new.thread ≡ old.thread
     pub run : new.run ≡ record old.run { current = new.run.current }
     pub unprepared : IsUnprepared old call new
+    pub short : LacksFor old.thread.engine call old.run.current ⊎ MayStarve old.thread.engine call
 
   -- it goes on after its player's next call, with less left to do
   pub record GoesOn (words : Words) (old new : Worker P) : Type 0 where

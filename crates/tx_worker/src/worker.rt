@@ -1,28 +1,28 @@
 //! One thread's player with its transactions.
 
-ghost use Rattle.std.specs.Prelude.{◌≡◌, ◌/◌, ◌<◌, ◌≤◌, Bool, false, Some, unwrap_or, IsOk, OnOk, OnErr, length, vec_len, vec_capacity};
+ghost use Rattle.std.specs.Prelude.{◌≡◌, ◌/◌, ◌<◌, ◌≤◌, Bool, false, Some, unwrap_or, IsOk, OnOk, OnErr, vec_len, vec_capacity};
 ghost use Rattle.norec_core.specs.Core.{irrevocable_room};
 ghost use Rattle.shared_words.specs.Passes.{Owns};
 ghost use Rattle.shared_words.specs.declared.words.Words.{Words as WordsValue};
 ghost use Rattle.itm_runtime.specs.CallResults.{Returns};
-ghost use Rattle.tx_runs.specs.OpenAttempts.{Open, told_in};
+ghost use Rattle.tx_runs.specs.OpenAttempts.{Open};
 ghost use Rattle.tx_runs.specs.PlayerRuns.{MayStop, MayTell};
 ghost use Rattle.tx_runs.specs.Tallies.{begun, stand_of};
 ghost use Rattle.tx_worker.specs.Accounts.{account_of, told};
-ghost use Rattle.tx_worker.specs.Workers.{Bounds, IsPrepared, IsToldBy, IsUnprepared, again_for, arena_ahead};
+ghost use Rattle.tx_worker.specs.Workers.{Bounds, IsPrepared, IsToldBy, IsUnprepared, LacksFor, again_for, told_by};
 ghost use Rattle.tx_worker.specs.Works.{Parts};
 
 use crate::gate::Gate;
 use crate::sink::ActionSink;
 use crate::worked::Worked;
 use itm_runtime::Thread;
-use itm_types::{Call, Props, Ran};
+use itm_types::{Call, Props};
 use norec_core::{Answer, Undone};
 use shared_words::{Pass, Words};
 use std::alloc::{AllocError, Global};
-use tx_attempts::{Attempt, Attempts, Outcome, count_undone};
+use tx_attempts::{Attempt, Attempts, Outcome};
 use tx_player::Player;
-use tx_runs::{Current, End, PlayerRun, ahead_of};
+use tx_runs::{Current, End, PlayerRun, ahead_of, told_of};
 
 /// A player with its thread.
 #[derive(Drop)]
@@ -94,11 +94,12 @@ impl<P: Player> Worker<P> {
         ensures same { self.new ≡ record self.old { run = record self.old.run { current = self.new.run.current }; ended = self.new.ended } }
         ensures ready { OnOk result ((words : WordsValue) → IsPrepared words P.Player self.old call.now self.new) }
         ensures unready { OnErr result (IsUnprepared self.old call.now self.new) }
+        ensures short { OnErr result (LacksFor self.old.thread.engine call.now self.old.run.current) }
     {
         match &mut self.run.current {
             Current::Within(open) => {
                 let ahead = ahead_of(self.thread.irrevocable_room(call));
-                let arena = arena_ahead(&self.thread, call);
+                let arena = self.thread.arena_ahead(call);
                 open.prepare(call, self.thread.actions(), ahead, arena)
             }
             Current::Begins(_) => Ok(()),
@@ -171,6 +172,7 @@ impl<P: Player> Worker<P> {
     /// How many of the actions that have come to run are told in the open attempt.
     fn ran(&self) -> Option<usize>
         requires { IsToldBy self.now.thread.engine.actions.ran self.now.run.current }
+        ensures { result ≡ told_by self.now.run.current }
     {
         match &self.run.current {
             Current::Within(open) => Some(told_of(open.row(), self.thread.due())),
@@ -232,29 +234,6 @@ impl<P: Player> Worker<P> {
             end,
             pass: pass_of(thread),
         }
-    }
-}
-
-/// How many of these actions the attempt tells, also in its blocks that ran again.
-fn told_of(row: &Attempt, due: &[Ran]) -> usize
-    requires { told_in row.now ≤ length due.now }
-    ensures { result ≡ told_in row.now }
-{
-    if due.is_empty() {
-        return 0;
-    }
-    row.ran.as_slice().len() + count_undone(row.restarts.as_slice())
-}
-
-/// How many bytes the arena has, where the innermost block may run again by the call.
-#[inline(always)]
-fn arena_ahead(thread: &Thread, call: &Call) -> Option<usize>
-    ensures { result ≡ arena_ahead thread.now.engine call.now }
-{
-    if thread.can_restart(call) {
-        Some(thread.arena().bytes().len())
-    } else {
-        None
     }
 }
 

@@ -8,3 +8,4 @@ pub mod ScheduleDecides
 pub mod Limits
 pub mod Starved
 pub mod Told
+pub mod Isolation

@@ -1,19 +1,12 @@
 -- Worlds and players within the limits of a run.
-use Rattle.std.specs.Prelude.{◌≡◌, ℕ, suc, ◌≤◌, length, Some}
+use Rattle.std.specs.Prelude.{◌≡◌, suc, ◌≤◌, length, Some}
 use Rattle.itm_types.specs.declared.call.Call.{Call}
 use Rattle.itm_types.specs.declared.limits.TheConstants.{MAX_ARENA, MAX_RETRIES}
 use Rattle.norec_world.specs.World.{World}
 use Rattle.tx_history.specs.Bounds.{HasArenaWidth, IsMemorySize}
 use Rattle.tx_history.specs.declared.history.Version.{Version}
-use Rattle.tx_history.specs.declared.history.Version.TheVariants.{One, Two, Three}
-use Rattle.tx_history.specs.Versions.{thread_limit}
+use Rattle.tx_history.specs.Versions.{MayRestart, thread_limit}
 use Rattle.tx_player.specs.Rules.{Rules}
-
--- the first version tells of no block that ran again: none may, where it is told so
-abbrev pub MayRestart : Version → ℕ → Type 0
-MayRestart One restarts = restarts ≡ 0
-MayRestart Two restarts = Unit {0}
-MayRestart (Three depth) restarts = Unit {0}
 
 -- the world's sizes and counts are those that a run may have, and that this version tells of
 pub record IsLimitedWorld {P : Type 0} (version : Version) (w : World P) : Type 0 where

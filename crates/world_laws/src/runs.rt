@@ -5,18 +5,19 @@ ghost use Rattle.tx_attempts.specs.declared.attempt.Attempt.{Attempt};
 ghost use Rattle.tx_attempts.specs.Attempts.{pairs_of};
 ghost use Rattle.tx_attempts.specs.Opacity.{IsOpaque};
 ghost use Rattle.tx_attempts.specs.Beginnings.{IsBeginningOf};
+ghost use Rattle.world_laws.specs.Isolation.{went_on_from};
 ghost use Rattle.world_laws.specs.ShownAlone.{OnePlayerShows, TakesLead};
 ghost use Rattle.world_laws.specs.ScheduleDecides.{BeginningDecides, EventDecides, EntriesDecide, RunDecides, SameShows, ScheduleDecides};
 
 use tx_player::Player;
 
 /// Isolation: of two opaque attempts, in any two worlds, whose players, properties and arenas at the begin are equal,
-/// which read equal memories and tell of equal inner blocks that ran again, where as many blocks may be open at once, the
-/// shorter list of calls with replies is a beginning of the longer one. Does nothing.
+/// which read equal memories and tell of inner blocks that ran again at the same calls and from equal arenas, where as many
+/// blocks may be open at once, the shorter list of calls with replies is a beginning of the longer one. Does nothing.
 pub fn isolation<P: Player>()
     ensures { (p : P) (a b : Attempt) (deepest n m : ℕ) (memory : List ℕ)
         → IsOpaque P.Player deepest p a n memory → IsOpaque P.Player deepest p b m memory
-        → a.arena ≡ b.arena → a.props ≡ b.props → a.restarts ≡ b.restarts
+        → a.arena ≡ b.arena → a.props ≡ b.props → went_on_from a.restarts ≡ went_on_from b.restarts
         → IsBeginningOf (pairs_of a) (pairs_of b) ⊎ IsBeginningOf (pairs_of b) (pairs_of a) }
 {}
 

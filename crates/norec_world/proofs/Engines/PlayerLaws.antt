@@ -2,7 +2,7 @@
 use Rattle.std.proofs.Common.{◌≡◌, ℕ, suc, ◌+◌, ◌/◌, ◌<◌, ◌≤◌, Bool, true, false, Some, refl, ap, subst, ◌∙◌, arith, nat_lt, [], Option, None, if◌then◌else◌, is_some, sym, ltb-false, List, length}
 use Rattle.norec_world.proofs.Common.{Actor, Answer, Attempt, Busy, Call, Committed, Conflict, Current, Done, End, Ended, Falls, Full, GaveUp, HasRow, IsAnswered, IsDeep, IsNested, IsSettledBy, Obeys, Ready, Records, Replied, Reply, Restarted, Rows, Rules, Savepoint, Stage, Status, Taken, TakesTo, begun_in, depth_after, in_transaction, open_in, over_as, pending_of, points_in, sent_back, stage_of, status_after, with_call}
 use Rattle.norec_world.proofs.Tries.Stages.{stage_begun, stage_open, stage_out, stand_at, taken_at, tally_at, told_again, told_nth, told_player, told_stage, within_at, tried_as, tried_at, is_cut}
-use Rattle.norec_world.proofs.Engines.RestartedEngines.{left_most}
+use Rattle.tx_runs.proofs.RestartsLeft.{left_most}
 use Rattle.norec_world.specs.Sound.{HasPoints}
 use Rattle.tx_attempts.specs.Restarts.{ran_on}
 use Rattle.tx_runs.{proofs.Players.Played, proofs.Players.nested_again, proofs.Players.nested_outside, proofs.Players.plays, proofs.Ranks.falls_back, proofs.Ranks.falls_close, proofs.Ranks.falls_reply, proofs.Ranks.falls_try, specs.Ranks.Falls as LessLeft, specs.Ranks.restarts_left, proofs.OpenCounts.open_deep, proofs.Players.is_opened, specs.Savepoints.cut_back, specs.Savepoints.savepoints_after, specs.Tallies.begins, specs.Tallies.outside}

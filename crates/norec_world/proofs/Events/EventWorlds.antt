@@ -1,7 +1,7 @@
 -- An actor of a world took an event, a step and the local work that follows it: the world that it leaves, and that the event says so.
 use Rattle.std.proofs.Common.{◌≡◌, ℕ, Bool, true, false, List, length-set, slice_get, slice_set, None, Some, IsSome, refl, sym, ap, subst, ◌∙◌, arith}
 use Rattle.norec_world.proofs.Common.{Actor, ActorGoes, AreOpaque, AreTied, Cells, ClocksOn, Continues, Finished, Goes, HasLess, HasRead, HasStepped, HasWorked, IsEvent, IsWorld, KeepsOthers, Obeys, Rows, Rules, Tries, World, counted, ending_at, ending_of, event_result, is_ready, is_waiting, observed, option_and_then, prior_of, same_Some, slice_get-set_same, slice_get_within, slice_index_or, waiting_step, waits_at}
-use Rattle.norec_world.proofs.Tries.TryEnds.{continues_on}
+use Rattle.norec_world.proofs.Tries.LaterTries.{continues_on}
 use Rattle.norec_world.proofs.Events.WorldEvents.{no_fault, told_event, waits_not_ended}
 use Rattle.norec_world.proofs.Runs.Others.{has_read, running_after, world_opaque, world_tied}
 use Rattle.norec_world.proofs.{Commits.CommitCounts.commits_after, Engines.ClockHolders.clocks_still, Engines.ClockHolders.clocks_twice, Engines.Intakes.ready_of, Engines.SoundSteps.rests, Events.SoundOthers.actors_after, Events.Measures.event_less, Events.Worlds.going_in, Events.Worlds.lawful_at, Tries.Dates.dated_after, Tries.Stages.others_twice, Tries.TryChains.tries_then}

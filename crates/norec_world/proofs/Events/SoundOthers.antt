@@ -77,11 +77,6 @@ set_place xs i got new here j b e = elim (cases_Bool (i == j)) [
   | inr h ↦ (let apart : i ≢ j = eqb-false i j h in inr (apart, sym (slice_get-set_other xs i j new apart) ∙ e))
 ]
 
-pub there_is : {A : Type 0} (xs : List A) (i : ℕ) → i < length xs → (x : A) × (slice_get xs i ≡ Some x)
-there_is [] i l = absurd (omega arith)
-there_is (x ∷ xs) zero l = (x, refl)
-there_is (x ∷ xs) (suc i) l = there_is xs i (omega arith)
-
 -- where one holds it, the clock is odd
 pub odd_held : {P : Type 0} {rules : Rules P} {cells : Cells} {r : Rows} {actors : List (Actor P)} → AreActors rules cells r actors → (j : ℕ) (b : Actor P) → slice_get actors j ≡ Some b → b.engine.holds ≡ true → cells.clock % 2 ≡ 1
 odd_held s j b e h =

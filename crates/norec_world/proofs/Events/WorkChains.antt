@@ -5,7 +5,7 @@ use Rattle.norec_world.specs.Sound.{rank_now}
 use Rattle.norec_world.specs.Tries.{Extends}
 use Rattle.tx_runs.specs.Ranks.{restarts_left}
 use Rattle.norec_world.proofs.Engines.RestartedEngines.{left_same}
-use Rattle.norec_world.proofs.Tries.TryEnds.{extends_twice}
+use Rattle.norec_world.proofs.Tries.LaterTries.{extends_twice}
 use Rattle.norec_world.proofs.Tries.Stages.{others_place, others_same, others_twice, row_same}
 use Rattle.norec_world.proofs.Runs.Calls.{call_runs, finish_runs, laid_calls, starve_runs, still_at}
 use Rattle.norec_world.proofs.Engines.SoundSteps.{IsCalling, call_less, call_taken, mid, player_same, rests, same_rank}

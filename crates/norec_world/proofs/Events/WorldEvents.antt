@@ -3,7 +3,8 @@ use Rattle.std.proofs.Common.{inl, inr, ◌≡◌, ◌↔◌, ◌≤◌, zero, s
 use Rattle.norec_world.proofs.Common.{Actor, AreActors, AreOpaque, AreTied, CommitsInOrder, End, Finished, Goes, IsNoMore, Leads, LeavesLess, Passes, Rules, SameOpening, Status, Takes, Waits, World, WorldFault, cases_lt, counted, ending_at, ending_of, event_result, in_transaction, is_ready, is_waiting, observed, option_and_then, passes_of, run_left, slice_get_within, steps_left, waiting_step, waits_at, whole}
 use Rattle.norec_world.proofs.Events.Worlds.{some_ended, some_waiting, waits_there, waiting_going}
 use Rattle.norec_world.proofs.Events.Measures.{HasLessSoFar, less_so_far, same_less, less_less}
-use Rattle.norec_world.{proofs.Events.SoundOthers.there_is, specs.World.is_event, specs.WorldEvents.is_passed, specs.WorldEvents.is_starved, specs.WorldEvents.is_taken}
+use Rattle.tx_runs.proofs.RunLists.{there_is}
+use Rattle.norec_world.{specs.World.is_event, specs.WorldEvents.is_passed, specs.WorldEvents.is_starved, specs.WorldEvents.is_taken}
 use Rattle.std.{proofs.lemmas.List.take_more, proofs.lemmas.List.Sums.sum_by-append, specs.Option.option_map, specs.Option.option_map_or}
 use Rattle.norec_world.specs.declared.fault.WorldFault.TheVariants as faults
 

@@ -1,7 +1,7 @@
 -- The actors of a world, over one event.
 use Rattle.std.proofs.Common.{◌≡◌, ℕ, zero, suc, ◌<◌, true, false, List, [], ◌∷◌, length, Option, None, Some, IsSome, slice_get, refl, sym, ap, subst, arith}
 use Rattle.norec_world.proofs.Common.{Actor, AreActors, Ended, IsLawful, Rows, Rules, Status, StatusIs, Step, Waits, World, ending_of, is_ready, is_waiting, option_and_then, slice_index_or, waiting_step, waits_at}
-use Rattle.norec_world.proofs.Events.SoundOthers.{there_is}
+use Rattle.tx_runs.proofs.RunLists.{there_is}
 use Rattle.std.proofs.lemmas.Option.{slice_get_read}
 
 pub within_some : {A B : Type 0} (f : A → Option B) (xs : List A) (i : ℕ) → IsSome (option_and_then f (slice_get xs i)) → i < length xs

@@ -4,17 +4,18 @@ use Rattle.tx_runs.proofs.StepCalls.{wants_none, places_for}
 use Rattle.tx_runs.proofs.OpenRooms.{again_none, begins_none, outside_current, reserved_least, reserved_most}
 use Rattle.std.proofs.Common.{◌≡◌, inl, inr, ℕ, zero, suc, ◌+◌, ◌/◌, ◌<◌, ◌≤◌, max, length, not, Bool, true, false, true≢false, List, [], append-nil, Result, Ok, Err, IfOk, OnErr, Option, None, Some, is_some, unwrap_or, refl, sym, ap, subst, ◌∙◌, arith, if◌then◌else◌}
 use Rattle.norec_core.specs.Moves.{IsCalled}
-use Rattle.norec_world.specs.ActionRoom.{BacksIn, BeganIn, NestsAs, NestsBy, NestsReady, arena_ahead, opened_by}
+use Rattle.norec_world.specs.ActionRoom.{BacksIn, BeganIn, NestsAs, NestsBy, NestsReady, opened_by}
+use Rattle.norec_engine.specs.RestartingCalls.{arena_ahead}
 use Rattle.tx_runs.specs.OpenAttempts.{HasPlacesFor, LacksPlaces, Open, told_in}
 use Rattle.tx_runs.specs.Savepoints.{AreSavepoints}
 use Rattle.tx_runs.specs.Tallies.{begins, outside}
-use Rattle.norec_world.proofs.Engines.RestartedEngines.{ahead_of_it}
-use Rattle.norec_world.specs.LocalWork.{IsShort}
+use Rattle.norec_engine.proofs.RestartingCalls.{ahead_of_it}
+use Rattle.norec_world.specs.LocalWork.{HasUsedUp}
 use Rattle.norec_world.specs.Records.{Asks as AsksOf}
 use Rattle.norec_world.proofs.Common.{Actor, Answer, Attempt, Begin, Begins, Call, Cells, ComesInto, Core, Current, HasPlace, HasRow, IsAsked, IsKept, IsPromised, IsRefused, IsSound, IsUnasked, KeepsOthers, Kept, MAX_ACTORS, MayRunOn, Next, Props, Ready, Rows, Rules, Savepoint, Stage, Status, Step, Within, active_of, begins_again, begun, came, cancels_in, cases_Bool, count_in, ends_in, asks_no_room, in_transaction, irrevocable_room, is_begin, next_in, none-some, open_in, promised, reserved, same_Some, stage_of, total, with_room, within}
 use Rattle.norec_world.proofs.Engines.SoundSteps.{rests}
 use Rattle.norec_world.proofs.Rooms.ActionRoom.{called_acting, gave_acting}
-use Rattle.norec_world.proofs.Rooms.CallRoom.{backed_came, promised_came, short_of_room, wanted_came}
+use Rattle.norec_world.proofs.Rooms.CallRoom.{backed_came, promised_came, used_of_call, used_of_room, wanted_came}
 use Rattle.norec_world.proofs.Rooms.HeldRoom.{came_room}
 use Rattle.norec_world.proofs.Tries.Stages.{asked_at, others_same, row_is_of, row_open, row_same, row_shut, row_unfinished, stage_out}
 
@@ -26,10 +27,6 @@ not_within c not = refl
 pub on_err_still : {E : Type 0} (old new : Core) (call : Call) (again : Bool) (answer : Answer) (Q : Core → Type 0) (result : Result (Option Step) E) → ComesInto old call again result answer new → Q old → OnErr result (Q new)
 on_err_still old new call again answer Q (Ok step) comes q = tt
 on_err_still old new call again answer Q (Err e) comes q = subst Q (sym comes.err) q
-
-pub on_err : {A E T : Type 0} (result : Result A E) → T → OnErr result T
-on_err (Ok what) t = tt
-on_err (Err x) t = t
 
 -- with a place for the block that the call begins, and for those of as many calls as it asks for
 nests_for : (call : Call) (points room room' deep ahead : ℕ) → points + room ≤ deep → room' ≤ max room (ahead + 1) → (is_begin call ≡ true → points < deep) → (0 < ahead → points + ahead < deep) → points + room' + opened_by call ≤ deep + 1
@@ -116,8 +113,13 @@ module _ {P : Type 0} {rules : Rules P} {cells : Cells} {r : Rows} {a : Actor P}
       began = began_within;
     }
 
-  pub short_within : (call : Call) → LacksPlaces call (total a.engine.actions) (unwrap_or (irrevocable_room a.engine call) 0) (arena_ahead a.engine call) o → IsShort a call
-  short_within call = short_of_room a call o is inside sound.acts.room here_nests
+  pub used_within : (call : Call) → LacksPlaces call (total a.engine.actions) (unwrap_or (irrevocable_room a.engine call) 0) (arena_ahead a.engine call) o → HasUsedUp a
+  used_within call = used_of_room a call o is inside sound.acts.room here_nests (subst (IsPromised a) ready sound.acts.backed o.row here)
+
+  -- so it is where memory is refused to the call itself
+  pub used_asking : (call : Call) (e : Core) {E : Type 0} (answer : Answer) (result : Result (Option Step) E) → ComesInto a.engine call false result answer e → OnErr result (HasUsedUp a)
+  used_asking call e answer (Ok what) comes = tt
+  used_asking call e answer (Err x) comes = used_of_call a call (subst (IsPromised a) ready sound.acts.backed) comes.starves
 
   pub others_within : (e : Core) → KeepsOthers a r (New e) r
   others_within e = (let one = ap (λ (c : Current). count_in (stage_of c)) is in others_same a (New e) r r refl (omega arith) refl (omega arith))
@@ -186,6 +188,9 @@ module _ {P : Type 0} {rules : Rules P} {cells : Cells} {r : Rows} {a : Actor P}
   -- memory was refused
   pub unasked_outside : IsUnasked rules a a
   unasked_outside = record { actor = refl; stage = (0, out_outside ∙ ap (with_room 0) (sym out_outside)) }
+
+  pub used_outside : HasUsedUp a
+  used_outside h row e = absurd (none-some row (sym none ∙ e))
 
   pub refused_outside : IsRefused a
   refused_outside = record {

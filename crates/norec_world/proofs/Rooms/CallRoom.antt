@@ -1,14 +1,15 @@
 -- What a call that comes, and its answer, leave of the places that the list of an irrevocable transaction's calls promises.
 pub use Rattle.tx_runs.proofs.OpenRooms.{reserved_least}
-use Rattle.std.proofs.Common.{◌≡◌, ◌⊎◌, true≢false, ℕ, zero, suc, ◌+◌, ◌-◌, ◌<◌, ◌≤◌, max, length, Bool, true, false, if◌then◌else◌, Option, None, Some, is_some, unwrap_or, refl, sym, ap, subst, ◌∙◌, inl, inr, arith}
-use Rattle.norec_core.specs.Proceeds.{MayStarve, MayStarveHeld, MayStarveOpen}
+use Rattle.std.proofs.Common.{◌≡◌, true≢false, ℕ, zero, suc, ◌+◌, ◌-◌, ◌<◌, ◌≤◌, max, length, Bool, true, false, if◌then◌else◌, Option, None, Some, is_some, unwrap_or, refl, sym, ap, subst, ◌∙◌, inl, inr, arith}
+use Rattle.norec_core.specs.Proceeds.{MayStarve, MayStarveHeld}
 use Rattle.tx_runs.specs.OpenAttempts.{LacksPlaces, Open}
-use Rattle.norec_world.specs.ActionRoom.{arena_ahead, counted}
-use Rattle.norec_world.proofs.Engines.RestartedEngines.{ahead_if, can_revocable}
-use Rattle.norec_world.specs.LocalWork.{IsShort, LacksRoom}
+use Rattle.norec_engine.specs.RestartingCalls.{arena_ahead}
+use Rattle.norec_world.specs.ActionRoom.{counted}
+use Rattle.norec_engine.proofs.RestartingCalls.{ahead_revocable}
+use Rattle.norec_world.specs.LocalWork.{HasUsedUp}
 use Rattle.norec_world.proofs.Rooms.HeldRoom.{goes_in_same, held_as}
 use Rattle.tx_runs.proofs.IrrevocableCalls.{left_least, plain_goes}
-use Rattle.norec_world.proofs.Common.{Actor, Answer, Attempt, Begin, Call, CommitAction, Core, Current, Ends, HasRoomFor, IsPromised, Mode, Within, cancels_in, ends_in, open_in, same_Some, stage_of, total, IsRestart, IsSettled, MayStarveIn, Ready, Replied, Reply, active_of, came, goes_in, asks_no_room, goes_same, in_transaction, irrevocable_room, promised, reply_cases, rests, room_left, wanted}
+use Rattle.norec_world.proofs.Common.{Actor, Answer, Attempt, Call, CommitAction, Core, Current, Ends, HasRoomFor, IsPromised, Within, cancels_in, ends_in, open_in, same_Some, stage_of, total, IsRestart, IsSettled, MayStarveIn, Ready, Replied, Reply, came, goes_in, asks_no_room, goes_same, in_transaction, irrevocable_room, promised, reply_cases, rests, room_left, wanted}
 
 -- ## An answer
 
@@ -88,33 +89,16 @@ backed_came c call again = (let asked = wanted_came c call again in let most = b
     by_room (Some room) = omega arith
     by_room None = omega arith
 
--- ## Where memory is wanted
-
--- a call that asks for room may want it
-starves_if : (b : Bool) (room : ℕ) → 0 < unwrap_or (if b then Some room else None) 0 → ((if b then Some room else None) ≡ Some room) × (0 < room)
-starves_if true room some = (refl, some)
-starves_if false room some = absurd (omega arith)
-
-starves_going : (c : Core) (call : Call) → 0 < unwrap_or (irrevocable_room c call) 0 → MayStarveOpen c call
-starves_going c (Begin props room) some = starves_if _ room some
-starves_going c (Mode room) some = starves_if _ room some
-starves_going c call some = absurd (omega arith)
-
-pub starves_asked : (c : Core) (call : Call) → 0 < unwrap_or (irrevocable_room c call) 0 → MayStarve c call
-starves_asked c call some = by_mode c.irrevocable refl
-  where
-    by_mode : (b : Bool) → c.irrevocable ≡ b → MayStarveIn b c call
-    by_mode true e = absurd (let none = ap (λ (o : Option ℕ). unwrap_or o 0) (asks_no_room c call e) in omega arith)
-    by_mode false e = starves_going c call some
+-- ## Where memory is wanted in an irrevocable transaction
 
 none_left : (n : ℕ) → (0 < n → ⊥) → n ≡ 0
 none_left zero never = refl
 none_left (suc n) never = absurd (never (omega arith))
 
--- an open attempt that has no room for the call
-pub short_of_room : {P : Type 0} (a : Actor P) (call : Call) (o : Open) → a.run.current ≡ Within o → in_transaction a.engine ≡ true → HasRoomFor a.engine a → length o.points + o.row.calls.room ≤ o.deep
-    → LacksPlaces call (total a.engine.actions) (unwrap_or (irrevocable_room a.engine call) 0) (arena_ahead a.engine call) o → IsShort a call
-short_of_room {P} a call o is inside room nests lacks row e = by_want lacks
+-- an open attempt that has no room for the call has used up what it asked for
+pub used_of_room : {P : Type 0} (a : Actor P) (call : Call) (o : Open) → a.run.current ≡ Within o → in_transaction a.engine ≡ true → HasRoomFor a.engine a → length o.points + o.row.calls.room ≤ o.deep → o.row.calls.room ≤ promised a.engine
+    → LacksPlaces call (total a.engine.actions) (unwrap_or (irrevocable_room a.engine call) 0) (arena_ahead a.engine call) o → HasUsedUp a
+used_of_room {P} a call o is inside room nests few lacks h row e = (let none = by_want lacks in let s = same in omega arith)
   where
     same : row.calls.room ≡ o.row.calls.room
     same = ap (λ (x : Attempt). x.calls.room) (same_Some _ _ (sym e ∙ ap (λ (c : Current). open_in (stage_of c)) is))
@@ -122,38 +106,33 @@ short_of_room {P} a call o is inside room nests lacks row e = by_want lacks
     all : counted a.engine ≡ total a.engine.actions
     all = ap (λ (b : Bool). if b then total a.engine.actions else 0) inside
 
-    by_want : LacksPlaces call (total a.engine.actions) (unwrap_or (irrevocable_room a.engine call) 0) (arena_ahead a.engine call) o → (row.calls.room ≡ 0) ⊎ LacksRoom a call ⊎ MayStarve a.engine call
-    by_want (inl full) = inl (same ∙ full)
-    by_want (inr (inl deep)) = inl (let l = deep.1 in let s = same in omega arith)
+    none_by : a.engine.room ≡ 0 → o.row.calls.room ≡ 0
+    none_by none = (let most = promised_all a.engine h in omega arith)
+
+    by_want : LacksPlaces call (total a.engine.actions) (unwrap_or (irrevocable_room a.engine call) 0) (arena_ahead a.engine call) o → o.row.calls.room ≡ 0
+    by_want (inl full) = full
+    by_want (inr (inl deep)) = (let l = deep.1 in omega arith)
     by_want (inr (inr (inl ends))) =
-        let few = ends.1 in
+        let most = ends.1 in
         let count = all in
         let there = ap ends_in is in
-        inr (inl ((λ (h : a.engine.irrevocable ≡ true). none_left a.engine.room (λ (some : 0 < a.engine.room). (let both = room (held_as a.engine h) some in let l = both.0 in omega arith))), inl (ends.0, omega arith)))
+        none_by (none_left a.engine.room (λ (some : 0 < a.engine.room). (let both = room (held_as a.engine h) some in let l = both.0 in omega arith)))
     by_want (inr (inr (inr (inl cancels)))) =
-        let few = cancels.1 in
+        let most = cancels.1 in
         let count = all in
         let there = ap cancels_in is in
-        inr (inl ((λ (h : a.engine.irrevocable ≡ true). none_left a.engine.room (λ (some : 0 < a.engine.room). (let both = room (held_as a.engine h) some in let l = both.1 in omega arith))), inr (inl (cancels.0, omega arith))))
-    by_want (inr (inr (inr (inr (inl ahead))))) = inr (inr (starves_asked a.engine call ahead))
-    by_want (inr (inr (inr (inr (inr again))))) =
-        (let can = ahead_if a.engine call again in
-        inr (inl ((λ (h : a.engine.irrevocable ≡ true). absurd (true≢false (sym h ∙ can_revocable a.engine call can))), inr (inr can))))
-
--- ### In an irrevocable transaction
+        none_by (none_left a.engine.room (λ (some : 0 < a.engine.room). (let both = room (held_as a.engine h) some in let l = both.1 in omega arith)))
+    by_want (inr (inr (inr (inr (inl ahead))))) = absurd (let none = ap (λ (x : Option ℕ). unwrap_or x 0) (asks_no_room a.engine call h) in omega arith)
+    by_want (inr (inr (inr (inr (inr again))))) = absurd (true≢false (sym h ∙ ahead_revocable a.engine call again.0 again.1))
 
 starves_used : (c : Core) (call : Call) → MayStarveHeld c call → c.room ≡ 0
 starves_used c (CommitAction action) m = m
 starves_used c call m = absurd m
 
--- no place is promised any more
-pub used_up : {P : Type 0} (a : Actor P) (call : Call) → IsPromised a Ready → IsShort a call → a.engine.irrevocable ≡ true → (row : Attempt) → active_of a ≡ Some row → row.calls.room ≡ 0
-used_up a call backed short h row e = elim (short row e) [
-  | inl full ↦ full
-  | inr (inl lacks) ↦ (let few = backed row e in let most = promised_all a.engine h in let none = lacks.0 h in omega arith)
-  | inr (inr starves) ↦
-      (let few = backed row e in
-      let most = promised_all a.engine h in
-      let none = starves_used a.engine call (subst (λ (b : Bool). MayStarveIn b a.engine call) h starves) in
-      omega arith)
-]
+-- and so has one that wants memory for the call itself
+pub used_of_call : {P : Type 0} (a : Actor P) (call : Call) → IsPromised a Ready → MayStarve a.engine call → HasUsedUp a
+used_of_call a call backed starves h row e =
+    let few = backed row e in
+    let most = promised_all a.engine h in
+    let none = starves_used a.engine call (subst (λ (b : Bool). MayStarveIn b a.engine call) h starves) in
+    omega arith

@@ -13,7 +13,7 @@ use Rattle.norec_world.proofs.Tries.OpenTries.{agree_reads}
 use Rattle.tx_attempts.proofs.ToldRuns.{telling}
 use Rattle.tx_runs.specs.OpenTries.{ReadsFrom}
 use Rattle.norec_world.proofs.Commits.SeenMemories.{HasSeen, memory_at}
-use Rattle.norec_world.proofs.Engines.OpenEngines.{stands_open}
+use Rattle.tx_runs.proofs.EngineStates.{stands_open}
 use Rattle.norec_world.proofs.Engines.Intakes.{HasAnswered}
 use Rattle.norec_world.proofs.Tries.TryEnds.{next_try}
 use Rattle.tx_runs.proofs.PlainCalls.{commit_reply}

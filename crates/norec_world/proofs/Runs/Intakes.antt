@@ -12,7 +12,7 @@ use Rattle.norec_world.proofs.Runs.Answers.{back_runs, before_as, held_position,
 use Rattle.norec_world.proofs.Runs.Endings.{cancel_runs, commit_ended, committed_row, commit_memory, commit_runs, conflict_runs, full_runs}
 use Rattle.norec_world.proofs.Engines.HeldCalls.{HasHeld, stands_mode}
 use Rattle.norec_world.proofs.Tries.Stages.{open_by, taken_at, told_active}
-use Rattle.norec_world.proofs.Engines.OpenEngines.{stands_open}
+use Rattle.tx_runs.proofs.EngineStates.{stands_open}
 use Rattle.norec_world.proofs.Runs.Begins.{begin_holds, shut_runs}
 use Rattle.norec_world.proofs.Commits.SeenMemories.{HasSeen, memory_at}
 use Rattle.norec_world.proofs.Engines.Intakes.{HasAnswered, HasTaken, answered, still_going, clock_grows, half_same, unfreed}

@@ -7,7 +7,8 @@ use Rattle.norec_world.proofs.Tries.Dates.{all_dated, all_few}
 use Rattle.tx_runs.proofs.TriesStep.{positioned_on}
 use Rattle.tx_runs.specs.OpenTries.{ReadsFrom}
 use Rattle.tx_runs.specs.Restarts.{RestartAtMost}
-use Rattle.norec_world.proofs.Events.SoundOthers.{set_place, there_is, held_apart, odd_held}
+use Rattle.norec_world.proofs.Events.SoundOthers.{set_place, held_apart, odd_held}
+use Rattle.tx_runs.proofs.RunLists.{there_is}
 use Rattle.norec_world.proofs.Tries.Stages.{row_open, row_unfinished}
 use Rattle.norec_world.specs.Stages.{opens}
 use Rattle.norec_world.proofs.Runs.Answers.{before_as, idle_from, rests_run, run_on, top}

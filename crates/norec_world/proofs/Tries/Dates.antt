@@ -9,7 +9,7 @@ use Rattle.norec_world.specs.Invariant.{IsDatedActor, IsDatedWorld, IsTry}
 use Rattle.tx_runs.proofs.RestartLists.{few_both, few_more}
 use Rattle.tx_runs.specs.Restarts.{RestartAtMost}
 use Rattle.norec_world.specs.Tries.{IsSame}
-use Rattle.norec_world.proofs.Tries.TryEnds.{continues_same}
+use Rattle.norec_world.proofs.Tries.LaterTries.{continues_same}
 use Rattle.norec_world.specs.Stages.{opens}
 use Rattle.norec_world.proofs.Tries.Stages.{open_only}
 use Rattle.norec_world.proofs.Tries.ThreadAttempts.{are_open, opens_each}

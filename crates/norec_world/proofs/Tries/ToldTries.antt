@@ -2,7 +2,7 @@
 use Rattle.std.proofs.Common.{◌≡◌, ℕ, ◌/◌, Bool, true, false, nat_lt, None, refl, sym, subst}
 use Rattle.norec_world.proofs.Common.{Actor, Continues, GoesOnAfter, HasRow, IsKept, Outcome, Prior, ReadsAt, Rows, Tries, TriesAgain, active_of, begins, between, in_transaction, outrun, over, runs, shut_out, told, turned_away}
 use Rattle.tx_attempts.specs.declared.attempt.Outcome.TheVariants as outcomes
-use Rattle.norec_world.proofs.Tries.TryEnds.{continues_on, extends_calls}
+use Rattle.norec_world.proofs.Tries.LaterTries.{continues_on, extends_calls}
 use Rattle.norec_world.proofs.Tries.Stages.{moved_here, moved_none, moved_row}
 
 module _ {P : Type 0} (a : Actor P) where

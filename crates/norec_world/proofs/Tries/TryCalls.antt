@@ -14,7 +14,8 @@ use Rattle.norec_core.specs.Endings.{EndsSo, ending_after, ending_at, ending_fro
 use Rattle.norec_core.specs.Phases as at
 use Rattle.norec_world.proofs.Engines.SoundSteps.{IsCalling, call_taken, mid, rests, IsStepping, limit_is, mid_step, same, step_taken, waits, went}
 use Rattle.norec_world.proofs.Engines.Intakes.{HasAnswered, HasTaken, recorded}
-use Rattle.norec_world.proofs.Tries.TryEnds.{back_tries, current_open, begin_tries, begun_or_not, continues_as, extends_calls, extends_twice, is_between, open_tries, stays, stays_between, stays_open, stops_try, tries_from, tries_later}
+use Rattle.norec_world.proofs.Tries.LaterTries.{current_open, continues_as, extends_calls, extends_twice, stays, stays_between, stays_open, tries_from, tries_later}
+use Rattle.norec_world.proofs.Tries.TryEnds.{back_tries, begin_tries, begun_or_not, is_between, open_tries, stops_try}
 use Rattle.norec_world.proofs.Tries.AnswerEndings.{not_finished}
 use Rattle.norec_world.proofs.Tries.ToldTries.{told_tries}
 

@@ -5,7 +5,7 @@ use Rattle.norec_world.proofs.Common.{Actor, Attempt, Cells, EndsAt, GoesOnAfter
 use Rattle.norec_world.specs.Tries.{Extends}
 use Rattle.tx_attempts.specs.declared.attempt.Outcome.TheVariants as outcomes
 use Rattle.norec_world.proofs.Engines.SoundSteps.{rests}
-use Rattle.norec_world.proofs.Tries.TryEnds.{stays, tries_from}
+use Rattle.norec_world.proofs.Tries.LaterTries.{stays, tries_from}
 use Rattle.norec_world.proofs.Engines.Intakes.{still_going}
 
 -- none found no memory

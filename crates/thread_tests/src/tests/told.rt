@@ -1,6 +1,6 @@
 //! What the gate is asked about and told of, and when actions run.
 
-use crate::tests::gates::Tallies;
+use crate::tests::gates::{Held, InTurns, Tallies};
 use crate::tests::sinks::{Digits, Meanwhile};
 use crate::tests::texts::{expect_ends, expect_run, report_of};
 use std::sync::atomic::Ordering;
@@ -94,4 +94,61 @@ fn actions_run_after_the_commit(rt: HostRuntime) -> Result<(), Fail> {
         READ_MEANWHILE,
         &ends,
     )
+}
+
+const UNDONE_AND_RUN_AGAIN: &str = ".memory 16
+.restarts 1
+.thread
+_ITM_beginTransaction r0 -
+_ITM_addUserCommitAction 3 _ITM_noTransactionId 0
+_ITM_beginTransaction r1 -
+_ITM_addUserUndoAction 1 0
+_ITM_addUserUndoAction 2 0
+_ITM_RU8 r2 0
+_ITM_RU8 r3 8
+_ITM_commitTransaction
+_ITM_commitTransaction
+.thread
+set r1 7
+_ITM_beginTransaction r0 -
+_ITM_WU8 0 r1
+_ITM_commitTransaction
+";
+
+const RAN_AGAIN: &str = "itm-history 2
+memory 00000000000000000000000000000000
+attempt 0 1 1 readonly -
+arena -
+call _ITM_addUserCommitAction 3 _ITM_noTransactionId 0 = ok
+call _ITM_beginTransaction - = code 5
+restart -
+undone 2 0
+undone 1 0
+call _ITM_addUserUndoAction 1 0 = ok
+call _ITM_addUserUndoAction 2 0 = ok
+call _ITM_RU8 0 = 0700000000000000
+call _ITM_RU8 8 = 0000000000000000
+call _ITM_commitTransaction = ok
+call _ITM_commitTransaction = ok
+ran commit 3 0
+end
+attempt 1 1 0 committed -
+arena -
+call _ITM_WU8 0 0700000000000000 = ok
+call _ITM_commitTransaction = ok
+end
+final 2 07000000000000000000000000000000
+";
+
+/// A commit between two reads of an inner block, which goes back to its begin: its undo actions run then, the last one first,
+/// and none of them again at a later call; the commit action of the block around runs once.
+#[test]
+fn actions_of_a_block_that_runs_again(rt: HostRuntime) -> Result<(), Fail> {
+    let held = [Held::new(1, 0, 5), Held::new(0, 6, 2)];
+    let gate = InTurns::new(&held);
+    let sink = Digits::new();
+    let ends = [End::Finished; 2];
+    expect_run(&rt, UNDONE_AND_RUN_AGAIN, &gate, &sink, RAN_AGAIN, &ends)?;
+    assert_eq!(rt; sink.all(), 0x213);
+    Ok(())
 }

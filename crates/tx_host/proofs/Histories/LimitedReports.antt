@@ -1,5 +1,5 @@
 -- The history of a run on threads is within the limits of a run, where its program is.
-use Rattle.std.proofs.Common.{◌≡◌, ℕ, zero, suc, ◌+◌, ◌<◌, ◌≤◌, Bool, All, List, [], ◌∷◌, length, Some, slice_get, refl, sym, subst, arith}
+use Rattle.std.proofs.Common.{ℕ, zero, suc, ◌+◌, ◌<◌, ◌≤◌, Bool, All, List, [], ◌∷◌, length, Some, sym, subst, arith}
 use Rattle.std.proofs.lemmas.List.{length-replicate}
 use Rattle.std.proofs.lemmas.List.Elements.{All-nil, All-cons, All-head, All-tail, All-append}
 use Rattle.itm_types.specs.declared.limits.TheConstants.{MAX_ARENA, MAX_RETRIES}
@@ -8,12 +8,12 @@ use Rattle.script_vm.specs.Threads.{thread_rules}
 use Rattle.tx_attempts.specs.declared.attempt.Attempt.{Attempt}
 use Rattle.tx_attempts.specs.Attempts.{of_thread}
 use Rattle.tx_history.specs.declared.history.Version.{Version}
-use Rattle.tx_attempts.specs.declared.attempt.Again.{Again}
 use Rattle.tx_runs.specs.Restarts.{RestartAtMost}
 use Rattle.tx_runs.proofs.RunLists.{there_is}
 use Rattle.tx_history.specs.Bounds.{AreLimited, HasArenaWidth, IsLimited, IsMemorySize}
 use Rattle.tx_history.specs.Legal.{memory_at}
-use Rattle.tx_history.specs.Versions.{MayTell, thread_limit}
+use Rattle.tx_history.proofs.ToldRestarts.{may_tell}
+use Rattle.tx_history.specs.Versions.{MayRestart, thread_limit}
 use Rattle.tx_worker.specs.Positions.{AreOwn}
 use Rattle.tx_history.proofs.Runs.LimitedRuns.{IsOwn, own_run}
 use Rattle.tx_host.specs.declared.report.Report.{Report}
@@ -29,7 +29,7 @@ by_threads Q k zero all each = All-nil Q
 by_threads Q k (suc n) all each = All-append Q (of_thread k all) (by_number (k + 1) n all) (each k (omega arith)) (by_threads Q (k + 1) n all (λ thread l. each thread (omega arith)))
 
 -- the attempts of a thread with this number and so many tries of a block at most
-limited_each : (version : Version) (thread tries k restarts : ℕ) → thread ≤ thread_limit version → tries ≤ MAX_RETRIES + 1 → k ≤ MAX_ARENA → (xs : List Attempt) → ((rs : List Again) → length rs ≤ restarts → MayTell version rs) → AreOwn thread tries xs → All (IsOwn HasArenaWidth k) xs → RestartAtMost restarts xs → All (IsLimited version) xs
+limited_each : (version : Version) (thread tries k restarts : ℕ) → thread ≤ thread_limit version → tries ≤ MAX_RETRIES + 1 → k ≤ MAX_ARENA → (xs : List Attempt) → MayRestart version restarts → AreOwn thread tries xs → All (IsOwn HasArenaWidth k) xs → RestartAtMost restarts xs → All (IsLimited version) xs
 limited_each version thread tries k restarts t n l [] told own all few = All-nil (IsLimited version)
 limited_each version thread tries k restarts t n l (x ∷ xs) told own all few =
     All-cons (IsLimited version) x xs
@@ -39,7 +39,7 @@ limited_each version thread tries k restarts t n l (x ∷ xs) told own all few =
       nth = (is.nth, (let tried = own.1 in omega arith));
       arena = (let same = is.arena in omega arith);
       widths = is.calls;
-      restarts = told x.restarts few.0;
+      restarts = may_tell version restarts x.restarts told few.0;
     })
     (limited_each version thread tries k restarts t n l xs told own.2 (All-tail (IsOwn HasArenaWidth k) x xs all) few.1)
 

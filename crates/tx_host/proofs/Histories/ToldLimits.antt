@@ -1,5 +1,5 @@
 -- Programs are within the limits of the version that tells of them.
-use Rattle.std.proofs.Common.{◌≡◌, ◌≢◌, ◌⊎◌, ◌==◌, inl, inr, nat_le, ◌&&◌, ◌∙◌, ℕ, suc, ◌<◌, ◌≤◌, Bool, true, false, if◌then◌else◌, List, [], ◌∷◌, length, refl, sym, true≢false, ap, subst, arith, eqb-true, leb-true}
+use Rattle.std.proofs.Common.{◌≡◌, ◌≢◌, ◌⊎◌, ◌==◌, inl, inr, nat_le, ◌&&◌, ◌∙◌, ℕ, suc, ◌<◌, ◌≤◌, Bool, true, false, if◌then◌else◌, length, refl, sym, true≢false, ap, subst, arith, eqb-true, leb-true}
 use Rattle.std.proofs.lemmas.Bool.{lt-leb, ne_eqb}
 use Rattle.itm_types.specs.Limits.{AreWithin}
 use Rattle.itm_types.specs.declared.limits.Depth.{Depth}
@@ -11,8 +11,7 @@ use Rattle.tx_history.specs.declared.history.TheConstants.{EARLY_ACTORS, EARLY_M
 use Rattle.tx_history.specs.declared.history.Version.{Version}
 use Rattle.tx_history.specs.declared.history.Version.TheVariants.{One, Two, Three}
 use Rattle.tx_history.specs.Depths.{depth_from}
-use Rattle.tx_attempts.specs.declared.attempt.Again.{Again}
-use Rattle.tx_history.specs.Versions.{MayTell, depth_of, thread_limit}
+use Rattle.tx_history.specs.Versions.{MayRestart, depth_of, thread_limit}
 use Rattle.tx_history.proofs.SameDepths.{near_is, same_depth}
 use Rattle.tx_runs.proofs.ClockCalls.{both_true}
 use Rattle.tx_host.specs.Limits.{IsLimitedListing}
@@ -62,18 +61,14 @@ module _ (p : Listing) where
       by_early true e = either (λ (v : Version). depth_of v ≡ p.limits.depth) (sym (early_parts e).0) (sym (early_parts e).0) (p.limits.restarts == 0)
       by_early false e = near_is p.limits.depth (omega arith) few
 
-  told_restarts : (rs : List Again) → length rs ≤ p.limits.restarts → MayTell (version_of p) rs
-  told_restarts rs few = by_early (is_early p)
+  told_restarts : MayRestart (version_of p) p.limits.restarts
+  told_restarts = by_early (is_early p)
     where
-      none : (xs : List Again) → length xs ≤ 0 → xs ≡ []
-      none [] l = refl
-      none (x ∷ xs) l = absurd (omega arith)
-
-      by_limit : (b : Bool) → (p.limits.restarts == 0) ≡ b → MayTell (if b then One else Two) rs
-      by_limit true e = (let zero = eqb-true p.limits.restarts 0 e in none rs (omega arith))
+      by_limit : (b : Bool) → (p.limits.restarts == 0) ≡ b → MayRestart (if b then One else Two) p.limits.restarts
+      by_limit true e = eqb-true p.limits.restarts 0 e
       by_limit false e = tt
 
-      by_early : (b : Bool) → MayTell (chosen b) rs
+      by_early : (b : Bool) → MayRestart (chosen b) p.limits.restarts
       by_early true = by_limit (p.limits.restarts == 0) refl
       by_early false = tt
 

@@ -1,5 +1,5 @@
 -- A worker between its player's next call and what comes of it.
-use Rattle.std.proofs.Common.{◌≡◌, ℕ, ◌/◌, Bool, true, false, List, refl, sym, ap, subst, ◌∙◌, inr, Some, unwrap_or}
+use Rattle.std.proofs.Common.{◌≡◌, ℕ, ◌/◌, Bool, true, false, List, refl, sym, ap, subst, ◌∙◌, inl, inr, Some, unwrap_or}
 use Rattle.itm_types.specs.Calls.{is_begin}
 use Rattle.itm_types.specs.declared.call.Call.{Call}
 use Rattle.itm_types.specs.declared.call.Call.TheVariants.{Begin}
@@ -21,7 +21,7 @@ use Rattle.tx_runs.specs.PlayerRuns.{stage_of}
 use Rattle.tx_runs.specs.Tallies.{outside, begins, within, Tally, begins_again, begun, stage_at}
 use Rattle.tx_worker.specs.declared.worker.Worker.{Worker}
 use Rattle.tx_worker.specs.Progress.{Course}
-use Rattle.tx_worker.specs.Workers.{Bounds, HasPlaces, IsAsked, IsHungry, IsPrepared, IsReadyFor, IsRoomier, IsUnprepared, IsWorking, again_for}
+use Rattle.tx_worker.specs.Workers.{Bounds, HasPlaces, IsAsked, IsHungry, IsPrepared, IsReadyFor, IsRoomier, IsUnprepared, IsWorking, LacksFor, again_for}
 use Rattle.tx_worker.proofs.Begins.OutsideCalls.{never_starves}
 use Rattle.tx_worker.proofs.Laws.Rooms.{again_prepared, never_begins}
 
@@ -30,13 +30,14 @@ abbrev pub OnlyRoom : {P : Type 0} → Worker P → Worker P → Type 0
 OnlyRoom old new = new ≡ record old { run = record old.run { current = new.run.current }; ended = new.ended }
 
 -- there was no memory to make room
-pub hungry : {P : Type 0} {rules : Rules P} {words : Words} {c : Course P} {b : Bounds} {old new : Worker P} {call : Call} → IsWorking rules words c b old → rules.next_call old.run.player ≡ Some call → OnlyRoom old new → IsUnprepared old call new → IsHungry rules words c b old call new
-hungry {P} works asks same unprepared = record {
+pub hungry : {P : Type 0} {rules : Rules P} {words : Words} {c : Course P} {b : Bounds} {old new : Worker P} {call : Call} → IsWorking rules words c b old → rules.next_call old.run.player ≡ Some call → OnlyRoom old new → IsUnprepared old call new → LacksFor old.thread.engine call old.run.current → IsHungry rules words c b old call new
+hungry {P} works asks same unprepared lacks = record {
   works = works;
   asks = asks;
   thread = ap (λ (w : Worker P). w.thread) same;
   run = ap (λ (w : Worker P). w.run) same;
   unprepared = unprepared;
+  short = inl lacks;
 }
 
 -- the attempt at hand is that which was open
@@ -92,8 +93,8 @@ module _ {P : Type 0} {rules : Rules P} {words : Words} {c : Course P} {b : Boun
           roomy = subst (λ (x : Worker P). HasPlaces old.thread.engine x.ended x.run.current) (sym is) (places mid.run.current prepared.ready);
           ended = ap (λ (w : Worker P). w.ended.items) is ∙ prepared.ended;
           begins = λ none. by_begin (is_begin call) refl none;
-          short = λ row points inside. inr (inr (inr starves));
         };
+        short = inr starves;
       }
     where
       starves : MayStarve old.thread.engine call

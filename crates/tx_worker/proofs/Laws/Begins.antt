@@ -85,6 +85,7 @@ module _ {P : Type 0} (rules : Rules P) (words : Words) (thread : Standing) (pla
         roomy = tt;
         blocks = tt;
         actions = tt;
+        promises = tt;
       },
       sym first_is,
     )

@@ -27,7 +27,7 @@ use Rattle.tx_worker.proofs.Begins.OutermostBegins.{begin_over, busy, full_begin
 use Rattle.tx_worker.proofs.Begins.OutsideCalls.{only_replies, passes, stays_shut}
 use Rattle.tx_worker.proofs.Laws.CallsWithin.{IsOverSo, gave_up, played}
 use Rattle.tx_worker.proofs.Machines.LastEvents.{IsLast}
-use Rattle.tx_worker.proofs.Machines.RestartsLeft.{left_outside, left_within}
+use Rattle.tx_worker.proofs.Machines.RestartsLeft.{left_after, left_within}
 
 module _ {P : Type 0} {rules : Rules P} (laws : Obeys rules) (c : Course P) (s : Start) (a : Account P) (v : View) (e : Core) (running : IsRunning rules c s.view s.engine a) (before : Stands s.view s.engine) (stands : Stands v e)
     (asks : rules.next_call a.player ≡ Some s.call) (shut_before : in_transaction s.engine ≡ false) (ahead : ℕ) where
@@ -61,7 +61,7 @@ module _ {P : Type 0} {rules : Rules P} (laws : Obeys rules) (c : Course P) (s :
 
     reply_falls : (now : Bool) → in_transaction e ≡ now → (x : Account P) → x.player ≡ rules.answered a.player r → IsRunning rules c v e x → Falls rules c.retries c.restarts false (in_transaction e) a.nth a.nth (restarts_left s.engine) (restarts_left e) a.player (rules.answered a.player r)
     reply_falls now is x player k =
-        falls_reply rules c.retries c.restarts laws a.nth (restarts_left s.engine) (restarts_left e) (left_outside s v e shut_before served)
+        falls_reply rules c.retries c.restarts laws a.nth (restarts_left s.engine) (restarts_left e) (left_after s v e shut_before served)
         (played rules laws a.player s.call r asks false (in_transaction e) nested (subst (IsNested rules (in_transaction e)) player k.nested))
 
     -- ## An accepted begin

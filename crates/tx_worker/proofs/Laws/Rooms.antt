@@ -5,11 +5,13 @@ use Rattle.itm_types.specs.declared.call.Call.{Call}
 use Rattle.itm_types.specs.declared.call.Call.TheVariants.{Begin, CommitAction, UndoAction}
 use Rattle.itm_types.specs.declared.call.Props.{Props}
 use Rattle.itm_types.specs.declared.call.Ran.{Ran}
+use Rattle.nest_frames.specs.Nest.{Frame}
 use Rattle.norec_core.proofs.Replies.ActionCounts.{registers}
 use Rattle.norec_core.specs.declared.answer.Answer.{Answer}
 use Rattle.norec_core.specs.declared.answer.Answer.TheVariants.{Busy, Committed, Conflict, Full, Reply, Restarted}
-use Rattle.norec_core.specs.Core.{Core, in_transaction, irrevocable_room}
+use Rattle.norec_core.specs.Core.{Core, in_transaction, irrevocable_room, is_within}
 use Rattle.norec_core.specs.Restarts.{IsRestart}
+use Rattle.norec_engine.specs.RestartingCalls.{arena_ahead}
 use Rattle.user_actions.specs.Actions.{total}
 use Rattle.shared_words.specs.declared.words.Words.{Words}
 use Rattle.shared_words.specs.Passes.{cells_of}
@@ -18,24 +20,26 @@ use Rattle.itm_runtime.specs.Standing.{start_of}
 use Rattle.tx_attempts.specs.declared.attempt.Attempt.{Attempt}
 use Rattle.tx_attempts.specs.declared.attempt.Outcome.{Outcome}
 use Rattle.tx_attempts.specs.Kept.{Kept, reserved}
+use Rattle.tx_attempts.specs.Opacity.{Between}
 use Rattle.tx_player.specs.Rules.{Rules}
-use Rattle.tx_runs.proofs.OpenRooms.{opens_most}
+use Rattle.tx_runs.proofs.OpenRooms.{opens_most, reserved_most}
 use Rattle.tx_runs.proofs.StepCalls.{cancels_register_none}
 use Rattle.tx_runs.proofs.TookIn.{OpensBy}
-use Rattle.tx_runs.proofs.TriesBack.{began_now, is_cut}
+use Rattle.tx_runs.proofs.TriesBack.{began_now}
 use Rattle.tx_runs.specs.declared.player_run.Current.{Current}
 use Rattle.tx_runs.specs.declared.player_run.Current.TheVariants.{Outside, Begins, Within}
 use Rattle.tx_runs.specs.Nesting.{IsDeep}
 use Rattle.tx_runs.specs.OpenAttempts.{BeganBy, HasRoom, MayRenew, Open, told_in}
+use Rattle.tx_runs.specs.OpenTries.{Bounds as Most, HaveBegun, IsOpenTry, bounds_now, entered_by}
 use Rattle.tx_runs.specs.PlayerRuns.{KeepsPlaces, MayGoBack, MayTakeIn, MayTell, stage_of}
-use Rattle.tx_runs.specs.Savepoints.{due_at}
+use Rattle.tx_runs.specs.Savepoints.{cut_back, due_at}
 use Rattle.tx_runs.specs.declared.savepoint.Savepoint.{Savepoint}
 use Rattle.tx_runs.specs.Tallies.{Stage, outside, begins, within, Stand, begins_again, begun, over_as, stage_at, stand_of}
 use Rattle.tx_worker.specs.declared.worker.Worker.{Worker}
 use Rattle.tx_worker.specs.Accounts.{account_of}
 use Rattle.tx_worker.specs.Progress.{Course, IsRunning}
-use Rattle.tx_worker.specs.Workers.{Bounds, HasActionPlaces, HasBlockPlaces, IsAsked, KeepsBlockPlaces, IsReadyFor, IsRoomier, IsToldBy, again_for, arena_ahead, view_in}
-use Rattle.tx_worker.proofs.Machines.ActionRooms.{goes_plainly, ran_held, room_asked, room_on}
+use Rattle.tx_worker.specs.Workers.{Bounds, HasActionPlaces, HasBlockPlaces, IsAsked, IsPromised, KeepsBlockPlaces, IsReadyFor, IsRoomier, IsToldBy, again_for, promised, view_in}
+use Rattle.tx_worker.proofs.Machines.ActionRooms.{goes_plainly, leaves_promised, ran_held, room_asked, room_on}
 use Rattle.tx_worker.proofs.Machines.LastEvents.{IsLast, last_event}
 use Rattle.tx_worker.proofs.Machines.PlainActions.{served_ran, served_runs}
 use Rattle.tx_worker.proofs.Machines.RestartingCalls.{arena_long, registers_none, restarting}
@@ -79,24 +83,18 @@ room_after call before after room few more l = omega arith
 
 -- ## Places for blocks
 
--- a place for a block of each of the calls serves in either mode
-places_for_all : (irrevocable : Bool) (o : Open) → (0 < o.row.calls.room → length o.points + o.row.calls.room ≤ o.deep) → HasBlockPlaces irrevocable (Within o)
-places_for_all true o has = has
-places_for_all false o has = λ more. has (omega arith)
-
--- a call opens one block at most, and takes a place of the room; one by which a block goes back leaves both as they were
-pub blocks_opened : (call : Call) (answer : Answer) (s : Stand) (ran : List Ran) (x : Current) (o : Open) (irrevocable : Bool) → ((clock word : ℕ) → answer ≡ Restarted clock word → irrevocable ≡ false) → KeepsPlaces ran x (Within o) → KeepsBlockPlaces x → OpensBy (stage_of x) call answer s o.row o.points
-    → HasBlockPlaces irrevocable (Within o)
-blocks_opened call answer s ran Outside o irrevocable back keeps had opens = absurd keeps
-blocks_opened call (Reply r) s ran (Begins was) o irrevocable back keeps had (inl h) = absurd (let e = h.2 in cc)
-blocks_opened call (Reply r) s ran (Begins was) o irrevocable back keeps had (inr h) = places_for_all irrevocable o (λ some.
+-- a call opens one block at most, and takes a place of the room
+pub blocks_opened : (call : Call) (answer : Answer) (s : Stand) (ran : List Ran) (x : Current) (o : Open) → (IsRestart answer → o.row.calls.room ≡ 0) → KeepsPlaces ran x (Within o) → KeepsBlockPlaces x → OpensBy (stage_of x) call answer s o.row o.points → HasBlockPlaces (Within o)
+blocks_opened call answer s ran Outside o back keeps had opens = absurd keeps
+blocks_opened call (Reply r) s ran (Begins was) o back keeps had (inl h) = absurd (let e = h.2 in cc)
+blocks_opened call (Reply r) s ran (Begins was) o back keeps had (inr h) = λ some.
     (let same : was.row ≡ h.0 = (let e = h.1 in cc) in
     let room = ap (λ (a : Attempt). a.calls.room) same in
     let now = ap (λ (a : Attempt). a.calls.room) h.2 in
     let none = ap (length {A = Savepoint}) h.3 in
     let deep = keeps.2 in
-    omega arith))
-blocks_opened call (Reply r) s ran (Within was) o irrevocable back keeps had (inl h) = places_for_all irrevocable o (λ some.
+    omega arith)
+blocks_opened call (Reply r) s ran (Within was) o back keeps had (inl h) = λ some.
     (let same : was.row ≡ h.0 = (let e = h.2 in cc) in
     let points : was.points ≡ h.1 = (let e = h.2 in cc) in
     let room = ap (λ (a : Attempt). a.calls.room) same in
@@ -107,31 +105,46 @@ blocks_opened call (Reply r) s ran (Within was) o irrevocable back keeps had (in
     let one = one_most (is_begin call) in
     let deep = keeps.2 in
     let had_so = had (omega arith) in
-    omega arith))
+    omega arith)
   where
     one_most : (b : Bool) → (if b then 1 else 0) ≤ 1
     one_most true = omega arith
     one_most false = omega arith
-blocks_opened call (Reply r) s ran (Within was) o irrevocable back keeps had (inr h) = absurd (let e = h.1 in cc)
-blocks_opened call (Restarted clock word) s ran (Begins was) o irrevocable back keeps had opens = absurd (let e = opens.1 in cc)
-blocks_opened call (Restarted clock word) s ran (Within was) o irrevocable back keeps had opens =
-    let same : was.row ≡ opens.0 = (let e = opens.1 in cc) in
-    let points : was.points ≡ o.points = (let e = opens.1 in cc) in
-    let room = ap (λ (a : Attempt). a.calls.room) same in
-    let now = ap (λ (a : Attempt). a.calls.room) opens.2 in
-    let fewer = (is_cut o.points s.arena s.ran opens.0).room in
-    let as_many = ap (length {A = Savepoint}) points in
-    let deep = keeps.2 in
-    subst (λ (b : Bool). HasBlockPlaces b (Within o)) (sym (back clock word refl)) (λ more. (let had_so = had (omega arith) in let r : length o.points + o.row.calls.room ≤ o.deep = omega arith in r))
-blocks_opened call (Committed at wrote) s ran x o irrevocable back keeps had opens = absurd opens
-blocks_opened call (Conflict clock word) s ran x o irrevocable back keeps had opens = absurd opens
-blocks_opened call (Busy clock) s ran x o irrevocable back keeps had opens = absurd opens
-blocks_opened call (Full at) s ran x o irrevocable back keeps had opens = absurd opens
+blocks_opened call (Reply r) s ran (Within was) o back keeps had (inr h) = absurd (let e = h.1 in cc)
+blocks_opened call (Restarted clock word) s ran x o back keeps had opens = λ some. absurd (let none = back tt in omega arith)
+blocks_opened call (Committed at wrote) s ran x o back keeps had opens = absurd opens
+blocks_opened call (Conflict clock word) s ran x o back keeps had opens = absurd opens
+blocks_opened call (Busy clock) s ran x o back keeps had opens = absurd opens
+blocks_opened call (Full at) s ran x o back keeps had opens = absurd opens
+
+-- where an inner block is open, and the transaction may be tried again, its begin is among these
+module _ {P : Type 0} {rules : Rules P} {deepest : ℕ} {position : List ℕ} {b : Between P} {row : Attempt} {points : List Savepoint} {p : P} {e : Core} (t : IsOpenTry rules deepest position b row points p e) where
+  some_begun : (most : Most) (bs : List Frame) (qs : List Savepoint) → is_within bs ≡ true → HaveBegun rules deepest (entered_by rules deepest t.of_block) row e most bs qs → qs ≡ [] → ⊥
+  some_begun most [] qs inner h none = absurd (cc)
+  some_begun most (f ∷ []) qs inner h none = absurd (cc)
+  some_begun most (f ∷ o ∷ outer) [] inner h none = h
+  some_begun most (f ∷ o ∷ outer) (s ∷ qs) inner h none = absurd (cc)
+
+  has_points : e.irrevocable ≡ false → is_within e.blocks ≡ true → points ≡ [] → ⊥
+  has_points revocable inner none = some_begun (bounds_now row e) e.blocks points inner (t.blocks revocable) none
 
 -- what had come to run as the innermost block began has, with more calls in the attempt's room, and once more has come to run
 began_later : (points : List Savepoint) (row : Attempt) (calls : Kept) (n m : ℕ) → n ≤ m → BeganBy points row n → BeganBy points (record row { calls = calls }) m
 began_later [] row calls n m l began = tt
 began_later (s ∷ outer) row calls n m l began = (let r : due_at s row.restarts ≤ m = omega (arith, began, l) in r)
+
+-- ## Room for calls
+
+-- the attempt at hand has room for as many as are promised, at most
+promised_in : (e : Core) (x : Current) (row : Attempt) (points : List Savepoint) → stage_of x ≡ within row points → IsPromised e x → row.calls.room ≤ promised e
+promised_in e Outside row points is few = absurd (cc)
+promised_in e (Begins o) row points is few = absurd (cc)
+promised_in e (Within o) row points is few = (let same : o.row ≡ row = cc in let room = ap (λ (a : Attempt). a.calls.room) same in omega arith)
+
+-- cut back to the begin of a block it has none
+cut_room : (points : List Savepoint) (arena : List ℕ) (due : List Ran) (row : Attempt) → (points ≡ [] → ⊥) → (cut_back points arena due row).calls.room ≡ 0
+cut_room [] arena due row some = absurd (some refl)
+cut_room (s ∷ outer) arena due row some = refl
 
 -- ## The same attempt with more room
 
@@ -243,8 +256,8 @@ module _ {P : Type 0} {rules : Rules P} {words : Words} {c : Course P} {b : Boun
     abbrev HasPromised : Type 0
     HasPromised = (total new.thread.engine.actions + new.thread.engine.room ≤ o.ends) × (total new.thread.engine.actions + new.thread.engine.room ≤ o.cancels) × (told_in o.row ≡ length new.thread.engine.actions.ran)
 
-    promised : (x : Answer) → Served s x (view_in new) e → IsLast s (view_in new) x e → HasActionPlaces old.thread.engine (Within o) → e.irrevocable ≡ true → 0 < e.room → HasPromised
-    promised (Reply r) served last had held some = by_mode old.thread.engine.irrevocable refl
+    has_promised : (x : Answer) → Served s x (view_in new) e → IsLast s (view_in new) x e → HasActionPlaces old.thread.engine (Within o) → e.irrevocable ≡ true → 0 < e.room → HasPromised
+    has_promised (Reply r) served last had held some = by_mode old.thread.engine.irrevocable refl
       where
         by_mode : (b : Bool) → old.thread.engine.irrevocable ≡ b → HasPromised
         by_mode true was =
@@ -263,11 +276,11 @@ module _ {P : Type 0} {rules : Rules P} {words : Words} {c : Course P} {b : Boun
             let ends = ready.2.ahead_ends ahead in
             let cancels = ready.2.ahead_cancels ahead in
             (omega arith, omega arith, told_is ∙ sym (ap (length {A = Ran}) (served_ran s (view_in new) e k.works.same.stands inside r served plain.0 (held_inside held))))
-    promised (Committed at wrote) served last had held some = absurd (true≢false (sym (held_inside held) ∙ served.tells.closes.closed))
-    promised (Conflict clock word) served last had held some = absurd (true≢false (sym (held_inside held) ∙ served.tells.closes.closed))
-    promised (Restarted clock word) served last had held some = absurd (true≢false (sym held ∙ served.tells.revocable.1))
-    promised (Busy clock) served last had held some = absurd (true≢false (sym (held_inside held) ∙ served.tells.closes.closed))
-    promised (Full at) served last had held some = absurd (true≢false (sym (held_inside held) ∙ served.tells.closes.closed))
+    has_promised (Committed at wrote) served last had held some = absurd (true≢false (sym (held_inside held) ∙ served.tells.closes.closed))
+    has_promised (Conflict clock word) served last had held some = absurd (true≢false (sym (held_inside held) ∙ served.tells.closes.closed))
+    has_promised (Restarted clock word) served last had held some = absurd (true≢false (sym held ∙ served.tells.revocable.1))
+    has_promised (Busy clock) served last had held some = absurd (true≢false (sym (held_inside held) ∙ served.tells.closes.closed))
+    has_promised (Full at) served last had held some = absurd (true≢false (sym (held_inside held) ∙ served.tells.closes.closed))
 
   the_row : (o : Open) (row : Attempt) (points : List Savepoint) → within o.row o.points ≡ within row points → (o.row ≡ row) × (o.points ≡ points)
   the_row o row points e = ((let f : o.row ≡ row = cc in f), (let f : o.points ≡ points = cc in f))
@@ -324,12 +337,12 @@ module _ {P : Type 0} {rules : Rules P} {words : Words} {c : Course P} {b : Boun
       by_current (Begins o) is = tt
       by_current (Within o) is = (subst (IsReadyFor old.thread.engine call (unwrap_or (irrevocable_room old.thread.engine call) 0) new.ended) is k.prepared.ready).0
 
-  -- an attempt that is to be opened is so by a begin, outside a transaction
-  pub begins_call : (o : Open) → new.run.current ≡ Begins o → (props : Props) × (room : ℕ) × (call ≡ Begin props room) × (in_transaction old.thread.engine ≡ false)
+  -- an attempt that is to be opened is so by a begin, outside a transaction, with the room that the begin asks for
+  pub begins_call : (o : Open) → new.run.current ≡ Begins o → (props : Props) × (room : ℕ) × (call ≡ Begin props room) × (in_transaction old.thread.engine ≡ false) × (o.row.calls.room ≡ unwrap_or (irrevocable_room old.thread.engine call) 0)
   begins_call o is = by_stage (stage_of old.run.current) refl (stage_is (Begins o) is)
     where
-      by_call : (x : Call) → call ≡ x → begins o.row ≡ stage_at outside x (opens old) (unwrap_or (irrevocable_room old.thread.engine call) 0) → (props : Props) × (room : ℕ) × (call ≡ Begin props room)
-      by_call (Begin props room) call_is e = (props, room, call_is)
+      by_call : (x : Call) → call ≡ x → begins o.row ≡ stage_at outside x (opens old) (unwrap_or (irrevocable_room old.thread.engine call) 0) → (props : Props) × (room : ℕ) × (call ≡ Begin props room) × (o.row.calls.room ≡ unwrap_or (irrevocable_room old.thread.engine call) 0)
+      by_call (Begin props room) call_is e = (props, room, call_is, (let same : o.row ≡ opens old props = cc in ap (λ (a : Attempt). a.calls.room) same))
       by_call x call_is e = absurd (cc)
 
       shut : stage_of old.run.current ≡ outside → in_transaction old.thread.engine ≡ false
@@ -339,10 +352,10 @@ module _ {P : Type 0} {rules : Rules P} {words : Words} {c : Course P} {b : Boun
           by_mode false i = refl
           by_mode true i = (let some : within (k.works.running.inside i).row (k.works.running.inside i).points ≡ outside = sym (k.works.running.inside i).stage_is ∙ none in absurd (cc))
 
-      by_stage : (g : Stage) → stage_of old.run.current ≡ g → begins o.row ≡ stage_at (stage_of old.run.current) call (opens old) (unwrap_or (irrevocable_room old.thread.engine call) 0) → (props : Props) × (room : ℕ) × (call ≡ Begin props room) × (in_transaction old.thread.engine ≡ false)
+      by_stage : (g : Stage) → stage_of old.run.current ≡ g → begins o.row ≡ stage_at (stage_of old.run.current) call (opens old) (unwrap_or (irrevocable_room old.thread.engine call) 0) → (props : Props) × (room : ℕ) × (call ≡ Begin props room) × (in_transaction old.thread.engine ≡ false) × (o.row.calls.room ≡ unwrap_or (irrevocable_room old.thread.engine call) 0)
       by_stage outside was e =
           let begin = by_call call refl (e ∙ ap (λ (g : Stage). stage_at g call (opens old) (unwrap_or (irrevocable_room old.thread.engine call) 0)) was) in
-          (begin.0, begin.1, begin.2, shut was)
+          (begin.0, begin.1, begin.2, shut was, begin.3)
       by_stage (begins r) was e = absurd (never_begins old k.works.running r was)
       by_stage (within r points) was e = (let none : begins o.row ≡ stage_at (within r points) call (opens old) (unwrap_or (irrevocable_room old.thread.engine call) 0) = e ∙ ap (λ (g : Stage). stage_at g call (opens old) (unwrap_or (irrevocable_room old.thread.engine call) 0)) was in absurd (cc))
 
@@ -359,4 +372,51 @@ module _ {P : Type 0} {rules : Rules P} {words : Words} {c : Course P} {b : Boun
   open_places o is ready held some =
       let hand = at_hand (stage_of old.run.current) refl o (opens old) (unwrap_or (irrevocable_room old.thread.engine call) 0) (stage_is (Within o) is) in
       let inside = within_inside old k.works.running hand.0 hand.1 hand.2 in
-      promised o is ready hand.0 hand.1 hand.3 hand.4 inside.0 inside.1 inside.2 answer k.answered.served last (subst (HasActionPlaces old.thread.engine) is k.prepared.actions) held some
+      has_promised o is ready hand.0 hand.1 hand.3 hand.4 inside.0 inside.1 inside.2 answer k.answered.served last (subst (HasActionPlaces old.thread.engine) is k.prepared.actions) held some
+
+  -- ## Room for calls
+
+  -- none is left where a block has gone back
+  pub room_back : (a : Answer) → Served s a (view_in new) e → IsRestart a → (x : Current) → new.run.current ≡ x → (o' : Open) → OpensBy (stage_of x) call a (stand_of e) o'.row o'.points → o'.row.calls.room ≡ 0
+  room_back (Restarted clock word) served back Outside is o' opened = absurd (let stage = opened.1 in cc)
+  room_back (Restarted clock word) served back (Begins o) is o' opened = absurd (let stage = opened.1 in cc)
+  room_back (Restarted clock word) served back (Within o) is o' opened =
+      let hand = at_hand (stage_of old.run.current) refl o (opens old) (unwrap_or (irrevocable_room old.thread.engine call) 0) (stage_is (Within o) is) in
+      let inside = within_inside old k.works.running hand.0 hand.1 hand.2 in
+      let points : o.points ≡ o'.points = (let stage = opened.1 in cc) in
+      let some : o'.points ≡ [] → ⊥ = λ none. has_points (k.works.running.inside inside.0).try.is_open served.tells.revocable.0 served.tells.within (inside.2 ∙ (sym hand.4 ∙ (points ∙ none))) in
+      ap (λ (row : Attempt). row.calls.room) opened.2 ∙ cut_room o'.points e.arena e.actions.ran opened.0 some
+  room_back (Reply r) served back x is o' opened = absurd back
+  room_back (Committed at wrote) served back x is o' opened = absurd back
+  room_back (Conflict clock word) served back x is o' opened = absurd back
+  room_back (Busy clock) served back x is o' opened = absurd back
+  room_back (Full at) served back x is o' opened = absurd back
+
+  -- an attempt that is open then has room for as many calls as are promised, at most
+  pub promises_opened : (a : Answer) → Served s a (view_in new) e → IsLast s (view_in new) a e → (x : Current) → new.run.current ≡ x → (o' : Open) → OpensBy (stage_of x) call a (stand_of e) o'.row o'.points → IsPromised e (Within o')
+  promises_opened (Reply r) served last Outside is o' (inl h) = absurd (let stage = h.2 in cc)
+  promises_opened (Reply r) served last Outside is o' (inr h) = absurd (let stage = h.1 in cc)
+  promises_opened (Reply r) served last (Begins o) is o' (inl h) = absurd (let stage = h.2 in cc)
+  promises_opened (Reply r) served last (Begins o) is o' (inr h) =
+      (let same : o.row ≡ h.0 = (let stage = h.1 in cc) in
+      let asked = (begins_call o is).4 in
+      let before = ap (λ (row : Attempt). row.calls.room) same in
+      let after = ap (λ (row : Attempt). row.calls.room) h.2 in
+      let left = (leaves_promised s (view_in new) e k.works.same.stands r served last).opens in
+      omega arith)
+  promises_opened (Reply r) served last (Within o) is o' (inl h) =
+      (let same : o.row ≡ h.0 = (let stage = h.2 in cc) in
+      let before = ap (λ (row : Attempt). row.calls.room) same in
+      let after = ap (λ (row : Attempt). row.calls.room) h.3 in
+      let hand = at_hand (stage_of old.run.current) refl o (opens old) (unwrap_or (irrevocable_room old.thread.engine call) 0) (stage_is (Within o) is) in
+      let had = promised_in old.thread.engine old.run.current hand.0 hand.1 hand.2 k.works.promises in
+      let made = ap (λ (row : Attempt). row.calls.room) hand.3 in
+      let most = reserved_most hand.0.calls (unwrap_or (irrevocable_room old.thread.engine call) 0) (promised old.thread.engine) had in
+      let left = (leaves_promised s (view_in new) e k.works.same.stands r served last).takes o.row.calls.room (omega arith) in
+      omega arith)
+  promises_opened (Reply r) served last (Within o) is o' (inr h) = absurd (let stage = h.1 in cc)
+  promises_opened (Restarted clock word) served last x is o' opened = (let none = room_back (Restarted clock word) served tt x is o' opened in omega arith)
+  promises_opened (Committed at wrote) served last x is o' opened = absurd opened
+  promises_opened (Conflict clock word) served last x is o' opened = absurd opened
+  promises_opened (Busy clock) served last x is o' opened = absurd opened
+  promises_opened (Full at) served last x is o' opened = absurd opened

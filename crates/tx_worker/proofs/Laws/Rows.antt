@@ -20,7 +20,7 @@ use Rattle.tx_attempts.specs.Attempts.{is_committed}
 use Rattle.tx_attempts.specs.declared.attempt.Outcome.{Outcome}
 use Rattle.tx_attempts.specs.declared.attempt.Outcome.TheVariants as outcomes
 use Rattle.tx_player.specs.Rules.{Obeys, Rules}
-use Rattle.tx_runs.proofs.TookIn.{is_taken, within_untold}
+use Rattle.tx_runs.proofs.TookIn.{OpensBy, is_taken, within_untold}
 use Rattle.tx_runs.specs.declared.ending.End.{End}
 use Rattle.tx_runs.specs.declared.ending.End.TheVariants as ends
 use Rattle.tx_runs.specs.declared.player_run.Current.{Current}
@@ -36,9 +36,9 @@ use Rattle.tx_worker.specs.Calls.{IsMade, StopsAs, asked}
 use Rattle.tx_runs.specs.Ranks.{Falls, restarts_left}
 use Rattle.tx_worker.specs.Positions.{AreFew, AreOver}
 use Rattle.tx_worker.specs.Progress.{Course, IsRunning}
-use Rattle.tx_worker.specs.Workers.{Bounds, GoesOnOrStops, HasActionPlaces, HasBlockPlaces, HasPlaces, IsAsked, IsReadyFor, IsSame, IsStopped, IsWorking, bounds_of, view_in}
+use Rattle.tx_worker.specs.Workers.{Bounds, GoesOnOrStops, HasActionPlaces, HasBlockPlaces, HasPlaces, IsAsked, IsPromised, IsReadyFor, IsSame, IsStopped, IsWorking, bounds_of, view_in}
 use Rattle.tx_worker.proofs.Begins.OutermostBegins.{begins_actions, no_commit}
-use Rattle.tx_worker.proofs.Laws.Rooms.{begins_call, blocks_opened, held_inside, last, open_places, still_within}
+use Rattle.tx_worker.proofs.Laws.Rooms.{begins_call, blocks_opened, held_inside, last, open_places, promises_opened, room_back, still_within}
 use Rattle.tx_worker.proofs.Machines.ActionRooms.{room_asked}
 use Rattle.tx_worker.proofs.Machines.LastEvents.{IsLast}
 use Rattle.norec_core.proofs.Engines.HeldStores.{shut_revocable}
@@ -250,24 +250,29 @@ module _ {P : Type 0} {rules : Rules P} (laws : Obeys rules) {words : Words} {c 
       by_current (Begins o) is = tt
       by_current (Within o') is = within_so o' is mid.run.current refl
 
-  -- each call that there is room for finds a place for a block still
-  blocks_now : HasBlockPlaces mid.thread.engine.irrevocable new.run.current
-  blocks_now = by_current new.run.current refl
+  -- the attempt that is open then is so by the answer
+  opens_now : (o' : Open) → new.run.current ≡ Within o' → OpensBy (stage_of mid.run.current) call answer (stand_of mid.thread.engine) o'.row o'.points
+  opens_now o' is = ((is_taken call (stand_of mid.thread.engine) rules mid.run.retries mid.run.player mid.run.nth mid.run.again (stage_of mid.run.current) answer).still o'.row o'.points (stage_within o' is)).2
+
+  -- there is room for as many calls as are promised, at most
+  promises_now : IsPromised mid.thread.engine new.run.current
+  promises_now = by_current new.run.current refl
     where
-      back : (clock word : ℕ) → answer ≡ Restarted clock word → mid.thread.engine.irrevocable ≡ false
-      back clock word is =
-          let served : Served (start_of old.thread call (begins_again (stage_of old.run.current) old.run.again call)) (Restarted clock word) (view_in mid) mid.thread.engine = subst (λ (x : Answer). Served (start_of old.thread call (begins_again (stage_of old.run.current) old.run.again call)) x (view_in mid) mid.thread.engine) is k.answered.served in
-          served.tells.revocable.1
-
-      within_so : (o' : Open) → new.run.current ≡ Within o' → HasBlockPlaces mid.thread.engine.irrevocable (Within o')
-      within_so o' is =
-          let opens = ((is_taken call (stand_of mid.thread.engine) rules mid.run.retries mid.run.player mid.run.nth mid.run.again (stage_of mid.run.current) answer).still o'.row o'.points (stage_within o' is)).2 in
-          blocks_opened call answer (stand_of mid.thread.engine) mid.thread.engine.actions.ran mid.run.current o' mid.thread.engine.irrevocable back (places_as mid.run.current (Within o') refl is) k.prepared.blocks opens
-
-      by_current : (y : Current) → new.run.current ≡ y → HasBlockPlaces mid.thread.engine.irrevocable y
+      by_current : (y : Current) → new.run.current ≡ y → IsPromised mid.thread.engine y
       by_current Outside is = tt
       by_current (Begins o) is = tt
-      by_current (Within o') is = within_so o' is
+      by_current (Within o') is = promises_opened k answer k.answered.served (last k) mid.run.current refl o' (opens_now o' is)
+
+  -- and each of them finds a place for a block
+  blocks_now : HasBlockPlaces new.run.current
+  blocks_now = by_current new.run.current refl
+    where
+      by_current : (y : Current) → new.run.current ≡ y → HasBlockPlaces y
+      by_current Outside is = tt
+      by_current (Begins o) is = tt
+      by_current (Within o') is =
+          let opened = opens_now o' is in
+          blocks_opened call answer (stand_of mid.thread.engine) mid.thread.engine.actions.ran mid.run.current o' (λ back. room_back k answer k.answered.served back mid.run.current refl o' opened) (places_as mid.run.current (Within o') refl is) k.prepared.blocks opened
 
   -- and each commit action that an irrevocable transaction may still register
   actions_now : HasActionPlaces mid.thread.engine new.run.current
@@ -310,7 +315,8 @@ module _ {P : Type 0} {rules : Rules P} (laws : Obeys rules) {words : Words} {c 
     running = subst (λ (x : Standing). IsRunning rules c (view_of x.pass) x.engine (account_of new)) (sym t.thread) (goes none);
     roomy = subst (λ (x : Standing). HasPlaces x.engine new.ended new.run.current) (sym t.thread) (roomy_after none);
     actions = subst (λ (x : Standing). HasActionPlaces x.engine new.run.current) (sym t.thread) actions_now;
-    blocks = subst (λ (x : Standing). HasBlockPlaces x.engine.irrevocable new.run.current) (sym t.thread) blocks_now;
+    blocks = blocks_now;
+    promises = subst (λ (x : Standing). IsPromised x.engine new.run.current) (sym t.thread) promises_now;
   })
 
   abbrev FallsTo : ℕ → ℕ → Core → ℕ → P → Type 0

@@ -29,6 +29,7 @@ use Rattle.tx_worker.specs.Progress.{Course}
 use Rattle.tx_worker.specs.Workers.{Bounds, HasPlaces, IsHungry, IsRoomier, IsSame, IsStopped, IsToldBy, bounds_of}
 use Rattle.tx_worker.proofs.Laws.Rooms.{same_over, within_inside}
 use Rattle.tx_worker.proofs.Laws.Rows.{few_more, over_more}
+use Rattle.tx_worker.proofs.Laws.Shortages.{used_here}
 use Rattle.tx_worker.proofs.Machines.PlainActions.{given_up_runs}
 
 -- the clock is held just where the answer says so
@@ -145,7 +146,7 @@ module _ {P : Type 0} {rules : Rules P} {words : Words} {c : Course P} {b : Boun
             call = call;
             asks = k.asks;
             begins = k.unprepared.begins;
-            short = k.unprepared.short;
+            used = used_here k;
             pass = ap (λ (t : Standing). t.pass) is ∙ pass_is;
             engine = ap (λ (t : Standing). t.engine) is ∙ engine_is;
             held = λ held. absurd (true≢false (sym held ∙ revocable));
@@ -182,7 +183,7 @@ module _ {P : Type 0} {rules : Rules P} {words : Words} {c : Course P} {b : Boun
           call = call;
           asks = k.asks;
           begins = k.unprepared.begins;
-          short = k.unprepared.short;
+          used = used_here k;
           pass = pass_is;
           engine = engine_is;
           held = λ h. refl;

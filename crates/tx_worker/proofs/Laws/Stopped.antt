@@ -46,7 +46,7 @@ same_counted n words c b w s = record { own = s.own; stands = s.stands; number =
 pub turns_counted : {P : Type 0} (rules : Rules P) (words : Words) (shuts : Bool) (old new : Worker P) (n : ℕ) (end : Option End) → GoesOnOrStops rules words shuts old end new → GoesOnOrStops rules words shuts old end (record new { calls = n })
 turns_counted rules words shuts old new n None t = record {
   made = t.made;
-  works = λ c b k. (let w = t.works c b k in record { same = same_counted n words c b new w.same; running = w.running; roomy = w.roomy; blocks = w.blocks; actions = w.actions });
+  works = λ c b k. (let w = t.works c b k in record { same = same_counted n words c b new w.same; running = w.running; roomy = w.roomy; blocks = w.blocks; actions = w.actions; promises = w.promises });
   falls = t.falls;
   thread = t.thread;
   retries = t.retries;

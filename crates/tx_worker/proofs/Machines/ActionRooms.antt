@@ -1,5 +1,5 @@
--- The room of an irrevocable transaction for commit actions, over a reply.
-use Rattle.std.proofs.Common.{inl, inr, ◌≡◌, ℕ, ◌+◌, ◌<◌, ◌≤◌, true, false, true≢false, Option, None, Some, IsSome, unwrap_or, refl, sym, ap, subst, ◌∙◌, arith}
+-- The room of an irrevocable transaction for commit actions, over a reply, and with it the room for its calls.
+use Rattle.std.proofs.Common.{inl, inr, ◌≡◌, ℕ, ◌+◌, ◌-◌, ◌<◌, ◌≤◌, max, Bool, true, false, true≢false, if◌then◌else◌, Option, None, Some, IsSome, is_some, unwrap_or, refl, sym, ap, subst, ◌∙◌, arith}
 use Rattle.itm_types.specs.Calls.{is_abort}
 use Rattle.itm_types.specs.declared.call.Call.{Call}
 use Rattle.itm_types.specs.declared.call.Call.TheVariants.{Abort}
@@ -8,19 +8,37 @@ use Rattle.user_actions.specs.Actions.{Actions, total}
 use Rattle.norec_core.proofs.Replies.ActionCounts.{registers}
 use Rattle.norec_core.proofs.Replies.ReplyCases.{Ways, reply_cases}
 use Rattle.norec_core.specs.Core.{Core, came, in_transaction, irrevocable_room}
-use Rattle.norec_core.specs.Proceeds.{RepliesHeld}
+use Rattle.norec_core.specs.Effects.{room_left}
+use Rattle.norec_core.specs.Proceeds.{Replies, RepliesHeld}
 use Rattle.norec_core.specs.declared.answer.Answer.TheVariants.{Reply}
 use Rattle.shared_words.specs.declared.view.View.{View}
 use Rattle.itm_runtime.proofs.Calls.ActionRoom.{room_entered}
 use Rattle.itm_runtime.specs.Served.{Served, Start}
 use Rattle.itm_runtime.specs.Ties.{Stands}
-use Rattle.tx_runs.proofs.IrrevocableCalls.{abort_runs, asks_no_room, goes_no_action, goes_no_cancel, goes_same, room_by_call}
+use Rattle.tx_runs.proofs.IrrevocableCalls.{abort_runs, asks_no_room, goes_no_action, goes_no_cancel, goes_same, left_least, plain_goes, room_by_call}
+use Rattle.tx_worker.specs.Workers.{promised}
 use Rattle.tx_worker.proofs.Machines.LastEvents.{IsLast}
 use Rattle.tx_worker.proofs.Machines.PlainActions.{served_ran, served_runs}
 
 asked_room : (o : Option ℕ) (room : ℕ) → IsSome o → unwrap_or o room ≡ unwrap_or o 0
 asked_room None room some = absurd (cc)
 asked_room (Some n) room some = refl
+
+none_asked : (o : Option ℕ) → is_some o ≡ false → unwrap_or o 0 ≡ 0
+none_asked None e = refl
+none_asked (Some n) e = absurd (cc)
+
+-- the room for calls that is promised, in either mode
+pub promised_held : (e : Core) → e.irrevocable ≡ true → promised e ≡ e.room
+promised_held e held = ap (λ (b : Bool). if b then e.room else 0) held
+
+promised_none : (e : Core) → e.irrevocable ≡ false → promised e ≡ 0
+promised_none e revocable = ap (λ (b : Bool). if b then e.room else 0) revocable
+
+-- what a reply leaves of the room for calls: the call takes a place of it, and an attempt that is opened has as many as its begin asks for
+pub record LeavesPromised (old : Core) (call : Call) (new : Core) : Type 0 where
+  pub takes : (room : ℕ) → room ≤ max (promised old) (unwrap_or (irrevocable_room old call) 0 + 1) → room - 1 ≤ promised new
+  pub opens : unwrap_or (irrevocable_room old call) 0 ≤ promised new
 
 module _ (s : Start) (v : View) (e : Core) (before : Stands s.view s.engine) (r : Replied) (served : Served s (Reply r) v e) (last : IsLast s v (Reply r) e) where
   way : Ways last.mid e s.call r
@@ -84,3 +102,35 @@ module _ (s : Start) (v : View) (e : Core) (before : Stands s.view s.engine) (r 
 
     pub goes_plainly : (is_abort s.call ≡ false) × (registers s.call ≡ 0)
     goes_plainly = (goes_no_cancel s.engine s.call goes, goes_no_action s.engine s.call goes)
+
+  -- ## In either mode
+
+  -- it asks for room only as it becomes so
+  asks_none : Replies last.mid s.call r e → unwrap_or (irrevocable_room s.engine s.call) 0 ≡ 0
+  asks_none g =
+      none_asked (irrevocable_room s.engine s.call)
+      (ap (is_some {T = ℕ}) (sym (goes_same last.mid s.engine s.call last.is_mid.kept.depth last.is_mid.kept.blocks last.is_mid.kept.irrevocable)) ∙ plain_goes last.mid e s.call r g last.is_mid.settled)
+
+  pub leaves_promised : LeavesPromised s.engine s.call e
+  leaves_promised = elim way [
+    | inl g ↦
+        (let had = promised_none s.engine (sym last.is_mid.kept.irrevocable ∙ g.revocable) in
+        let none = asks_none g in
+        record { takes = λ room few. omega arith; opens = omega arith })
+    | inr (inl g) ↦
+        (let revocable = sym last.is_mid.kept.irrevocable ∙ g.revocable in
+        let held = ap (λ (c : Core). c.irrevocable) g.stays in
+        let had = promised_none s.engine revocable in
+        let has = promised_held e held in
+        let asked = room_asked revocable held in
+        record { takes = λ room few. omega arith; opens = omega arith })
+    | inr (inr g) ↦
+        (let was = sym last.is_mid.kept.irrevocable ∙ g.irrevocable in
+        let had = promised_held s.engine was in
+        let has = promised_held e (ap (λ (c : Core). c.irrevocable) g.stays ∙ g.irrevocable) in
+        let none = ap (λ (o : Option ℕ). unwrap_or o 0) (asks_no_room s.engine s.call was) in
+        let same : last.mid.room ≡ s.engine.room = room_mid ∙ ap (λ (o : Option ℕ). unwrap_or o s.engine.room) (asks_no_room s.engine s.call was) in
+        let left : e.room ≡ room_left last.mid s.call r = ap (λ (c : Core). c.room) g.stays in
+        let least = left_least last.mid s.call r in
+        record { takes = λ room few. omega arith; opens = omega arith })
+  ]

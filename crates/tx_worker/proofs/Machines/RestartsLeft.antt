@@ -1,5 +1,5 @@
 -- How often inner blocks may still go back to their begins, over a call.
-use Rattle.std.proofs.Common.{◌≡◌, ℕ, ◌-◌, ◌<◌, ◌≤◌, Bool, true, false, if◌then◌else◌, ap, ◌∙◌, arith}
+use Rattle.std.proofs.Common.{◌≡◌, ℕ, ◌<◌, ◌≤◌, true, false, ◌∙◌, arith}
 use Rattle.itm_types.specs.declared.call.Reply.{Reply as Replied}
 use Rattle.norec_core.proofs.Engines.KeptFields.{came_restarted}
 use Rattle.norec_core.specs.declared.answer.Answer.{Answer}
@@ -8,19 +8,7 @@ use Rattle.norec_core.specs.Core.{Core, in_transaction}
 use Rattle.shared_words.specs.declared.view.View.{View}
 use Rattle.itm_runtime.specs.Served.{Served, Start}
 use Rattle.tx_runs.specs.Ranks.{restarts_left}
-
-left_in : (e : Core) → in_transaction e ≡ true → restarts_left e ≡ e.restarts - e.restarted
-left_in e o = ap (λ (b : Bool). if b then e.restarts - e.restarted else e.restarts) o
-
-left_out : (e : Core) → in_transaction e ≡ false → restarts_left e ≡ e.restarts
-left_out e o = ap (λ (b : Bool). if b then e.restarts - e.restarted else e.restarts) o
-
-left_most : (e : Core) → restarts_left e ≤ e.restarts
-left_most e = by_mode (in_transaction e)
-  where
-    by_mode : (b : Bool) → (if b then e.restarts - e.restarted else e.restarts) ≤ e.restarts
-    by_mode true = omega arith
-    by_mode false = omega arith
+use Rattle.tx_runs.proofs.RestartsLeft.{left_inside, left_most, left_outside}
 
 module _ (s : Start) (v : View) (e : Core) where
   -- never more than there may be in one transaction
@@ -28,16 +16,16 @@ module _ (s : Start) (v : View) (e : Core) where
   left_within limit is served = (let most = left_most e in let same = served.limits.3 in omega arith)
 
   -- no fewer are left for the next transaction than in the one that comes of it
-  pub left_outside : {a : Answer} → in_transaction s.engine ≡ false → Served s a v e → restarts_left e ≤ restarts_left s.engine
-  left_outside shut served = (let most = left_most e in let same = served.limits.3 in let all = left_out s.engine shut in omega arith)
+  pub left_after : {a : Answer} → in_transaction s.engine ≡ false → Served s a v e → restarts_left e ≤ restarts_left s.engine
+  left_after shut served = (let most = left_most e in let same = served.limits.3 in let all = left_outside s.engine shut in omega arith)
 
   -- a reply takes none
   pub left_still : (r : Replied) → in_transaction s.engine ≡ true → in_transaction e ≡ true → Served s (Reply r) v e → restarts_left e ≤ restarts_left s.engine
   left_still r inside now served =
       (let same = served.limits.3 in
       let made = served.tells.restarted ∙ came_restarted s.engine s.call s.again inside in
-      let was = left_in s.engine inside in
-      let is = left_in e now in
+      let was = left_inside s.engine inside in
+      let is = left_inside e now in
       omega arith)
 
   -- a block that goes back takes one
@@ -46,6 +34,6 @@ module _ (s : Start) (v : View) (e : Core) where
       (let same = served.limits.3 in
       let made = served.tells.counted in
       let some = served.tells.left in
-      let was = left_in s.engine served.tells.still.0 in
-      let is = left_in e served.tells.still.1 in
+      let was = left_inside s.engine served.tells.still.0 in
+      let is = left_inside e served.tells.still.1 in
       omega arith)

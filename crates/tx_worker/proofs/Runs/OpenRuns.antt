@@ -147,9 +147,6 @@ module _ {P : Type 0} {rules : Rules P} (laws : Obeys rules) (c : Course P) (t :
   -- ## Without a commit
 
   module _ (k : ℕ) (outcome : Outcome) (due : List Ran) (stops : is_done outcome ≡ false) (read : MayRead u e (memory_of v k)) where
-    abbrev pub told_at : Attempt
-    told_at = ended_at outcome k due (running.inside inside).row
-
     pub stop_ended : EndsAs outcome (stands_for e (stood e.irrevocable u (memory_of v k))) → ran_on (running.inside inside).row.ran (running.inside inside).row.restarts due ≡ ran_of outcome (led (bytes_at v k))
         → (running.inside inside).row.began ≤ k → k ≤ length v.seen → (outcome ≡ outcomes.Conflict → 2 * k < v.high)
         → (outcome ≡ outcomes.Full → LacksClock rules c.depth (rules.answered (running.inside inside).try.is_open.of_block.start.player (begin_code (running.inside inside).between.again)) (running.inside inside).row (bytes_at v k))

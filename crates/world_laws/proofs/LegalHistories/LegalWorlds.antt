@@ -17,7 +17,8 @@ use Rattle.norec_world.specs.Stages.{active_of, opens}
 use Rattle.norec_world.proofs.Tries.Stages.{row_unfinished}
 use Rattle.norec_core.specs.Core.{in_transaction}
 use Rattle.norec_world.specs.World.{World, attempts_of, observed}
-use Rattle.norec_world.proofs.Events.SoundOthers.{odd_or_even, there_is}
+use Rattle.norec_world.proofs.Events.SoundOthers.{odd_or_even}
+use Rattle.tx_runs.proofs.RunLists.{there_is}
 use Rattle.world_laws.specs.Told.{told_of}
 use Rattle.tx_history.proofs.Runs.AloneRuns.{IsPlaced, of_run}
 use Rattle.world_laws.proofs.LegalHistories.EachThread.{of_threads}

@@ -1,22 +1,20 @@
 -- The history of a world is within the limits of a run.
-use Rattle.std.proofs.Common.{ℕ, ◌+◌, ◌/◌, ◌<◌, ◌≤◌, All, List, [], ◌∷◌, ◌++◌, length, get_or, Some, refl, arith}
+use Rattle.std.proofs.Common.{ℕ, ◌+◌, ◌/◌, ◌<◌, ◌≤◌, All, List, [], ◌∷◌, ◌++◌, length, get_or, Some, arith}
 use Rattle.std.proofs.lemmas.List.{length-replicate}
 use Rattle.std.proofs.lemmas.List.Elements.{All-nil, All-cons}
 use Rattle.tx_attempts.specs.declared.attempt.Attempt.{Attempt}
 use Rattle.tx_attempts.specs.Attempts.{of_thread}
 use Rattle.tx_history.specs.Bounds.{AreLimited, HasArenaWidth, IsLimited}
 use Rattle.tx_history.specs.declared.history.Version.{Version}
-use Rattle.tx_history.specs.declared.history.Version.TheVariants.{One, Two, Three}
-use Rattle.tx_history.specs.Versions.{MayTell}
-use Rattle.tx_attempts.specs.declared.attempt.Again.{Again}
+use Rattle.tx_history.proofs.ToldRestarts.{may_tell}
 use Rattle.tx_runs.specs.Restarts.{RestartAtMost}
 use Rattle.tx_player.specs.Rules.{Rules}
 use Rattle.norec_world.specs.Dates.{AreDated}
 use Rattle.norec_world.specs.Headline.{AreOfActors, AreOpaque, bytes_at, first_of}
 use Rattle.norec_world.specs.World.{World, attempts_of, observed}
-use Rattle.norec_world.proofs.Events.SoundOthers.{there_is}
+use Rattle.tx_runs.proofs.RunLists.{there_is}
 use Rattle.tx_history.proofs.Runs.LimitedRuns.{IsOwn, own_run}
-use Rattle.world_laws.specs.Limits.{HasArenaWidths, IsLimitedWorld, MayRestart}
+use Rattle.world_laws.specs.Limits.{HasArenaWidths, IsLimitedWorld}
 use Rattle.world_laws.specs.Told.{told_of}
 use Rattle.world_laws.proofs.LegalHistories.EachThread.{of_threads}
 
@@ -34,13 +32,6 @@ all_few retries before (x ∷ xs) d = All-cons (λ (a : Attempt). a.nth ≤ retr
 each_restarts : (most : ℕ) (xs : List Attempt) → RestartAtMost most xs → All (λ (a : Attempt). length a.restarts ≤ most) xs
 each_restarts most [] few = All-nil (λ (a : Attempt). length a.restarts ≤ most)
 each_restarts most (x ∷ xs) few = All-cons (λ (a : Attempt). length a.restarts ≤ most) x xs few.0 (each_restarts most xs few.1)
-
--- a version tells of those that may have run again
-may_tell : (version : Version) (most : ℕ) (restarts : List Again) → MayRestart version most → length restarts ≤ most → MayTell version restarts
-may_tell One most [] none few = refl
-may_tell One most (x ∷ xs) none few = absurd (omega (arith, none, few))
-may_tell Two most restarts none few = tt
-may_tell (Three depth) most restarts none few = tt
 
 module _ {P : Type 0} (rules : Rules P) (widths : HasArenaWidths rules) (version : Version) (w : World P) (opaque : AreOpaque rules (observed w)) where
   all_own : All (IsOwn HasArenaWidth w.arena) (attempts_of w)

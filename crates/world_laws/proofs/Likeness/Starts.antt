@@ -3,7 +3,7 @@ use Rattle.std.proofs.Common.{◌≡◌, ℕ, ◌/◌, List, [], ◌∷◌, ◌+
 use Rattle.norec_world.proofs.Common.{Attempt, Core, HasStarted, Rules, SameOpening, World, opening, option_and_then, ending_of, slice_get_within, tally_of, words_of}
 use Rattle.norec_world.specs.declared.actor.Actor.{Actor}
 use Rattle.norec_world.specs.Starts.{IsNew}
-use Rattle.norec_world.proofs.Events.SoundOthers.{there_is}
+use Rattle.tx_runs.proofs.RunLists.{there_is}
 use Rattle.world_laws.specs.Alike.{AreAlike}
 use Rattle.world_laws.specs.SameWorlds.{SameWorld}
 use Rattle.world_laws.proofs.Likeness.Work.{IsFed, work_alike}

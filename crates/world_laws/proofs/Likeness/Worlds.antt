@@ -8,7 +8,8 @@ use Rattle.norec_world.specs.declared.fault.WorldFault.{WorldFault}
 use Rattle.norec_world.specs.declared.fault.WorldFault.TheVariants as faults
 use Rattle.norec_world.specs.World.{is_event}
 use Rattle.world_laws.specs.SameWorlds.{SameWorld}
-use Rattle.norec_world.proofs.Events.SoundOthers.{set_place, there_is}
+use Rattle.norec_world.proofs.Events.SoundOthers.{set_place}
+use Rattle.tx_runs.proofs.RunLists.{there_is}
 use Rattle.std.proofs.lemmas.Option.{slice_get_within as within_of}
 use Rattle.norec_world.proofs.Events.Worlds.{waits_there}
 use Rattle.world_laws.proofs.Likeness.Work.{IsFed, event_alike}

@@ -1,4 +1,4 @@
-use Rattle.std.proofs.Common.{◌≡◌, ◌+◌, length, ap, sym, ◌∙◌, arith}
+use Rattle.std.proofs.Common.{◌+◌, length, ap, sym, ◌∙◌, arith}
 use Rattle.itm_types.specs.declared.call.Ran.{Ran}
 use Rattle.tx_attempts.proofs.UndoneCounts.{before_few, next_early, next_late}
 use Rattle.tx_attempts.proofs.undone.undone_before.Goals as goal

@@ -1,5 +1,5 @@
-use Rattle.std.proofs.Common.{◌≡◌, ◌≤◌, ◌/◌, ◌+◌, ◌∙◌, ℕ, Option, Some, unwrap_or, false, refl, sym, ap, subst, arith, rules, true≢false}
-use Rattle.norec_world.proofs.{Actor, AsksOf as Asks, Begin, Begins, Call, Core, IsAsked, IsRefused, IsUnasked, MayRunOn, Within, acts_begin, acts_outside, acts_within, asked_begin, asked_outside, asked_room, asked_within, begun, count_in, irrevocable_room, is_begin, kept_room, next_in, no_begin, not_within, on_err, on_err_still, others_begun, others_same, others_within, out_outside, refused_outside, refused_within, reserved, rows_in, short_within, shut_outside, starves_begin, told_begin, told_outside, told_within, unasked_outside, unasked_within}
+use Rattle.std.proofs.Common.{◌≡◌, ◌≤◌, ◌/◌, ◌+◌, ◌∙◌, ℕ, Option, Some, unwrap_or, false, refl, sym, ap, subst, arith, rules}
+use Rattle.norec_world.proofs.{Actor, AsksOf as Asks, Begin, Begins, Call, Core, IsAsked, IsRefused, IsUnasked, MayRunOn, Within, acts_begin, acts_outside, acts_within, asked_begin, asked_outside, asked_room, asked_within, begun, count_in, irrevocable_room, is_begin, kept_room, next_in, no_begin, not_within, on_err, on_err_still, others_begun, others_same, others_within, out_outside, refused_outside, refused_within, reserved, rows_in, starves_begin, told_begin, told_outside, told_within, unasked_outside, unasked_within, used_asking, used_outside, used_within}
 use Rattle.norec_world.proofs.actor.Actor.ask.Goals as goal
 
 -- ## Within an attempt
@@ -12,9 +12,9 @@ pub returns-in_err-prepare-clause-refused : goal.returns-in_err-prepare-clause-r
 returns-in_err-prepare-clause-refused g c =
     on_err c.from_residual.result (refused_within c.requires.sound c.requires.ready c.in-Within.open c.prepare.new.attempt c.in-Within.is c.prepare.ensures.kept.0 c.prepare.ensures.kept.1 c.prepare.ensures.kept.2 c.prepare.ensures.points c.in-Within.open.row.calls refl c.in_err-prepare.ensures.err (λ h. kept_room c.requires.sound c.requires.ready c.in-Within.open c.prepare.new.attempt c.in-Within.is c.prepare.ensures.kept.0 c.prepare.ensures.kept.1 c.prepare.ensures.kept.2 c.prepare.ensures.points))
 
-pub returns-in_err-prepare-clause-short : goal.returns-in_err-prepare-clause-short
-returns-in_err-prepare-clause-short g c =
-    on_err c.from_residual.result (λ inside. short_within c.requires.sound c.requires.ready c.in-Within.open c.prepare.new.attempt c.in-Within.is c.prepare.ensures.kept.0 c.prepare.ensures.kept.1 c.prepare.ensures.kept.2 c.prepare.ensures.points c.args.call.now c.in_err-prepare.ensures.short)
+pub returns-in_err-prepare-clause-used : goal.returns-in_err-prepare-clause-used
+returns-in_err-prepare-clause-used g c =
+    on_err c.from_residual.result (used_within c.requires.sound c.requires.ready c.in-Within.open c.prepare.new.attempt c.in-Within.is c.prepare.ensures.kept.0 c.prepare.ensures.kept.1 c.prepare.ensures.kept.2 c.prepare.ensures.points c.args.call.now c.in_err-prepare.ensures.short)
 
 pub returns-in-Within : goal.returns-in-Within
 returns-in-Within g c =
@@ -34,7 +34,7 @@ returns-in-Within g c =
       refused = on_err_still a.engine new call false c.call_into.new.answer (λ e. IsRefused (At e)) c.call_into.result c.call_into.ensures
           (refused_within c.requires.sound c.requires.ready o o' c.in-Within.is c.prepare.ensures.kept.0 c.prepare.ensures.kept.1 c.prepare.ensures.kept.2 c.prepare.ensures.points calls refl c.in_ok-prepare.ensures.calls (asked_room c.requires.sound c.requires.ready o o' c.in-Within.is c.prepare.ensures.kept.0 c.prepare.ensures.kept.1 c.prepare.ensures.kept.2 c.prepare.ensures.points call));
       grows = search rules;
-      short = search rules;
+      used = used_asking c.requires.sound c.requires.ready o o' c.in-Within.is c.prepare.ensures.kept.0 c.prepare.ensures.kept.1 c.prepare.ensures.kept.2 c.prepare.ensures.points call new c.call_into.new.answer c.call_into.result c.call_into.ensures;
       ended = search rules;
       place = search rules;
       others = others_within c.requires.sound c.requires.ready o o' c.in-Within.is c.prepare.ensures.kept.0 c.prepare.ensures.kept.1 c.prepare.ensures.kept.2 c.prepare.ensures.points new;
@@ -54,7 +54,7 @@ returns-in_err-next-in-Begin g c =
       unasked = on_err c.from_residual-in_err-next-in-Begin.result (subst (λ (e : Core). IsUnasked g.P.Player a (record a { engine = e })) (sym still) (unasked_outside c.requires.sound c.requires.ready none));
       refused = on_err c.from_residual-in_err-next-in-Begin.result (subst (λ (e : Core). IsRefused (record a { engine = e })) (sym still) (refused_outside c.requires.sound c.requires.ready none));
       grows = on_err c.from_residual-in_err-next-in-Begin.result (λ x. ap is_begin c.in-Begin.is);
-      short = on_err c.from_residual-in_err-next-in-Begin.result (λ x. absurd (true≢false (sym x ∙ shut_outside c.requires.sound c.requires.ready none)));
+      used = on_err c.from_residual-in_err-next-in-Begin.result (used_outside c.requires.sound c.requires.ready none);
       ended = c.reserve.ensures.items;
       place = (let n = ap count_in (out_outside c.requires.sound c.requires.ready none) in omega arith);
       others = others_same a (record a { engine = c.begin_into.new.self }) (rows_in c.args.ended.now) (rows_in c.reserve.new.self) refl (omega arith) c.reserve.ensures.items (let l = c.reserve.ensures.len in let k = c.reserve.ensures.capacity in omega arith);
@@ -82,7 +82,7 @@ returns-in_ok-next-in-Begin g c =
       unasked = tt;
       refused = tt;
       grows = tt;
-      short = tt;
+      used = tt;
       ended = c.reserve.ensures.items;
       place = (let n = c.in_ok-reserve-in-Begin.ensures.ok in let l = c.reserve.ensures.len in omega arith);
       others = others_begun a (rows_in c.args.ended.now) (rows_in c.reserve.new.self) o e (out_outside c.requires.sound c.requires.ready none) c.reserve.ensures.items (let l = c.reserve.ensures.len in let k = c.reserve.ensures.capacity in omega arith) (let n = c.in_ok-reserve-in-Begin.ensures.ok in let l = c.reserve.ensures.len in omega arith);
@@ -101,7 +101,7 @@ returns-in_default-call g c =
       unasked = on_err_still a.engine e c.args.call.now false c.call_into-in_default-call.new.answer (λ x. IsUnasked g.P.Player a (record a { engine = x })) c.call_into-in_default-call.result c.call_into-in_default-call.ensures (unasked_outside c.requires.sound c.requires.ready none);
       refused = on_err_still a.engine e c.args.call.now false c.call_into-in_default-call.new.answer (λ x. IsRefused (record a { engine = x })) c.call_into-in_default-call.result c.call_into-in_default-call.ensures (refused_outside c.requires.sound c.requires.ready none);
       grows = starves_begin a.engine e c.args.call.now c.call_into-in_default-call.new.answer c.requires.sound.tied.settled c.call_into-in_default-call.result c.call_into-in_default-call.ensures;
-      short = on_err c.call_into-in_default-call.result (λ x. absurd (true≢false (sym x ∙ shut_outside c.requires.sound c.requires.ready none)));
+      used = on_err c.call_into-in_default-call.result (used_outside c.requires.sound c.requires.ready none);
       ended = refl;
       place = c.requires.sound.place;
       others = others_same a (record a { engine = e }) (rows_in c.args.ended.now) (rows_in c.args.ended.now) refl (omega arith) refl (omega arith);

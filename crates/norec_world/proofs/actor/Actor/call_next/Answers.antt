@@ -1,5 +1,5 @@
-use Rattle.std.proofs.Common.{◌≡◌, ℕ, true, Option, None, Some, refl, sym, ap, subst, ◌∙◌, ◌++◌}
-use Rattle.norec_world.proofs.{Actor, Answer, Answers, Asks, Core, IsPromised, IsSettled, IsTied, MayRunOn, Outcome, PlayerRun, Stage, Stand, Starves, StatusIs, Step, Waits, after_undoing, answer_falls, call_taken, call_worked, calling, due, finish_worked, idle_still, in_transaction, next_in, others_place, others_twice, over_as, rests, rows_in, stage_of, stand_of, starve_worked, tally_of, used_up, with_room}
+use Rattle.std.proofs.Common.{◌≡◌, ℕ, Option, None, Some, refl, sym, ap, subst, ◌∙◌, ◌++◌}
+use Rattle.norec_world.proofs.{Actor, Answer, Answers, Asks, Core, IsTied, MayRunOn, Outcome, PlayerRun, Stage, Stand, Starves, StatusIs, Step, Waits, after_undoing, answer_falls, call_taken, call_worked, calling, due, finish_worked, idle_still, in_transaction, next_in, others_place, others_twice, over_as, rests, rows_in, stage_of, stand_of, starve_worked, tally_of, with_room}
 use Rattle.norec_world.proofs.Engines.SoundSteps.{mid}
 use Rattle.tx_runs.specs.Ranks.{restarts_left}
 use Rattle.tx_runs.specs.Tallies.{begins, outside, within}
@@ -12,9 +12,6 @@ as_step a e = ap (λ (n : Option Step). next_in n a) e
 
 as_answer : (a : Answer) {o : Option Step} → o ≡ None → next_in o a ≡ Answers a
 as_answer a e = ap (λ (n : Option Step). next_in n a) e
-
-is_open : {e : Core} → IsSettled e → e.irrevocable ≡ true → in_transaction e ≡ true
-is_open s h = (s.holder (s.irrevocable h).0).0
 
 -- the room that it had is no matter where an attempt is over
 over_room : (outcome : Outcome) (s : Stand) (room : ℕ) (stage : Stage) → over_as outcome s (with_room room stage) ≡ over_as outcome s stage
@@ -72,8 +69,7 @@ returns-in-Err-clause-worked g c =
       call = c.in-Some.call;
       next_is = sym c.next.ensures ∙ c.in-Some.is;
       grows = c.in-Err.ensures.grows;
-      short = c.in-Err.ensures.short;
-      used = λ h. used_up a c.in-Some.call (subst (IsPromised a) c.requires.ready c.requires.sound.acts.backed) (c.in-Err.ensures.short (is_open c.requires.sound.tied.settled h)) h;
+      used = c.in-Err.ensures.used;
       status = starved.status;
       same = record { thread = starved.same.0 ∙ ap (λ (y : PlayerRun g.row.P.Denot). y.thread) run; retries = starved.same.1 ∙ ap (λ (y : PlayerRun g.row.P.Denot). y.retries) run; nothing = λ e. absurd (let z = sym starved.status ∙ e in cc) };
       engine = left;

@@ -1,4 +1,4 @@
-use Rattle.norec_world.proofs.{AreOfActors, HasStarted, IsBetween, RunsFrom, World, bytes_of, commits_first, dated_first, first_of, laid_first, opening, opens_none, rows_in, words_of, words_of-bytes_of, world_opaque, world_tied, rules, ◌≡◌, ◌/◌, ℕ, length, replicate, List, slice_get, sym, ap, subst, ◌∙◌, ◌++◌}
+use Rattle.norec_world.proofs.{AreOfActors, HasStarted, RunsFrom, World, bytes_of, commits_first, dated_first, first_of, laid_first, opening, opens_none, rows_in, words_of, words_of-bytes_of, world_opaque, world_tied, rules, ◌≡◌, ◌/◌, ℕ, length, replicate, List, slice_get, sym, ap, subst, ◌∙◌, ◌++◌}
 use Rattle.norec_world.proofs.world.World.new.Goals as goal
 
 pub invariant_of-result : goal.invariant_of-result
@@ -18,9 +18,6 @@ invariant_of-result g c = let w : World g.row.P.Denot = record { opening = c.in_
       };
       dated = dated_first w c.new-memory.ensures.clock c.in_ok-actors.ensures.none (λ place a e. (c.in_ok-actors.ensures.first place a e).between);
     }
-
-pub returns-clause-first : goal.returns-clause-first
-returns-clause-first g c place a e = subst (λ (n : ℕ). IsBetween n 1 a) c.new-memory.ensures.clock (c.in_ok-actors.ensures.first place a e).between
 
 pub returns-clause-commits : goal.returns-clause-commits
 returns-clause-commits g c = (invariant_of-result g c).commits

@@ -7,12 +7,12 @@ use Rattle.tx_worker.proofs.worker.Worker.make.Goals as goal
 pub starve-requires : goal.starve-requires
 starve-requires g c =
     let k = c.requires.works in
-    (c.args.words.now, k.0, k.1, c.args.self.now, c.args.call, hungry k.2 c.requires.asks c.prepare.ensures.same c.in_default.ensures.unready)
+    (c.args.words.now, k.0, k.1, c.args.self.now, c.args.call, hungry k.2 c.requires.asks c.prepare.ensures.same c.in_default.ensures.unready c.in_default.ensures.short)
 
 pub returns-in_default : goal.returns-in_default
 returns-in_default g c shuts course b k =
     subst (λ (end : End). IsStopped g.P.Player c.args.words.now course b shuts end c.args.self.now c.starve.new.self) (sym c.starve.ensures.end)
-    (c.starve.ensures.stopped c.args.words.now course b c.args.self.now c.args.call shuts (hungry k c.requires.asks c.prepare.ensures.same c.in_default.ensures.unready))
+    (c.starve.ensures.stopped c.args.words.now course b c.args.self.now c.args.call shuts (hungry k c.requires.asks c.prepare.ensures.same c.in_default.ensures.unready c.in_default.ensures.short))
 
 pub take_in-requires : goal.take_in-requires
 take_in-requires g c = record {

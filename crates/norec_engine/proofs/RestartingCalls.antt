@@ -1,0 +1,121 @@
+-- By which calls the innermost block may go back to its begin, and what that leaves of the blocks and the arena.
+use Rattle.std.proofs.Common.{◌≡◌, ℕ, ◌+◌, ◌*◌, ◌&&◌, not, nat_le, nat_lt, Bool, true, false, true≢false, if◌then◌else◌, List, [], ◌∷◌, length, Option, None, Some, refl, sym, ap, ◌∙◌}
+use Rattle.std.proofs.lemmas.Bool.{and_parts, cond-true}
+use Rattle.itm_types.proofs.KeptBytes.{length-restored}
+use Rattle.itm_types.specs.Access.{size_of}
+use Rattle.itm_types.specs.declared.call.Call.{Call}
+use Rattle.itm_types.specs.declared.call.Call.TheVariants.{Begin, Commit, Copy, CommitAction, Fill, Mode, Read, UndoAction, Write}
+use Rattle.itm_types.specs.declared.call.Copying.{Copying}
+use Rattle.itm_types.specs.declared.call.Props.{Props}
+use Rattle.itm_types.specs.declared.copy.CopyPair.{CopyPair}
+use Rattle.itm_types.specs.declared.copy.CopyPair.TheVariants.{In, Out, Within}
+use Rattle.itm_model.specs.Machine.{back, back_from, entered, irrevocable_from, made_irrevocable, pushed, rolled_back}
+use Rattle.itm_model.specs.State.{Block, Saved, State}
+use Rattle.nest_frames.specs.Nest.{Frame, renewed}
+use Rattle.norec_core.specs.Core.{Core, in_transaction, is_outermost, is_within, may_go}
+use Rattle.norec_core.specs.declared.call_parts.Taking.TheVariants as takings
+use Rattle.norec_core.specs.Order.{chunk_from, commit_stage, copy_stage, going_stage, placed_in, stage_at}
+use Rattle.norec_core.specs.Phases.{Phase}
+use Rattle.norec_core.specs.Phases.{Idle}
+use Rattle.norec_core.specs.Restarts.{begun_again}
+use Rattle.norec_core.proofs.Replies.ActionCounts.{registers}
+use Rattle.norec_engine.specs.RestartingCalls.{arena_ahead, can_restart, may_validate, reads_shared}
+
+-- ## Calls that ask for no step
+
+off : (b : Bool) (stage : Phase) → stage ≡ Idle → (if b then stage else Idle) ≡ Idle
+off true stage e = e
+off false stage e = refl
+
+inner : (bs : List Frame) → is_within bs ≡ true → is_outermost bs ≡ false
+inner [] w = refl
+inner (b ∷ []) w = absurd (cc)
+inner (b ∷ p ∷ bs) w = refl
+
+module _ (c : Core) (again : Bool) (revocable : c.irrevocable ≡ false) (inside : in_transaction c ≡ true) (within : is_within c.blocks ≡ true) where
+  still : (stage : Phase) → placed_in c stage ≡ Idle
+  still stage = ap (λ (i : Bool). if i then stage else Idle) revocable
+
+  begin_idle : (props : Props) (room : ℕ) → props.goes_irrevocable ≡ false → stage_at c (Begin props room) again ≡ Idle
+  begin_idle props room stays =
+      cond-true (in_transaction c) _ _ inside
+      ∙ ap (λ (goes : Bool). going_stage c (if goes && may_go c.blocks props && nat_lt (length c.blocks) c.depth && not c.irrevocable then Some room else None) (takings.Begin props room)) stays
+
+  copy_idle : (k : Copying) (pair : CopyPair) → reads_shared pair ≡ false → (if c.irrevocable then chunk_from k 0 else copy_stage c.writes c.log k pair) ≡ Idle
+  copy_idle k (Out to) e = ap (λ (i : Bool). if i then chunk_from k 0 else Idle) revocable
+  copy_idle k (In from) e = absurd (true≢false e)
+  copy_idle k (Within from to) e = absurd (true≢false e)
+
+  -- within an inner block a call that comes to no round asks for none
+  pub idle_so : (call : Call) → may_validate call ≡ false → stage_at c call again ≡ Idle
+  idle_so (Begin props room) e = begin_idle props room e
+  idle_so Commit e = ap (λ (b : Bool). if b then commit_stage c else Idle) (inner c.blocks within)
+  idle_so (Mode room) e = absurd (true≢false e)
+  idle_so (Read hint width at) e = absurd (true≢false e)
+  idle_so (Write hint at value) e = off (in_transaction c && nat_le (at + size_of value.width) (8 * c.words)) _ (still _)
+  idle_so (Copy k) e = off _ _ (copy_idle k k.pair e)
+  idle_so (Fill hint to byte size) e = off (in_transaction c && nat_le (to + size) (8 * c.words)) _ (still _)
+  idle_so call e = refl
+
+-- a call that can restart a block registers no action
+pub validates_none : (call : Call) → may_validate call ≡ true → registers call ≡ 0
+validates_none (CommitAction action) e = absurd (true≢false (sym e))
+validates_none (UndoAction action) e = absurd (true≢false (sym e))
+validates_none call e = refl
+
+-- ## A call by which the block may go back
+
+not_not : (b : Bool) → not b ≡ true → b ≡ false
+not_not true e = absurd (true≢false (sym e))
+not_not false e = refl
+
+-- a transaction in which one may go back so may be tried again
+pub can_revocable : (e : Core) (call : Call) → can_restart e call ≡ true → e.irrevocable ≡ false
+can_revocable e call can =
+    let last = (and_parts (nat_lt e.restarted e.restarts) (not e.irrevocable && (is_within e.blocks && may_validate call)) can).1 in
+    not_not e.irrevocable (and_parts (not e.irrevocable) (is_within e.blocks && may_validate call) last).0
+
+-- the bytes for which room is made before it
+pub ahead_of_it : (e : Core) (call : Call) → can_restart e call ≡ true → arena_ahead e call ≡ Some (length e.arena)
+ahead_of_it e call can = ap (λ (b : Bool). if b then Some (length e.arena) else None) can
+
+-- room is made before no other
+pub ahead_revocable : (e : Core) (call : Call) (bytes : ℕ) → arena_ahead e call ≡ Some bytes → e.irrevocable ≡ false
+ahead_revocable e call bytes ahead = by_test (can_restart e call) refl
+  where
+    by_test : (b : Bool) → can_restart e call ≡ b → e.irrevocable ≡ false
+    by_test true can = can_revocable e call can
+    by_test false never = absurd (let none : None ≡ Some bytes = sym (ap (λ (b : Bool). if b then Some (length e.arena) else None) never) ∙ ahead in cc)
+
+-- ## The arena
+
+entered_long : (s : State) (props : Props) → length (entered s props).arena ≡ length s.arena
+entered_long s props = by_props props.goes_irrevocable
+  where
+    by_mode : (b : Bool) → length (if b then pushed s props else made_irrevocable (pushed s props)).arena ≡ length s.arena
+    by_mode true = refl
+    by_mode false = refl
+
+    by_props : (b : Bool) → length (if b then irrevocable_from (pushed s props) else pushed s props).arena ≡ length s.arena
+    by_props true = by_mode s.irrevocable
+    by_props false = refl
+
+back_long : (s : State) (blocks : List Block) → length (back_from s blocks).arena ≡ length s.arena
+back_long s [] = refl
+back_long s (b ∷ bs) = by_saved b.saved
+  where
+    by_saved : (o : Option Saved) → length (rolled_back s bs o).arena ≡ length s.arena
+    by_saved None = refl
+    by_saved (Some saved) = length-restored saved.kept s.arena
+
+-- gone back, the block leaves the arena its length
+pub again_long : (blocks : List Frame) (s : State) → length (begun_again blocks (back s)).arena ≡ length s.arena
+again_long [] s = back_long s s.blocks
+again_long (b ∷ bs) s = entered_long (back s) b.props ∙ back_long s s.blocks
+
+-- ## The blocks
+
+-- as many are open
+pub renewed_long : (bs : List Frame) → length (renewed bs) ≡ length bs
+renewed_long [] = refl
+renewed_long (b ∷ bs) = refl
