@@ -38,7 +38,7 @@ pub use Rattle.norec_core.specs.declared.answer.Answer.TheVariants.{Busy, Commit
 pub use Rattle.norec_core.specs.declared.answer.Next.{Next}
 pub use Rattle.norec_core.specs.declared.answer.Next.TheVariants.{Answer as Answers, Step as Asks}
 pub use Rattle.norec_engine.specs.NextSteps.{ComesInto, next_in}
-pub use Rattle.norec_world.specs.ActionRoom.{AsksAs, goes_in, HasPlace, HasRoomFor, is_held, IsActing, IsPromised, IsRefused, MayRunOn, NoCancel, promised, wanted}
+pub use Rattle.norec_world.specs.ActionRoom.{AsksAs, goes_in, HasPlace, HasRoomFor, is_held, IsActing, IsPromised, IsRefused, MayRunOn, NoCancel, wanted}
 pub use Rattle.norec_world.specs.Actors.{AreActors}
 pub use Rattle.norec_world.specs.Cells.{Cells, cells_after, found}
 pub use Rattle.norec_world.specs.ClockHolder.{ClocksOn, HoldsOn}
@@ -84,8 +84,9 @@ pub use Rattle.tx_attempts.specs.declared.attempt.Outcome.TheVariants.{Unfinishe
 pub use Rattle.tx_player.specs.Depth.{depth_after, opens}
 pub use Rattle.tx_player.specs.Replies.{MayReply}
 pub use Rattle.tx_player.specs.Rules.{Obeys, Rules}
-pub use Rattle.tx_runs.proofs.OpenRooms.{on_err}
+pub use Rattle.tx_runs.proofs.OpenRooms.{on_err, promised_held, promised_none}
 pub use Rattle.tx_runs.proofs.RunLists.{there_is}
+pub use Rattle.tx_runs.specs.OpenAttempts.{promised}
 pub use Rattle.tx_runs.proofs.EngineReplies.{cancels, plain_reply}
 pub use Rattle.tx_runs.proofs.IrrevocableCalls.{asks_no_room, goes_same}
 pub use Rattle.tx_runs.proofs.RunLists.{run_still, run_with}

@@ -9,7 +9,7 @@ use Rattle.norec_core.specs.declared.answer.Answer.{Answer as Given}
 use Rattle.norec_core.specs.declared.answer.Next.{Next}
 use Rattle.norec_core.specs.declared.answer.Next.TheVariants.{Step, Answer}
 use Rattle.tx_attempts.specs.declared.attempt.Attempt.{Attempt}
-use Rattle.tx_runs.specs.OpenAttempts.{IsBacked, told_in}
+use Rattle.tx_runs.specs.OpenAttempts.{IsBacked, promised, told_in}
 use Rattle.tx_runs.specs.PlayerRuns.{MayGoBack, stage_of}
 use Rattle.tx_runs.specs.Savepoints.{AreSavepoints}
 use Rattle.tx_runs.specs.Tallies.{Stage, outside, begins, within, stand_of}
@@ -36,11 +36,7 @@ goes_in e (Some call) = irrevocable_room e call
 abbrev pub is_held : Core → Bool
 is_held e = e.irrevocable || is_some (goes_in e e.doing)
 
--- how many places the list of the transaction's calls may promise at most between two calls: of one that is irrevocable, as many as its engine has room
-abbrev pub promised : Core → ℕ
-promised e = if e.irrevocable then e.room else 0
-
--- and how many the call in progress asks for, where it makes the transaction so
+-- how many calls the call in progress asks for room for, where it makes the transaction so
 abbrev pub wanted : Core → ℕ
 wanted e = unwrap_or (goes_in e e.doing) 0
 

@@ -18,7 +18,7 @@ use Rattle.norec_core.specs.Effects.{actions_after, room_left}
 use Rattle.itm_types.specs.Memory.{Agrees, IsMemory}
 use Rattle.itm_types.specs.declared.call.Props.{Props}
 use Rattle.norec_core.proofs.Engines.IrrevocableCalls.{begin_served, mode_enters}
-use Rattle.norec_core.specs.Proceeds.{ConflictsIn, Ends, IsSettled, Replies, RepliesHeld}
+use Rattle.norec_core.specs.Proceeds.{ConflictsIn, Ends, IsSettled, MayStarveHeld, Replies, RepliesHeld}
 use Rattle.norec_core.specs.Stands.{stands_for, state_in, state_over}
 use Rattle.norec_core.specs.declared.answer.Answer.{Answer}
 use Rattle.norec_core.specs.declared.answer.Answer.TheVariants.{Reply as Replied, Busy, Committed, Conflict, Full, Restarted}
@@ -166,3 +166,8 @@ room_by_call mid new (UndoAction action) Done h acts room most some =
     (omega arith, omega arith))
 room_by_call mid new (UndoAction action) r h acts room most some = (let same = ap total acts in (omega arith, omega arith))
 room_by_call mid new call r h acts room most some = (omega arith, omega arith)
+
+-- a call of it wants memory for a commit action beyond the room alone
+pub starves_used : (e : Core) (call : Call) → MayStarveHeld e call → e.room ≡ 0
+starves_used e (CommitAction action) none = none
+starves_used e call none = absurd none

@@ -1,5 +1,5 @@
 -- The room of an open attempt serves whatever comes of an answer.
-use Rattle.std.proofs.Common.{◌≡◌, Bool, true, false, if◌then◌else◌, ℕ, ◌+◌, ◌<◌, ◌≤◌, max, List, [], ◌∷◌, drop, length, Option, None, Some, Result, Ok, Err, OnErr, refl, arith}
+use Rattle.std.proofs.Common.{◌≡◌, Bool, true, false, if◌then◌else◌, ℕ, ◌+◌, ◌<◌, ◌≤◌, max, List, [], ◌∷◌, drop, length, Option, None, Some, is_some, unwrap_or, Result, Ok, Err, OnErr, refl, ap, arith}
 use Rattle.itm_types.specs.declared.call.Call.{Call}
 use Rattle.itm_types.specs.declared.call.Reply.{Reply}
 use Rattle.tx_attempts.specs.Kept.{Kept, reserved}
@@ -13,7 +13,9 @@ use Rattle.itm_types.specs.Calls.{abort_of, is_begin, is_commit}
 use Rattle.itm_types.specs.declared.call.Reply.TheVariants.{Code, Done}
 use Rattle.itm_types.specs.declared.call.Call.TheVariants.{Begin}
 use Rattle.itm_types.specs.declared.call.Props.{Props}
+use Rattle.norec_core.specs.Core.{Core}
 use Rattle.tx_attempts.specs.declared.attempt.Attempt.{Attempt}
+use Rattle.tx_runs.specs.OpenAttempts.{promised}
 
 -- ## Where memory is refused
 
@@ -68,3 +70,16 @@ begins_none call row ahead other = refl
 pub again_none : (s : Stage) (again : Bool) (call : Call) → is_begin call ≡ false → begins_again s again call ≡ false
 again_none outside again (Begin props room) other = absurd (cc)
 again_none s again call other = refl
+
+-- ## Room that is promised
+
+pub promised_held : (e : Core) → e.irrevocable ≡ true → promised e ≡ e.room
+promised_held e held = ap (λ (b : Bool). if b then e.room else 0) held
+
+pub promised_none : (e : Core) → e.irrevocable ≡ false → promised e ≡ 0
+promised_none e revocable = ap (λ (b : Bool). if b then e.room else 0) revocable
+
+-- what is not asked for is none
+pub none_asked : (o : Option ℕ) → is_some o ≡ false → unwrap_or o 0 ≡ 0
+none_asked None e = refl
+none_asked (Some n) e = absurd (cc)

@@ -1,8 +1,9 @@
 -- The attempt that is under way, and the room that is made ahead for it.
-use Rattle.std.specs.Prelude.{◌≡◌, ◌⊎◌, ℕ, ◌+◌, ◌<◌, ◌≤◌, true, is_some, length, List, [], ◌∷◌, Option, None, Some}
+use Rattle.std.specs.Prelude.{◌≡◌, ◌⊎◌, ℕ, ◌+◌, ◌<◌, ◌≤◌, true, if◌then◌else◌, is_some, length, List, [], ◌∷◌, Option, None, Some}
 use Rattle.std.specs.Global.{Box}
 use Rattle.itm_types.specs.declared.call.Call.{Call}
 use Rattle.itm_types.specs.Calls.{is_abort, is_begin, registered_by}
+use Rattle.norec_core.specs.Core.{Core}
 use Rattle.tx_attempts.specs.declared.attempt.Attempt.{Attempt}
 use Rattle.tx_attempts.specs.Kept.{Backing}
 use Rattle.tx_attempts.specs.Restarts.{count_undone}
@@ -61,6 +62,10 @@ LacksRecord actions arena o = (bytes : ℕ) × (arena ≡ Some bytes) × (IsBack
 -- there is none for the call, or for its block, or for its actions; or it asks for more; or there is none for a block that runs again by it
 abbrev pub LacksPlaces : Call → ℕ → ℕ → Option ℕ → Open → Type 0
 LacksPlaces call actions ahead arena o = (o.row.calls.room ≡ 0) ⊎ ((is_begin call ≡ true) × (o.deep ≤ length o.points)) ⊎ ((is_some (registered_by call) ≡ true) × (o.ends ≤ actions)) ⊎ ((is_abort call ≡ true) × (o.cancels < actions)) ⊎ (0 < ahead) ⊎ LacksRecord actions arena o
+
+-- how many calls it may have room for between two calls, at most: in an irrevocable transaction as many as its engine has room for, in one that may be tried again none
+abbrev pub promised : Core → ℕ
+promised e = if e.irrevocable then e.room else 0
 
 -- so many of the actions that have come to run in the transaction are told already
 abbrev pub told_in : Attempt → ℕ

@@ -1,5 +1,5 @@
 -- A worker between two calls, and one that has stopped.
-use Rattle.std.specs.Prelude.{◌≡◌, ◌⊎◌, ℕ, ◌+◌, ◌/◌, ◌^◌, ◌<◌, ◌≤◌, Bool, true, false, if◌then◌else◌, List, length, Option, None, Some, unwrap_or, Vec, vec_len, vec_capacity}
+use Rattle.std.specs.Prelude.{◌≡◌, ◌⊎◌, ℕ, ◌+◌, ◌/◌, ◌^◌, ◌<◌, ◌≤◌, Bool, true, false, List, length, Option, None, Some, unwrap_or, Vec, vec_len, vec_capacity}
 use Rattle.std.specs.declared.alloc.Global.{Global}
 use Rattle.itm_types.specs.declared.limits.TheConstants.{MAX_RETRIES}
 use Rattle.itm_types.specs.Calls.{is_begin}
@@ -21,7 +21,7 @@ use Rattle.tx_attempts.specs.declared.attempt.Attempt.{Attempt}
 use Rattle.tx_runs.specs.declared.ending.End.{End}
 use Rattle.tx_runs.specs.declared.player_run.Current.{Current}
 use Rattle.tx_runs.specs.declared.player_run.Current.TheVariants.{Outside, Begins, Within}
-use Rattle.tx_runs.specs.OpenAttempts.{HasPlacesFor, LacksPlaces, told_in}
+use Rattle.tx_runs.specs.OpenAttempts.{HasPlacesFor, LacksPlaces, promised, told_in}
 use Rattle.tx_runs.specs.PlayerRuns.{MayStop, MayTell, stage_of, tally_of}
 use Rattle.tx_runs.specs.Ranks.{Falls, restarts_left}
 use Rattle.tx_runs.specs.Tallies.{begins_again, outside, stand_of}
@@ -91,10 +91,7 @@ HasActionPlaces e Outside = Unit {0}
 HasActionPlaces e (Begins o) = Unit {0}
 HasActionPlaces e (Within o) = e.irrevocable ≡ true → 0 < e.room → (total e.actions + e.room ≤ o.ends) × (total e.actions + e.room ≤ o.cancels)
 
--- how many calls the open attempt may have room for between two calls, at most: one that is irrevocable for as many as its engine has room, one that may be tried again for none
-abbrev pub promised : Core → ℕ
-promised e = if e.irrevocable then e.room else 0
-
+-- the open attempt has room for no more calls than may be between two calls
 abbrev pub IsPromised : Core → Current → Type 0
 IsPromised e Outside = Unit {0}
 IsPromised e (Begins o) = Unit {0}

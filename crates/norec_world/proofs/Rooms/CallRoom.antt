@@ -1,15 +1,16 @@
 -- What a call that comes, and its answer, leave of the places that the list of an irrevocable transaction's calls promises.
 pub use Rattle.tx_runs.proofs.OpenRooms.{reserved_least}
+use Rattle.tx_runs.proofs.OpenRooms.{none_asked}
 use Rattle.std.proofs.Common.{◌≡◌, true≢false, ℕ, zero, suc, ◌+◌, ◌-◌, ◌<◌, ◌≤◌, max, length, Bool, true, false, if◌then◌else◌, Option, None, Some, is_some, unwrap_or, refl, sym, ap, subst, ◌∙◌, inl, inr, arith}
-use Rattle.norec_core.specs.Proceeds.{MayStarve, MayStarveHeld}
+use Rattle.norec_core.specs.Proceeds.{MayStarve}
 use Rattle.tx_runs.specs.OpenAttempts.{LacksPlaces, Open}
 use Rattle.norec_engine.specs.RestartingCalls.{arena_ahead}
 use Rattle.norec_world.specs.ActionRoom.{counted}
 use Rattle.norec_engine.proofs.RestartingCalls.{ahead_revocable}
 use Rattle.norec_world.specs.LocalWork.{HasUsedUp}
 use Rattle.norec_world.proofs.Rooms.HeldRoom.{goes_in_same, held_as}
-use Rattle.tx_runs.proofs.IrrevocableCalls.{left_least, plain_goes}
-use Rattle.norec_world.proofs.Common.{Actor, Answer, Attempt, Call, CommitAction, Core, Current, Ends, HasRoomFor, IsPromised, Within, cancels_in, ends_in, open_in, same_Some, stage_of, total, IsRestart, IsSettled, MayStarveIn, Ready, Replied, Reply, came, goes_in, asks_no_room, goes_same, in_transaction, irrevocable_room, promised, reply_cases, rests, room_left, wanted}
+use Rattle.tx_runs.proofs.IrrevocableCalls.{left_least, plain_goes, starves_used}
+use Rattle.norec_world.proofs.Common.{Actor, Answer, Attempt, Call, Core, Current, Ends, HasRoomFor, IsPromised, IsRestart, IsSettled, MayStarveIn, Ready, Replied, Reply, Within, asks_no_room, came, cancels_in, ends_in, goes_in, goes_same, in_transaction, irrevocable_room, open_in, promised, promised_held, promised_none, reply_cases, rests, room_left, same_Some, stage_of, total, wanted}
 
 -- ## An answer
 
@@ -18,23 +19,12 @@ pub record LeavesBacked (mid new : Core) : Type 0 where
   pub adds : (room : ℕ) → room ≤ max (promised mid) (wanted mid + 1) → room - 1 ≤ promised new
   pub opens : (room : ℕ) → room ≡ wanted mid → room ≤ promised new
 
--- of one that is not irrevocable nothing is promised
-promised_none : (c : Core) → c.irrevocable ≡ false → promised c ≡ 0
-promised_none c e = ap (λ (b : Bool). if b then c.room else 0) e
-
-promised_all : (c : Core) → c.irrevocable ≡ true → promised c ≡ c.room
-promised_all c e = ap (λ (b : Bool). if b then c.room else 0) e
-
-none_of : (o : Option ℕ) → is_some o ≡ false → unwrap_or o 0 ≡ 0
-none_of None e = refl
-none_of (Some n) e = absurd (cc)
-
 -- a call that does not make it so wants nothing
 pub wanted_as : (c : Core) (call : Call) → c.doing ≡ Some call → wanted c ≡ unwrap_or (irrevocable_room c call) 0
 wanted_as c call doing = ap (λ (o : Option Call). unwrap_or (goes_in c o) 0) doing
 
 pub wanted_none : (c : Core) (call : Call) → c.doing ≡ Some call → is_some (irrevocable_room c call) ≡ false → wanted c ≡ 0
-wanted_none c call doing is = wanted_as c call doing ∙ none_of (irrevocable_room c call) is
+wanted_none c call doing is = wanted_as c call doing ∙ none_asked (irrevocable_room c call) is
 
 module _ (mid new : Core) (call : Call) (answer : Answer) (doing : mid.doing ≡ Some call) (backed : wanted mid ≤ mid.room) (settled : IsSettled new) (g : Ends mid answer new) (stays : IsRestart answer → ⊥) (now : in_transaction new ≡ true) where
   by_way : (r : Replied) → Ends mid (Reply r) new → LeavesBacked mid new
@@ -45,13 +35,13 @@ module _ (mid new : Core) (call : Call) (answer : Answer) (doing : mid.doing ≡
         record { adds = λ room few. omega arith; opens = λ room few. omega arith })
     | inr (inl w) ↦
         (let none = promised_none mid w.revocable in
-        let most = promised_all new (ap (λ (c : Core). c.irrevocable) w.stays) in
+        let most = promised_held new (ap (λ (c : Core). c.irrevocable) w.stays) in
         let same : new.room ≡ mid.room = ap (λ (c : Core). c.room) w.stays in
         record { adds = λ room few. omega arith; opens = λ room few. omega arith })
     | inr (inr w) ↦
-        (let was = promised_all mid w.irrevocable in
+        (let was = promised_held mid w.irrevocable in
         let nothing = wanted_none mid call doing (ap (is_some {T = ℕ}) (asks_no_room mid call w.irrevocable)) in
-        let most = promised_all new (ap (λ (c : Core). c.irrevocable) w.stays ∙ w.irrevocable) in
+        let most = promised_held new (ap (λ (c : Core). c.irrevocable) w.stays ∙ w.irrevocable) in
         let left : new.room ≡ room_left mid call r = ap (λ (c : Core). c.room) w.stays in
         let least = left_least mid call r in
         record { adds = λ room few. omega arith; opens = λ room few. omega arith })
@@ -76,7 +66,7 @@ pub promised_came : (c : Core) (call : Call) (again : Bool) → promised (came c
 promised_came c call again = by_mode c.irrevocable refl
   where
     by_mode : (b : Bool) → c.irrevocable ≡ b → promised (came c call again) ≡ promised c
-    by_mode true e = promised_all (came c call again) e ∙ (ap (λ (o : Option ℕ). unwrap_or o c.room) (asks_no_room c call e) ∙ sym (promised_all c e))
+    by_mode true e = promised_held (came c call again) e ∙ (ap (λ (o : Option ℕ). unwrap_or o c.room) (asks_no_room c call e) ∙ sym (promised_held c e))
     by_mode false e = promised_none (came c call again) e ∙ sym (promised_none c e)
 
 pub wanted_came : (c : Core) (call : Call) (again : Bool) → wanted (came c call again) ≡ unwrap_or (irrevocable_room c call) 0
@@ -107,7 +97,7 @@ used_of_room {P} a call o is inside room nests few lacks h row e = (let none = b
     all = ap (λ (b : Bool). if b then total a.engine.actions else 0) inside
 
     none_by : a.engine.room ≡ 0 → o.row.calls.room ≡ 0
-    none_by none = (let most = promised_all a.engine h in omega arith)
+    none_by none = (let most = promised_held a.engine h in omega arith)
 
     by_want : LacksPlaces call (total a.engine.actions) (unwrap_or (irrevocable_room a.engine call) 0) (arena_ahead a.engine call) o → o.row.calls.room ≡ 0
     by_want (inl full) = full
@@ -125,14 +115,10 @@ used_of_room {P} a call o is inside room nests few lacks h row e = (let none = b
     by_want (inr (inr (inr (inr (inl ahead))))) = absurd (let none = ap (λ (x : Option ℕ). unwrap_or x 0) (asks_no_room a.engine call h) in omega arith)
     by_want (inr (inr (inr (inr (inr again))))) = absurd (true≢false (sym h ∙ ahead_revocable a.engine call again.0 again.1))
 
-starves_used : (c : Core) (call : Call) → MayStarveHeld c call → c.room ≡ 0
-starves_used c (CommitAction action) m = m
-starves_used c call m = absurd m
-
 -- and so has one that wants memory for the call itself
 pub used_of_call : {P : Type 0} (a : Actor P) (call : Call) → IsPromised a Ready → MayStarve a.engine call → HasUsedUp a
 used_of_call a call backed starves h row e =
     let few = backed row e in
-    let most = promised_all a.engine h in
+    let most = promised_held a.engine h in
     let none = starves_used a.engine call (subst (λ (b : Bool). MayStarveIn b a.engine call) h starves) in
     omega arith

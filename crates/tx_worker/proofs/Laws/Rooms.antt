@@ -29,7 +29,7 @@ use Rattle.tx_runs.proofs.TriesBack.{began_now}
 use Rattle.tx_runs.specs.declared.player_run.Current.{Current}
 use Rattle.tx_runs.specs.declared.player_run.Current.TheVariants.{Outside, Begins, Within}
 use Rattle.tx_runs.specs.Nesting.{IsDeep}
-use Rattle.tx_runs.specs.OpenAttempts.{BeganBy, HasRoom, MayRenew, Open, told_in}
+use Rattle.tx_runs.specs.OpenAttempts.{BeganBy, HasRoom, MayRenew, Open, told_in, promised}
 use Rattle.tx_runs.specs.OpenTries.{Bounds as Most, HaveBegun, IsOpenTry, bounds_now, entered_by}
 use Rattle.tx_runs.specs.PlayerRuns.{KeepsPlaces, MayGoBack, MayTakeIn, MayTell, stage_of}
 use Rattle.tx_runs.specs.Savepoints.{cut_back, due_at}
@@ -38,7 +38,7 @@ use Rattle.tx_runs.specs.Tallies.{Stage, outside, begins, within, Stand, begins_
 use Rattle.tx_worker.specs.declared.worker.Worker.{Worker}
 use Rattle.tx_worker.specs.Accounts.{account_of}
 use Rattle.tx_worker.specs.Progress.{Course, IsRunning}
-use Rattle.tx_worker.specs.Workers.{Bounds, HasActionPlaces, HasBlockPlaces, IsAsked, IsPromised, KeepsBlockPlaces, IsReadyFor, IsRoomier, IsToldBy, again_for, promised, view_in}
+use Rattle.tx_worker.specs.Workers.{Bounds, HasActionPlaces, HasBlockPlaces, IsAsked, IsPromised, KeepsBlockPlaces, IsReadyFor, IsRoomier, IsToldBy, again_for, view_in}
 use Rattle.tx_worker.proofs.Machines.ActionRooms.{goes_plainly, leaves_promised, ran_held, room_asked, room_on}
 use Rattle.tx_worker.proofs.Machines.LastEvents.{IsLast, last_event}
 use Rattle.tx_worker.proofs.Machines.PlainActions.{served_ran, served_runs}

@@ -2,10 +2,9 @@
 use Rattle.std.proofs.Common.{inl, inr, ◌≡◌, ℕ, zero, suc, ◌<◌, ◌≤◌, Bool, true, true≢false, List, Option, unwrap_or, Result, Ok, Err, OnErr, refl, sym, ap, subst, ◌∙◌, arith}
 use Rattle.std.specs.declared.alloc.AllocError.{AllocError}
 use Rattle.itm_types.specs.declared.call.Call.{Call}
-use Rattle.itm_types.specs.declared.call.Call.TheVariants.{CommitAction}
 use Rattle.user_actions.specs.Actions.{total}
 use Rattle.norec_core.specs.Core.{Core, irrevocable_room}
-use Rattle.norec_core.specs.Proceeds.{MayStarve, MayStarveHeld, MayStarveIn}
+use Rattle.norec_core.specs.Proceeds.{MayStarve, MayStarveIn}
 use Rattle.norec_engine.specs.RestartingCalls.{arena_ahead}
 use Rattle.norec_engine.proofs.RestartingCalls.{ahead_revocable}
 use Rattle.shared_words.specs.declared.words.Words.{Words}
@@ -17,16 +16,11 @@ use Rattle.tx_runs.specs.declared.savepoint.Savepoint.{Savepoint}
 use Rattle.tx_runs.specs.OpenAttempts.{LacksPlaces, Open}
 use Rattle.tx_runs.specs.PlayerRuns.{stage_of}
 use Rattle.tx_runs.specs.Tallies.{outside, begins, within}
-use Rattle.tx_runs.proofs.IrrevocableCalls.{asks_no_room}
+use Rattle.tx_runs.proofs.IrrevocableCalls.{asks_no_room, starves_used}
+use Rattle.tx_runs.proofs.OpenRooms.{promised_held}
 use Rattle.tx_worker.specs.declared.worker.Worker.{Worker}
 use Rattle.tx_worker.specs.Progress.{Course}
 use Rattle.tx_worker.specs.Workers.{Bounds, HasActionPlaces, HasBlockPlaces, HasPlaces, IsHungry, IsPromised, IsRoomier, IsUnprepared, IsWorking, LacksFor}
-use Rattle.tx_worker.proofs.Machines.ActionRooms.{promised_held}
-
--- an irrevocable transaction wants memory for a commit action beyond its room alone
-starves_used : (e : Core) (call : Call) → MayStarveHeld e call → e.room ≡ 0
-starves_used e (CommitAction action) none = none
-starves_used e call none = absurd none
 
 -- ## An irrevocable transaction has used up the room that it asked for
 

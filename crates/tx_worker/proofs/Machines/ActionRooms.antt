@@ -1,5 +1,5 @@
 -- The room of an irrevocable transaction for commit actions, over a reply, and with it the room for its calls.
-use Rattle.std.proofs.Common.{inl, inr, ◌≡◌, ℕ, ◌+◌, ◌-◌, ◌<◌, ◌≤◌, max, Bool, true, false, true≢false, if◌then◌else◌, Option, None, Some, IsSome, is_some, unwrap_or, refl, sym, ap, subst, ◌∙◌, arith}
+use Rattle.std.proofs.Common.{inl, inr, ◌≡◌, ℕ, ◌+◌, ◌-◌, ◌<◌, ◌≤◌, max, true, false, true≢false, Option, None, Some, IsSome, is_some, unwrap_or, refl, sym, ap, subst, ◌∙◌, arith}
 use Rattle.itm_types.specs.Calls.{is_abort}
 use Rattle.itm_types.specs.declared.call.Call.{Call}
 use Rattle.itm_types.specs.declared.call.Call.TheVariants.{Abort}
@@ -16,24 +16,14 @@ use Rattle.itm_runtime.proofs.Calls.ActionRoom.{room_entered}
 use Rattle.itm_runtime.specs.Served.{Served, Start}
 use Rattle.itm_runtime.specs.Ties.{Stands}
 use Rattle.tx_runs.proofs.IrrevocableCalls.{abort_runs, asks_no_room, goes_no_action, goes_no_cancel, goes_same, left_least, plain_goes, room_by_call}
-use Rattle.tx_worker.specs.Workers.{promised}
+use Rattle.tx_runs.specs.OpenAttempts.{promised}
+use Rattle.tx_runs.proofs.OpenRooms.{none_asked, promised_held, promised_none}
 use Rattle.tx_worker.proofs.Machines.LastEvents.{IsLast}
 use Rattle.tx_worker.proofs.Machines.PlainActions.{served_ran, served_runs}
 
 asked_room : (o : Option ℕ) (room : ℕ) → IsSome o → unwrap_or o room ≡ unwrap_or o 0
 asked_room None room some = absurd (cc)
 asked_room (Some n) room some = refl
-
-none_asked : (o : Option ℕ) → is_some o ≡ false → unwrap_or o 0 ≡ 0
-none_asked None e = refl
-none_asked (Some n) e = absurd (cc)
-
--- the room for calls that is promised, in either mode
-pub promised_held : (e : Core) → e.irrevocable ≡ true → promised e ≡ e.room
-promised_held e held = ap (λ (b : Bool). if b then e.room else 0) held
-
-promised_none : (e : Core) → e.irrevocable ≡ false → promised e ≡ 0
-promised_none e revocable = ap (λ (b : Bool). if b then e.room else 0) revocable
 
 -- what a reply leaves of the room for calls: the call takes a place of it, and an attempt that is opened has as many as its begin asks for
 pub record LeavesPromised (old : Core) (call : Call) (new : Core) : Type 0 where
