@@ -1,4 +1,5 @@
 -- What a call makes of a run that goes on, and where it ends.
+pub mod Places
 pub mod Rooms
 pub mod CallsWithin
 pub mod CallsOutside

@@ -38,7 +38,8 @@ use Rattle.tx_worker.specs.Positions.{AreFew, AreOver}
 use Rattle.tx_worker.specs.Progress.{Course, IsRunning}
 use Rattle.tx_worker.specs.Workers.{Bounds, GoesOnOrStops, HasActionPlaces, HasBlockPlaces, HasPlaces, IsAsked, IsPromised, IsReadyFor, IsSame, IsStopped, IsWorking, bounds_of, view_in}
 use Rattle.tx_worker.proofs.Begins.OutermostBegins.{begins_actions, no_commit}
-use Rattle.tx_worker.proofs.Laws.Rooms.{begins_call, blocks_opened, held_inside, last, open_places, promises_opened, room_back, still_within}
+use Rattle.tx_worker.proofs.Laws.Places.{blocks_opened}
+use Rattle.tx_worker.proofs.Laws.Rooms.{begins_call, held_inside, last, open_places, promises_opened, room_back, still_within}
 use Rattle.tx_worker.proofs.Machines.ActionRooms.{room_asked}
 use Rattle.tx_worker.proofs.Machines.LastEvents.{IsLast}
 use Rattle.norec_core.proofs.Engines.HeldStores.{shut_revocable}
