@@ -2,6 +2,7 @@
 
 mod asm;
 mod check;
+mod faults;
 mod play;
 mod reads;
 mod sched;

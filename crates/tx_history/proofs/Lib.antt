@@ -4,6 +4,7 @@ pub mod PagedTexts
 pub mod AppendedTexts
 pub mod CallLines
 pub mod Streams
+pub mod RowTexts
 pub mod WorkedLines
 pub mod WorkedStreams
 mod WorkedRestarts

@@ -3,6 +3,7 @@ pub mod Depths
 pub mod Spelling
 pub mod Pages
 pub mod Histories
+pub mod Rows
 pub mod Streams
 pub mod Legal
 pub mod Bounds

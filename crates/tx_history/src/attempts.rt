@@ -193,7 +193,7 @@ pub fn put_all_ran<W: Write>(page: &mut Page<'_, W>, all: &[Ran])
     }
 }
 
-fn put_attempt<W: Write>(page: &mut Page<'_, W>, attempt: &Attempt)
+pub fn put_attempt<W: Write>(page: &mut Page<'_, W>, attempt: &Attempt)
     ensures { Spells W.contents page.old page.new (attempt_lines attempt.now) (AttemptFits attempt.now) }
 {
     put_head(page, attempt);

@@ -7,7 +7,7 @@ use std::io;
 use std::process::Abort;
 use std::test::*;
 use tx_attempts::{Attempt, Bytes, Calls, Outcome, RanActions, Restarts};
-use tx_history::{Stream, Version};
+use tx_history::{Row, Stream, Version, write_row};
 
 const LINES: &[u8] =
     b"itm-history 1\nmemory 00ff\nattempt 1 2 3 readonly -\narena -\nend\nfinal 6 01\n";
@@ -66,4 +66,25 @@ fn failing_writes(rt: HostRuntime) {
         write(&rt, &mut writer, &tried, good);
         has_taken(&rt, &writer, good);
     }
+}
+
+/// The same history row by row, whose lines are one write each.
+#[test]
+fn rows(rt: HostRuntime) {
+    let tried = attempt(rt.alloc());
+    let mut writer = Failing {
+        taken: Vec::new(rt.alloc()),
+        good: 17,
+        writes: 0,
+    };
+    for row in [
+        Row::Start(Version::One, &[0, 255]),
+        Row::Tried(&tried),
+        Row::Last(6, &[1]),
+    ] {
+        assert!(rt; write_row(&mut writer, &row).is_ok());
+    }
+    assert_eq!(rt; writer.taken.as_slice(), LINES);
+    writer.good = writer.writes;
+    assert!(rt; write_row(&mut writer, &Row::Last(6, &[1])).is_err());
 }
