@@ -1,6 +1,6 @@
 #!/bin/sh
-# Each allocation of some tests refused in turn: sh tests/refused.sh. Outside the gate; needs rt, which builds the tests
-# with no proof, in some minutes.
+# Each allocation of some tests refused in turn: sh tests/refused.sh. Needs rt, which builds the tests with no proof, in some
+# minutes. With SCRIPTS=few, as in the gate, one test of each kind.
 #
 # A function of crates/memory_tests that holds wherever memory is refused is called by many tests, in a copy: in the first
 # one allocation MOST is refused to it, in the next one the one before that, and so on, since each of them allocates one
@@ -16,6 +16,15 @@ work=$(mktemp -d)
 trap 'rm -rf "$work"' EXIT
 tar -C "$top" --exclude=./.git --exclude=./crates/*/out -cf - . | tar -C "$work" -xf -
 cd "$work/crates/memory_tests"
+
+scripts=${SCRIPTS:-all}
+case $scripts in
+few) engines=read_and_write plains=calls worlds=inner_cancel ;;
+*)
+    engines='log read_and_write copies_and_fills beyond_room actions' plains='calls begins'
+    worlds='outer_cancel inner_cancel mode every_call cancels'
+    ;;
+esac
 
 # make NAME CALL: so many tests of this call, which answers whether nothing was refused
 make() {
@@ -40,19 +49,21 @@ make() {
     echo '    for _ in 0..times { let mut bytes: Vec<u8> = Vec::new(alloc); bytes.reserve(8)?; }'
     echo '    Ok(())'
     echo '}'
-    for name in log read_and_write copies_and_fills beyond_room actions; do
+    for name in $engines; do
         make "engine_$name" "engine::expect_$name(&rt, rt.alloc())?"
     done
     make frames_blocks 'frames::expect_blocks(&rt, rt.alloc())?'
-    for name in calls begins; do
+    for name in $plains; do
         make "plain_$name" "plain::expect_$name(&rt, rt.alloc())?"
     done
-    for name in outer_cancel inner_cancel mode every_call cancels; do
+    for name in $worlds; do
         case=$(echo $name | tr a-z A-Z)
         make "worlds_$name" "worlds::expect_case(&rt, rt.alloc(), &worlds::$case)"
     done
-    make worlds_beyond_room 'worlds::expect_beyond_room(&rt, rt.alloc())'
-    make worlds_again 'again::expect_again(&rt, rt.alloc())'
+    if [ "$scripts" = all ]; then
+        make worlds_beyond_room 'worlds::expect_beyond_room(&rt, rt.alloc())'
+        make worlds_again 'again::expect_again(&rt, rt.alloc())'
+    fi
 } >src/tests/refused.rt
 sed -i '0,/^mod /s//mod refused;\nmod /' src/tests.rt
 
@@ -60,6 +71,6 @@ rt try --test --fail-alloc $MOST >out.txt 2>&1 || true
 grep -A 4 '::refused::.* \.\.\. FAILED' out.txt || true
 passed=$(grep -c '::refused::.* \.\.\. ok$' out.txt || true)
 failed=$(grep -c '::refused::.* \.\.\. FAILED$' out.txt || true)
-[ $((passed + failed)) -eq $((15 * MOST)) ] || { tail -20 out.txt; echo "not all were run" >&2; exit 1; }
+[ $((passed + failed)) -eq "$(grep -c '^#\[test\]' src/tests/refused.rt)" ] || { tail -20 out.txt; echo "not all were run" >&2; exit 1; }
 echo "$passed passed, $failed failed"
 [ "$failed" = 0 ]

@@ -1,7 +1,7 @@
 #!/bin/sh
 # The worked scripts, those in examples/ and in tests/rows/, and their histories through the built program, with something
-# refused or cut off at each place in turn: sh tests/sweeps.sh [SWEEP..]. Outside the gate, but for `stops`; needs python3,
-# what refuses needs gcc, and `engines` needs rt.
+# refused or cut off at each place in turn: sh tests/sweeps.sh [SWEEP..]. The gate has `stops`, and of the others a
+# few scripts (SCRIPTS=few). Needs python3; what refuses needs gcc, and `engines` needs rt.
 #
 # - `sched`, `asm`, `check` and `threads`: each growth of memory refused, it alone, and it with all that come after it; under
 #   `threads` each thread too.
@@ -10,10 +10,10 @@
 # - `files`: under each command each read and each write that fails, and such that move one byte.
 # - `engines`: tests/refused.sh, whose tests call engines, worlds and the plain machine with each allocation refused.
 #
-# All sweeps, or those that are named; what each answer has to be is said in tests/sweeps/. Something is refused by a
-# library before the C library's (tests/sweeps/refuse.c). JOBS=N takes so many scripts at a time, as many as there are
-# processors where it is not said; one at a time all of them take a quarter of an hour, and `engines` some three minutes
-# more. ITMRUN=PROGRAM takes another built program than this tree's. The last line is
+# All sweeps, or those that are named, over all scripts, or with SCRIPTS=few over some; what each answer has to be is said in
+# tests/sweeps/. Something is refused by a library before the C library's (tests/sweeps/refuse.c). JOBS=N takes so many
+# scripts at a time, as many as there are processors where it is not said; one at a time all of them take a quarter of an
+# hour, and `engines` some three minutes more. ITMRUN=PROGRAM takes another built program than this tree's. The last line is
 # "N passed, M failed"; the exit status is 0 where none failed.
 
 root=$(CDPATH= cd -- "$(dirname -- "$0")/.." && pwd) || exit 1
@@ -58,7 +58,7 @@ for sweep; do
         [ -f "$work/refuse.so" ] || gcc -O1 -shared -fPIC -o "$work/refuse.so" "$root/tests/sweeps/refuse.c" -ldl || exit 1
         ;;
     esac
-    add python3 -B "$root/tests/sweeps/sweeps.py" "$program" "$work/refuse.so" "${JOBS:-$(nproc)}" "$sweep"
+    add python3 -B "$root/tests/sweeps/sweeps.py" "$program" "$work/refuse.so" "${JOBS:-$(nproc)}" "${SCRIPTS:-all}" "$sweep"
 done
 echo "$passed passed, $failed failed"
 [ "$failed" = 0 ]

@@ -1,7 +1,7 @@
 """Runs the sweeps, each over the worked scripts.
 
-sweeps.py PROGRAM LIBRARY JOBS [SWEEP..]: all sweeps, or those that are named, so many scripts at a time. LIBRARY is one that
-refuses things (refuse.c). Of each sweep the numbers of its runs are told. The last line is "N passed, M failed".
+sweeps.py PROGRAM LIBRARY JOBS SCRIPTS [SWEEP..]: all sweeps, or those that are named, so many scripts at a time; SCRIPTS is
+`all`, or `few` for a short sweep. LIBRARY is one that refuses things (refuse.c). Of each sweep the numbers of its runs are told. The last line is "N passed, M failed".
 """
 
 import collections
@@ -30,8 +30,8 @@ def tried(sweep, setup, script):
         return f"{script.name}: {str(wrong)[:MOST]}"
 
 
-def main(program, library, jobs, *names):
-    setup, scripts, passed, failed = Setup(program, library), worked(), 0, 0
+def main(program, library, jobs, scripts, *names):
+    setup, scripts, passed, failed = Setup(program, library), worked(scripts == "few"), 0, 0
     with concurrent.futures.ProcessPoolExecutor(int(jobs)) as pool:
         for name in names or SWEEPS:
             start, counts = time.monotonic(), collections.Counter()
