@@ -18,14 +18,17 @@ use std::sync::Wait;
 use std::thread::Threads;
 use std::{env, fs, io};
 use text_commands::{Failure, asm, check, status_after};
+use thiserror::Error;
 use tx_history::{Piece, put_pieces};
 
 /// Why the program's words say nothing that can be done.
-#[derive(Clone, Copy)]
+#[derive(Clone, Copy, Debug, Error)]
 enum CommandFault {
     /// They are not one command and one file.
+    #[error("usage: itmrun asm|sched|threads|check FILE")]
     Usage,
     /// Memory was refused.
+    #[error("no memory")]
     Memory,
 }
 
@@ -205,5 +208,25 @@ pub fn run<T: Env + Files + Input + Print + AllocGlobal + Threads + Wait, E: Wri
     match obey(rt, &words, errors) {
         Ok(status) => status,
         Err(fault) => tell(errors, fault),
+    }
+}
+
+#[cfg(test)]
+mod tests {
+    use super::*;
+    use std::test::*;
+
+    #[test]
+    fn texts(rt: HostRuntime) -> Result<(), Fail> {
+        for (fault, text) in [
+            (
+                CommandFault::Usage,
+                "usage: itmrun asm|sched|threads|check FILE",
+            ),
+            (CommandFault::Memory, "no memory"),
+        ] {
+            assert_eq!(rt; fault.to_string(rt.alloc())?.as_str(), text);
+        }
+        Ok(())
     }
 }

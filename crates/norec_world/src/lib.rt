@@ -16,6 +16,6 @@ pub use fault::WorldFault;
 pub use listed::Attempts;
 pub use schedule::Passes;
 pub use setup::Setup;
-pub use tx_attempts::{Attempt, Bytes, CallRecord, Calls, Outcome, RanActions};
+pub use tx_attempts::{Again, Attempt, Bytes, CallRecord, Calls, Outcome, RanActions, Restarts};
 pub use tx_runs::End;
 pub use world::World;

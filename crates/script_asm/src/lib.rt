@@ -50,4 +50,5 @@ mod whole;
 mod words;
 
 pub use script_fields::{AsmFault, AsmKind};
+pub use script_program::{Item, Program};
 pub use whole::assemble;

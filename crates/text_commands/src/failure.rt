@@ -8,22 +8,30 @@ ghost use Rattle.text_commands.specs.Answers.{Says};
 
 use crate::fault::Fault;
 use std::alloc::AllocError;
+use std::fmt::{Debug, Display};
 use std::io;
 use std::io::Write;
+use thiserror::Error;
 use tx_history::{Piece, put_pieces};
 
 /// Why a command did not do its work.
-#[derive(Drop)]
+#[derive(Debug, Drop, Error)]
+#[error_bound(F: Debug + Display)]
 pub enum Failure<F> {
     /// The text has this fault.
+    #[error("{0}")]
     Faulty(F),
     /// Memory was refused.
+    #[error("no memory")]
     NoMemory,
     /// A thread was refused.
+    #[error("no thread")]
     NoThread,
     /// A read failed, or the text is longer than it may be.
+    #[error("reading failed")]
     Reading,
     /// A write failed.
+    #[error("writing failed")]
     Writing,
 }
 

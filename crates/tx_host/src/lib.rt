@@ -11,4 +11,5 @@ mod workers;
 
 pub use report::{HostFault, Report};
 pub use threads::run_threads;
+pub use tx_worker::{ActionSink, Gate, GateShut, Open, Quiet, Worked, work};
 pub use versions::version_of;

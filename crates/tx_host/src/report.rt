@@ -1,5 +1,6 @@
 //! What a run came to.
 
+use thiserror::Error;
 use tx_history::History;
 use tx_runs::End;
 
@@ -13,12 +14,15 @@ pub struct Report {
 }
 
 /// Why there is no report.
-#[derive(Clone, Copy, PartialEq, Eq, Debug)]
+#[derive(Clone, Copy, PartialEq, Eq, Debug, Error)]
 pub enum HostFault {
     /// Memory was refused. The workers that had started were joined first.
+    #[error("no memory")]
     NoMemory,
     /// A thread was refused. The workers that had started were joined first.
+    #[error("no thread")]
     NoThread,
     /// A thread's last transaction stays irrevocable and open: the clock is held for ever, and there are no final bytes.
+    #[error("a thread holds the clock for ever")]
     Held,
 }

@@ -1,7 +1,10 @@
 //! Who is asked before each call.
 
+use thiserror::Error;
+
 /// The call is not to be made, and the thread stops where it stands.
-#[derive(Clone, Copy, Debug, PartialEq, Eq)]
+#[derive(Clone, Copy, Debug, PartialEq, Eq, Error)]
+#[error("the gate is shut")]
 pub struct GateShut;
 
 /// Asked before, and told after, each call of a thread, but for those of a transaction that is irrevocable as they come.
