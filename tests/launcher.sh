@@ -1,8 +1,8 @@
-# The part of tests/command.sh on the launcher: what it runs, and that what it hands on does not depend on which. Of the
-# unproved sources themselves the last case is.
+# The part of tests/command.sh on the launcher: what it runs, that what it hands on does not depend on which, and what it
+# answers itself. Of the unproved sources themselves the last case is.
 
-# a copy of the launcher beside stand-ins: an `rt` that runs the proved program as `rt try` runs the unproved one, and a
-# build.sh that has the program at once
+# a copy of the launcher beside stand-ins: an `rt` that notes that it was called, and runs the proved program as `rt try`
+# runs the unproved one, and a build.sh that has the program at once
 copy=$work/copy
 built=$copy/crates/itmrun/out/itmrun
 mkdir -p "$copy/crates/itmrun/src" "$copy/crates/itmrun/out" "$copy/bin" "$work/here"
@@ -13,6 +13,7 @@ cp "$root/crates/itmrun/out/itmrun" "$built"
 END
 cat >"$copy/bin/rt" <<END
 #!/bin/sh
+: >"$work/called"
 shift 2
 cd / && "$root/crates/itmrun/out/itmrun" "\$@" </dev/null
 status=\$?
@@ -50,6 +51,37 @@ both() {
     check "$name, proved" "$wanted"
 }
 
+# ask WORD..: the proved program's answer, which is the wanted one
+ask() {
+    (cd "$work/here" && exec "$root/crates/itmrun/out/itmrun" "$@") \
+        <"$work/input" >"$work/want_output" 2>"$work/want_errors"
+    asked=$?
+}
+
+# tried NAME STATUS WORD..: by try.sh alone the answer is the program's too, behind that line
+tried() {
+    name=$1 wanted=$2
+    shift 2
+    ask "$@"
+    { echo "$unproved" && cat "$work/want_errors"; } >"$work/told"
+    cp "$work/told" "$work/want_errors"
+    (cd "$work/here" && PATH=$path exec sh "$copy/try.sh" "$@") <"$work/input" >"$work/output" 2>"$work/errors"
+    status=$?
+    check "$name, by try.sh" "$wanted"
+}
+
+# at_once NAME STATUS WORD..: where nothing is built, the launcher's own answer is the program's, and nothing is run for it
+at_once() {
+    name=$1 wanted=$2
+    shift 2
+    ask "$@"
+    rm -f "$built" "$work/called"
+    launch "$@"
+    [ "$asked" = "$wanted" ] || status="$status, and the program's is $asked"
+    [ ! -e "$work/called" ] || status="$status, and not at once"
+    check "$name, at once" "$wanted"
+}
+
 only= path=$copy/bin:$PATH
 cp "$root/examples/lost_update.itm" "$work/here/script"
 cp "$work/here/script" "$work/here/-x"
@@ -69,12 +101,102 @@ both 'a thread that gives up' 4 sched impatient
 both 'no history' 2 check script
 both 'no script' 2 sched 'no run'
 both 'a history that is not legal' 3 check 'no run'
-both 'no file' 5 sched absent
-both 'an empty name' 5 sched ''
-both 'a folder' 5 check .
-both 'no words' 1
-both 'three words' 1 sched script script
-both 'a flag' 1 --help sched script
+
+# names beyond ASCII, and beyond UTF-8
+greek=$(printf '\316\262') latin=$(printf '\337')
+cp "$work/here/script" "$work/here/$greek"
+both 'a name beyond ASCII' 0 sched "$greek"
+both 'a name that is no UTF-8' 1 sched "$latin"
+
+# what the launcher answers itself, also where only the proved program is wanted
+for only in '' 1; do
+    at_once 'no words' 1
+    at_once 'three words' 1 sched script script
+    at_once 'a flag' 1 --help sched script
+    at_once 'no file' 5 sched absent
+    ! command -v iconv >/dev/null || at_once 'no file, by a name beyond ASCII' 5 sched "$greek$greek"
+    at_once 'a file in a file' 5 asm script/absent
+    at_once 'an empty name' 5 threads ''
+    at_once 'a folder' 5 check .
+    # who may read everything may read this too
+    [ -r "$work/locked" ] || at_once 'a file that may not be read' 5 sched "$work/locked"
+done
+tried 'no words' 1
+tried 'three words' 1 sched script script
+tried 'a flag' 1 --help sched script
+tried 'no file' 5 sched absent
+tried 'an empty name' 5 sched ''
+tried 'a folder' 5 check .
+
+# Each list of up to three words, and of up to four of some: the launcher answers it just where the program tells of
+# wrong words, or of a file that cannot be read, and as it does. (Any other list comes to the build, which here fails.)
+cp "$copy/build.sh" "$work/build.sh"
+printf ': >"%s"\nexit 1\n' "$work/called" >"$copy/build.sh"
+awk 'function lists(list, more,    i) {
+    print list
+    for (i = 1; more > 0 && i <= n; i++) lists(list " " word[i], more - 1)
+}
+BEGIN {
+    n = split("'"''"' sched - -- -x absent script", word, " ")
+    lists("", 3)
+    n = split("sched -- absent", word, " ")
+    lists("", 4)
+}' >"$work/lists"
+
+# agrees WORD..: so it is with these words
+agrees() {
+    ask "$@"
+    rm -f "$work/called"
+    launch "$@"
+    case $asked in
+    1 | 5) [ "$status" = "$asked" ] && cmp -s "$work/output" "$work/want_output" && cmp -s "$work/errors" "$work/want_errors" ;;
+    *) [ "$status" = 127 ] && [ -e "$work/called" ] ;;
+    esac
+}
+rm -f "$built"
+only=1
+while read -r list; do
+    eval "agrees $list" || echo "$list"
+done <"$work/lists" >"$work/others"
+cp "$work/others" "$work/output"
+for file in want_output want_errors errors; do : >"$work/$file"; done
+status=$(wc -l <"$work/lists")
+check 'lists of words' 521
+cp "$work/build.sh" "$copy/build.sh"
+only=
+
+# Standard input that cannot be read is told at once too, any other is left as it is, and where the line cannot be
+# written, the status says so.
+want_line 'itmrun: reading failed'
+(launcher sched -) <&- >"$work/output" 2>"$work/errors"
+status=$?
+check 'a closed input, at once' 5
+(launcher sched -) <"$work" >"$work/output" 2>"$work/errors"
+status=$?
+check 'a folder as input, at once' 5
+cp "$work/input" "$work/want_output"
+{
+    (launcher sched absent) 2>"$work/errors"
+    status=$?
+    cat
+} <"$work/input" >"$work/output"
+check 'input that is not read' 5
+for file in want_output want_errors output errors; do : >"$work/$file"; done
+(launcher --help) >"$work/output" 2>&-
+status=$?
+check 'wrong words, and closed errors, at once' 5
+if [ -w /dev/full ]; then
+    (launcher --help) >"$work/output" 2>/dev/full
+    status=$?
+    check 'wrong words, and full errors, at once' 5
+fi
+: <"$work/pipe" &
+exec 3>"$work/pipe"
+wait $!
+(launcher --help) >"$work/output" 2>&3 3>&-
+status=$?
+exec 3>&-
+check 'wrong words, and errors that nobody reads, at once' 5
 
 # answers that cannot be written
 rm -f "$built"
@@ -123,6 +245,7 @@ path=$work/few
 want_line 'itmrun: the program is not built, and there is no rt on the path'
 launch sched script
 check 'no rt' 127
+at_once 'no words, and no rt' 1
 path=$copy/bin:$PATH
 
 # a launcher that is ended ends what it has started
