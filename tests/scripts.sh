@@ -382,3 +382,4 @@ printf '%b' '.memory 65536\r\n\t.thread ; nothing \0377' >"$work/input"
 printed 'what is not said'
 
 . "$root/tests/script_faults.sh"
+. "$root/tests/mistakes.sh"
