@@ -33,5 +33,5 @@ module _ (p : Listing) (r : Report) (o n : Option (List ℕ)) (ran : Ran false p
 -- nothing, where there was no run
 pub failed : (p : Listing) (o n : Option (List ℕ)) (f : Failure AsmFault) → IsFailure f → Keeps o n → Outputs threading (Err f) (Ok p) o n
 failed p o n f (NoMemory, is) k = rw is k
-failed p o n f (NoThread, is) k = rw is k
+failed p o n f (NoThread, is) k = rw is (refl, p, refl, k)
 failed p o n f (Held, is) k = rw is k

@@ -1,5 +1,5 @@
 -- The command that runs scripts.
-use Rattle.std.specs.Prelude.{◌≡◌, ℕ, List, length, Option}
+use Rattle.std.specs.Prelude.{◌≡◌, ℕ, false, List, length, Option}
 use Rattle.arrayvec.specs.ArrayVec.{ArrayVec}
 use Rattle.tx_runs.specs.declared.ending.End.{End}
 use Rattle.history_reader.specs.LegalTexts.{IsLegalText}
@@ -49,4 +49,5 @@ running = record {
   status = λ endings. endings_status endings.items;
   says = λ endings. ending_lines 0 endings.items;
   line = script_line;
+  threads = false;
 }

@@ -1,5 +1,5 @@
 -- The command that runs scripts on threads of their own.
-use Rattle.std.specs.Prelude.{◌≡◌, ℕ, false, List, map, Option, Some}
+use Rattle.std.specs.Prelude.{◌≡◌, ℕ, false, true, List, map, Option, Some}
 use Rattle.arrayvec.specs.ArrayVec.{ArrayVec}
 use Rattle.history_reader.specs.LegalTexts.{IsLegalText}
 use Rattle.script_fields.specs.declared.fault.AsmFault.{AsmFault}
@@ -32,6 +32,7 @@ threading = record {
   status = λ endings. endings_status endings.items;
   says = λ endings. ending_lines 0 endings.items;
   line = script_line;
+  threads = true;
 }
 
 -- why there is no history

@@ -1,5 +1,5 @@
 -- The commands that work on texts alone.
-use Rattle.std.specs.Prelude.{◌≡◌, ◌↔◌, ℕ, List, [], ◌++◌, decimal, codes}
+use Rattle.std.specs.Prelude.{◌≡◌, ◌↔◌, ℕ, false, List, [], ◌++◌, decimal, codes}
 use Rattle.history_checker.specs.declared.verdict.Verdict.{Verdict}
 use Rattle.history_checker.specs.declared.verdict.Verdict.TheVariants.{Legal, Bad}
 use Rattle.history_checker.specs.Texts.{kind_text}
@@ -21,6 +21,7 @@ printing = record {
   status = λ end. 0;
   says = λ end. [];
   line = script_line;
+  threads = false;
 }
 
 -- a verdict in words
@@ -46,4 +47,5 @@ judging = record {
   status = verdict_status;
   says = λ v. [];
   line = history_line;
+  threads = false;
 }
