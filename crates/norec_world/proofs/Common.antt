@@ -53,7 +53,7 @@ pub use Rattle.norec_world.specs.LogAgreement.{AreLaid, Loaded, Sees}
 pub use Rattle.norec_world.specs.Memories.{words_at}
 pub use Rattle.norec_world.specs.Moments.{HasStepped, HasWorked}
 pub use Rattle.norec_world.specs.PlayerRooms.{ComesTo, EndsWithin, TellsRoom}
-pub use Rattle.norec_world.specs.Progress.{LeavesLess}
+pub use Rattle.norec_world.specs.Progress.{LeavesLess, TellsCall, asks_further}
 pub use Rattle.norec_world.specs.Records.{Asks as AsksOf, ReadsAt, Records, status_after, TakesTo, Tells, told}
 pub use Rattle.norec_world.specs.Rows.{AreFrom, AreOpen, AreUnfinished, Rows, rows_in}
 pub use Rattle.norec_world.specs.Runs.{IsBeforeTry, IsInTry, IsRun, RunsFrom, StillRuns}

@@ -1,8 +1,13 @@
--- Worked cases, computed: the attempts of one counter, and of two whose first try is lost; a block that is cancelled and the next one; the counts of a schedule; which transactions have a room that is kept; a block within another that goes back.
+-- Worked cases, computed: the attempts of one counter, and of two whose first try is lost; a block that is cancelled and the next one; the counts of a schedule; which transactions have a room that is kept; a block within another that goes back; which calls go on.
 use Rattle.std.proofs.Common.{◌≡◌, ℕ, suc, ◌-◌, List, [], ◌∷◌, ◌++◌, length, map, refl, ap, ◌∙◌, false, true, replicate, Option, None, Some, Ok, Err, arith, slice_get}
 use Rattle.norec_world.proofs.Common.{Abort, AreDated, Attempt, Begin, Between, Call, CallRecord, Code, Commit, Core, Done, Frame, IsDated, IsOpaque, IsRunOf, Log, Mode, Props, Read, Refused, Outcome, Replied as Reply, Rules, Save, Write, after, alone, is_held, opening, passes_of, promised, slice_index_or, takes_clock, wanted}
 use Rattle.norec_world.proofs.Plan.{Plan, next_call, restarted, at_block}
-use Rattle.norec_world.specs.{ActionRoom.counted, PlayerRooms.EndsWithin, Tries.GoesBack}
+use Rattle.norec_world.specs.{ActionRoom.counted, Cells.Cells, PlayerRooms.EndsWithin, Progress.asks_further, Tries.GoesBack}
+use Rattle.norec_core.specs.declared.call_parts.Purpose.TheVariants.{Value}
+use Rattle.norec_core.specs.declared.call_parts.Reading.{Reading}
+use Rattle.norec_core.specs.Phases.{Phase}
+use Rattle.norec_core.specs.Phases as at
+use Rattle.itm_types.specs.declared.step.Step.TheVariants as steps
 use Rattle.tx_attempts.specs.declared.attempt.Outcome.TheVariants.{Cancelled, Committed, Conflict, Full, ReadOnly, Unfinished}
 use Rattle.itm_types.specs.declared.{access.ReadHint.TheVariants.R, access.Width.TheVariants.U1, access.Width.TheVariants.U2, access.Width.TheVariants.U8, access.WriteHint.TheVariants.W, call.Call.TheVariants.Load, call.Refusal.TheVariants.Outside, call.Reply.TheVariants.Bytes, datum.Datum.Datum}
 use Rattle.tx_attempts.specs.Attempts.{ByAbort, memory_after}
@@ -258,3 +263,32 @@ not_alone row back = absurd (let moved = back.moved in omega arith)
 
 not_outermost : (row : Attempt) → GoesBack 2 (tried 0 1 0 [] (read 0 ∷ []) Unfinished) row → ⊥
 not_outermost row back = absurd (let some : [] ≡ back.again.kept ∷ back.outer = back.innermost in cc)
+
+-- ## Which calls go on
+
+abbrev pub at_clock : ℕ → Cells
+at_clock clock = record { clock = clock; words = 0 ∷ [] }
+
+-- with this many loads of the clock done, of two
+abbrev pub begins : ℕ → Core
+begins loads = record (opening 1 [] 2 1 16 0) { stage = at.Begin (record { props = plain; room = 0; again = false }); tries = loads }
+
+-- a begin that finds the clock odd loads it once more, as long as its patience lasts, and is answered where it finds it even
+begin_goes_on : (asks_further (at_clock 1) (begins 1) (Some (steps.Load 0)) ≡ true) × (asks_further (at_clock 1) (begins 2) (Some (steps.Load 0)) ≡ false) × (asks_further (at_clock 0) (begins 1) (Some (steps.Load 0)) ≡ false)
+begin_goes_on = (refl, refl, refl)
+
+abbrev pub one_word : Reading
+one_word = record { purpose = Value R U8; at = 0; size = 8; number = 0 }
+
+-- in a block, at this stage
+abbrev pub stands : Phase → Core
+stands stage = record (inside plain) { stage = stage }
+
+-- a read of one word has it confirmed once it is loaded, and is answered where the clock has not moved; else it makes a round
+read_goes_on : (asks_further (at_clock 0) (stands (at.Load one_word)) (Some (steps.Load 1)) ≡ true) × (asks_further (at_clock 0) (stands (at.Confirm one_word 0)) (Some (steps.Load 0)) ≡ false)
+    × (asks_further (at_clock 2) (stands (at.Confirm one_word 0)) (Some (steps.Load 0)) ≡ true)
+read_goes_on = (refl, refl, refl)
+
+-- a commit is over once it has freed the clock; and where no step is waited for, none goes on
+commit_goes_on : (asks_further (at_clock 1) (stands at.Free) (Some (steps.Store 0 2)) ≡ false) × (asks_further (at_clock 0) (inside plain) None ≡ false)
+commit_goes_on = (refl, refl)

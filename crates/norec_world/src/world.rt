@@ -57,7 +57,7 @@ impl<P: Player> World<P> {
     ghost use Rattle.norec_world.specs.Headline.{AreOpaque};
     ghost use Rattle.norec_world.specs.Tied.{AreTied};
     ghost use Rattle.norec_world.specs.WorldEvents.{Goes, Takes};
-    ghost use Rattle.norec_world.specs.Progress.{LeavesLess};
+    ghost use Rattle.norec_world.specs.Progress.{LeavesLess, TellsCall};
 
     /// A world over this memory, with the clock at 0. Each actor's local work up to its first operation is done.
     pub fn new(alloc: Global, setup: Setup, players: Vec<P>) -> Result<Self, AllocError>
@@ -140,12 +140,14 @@ impl<P: Player> World<P> {
         }
     }
 
-    /// One event of an actor that waits, as `go`. True where the call in progress has fewer steps left, as it has where it
-    /// goes on; false where less is left of the whole run, as where that call is over. So a loop of such events ends.
+    /// One event of an actor that waits, as `go`. True just where its call in progress goes on, with fewer steps left; false
+    /// where that call is over, whether or not the next one waits by then, and less is left of the whole run. So a loop of
+    /// such events ends.
     #[inline(always)]
     pub fn event(&mut self, alloc: Global, actor: u8) -> bool
         requires { IsSome (waits_at self.old actor) }
         ensures goes { Goes P.Player actor self.old (event_result (ending_at self.new actor)) self.new }
+        ensures tells { TellsCall P.Player actor result self.old self.new }
         ensures less { LeavesLess P.Player actor result self.old self.new }
     {
         let a = &mut self.actors[actor as usize];

@@ -1,9 +1,11 @@
 -- An actor of a world took an event, a step and the local work that follows it: the world that it leaves, and that the event says so.
-use Rattle.std.proofs.Common.{◌≡◌, ℕ, Bool, true, false, List, length-set, slice_get, slice_set, None, Some, IsSome, refl, sym, ap, subst, ◌∙◌, arith}
-use Rattle.norec_world.proofs.Common.{Actor, ActorGoes, AreOpaque, AreTied, Cells, ClocksOn, Continues, Finished, Goes, HasLess, HasRead, HasStepped, HasWorked, IsEvent, IsWorld, KeepsOthers, Obeys, Rows, Rules, Tries, World, counted, ending_at, ending_of, event_result, is_ready, is_waiting, observed, option_and_then, prior_of, same_Some, slice_get-set_same, slice_get_within, slice_index_or, waiting_step, waits_at}
+use Rattle.std.proofs.Common.{◌≡◌, ℕ, Bool, true, false, List, length-set, slice_get, slice_set, Option, None, Some, IsSome, refl, sym, ap, subst, ◌∙◌, arith}
+use Rattle.norec_world.proofs.Common.{Actor, ActorGoes, AreOpaque, AreTied, Cells, ClocksOn, Continues, Finished, Goes, HasLess, HasRead, HasStepped, HasWorked, IsEvent, IsWorld, KeepsOthers, Obeys, Rows, Rules, TellsCall, Tries, World, asks_further, counted, ending_at, ending_of, event_result, is_ready, is_waiting, observed, option_and_then, prior_of, same_Some, slice_get-set_same, slice_get_within, slice_index_or, waiting_step, waits_at}
 use Rattle.norec_world.proofs.Tries.LaterTries.{continues_on}
+use Rattle.norec_world.proofs.Events.FurtherSteps.{asks_as, waits_on}
 use Rattle.norec_world.proofs.Events.WorldEvents.{no_fault, told_event, waits_not_ended}
 use Rattle.norec_world.proofs.Runs.Others.{has_read, running_after, world_opaque, world_tied}
+use Rattle.std.specs.Option.{option_map_or}
 use Rattle.norec_world.proofs.{Commits.CommitCounts.commits_after, Engines.ClockHolders.clocks_still, Engines.ClockHolders.clocks_twice, Engines.Intakes.ready_of, Engines.SoundSteps.rests, Events.SoundOthers.actors_after, Events.Measures.event_less, Events.Worlds.going_in, Events.Worlds.lawful_at, Tries.Dates.dated_after, Tries.Stages.others_twice, Tries.TryChains.tries_then}
 
 -- ## A step and its local work are one event
@@ -93,3 +95,11 @@ module _ {P : Type 0} {rules : Rules P} (laws : Obeys rules) {w v : World P} (is
       let first : got ≡ a = same_Some _ _ (sym here ∙ (ap (λ (z : World P). slice_get z.actors i) is ∙ there)) in
       let last : a2 ≡ b = same_Some _ _ (sym (slice_get-set_same w.actors i a2 (slice_get_within w.actors i got here)) ∙ there') in
       subst (λ (z : Actor P). HasLess rules on z b) first (subst (HasLess rules on got) last (event_less rules got a1 a2 (going_in is i got some read).1 x.goes_on x.falls (λ e. (y.still e).0) y.less on on_is))
+
+  pub tells_after : (on : Bool) → is_waiting a1.status ≡ on → (events : ℕ) → TellsCall rules i on v (led w i cells' r2 a2 events)
+  tells_after on on_is events =
+      let asked : on ≡ asks_further w.cells got.engine (waiting_step got.status) = sym on_is ∙ (waits_on x.takes ∙ sym (asks_as x.takes)) in
+      subst (λ (z : World P). TellsCall rules i on z (led w i cells' r2 a2 events)) is (record {
+        before = asked ∙ sym (ap (λ (o : Option (Actor P)). option_map_or (λ a. asks_further w.cells a.engine (waiting_step a.status)) o false) here);
+        event = λ a a' there e. asked ∙ (ap (λ (z : Actor P). asks_further w.cells z.engine (waiting_step z.status)) (same_Some _ _ (sym here ∙ there)) ∙ asks_as e.takes);
+      })

@@ -1,4 +1,4 @@
-use Rattle.norec_world.proofs.{goes_after, going_in, less_after, world_after, world_of, world_tied, sym}
+use Rattle.norec_world.proofs.{goes_after, going_in, less_after, tells_after, world_after, world_of, world_tied, sym}
 use Rattle.norec_world.proofs.world.World.event.Goals as goal
 
 pub step-requires-clause-sound : goal.step-requires-clause-sound
@@ -23,3 +23,7 @@ returns-clause-goes g c =
 pub returns-clause-less : goal.returns-clause-less
 returns-clause-less g c =
     less_after g.met.P.Player.laws c.self.view_is c.self.invariant c.args.actor c.index_mut-a.result.now c.requires c.index_mut-a.ensures.value c.step.ensures c.work.ensures.worked c.work.ensures.done c.waits-goes_on.result (sym c.waits-goes_on.ensures)
+
+pub returns-clause-tells : goal.returns-clause-tells
+returns-clause-tells g c =
+    tells_after g.met.P.Player.laws c.self.view_is c.self.invariant c.args.actor c.index_mut-a.result.now c.requires c.index_mut-a.ensures.value c.step.ensures c.work.ensures.worked c.work.ensures.done c.waits-goes_on.result (sym c.waits-goes_on.ensures) c.saturating_add-self-inside.result
