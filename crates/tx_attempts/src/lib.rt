@@ -2,6 +2,7 @@
 #![tactic(auto)]
 
 mod attempt;
+mod equality;
 mod lists;
 mod restarts;
 mod undone;
