@@ -3,6 +3,7 @@
 
 mod entries;
 mod entry;
+mod equality;
 mod names;
 
 pub use entries::all_entries;

@@ -1,8 +1,8 @@
 -- Calls that are equal are the same.
-use Rattle.std.specs.Prelude.{◌≡◌, Bool, true, false, refl}
+use Rattle.std.specs.Prelude.{◌≡◌, true, refl}
 use Rattle.std.proofs.Common.{sym, eqb-true}
 use Rattle.std.proofs.lemmas.Bool.{and_parts}
-use Rattle.std.specs.Bool.{beq}
+use Rattle.std.specs.Cmp.{booleans_Decides}
 use mathlib.Core.Bool.{true≢false}
 use Rattle.itm_types.specs.declared.call.Call.{Call}
 use Rattle.itm_types.specs.declared.call.Call.TheVariants.{Begin, Commit, Abort, Mode, InTransaction, Read, Write, Log, LogBytes, Copy, Fill, CommitAction, UndoAction, Load, Save}
@@ -15,16 +15,10 @@ use Rattle.itm_types.specs.contracts.equality.DatumExactEq.TheImpl.Laws.{exact-l
 use Rattle.itm_types.specs.contracts.equality.CopyingExactEq.TheImpl.Laws.{exact-law as exact_copy}
 use Rattle.itm_types.specs.contracts.equality.ActionExactEq.TheImpl.Laws.{exact-law as exact_action}
 
-exact_bool : (a b : Bool) → beq a b ≡ true → a ≡ b
-exact_bool true true e = refl
-exact_bool true false e = sym e
-exact_bool false true e = e
-exact_bool false false e = refl
-
 pub same_call : (c d : Call) → (equality.ghosts).eq c d ≡ true → c ≡ d
 same_call (Begin p r) (Begin q s) e = let a = and_parts _ _ e in λ i. Begin (exact_props p q a.0 i) (eqb-true r s a.1 i)
 same_call Commit Commit e = refl
-same_call (Abort a) (Abort b) e = λ i. Abort (exact_bool a b e i)
+same_call (Abort a) (Abort b) e = λ i. Abort ((booleans_Decides a b).0 e i)
 same_call (Mode r) (Mode s) e = λ i. Mode (eqb-true r s e i)
 same_call InTransaction InTransaction e = refl
 same_call (Read h w m) (Read k v n) e = let a = and_parts _ _ e in let b = and_parts _ _ a.1 in λ i. Read (exact_read h k a.0 i) (exact_width w v b.0 i) (eqb-true m n b.1 i)
