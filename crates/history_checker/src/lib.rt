@@ -3,6 +3,7 @@
 #![tactic(auto)]
 
 mod endings;
+mod equality;
 mod matches;
 mod replays;
 mod restarts;

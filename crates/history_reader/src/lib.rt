@@ -4,6 +4,7 @@
 
 mod body;
 mod digits;
+mod equality;
 mod fault;
 mod fields;
 mod item_list;

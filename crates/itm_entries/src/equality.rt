@@ -1,4 +1,4 @@
-//! `==` of the types of this crate tells any two values apart.
+//! The types of this crate whose `==` tells any two values apart.
 
 ghost use Rattle.std.proofs.Common.{rules, tests};
 

@@ -2,6 +2,7 @@
 #![tactic(auto)]
 
 mod drive;
+mod equality;
 mod numbers;
 mod slow_path;
 mod stop;

@@ -2,6 +2,7 @@
 #![tactic(auto)]
 
 mod actor;
+mod equality;
 mod fault;
 mod listed;
 mod memory;

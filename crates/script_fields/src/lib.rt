@@ -14,6 +14,7 @@
 #![tactic(auto)]
 
 mod directives;
+mod equality;
 mod fault;
 mod fields;
 mod hex_digits;

@@ -9,6 +9,7 @@
 //! limits: at most 65,536 items, 65,536 instructions and 64 threads.
 #![tactic(auto)]
 
+mod equality;
 mod instruction;
 mod limits;
 mod opening;

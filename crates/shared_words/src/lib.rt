@@ -3,6 +3,7 @@
 #![tactic(auto)]
 
 mod bytes;
+mod equality;
 mod fault;
 mod pass;
 mod rule;

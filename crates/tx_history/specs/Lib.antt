@@ -7,3 +7,4 @@ pub mod Rows
 pub mod Streams
 pub mod Legal
 pub mod Bounds
+pub mod SameVersions

@@ -3,6 +3,7 @@
 
 mod attempts;
 mod bodies;
+mod equality;
 mod history;
 mod page;
 mod parts;

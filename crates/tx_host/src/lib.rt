@@ -1,6 +1,7 @@
 //! The scripts of a program on threads: each thread of the program has a worker of its own over shared words.
 #![tactic(auto)]
 
+mod equality;
 mod gather;
 mod join;
 mod report;

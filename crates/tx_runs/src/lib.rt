@@ -3,6 +3,7 @@
 #![tactic(auto)]
 
 mod ending;
+mod equality;
 mod open_attempt;
 mod outcome;
 mod places;

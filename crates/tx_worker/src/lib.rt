@@ -1,6 +1,7 @@
 //! One thread's whole run over shared words: a player's transactions, one after the other, each try of them recorded.
 #![tactic(auto)]
 
+mod equality;
 mod gate;
 mod run;
 mod sink;

@@ -1,0 +1,14 @@
+//! The types of this crate whose `==` tells any two values apart.
+
+ghost use Rattle.std.proofs.Common.{rules, tests};
+
+use crate::verdict::{BadKind, Verdict};
+use itm_types::ExactEq;
+
+impl ExactEq for BadKind {
+    ghost exact = { Prim.search (tests, rules) };
+}
+
+impl ExactEq for Verdict {
+    ghost exact = { Prim.search (tests, rules) };
+}

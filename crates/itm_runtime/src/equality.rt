@@ -1,0 +1,10 @@
+//! The types of this crate whose `==` tells any two values apart.
+
+ghost use Rattle.std.proofs.Common.{rules, tests};
+
+use crate::stop::Stop;
+use itm_types::ExactEq;
+
+impl ExactEq for Stop {
+    ghost exact = { Prim.search (tests, rules) };
+}
