@@ -9,5 +9,6 @@ mod frames;
 mod logs;
 mod plain;
 mod roomless;
+mod same;
 mod texts;
 mod worlds;
