@@ -20,7 +20,7 @@ use Rattle.tx_attempts.specs.declared.attempt.Outcome.TheVariants.{Conflict, Rea
 use Rattle.tx_attempts.specs.Attempts.{alone, calls_of, replies_of}
 use Rattle.tx_attempts.specs.Restarts.{AreAgain, IsInnerBegin, breaks_of, open_in, with_again}
 use Rattle.tx_attempts.specs.Opacity.{EndsAs, IsOpaque, ran_of}
-use Rattle.tx_attempts.specs.Outrun.{AreOutrun}
+use Rattle.tx_attempts.specs.Outrun.{AreOutrun, IsDisturbed}
 use Rattle.tx_attempts.proofs.LaterClocks.{outrun_more, outrun_none}
 
 abbrev pub plain : Props
@@ -193,3 +193,21 @@ outrun_held = outrun_more 5 (lost ∷ []) unharmed (outrun_more 5 [] lost (outru
 -- it had not moved
 not_outrun : AreOutrun 4 (lost ∷ []) → ⊥
 not_outrun all = let past = all 0 lost (omega arith) refl in omega arith
+
+-- ## Blocks that ran again, and the commits between
+
+-- it ran again once, and one more has committed than as it began
+disturbed : IsDisturbed again
+disturbed = omega arith
+
+-- none had committed since
+undisturbed : IsDisturbed (record again { at = 0 }) → ⊥
+undisturbed told = omega (arith, told)
+
+-- and one commit is not enough for two blocks
+disturbed_once : IsDisturbed (attempt (from [] ∷ from [] ∷ [])) → ⊥
+disturbed_once told = omega (arith, told)
+
+-- one that tells of none may read where it began
+still : IsDisturbed (record (attempt []) { at = 0 })
+still = omega arith

@@ -16,6 +16,7 @@ use Rattle.tx_attempts.specs.declared.attempt.Attempt.{Attempt}
 use Rattle.tx_attempts.specs.declared.attempt.CallRecord.{CallRecord}
 use Rattle.tx_attempts.specs.Attempts.{ClosedBy, alone, pairs_of, replies_of}
 use Rattle.tx_attempts.specs.Beginnings.{IsBeginningOf}
+use Rattle.tx_attempts.specs.Outrun.{IsDisturbed}
 use Rattle.tx_attempts.specs.Restarts.{AreAgain, AtEach, breaks_of}
 use Rattle.tx_player.specs.Rules.{Rules}
 
@@ -109,7 +110,7 @@ module _ {P : Type 0} (rules : Rules P) (deepest : ℕ) where
 
   -- The attempt is opaque: its player after the begin is p, n commits are done, and the memory is the bytes that the first a.at of them left.
   pub record IsOpaque (p : P) (a : Attempt) (n : ℕ) (memory : List ℕ) : Type 0 where
-    pub no_older : a.began ≤ a.at
+    pub no_older : IsDisturbed a  -- it reads where it began or later, by a commit or more for each block of it that ran again
     pub no_newer : a.at ≤ n
     pub beginning : IsBeginningOf (pairs_of a) (answers_on p a memory)
     pub whole : is_open (alone deepest memory a) ≡ false → pairs_of a ≡ answers_on p a memory

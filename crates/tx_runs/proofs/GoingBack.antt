@@ -1,5 +1,5 @@
 -- Where the innermost block of an open attempt goes back to its begin, the attempt, cut to that begin with its record, is what the engine stands for then, and its player is where its calls lead.
-use Rattle.std.proofs.Common.{◌≡◌, ℕ, ◌≤◌, false, List, [], ◌∷◌, ◌++◌, length, map, take, drop, reverse, refl, sym, ap, ◌∙◌, subst, arith, length-append, slice_get, Some}
+use Rattle.std.proofs.Common.{◌≡◌, ℕ, ◌/◌, ◌<◌, ◌≤◌, false, List, [], ◌∷◌, ◌++◌, length, map, take, drop, reverse, refl, sym, ap, ◌∙◌, subst, arith, length-append, slice_get, Some}
 use Rattle.std.proofs.lemmas.List.{length-drop, length-take, take-append-le, take-take}
 use Rattle.itm_types.specs.declared.call.Call.TheVariants.{Begin}
 use Rattle.itm_types.specs.declared.call.Ran.{Ran}
@@ -60,7 +60,7 @@ module _ {P : Type 0} (rules : Rules P) (deepest : ℕ) (position next : List �
   own = map as_undo (reverse (drop f.undos c.actions.undos))
 
   module _ (t : IsOpenTry rules deepest position b row (s ∷ points) p e) (has : HasBlocks rules p) (read : AreRead (length c.log) (f ∷ g ∷ outer))
-      (agreed : (m : List ℕ) × IsMemory c.words m × Agrees m new.log) (meets : (m : List ℕ) → IsMemory c.words m → Agrees m new.log → stands_for new m ≡ begun_again e.blocks (back (stands_for e m))) (later : c.snapshot ≤ clock) where
+      (agreed : (m : List ℕ) × IsMemory c.words m × Agrees m new.log) (meets : (m : List ℕ) → IsMemory c.words m → Agrees m new.log → stands_for new m ≡ begun_again e.blocks (back (stands_for e m))) (later : c.snapshot / 2 < clock / 2) where
     abbrev by : P
     by = entered_by rules deepest t.of_block
 
@@ -170,7 +170,7 @@ module _ {P : Type 0} (rules : Rules P) (deepest : ℕ) (position next : List �
         record {
           of_block = record { start = t.of_block.start; begins = t.of_block.begins; arena = t.of_block.arena; props = t.of_block.props; tries = t.of_block.tries; player = player.player };
           at = player;
-          began = (let began = t.began in omega (arith, later));
+          began = (let began = t.began in omega (arith, later, before_short s.kept row.restarts, length-append (earlier s.kept row.restarts) (again ∷ [])));
           sized = λ i. same_size ∙ t.sized refl;
           alone = λ m memory reads. subst (AreAlone rules deepest by cut m) (sym here_calls) (here.0.alone m memory (still m memory reads));
           ran = ran_so;

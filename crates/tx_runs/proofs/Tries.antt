@@ -1,5 +1,5 @@
 -- A try of a block: its calls go on alone, and it is over, or is to be told as it stands.
-use Rattle.std.proofs.Common.{◌≡◌, ℕ, ◌<◌, ◌≤◌, Bool, true, false, if◌then◌else◌, List, [], ◌∷◌, ◌++◌, length, map, None, Some, refl, sym, ap, subst, ◌∙◌, arith, append-nil, append_assoc}
+use Rattle.std.proofs.Common.{◌≡◌, ℕ, ◌+◌, ◌<◌, ◌≤◌, Bool, true, false, if◌then◌else◌, List, [], ◌∷◌, ◌++◌, length, map, None, Some, refl, sym, ap, subst, ◌∙◌, arith, append-nil, append_assoc}
 use Rattle.std.proofs.lemmas.List.{map-append}
 use Rattle.itm_types.specs.declared.call.Call.{Call}
 use Rattle.itm_types.specs.declared.call.Call.TheVariants.{Begin}
@@ -14,6 +14,7 @@ use Rattle.tx_player.specs.Rules.{Obeys, Rules}
 use Rattle.tx_attempts.specs.Alone.{IsAlone, player_then, state_then}
 use Rattle.tx_attempts.specs.Attempts.{ClosedBy, alone, pair_of}
 use Rattle.tx_attempts.specs.Opacity.{AreRestarts, Beginning, Between, EndsAs, IsTryAt, LacksClock, after_try, begin_code, follows, ran_of, takes_clock}
+use Rattle.tx_attempts.specs.Outrun.{IsDisturbed}
 use Rattle.tx_attempts.specs.declared.attempt.Attempt.{Attempt}
 use Rattle.tx_attempts.specs.declared.attempt.CallRecord.{CallRecord}
 use Rattle.tx_attempts.specs.declared.attempt.Outcome.{Outcome}
@@ -109,7 +110,7 @@ module _ {P : Type 0} {rules : Rules P} (laws : Obeys rules) (deepest : ℕ) whe
       no_more k c q s shut = ap (λ (o : Bool). gets_through rules.next_call rules.answered rules.calls_left deepest k c q s (if o then rules.next_call q else None)) shut ∙ gets_none rules laws deepest k c q s
 
   -- its calls are the first of those that its player makes alone on the memory of its position, and all of them where its block has ended
-  pub is_try : (n : ℕ) (memory : ℕ → List ℕ) (b : Between P) (start : Beginning P) (row : Attempt) → row.arena ≡ start.arena → row.props ≡ start.props → b.tries < row.nth → row.began ≤ row.at → row.at ≤ n
+  pub is_try : (n : ℕ) (memory : ℕ → List ℕ) (b : Between P) (start : Beginning P) (row : Attempt) → row.arena ≡ start.arena → row.props ≡ start.props → b.tries < row.nth → IsDisturbed row → row.at ≤ n
       → IsAlone rules deepest (breaks_of row.restarts) (rules.answered start.player (begin_code b.again)) (opened (memory row.at) start.arena start.props) row.calls.list
       → EndsAs row.outcome (state_then deepest (breaks_of row.restarts) (opened (memory row.at) start.arena start.props) row.calls.list)
       → ClosedBy row.outcome row.calls.list → row.ran ≡ ran_of row.outcome (state_then deepest (breaks_of row.restarts) (opened (memory row.at) start.arena start.props) row.calls.list)
@@ -171,7 +172,7 @@ module _ {P : Type 0} {rules : Rules P} (laws : Obeys rules) (deepest : ℕ) whe
 
     -- in conflict, full, for want of memory, or not ended yet
     pub try_stops : (n : ℕ) (memories : ℕ → List ℕ) (k : ℕ) (outcome : Outcome) (ran : List Ran) → is_done outcome ≡ false → (made : IsMadeAlone rules deepest b t.start row (memories k)) → EndsAs outcome (state_then deepest (breaks_of row.restarts) (opened (memories k) t.start.arena t.start.props) row.calls.list)
-        → row.began ≤ k → k ≤ n → ran ≡ ran_of outcome (state_then deepest (breaks_of row.restarts) (opened (memories k) t.start.arena t.start.props) row.calls.list)
+        → row.began + length row.restarts ≤ k → k ≤ n → ran ≡ ran_of outcome (state_then deepest (breaks_of row.restarts) (opened (memories k) t.start.arena t.start.props) row.calls.list)
         → (outcome ≡ outcomes.Full → LacksClock rules deepest (rules.answered t.start.player (begin_code b.again)) row (memories k))
         → IsTryAt rules deepest n memories b (Some t.start) (record row { at = k; ran = ran; outcome = outcome })
     try_stops n memories k outcome ran undone made ends older newer ran_is full =
@@ -199,7 +200,7 @@ module _ {P : Type 0} {rules : Rules P} (laws : Obeys rules) (deepest : ℕ) whe
       closing_alone = alone_more (breaks_of row.restarts) by p from row.calls.list last made.alone made.still_open t.player asks replied
 
       -- its last call ends its block: the state that it leaves is that of the call
-      pub try_closes : (room n : ℕ) (memories : ℕ → List ℕ) (at : ℕ) (outcome : Outcome) (ran : List Ran) → memories at ≡ memory → row.began ≤ at → at ≤ n → EndsAs outcome (after deepest (state_then deepest (breaks_of row.restarts) (opened memory t.start.arena t.start.props) row.calls.list) call)
+      pub try_closes : (room n : ℕ) (memories : ℕ → List ℕ) (at : ℕ) (outcome : Outcome) (ran : List Ran) → memories at ≡ memory → row.began + length row.restarts ≤ at → at ≤ n → EndsAs outcome (after deepest (state_then deepest (breaks_of row.restarts) (opened memory t.start.arena t.start.props) row.calls.list) call)
           → ClosedBy outcome (row.calls.list ++ record { call = call; reply = r } ∷ []) → ran ≡ ran_of outcome (after deepest (state_then deepest (breaks_of row.restarts) (opened memory t.start.arena t.start.props) row.calls.list) call) → (outcome ≡ outcomes.Full → ⊥)
           → IsTryAt rules deepest n memories b (Some t.start) (record row { calls = record { list = row.calls.list ++ record { call = call; reply = r } ∷ []; room = room }; at = at; ran = ran; outcome = outcome })
       try_closes room n memories at outcome ran here older newer ends closed ran_is never =

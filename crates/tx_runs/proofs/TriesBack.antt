@@ -1,5 +1,5 @@
 -- An open attempt whose innermost block has gone back to its begin, whichever blocks are open.
-use Rattle.std.proofs.Common.{◌≡◌, ℕ, ◌≤◌, false, true, List, [], ◌∷◌, length, refl, sym, ap, subst, ◌∙◌, arith}
+use Rattle.std.proofs.Common.{◌≡◌, ℕ, ◌%◌, ◌≤◌, false, true, List, [], ◌∷◌, length, refl, sym, ap, subst, ◌∙◌, arith}
 use Rattle.itm_types.specs.Memory.{Agrees, IsMemory}
 use Rattle.itm_types.specs.declared.call.Ran.{Ran}
 use Rattle.itm_model.specs.Machine.{back}
@@ -32,7 +32,7 @@ is_cut [] arena due row = record { thread = refl; nth = refl; began = refl; room
 is_cut (s ∷ outer) arena due row = record { thread = refl; nth = refl; began = refl; room = omega arith }
 
 module _ {P : Type 0} {rules : Rules P} {deepest : ℕ} {position : List ℕ} {b : Between P} {row : Attempt} {p : P} {mid : Core} (next : List ℕ) (new : Core) (clock word : ℕ) (g : Restarts mid clock word new) (has : HasBlocks rules p)
-    (read : AreRead (length mid.log) mid.blocks) (agreed : (m : List ℕ) × IsMemory mid.words m × Agrees m new.log) where
+    (even : new.snapshot % 2 ≡ 0) (read : AreRead (length mid.log) mid.blocks) (agreed : (m : List ℕ) × IsMemory mid.words m × Agrees m new.log) where
   back_at : (bs : List Frame) → mid.blocks ≡ bs → is_within bs ≡ true → (points : List Savepoint) → IsOpenTry rules deepest position b row points p mid → IsOpenTry rules deepest next b (cut_back points new.arena new.actions.ran row) points (rules.at_block p (rules.depth p)) new
   back_at [] is inner points t = absurd (cc)
   back_at (f ∷ []) is inner points t = absurd (cc)
@@ -46,7 +46,7 @@ module _ {P : Type 0} {rules : Rules P} {deepest : ℕ} {position : List ℕ} {b
       let meets_as = subst (λ (c : Core). (m : List ℕ) → IsMemory c.words m → Agrees m new.log → stands_for new m ≡ begun_again c.blocks (back (stands_for c m))) same g.meets in
       let meets = subst (λ (c : Core). (m : List ℕ) → IsMemory mid.words m → Agrees m c.log → stands_for c m ≡ begun_again e.blocks (back (stands_for e m))) now meets_as in
       let some = subst (λ (c : Core). (m : List ℕ) × IsMemory mid.words m × Agrees m c.log) now agreed in
-      let gone = gone_back rules deepest position next b row s points p mid f o outer clock new.stage new.tries there has (subst (AreRead (length mid.log)) is read) some meets (let l = g.later in omega arith) in
+      let gone = gone_back rules deepest position next b row s points p mid f o outer clock new.stage new.tries there has (subst (AreRead (length mid.log)) is read) some meets (let l = g.later in omega (arith, even, ap (λ (c : Core). c.snapshot) g.stays)) in
       subst (λ (c : Core). IsOpenTry rules deepest next b (cut_back (s ∷ points) c.arena c.actions.ran row) (s ∷ points) (rules.at_block p (rules.depth p)) c) (sym now) gone
 
   -- the engine's open attempt, gone back

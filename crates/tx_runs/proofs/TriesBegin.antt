@@ -97,7 +97,7 @@ module _ {P : Type 0} {rules : Rules P} (laws : Obeys rules) (position : List �
           of_block = of_block;
           at = subst (λ (xs : List CallRecord). IsAt rules first xs (rules.answered p r) []) (sym x.calls)
               (subst (λ (q : P). IsAt rules first [] q []) (sym entered) (none_begun rules first laws p (Begin props room) (begin_code b.again) refl x.asks x.none_open (omega (arith, deeper))));
-          began = began;
+          began = omega (arith, began, ap (length {A = Again}) x.restarts);
           sized = λ i. ap (length {A = ℕ}) (arena i ∙ sym x.arena);
           alone = λ m memory reads. subst (AreAlone rules mid.depth first row m) (sym x.calls) tt;
           ran = λ m memory reads. x.ran ∙ sym (none_ran m row.calls.list x.calls);

@@ -106,7 +106,7 @@ module _ {P : Type 0} (rules : Rules P) (deepest : ℕ) where
   pub record IsOpenTry (position : List ℕ) (b : Between P) (row : Attempt) (points : List Savepoint) (p : P) (e : Core) : Type 0 where
     pub of_block : IsOfBlock rules deepest b row p
     pub at : IsAt rules (entered_by of_block) row.calls.list p (map (λ (s : Savepoint). s.kept) points)
-    pub began : row.began ≤ e.snapshot / 2
+    pub began : row.began + length row.restarts ≤ e.snapshot / 2  -- later by a commit or more for each block that ran again
     pub sized : e.irrevocable ≡ false → length e.arena ≡ length row.arena
     pub alone : (m : List ℕ) → IsMemory e.words m → ReadsFrom e.irrevocable position e.log m → AreAlone (entered_by of_block) row m row.calls.list
     pub ran : (m : List ℕ) → IsMemory e.words m → ReadsFrom e.irrevocable position e.log m → row.ran ≡ (told_then deepest row m row.calls.list).actions.ran

@@ -231,7 +231,7 @@ module _ {P : Type 0} {rules : Rules P} (laws : Obeys rules) {first : Between P}
         let x = taken_at m.told t.4 now in
         let ended : r1.ended ≡ r.ended = x.ended ∙ append-nil r.ended in
         let late : a.engine.snapshot / 2 ≤ cells.clock / 2 = (let half = half_same m refl in let reached = m.taken.tied.settled.reached in let late = m.taken.tied.late in omega arith) in
-        let back = back_on position a.engine clock word g m.answered.nested.blocks (seen.read g.revocable) (agreed_now m.answered.fits.1 late) (try_at inside) in
+        let back = back_on position a.engine clock word g m.answered.nested.blocks m.taken.tied.settled.even (seen.read g.revocable) (agreed_now m.answered.fits.1 late) (try_at inside) in
         let Back : Core → P → List Attempt → Type 0 = λ e q xs. IsOpenTry rules mid.depth (words_at mid.depth base xs (cells.clock / 2)) t.0 (cut_back t.3 e.arena e.actions.ran t.1) t.3 q e in
         open_run rules first mid.depth base (run_same rules first mid.depth base n r.ended r1.ended a.run.thread last.run.thread ended m.settled.thread run.run) now t.0 (cut_back t.3 last.engine.arena last.engine.actions.ran t.1) t.3
         ((λ i. now_at rules first mid.depth base (ended i) (m.settled.thread i)) ∙ t.2) (told_stage x)

@@ -1,5 +1,5 @@
 -- An actor's run, once its attempt has ended.
-use Rattle.std.proofs.Common.{◌≡◌, ℕ, ◌/◌, ◌≤◌, Bool, true, false, if◌then◌else◌, List, [], ◌∷◌, ◌++◌, map, Option, Some, refl, sym, true≢false, ap, subst, ◌∙◌, arith, inl, inr}
+use Rattle.std.proofs.Common.{◌≡◌, ℕ, ◌+◌, ◌/◌, ◌≤◌, Bool, true, false, if◌then◌else◌, List, [], ◌∷◌, ◌++◌, length, map, Option, Some, refl, sym, true≢false, ap, subst, ◌∙◌, arith, inl, inr}
 use Rattle.norec_world.proofs.Common.{Actions, Actor, Agrees, Answers, Attempt, Between, Call, CallRecord, Cells, ClosedBy, Commit, Committed, Conflict, Conflicts, ConflictsIn, Core, Done, EndsAs, Full, IsRun, LacksClock, Next, Obeys, Outcome, Ran, Replied, Reply, Rows, Rules, State, TakesTo, Tally, WantsClock, active_of, after, after_try, alone, alone_led, alone_whole, answered_all, backed, begin_code, begun_in, by_wrote, bytes_at, bytes_of, cancels, cases_Bool, closed as closed_by, ending_as, ending_of, false_from_ne_true, in_transaction, is_done, is_open, open_in, plain_reply, reply as plainly, recoded, spent, stands_for, state_in, takes_clock, told_plainly, try_stops, with_call, within, words_at}
 use Rattle.itm_model.specs.Machine.{undone}
 use Rattle.norec_core.specs.Held.{ComesTo}
@@ -51,7 +51,7 @@ module _ {P : Type 0} {rules : Rules P} (laws : Obeys rules) {first : Between P}
       (replied : reply ≡ plainly mid.depth (led laws r1 a last call seen run inside (bytes_at mid.depth base r1.ended at)) call) (mine : (run.inside inside).1.thread ≡ a.run.thread) where
     closed_runs : TakesTo (closed_by (record (tally_at a (within_at a (with_call call reply (run.inside inside).1))) { player = rules.answered a.run.player reply }) outcome (stand_at false last.engine)) r r1 a last
         → r1.ended ≡ r.ended ++ record (run.inside inside).1 { calls = record { list = (run.inside inside).1.calls.list ++ record { call = call; reply = reply } ∷ []; room = 0 }; at = at; ran = told a.engine; outcome = outcome } ∷ []
-        → last.run.thread ≡ a.run.thread → in_transaction last.engine ≡ false → (run.inside inside).1.began ≤ at → at ≤ cells.clock / 2 → EndsAs outcome (after mid.depth (led_at at) call) → ClosedBy outcome ((run.inside inside).1.calls.list ++ record { call = call; reply = reply } ∷ [])
+        → last.run.thread ≡ a.run.thread → in_transaction last.engine ≡ false → (run.inside inside).1.began + length (run.inside inside).1.restarts ≤ at → at ≤ cells.clock / 2 → EndsAs outcome (after mid.depth (led_at at) call) → ClosedBy outcome ((run.inside inside).1.calls.list ++ record { call = call; reply = reply } ∷ [])
         → told a.engine ≡ ran_of outcome (after mid.depth (led_at at) call) → (after mid.depth (led_at at) call).arena ≡ last.engine.arena → IsRun rules first mid.depth base n' r1 last
     closed_runs x rows thread shut older newer ends closed ran arena =
         let t = run.inside inside in
@@ -205,7 +205,7 @@ module _ {P : Type 0} {rules : Rules P} (laws : Obeys rules) {first : Between P}
   -- the memory of its position agrees with its log
   module _ (k : ℕ) (outcome : Outcome) (due : List Ran) (stopped : is_done outcome ≡ false) (ended : outcome ≡ outcomes.Unfinished → ⊥) (ends : (x : State) → is_open x ≡ true → x.irrevocable ≡ false → EndsAs outcome x) (thread : last.run.thread ≡ a.run.thread) (mine : (run.inside inside).1.thread ≡ a.run.thread)
       (stops : r1.ended ≡ r.ended ++ record (run.inside inside).1 { calls = spent (run.inside inside).1.calls; at = k; ran = told_ran laws r1 a last call seen run inside due; outcome = outcome } ∷ [])
-      (older : (run.inside inside).1.began ≤ k) (newer : k ≤ cells.clock / 2) (agrees : Agrees (words_at mid.depth base r.ended k) mid.log) (revocable : mid.irrevocable ≡ false) (due_is : due ≡ (undone (stands_for mid (words_at mid.depth base r.ended k))).actions.ran) where
+      (older : (run.inside inside).1.began + length (run.inside inside).1.restarts ≤ k) (newer : k ≤ cells.clock / 2) (agrees : Agrees (words_at mid.depth base r.ended k) mid.log) (revocable : mid.irrevocable ≡ false) (due_is : due ≡ (undone (stands_for mid (words_at mid.depth base r.ended k))).actions.ran) where
     stop_reads : ReadsFrom mid.irrevocable (words_at mid.depth base r.ended (cells.clock / 2)) mid.log (words_at mid.depth base r.ended k)
     stop_reads = agree_reads (words_at mid.depth base r.ended (cells.clock / 2)) mid.irrevocable mid.log (words_at mid.depth base r.ended k) revocable agrees
 
@@ -280,7 +280,7 @@ module _ {P : Type 0} {rules : Rules P} (laws : Obeys rules) {first : Between P}
         (λ gave_up. omega (arith, (next_try tally gone a.run.retries x gave_up).1, t.7)) (ap begun_in d.stage)
 
   -- as full: the actor gives up
-  module _ (at : ℕ) (m : HasAnswered rules true cells cells' r r1 mid a last call (Full at)) (held : HasHeld mid.depth base cells cells' r (active_of a) mid a.engine call (Answers (Full at))) (older : (run.inside inside).1.began ≤ at) (newer : at ≤ cells.clock / 2) where
+  module _ (at : ℕ) (m : HasAnswered rules true cells cells' r r1 mid a last call (Full at)) (held : HasHeld mid.depth base cells cells' r (active_of a) mid a.engine call (Answers (Full at))) (older : (run.inside inside).1.began + length (run.inside inside).1.restarts ≤ at) (newer : at ≤ cells.clock / 2) where
     pub full_runs : IsRun rules first mid.depth base n' r1 last
     full_runs =
         let t = run.inside inside in

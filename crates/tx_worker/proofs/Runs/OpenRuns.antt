@@ -1,5 +1,5 @@
 -- A run whose open attempt is over, or is told as it stands.
-use Rattle.std.proofs.Common.{◌≡◌, ℕ, suc, ◌*◌, ◌/◌, ◌<◌, ◌≤◌, Bool, true, false, if◌then◌else◌, List, [], ◌∷◌, ◌++◌, length, Some, refl, sym, true≢false, ap, subst, ◌∙◌, arith, append-nil}
+use Rattle.std.proofs.Common.{◌≡◌, ℕ, suc, ◌+◌, ◌*◌, ◌/◌, ◌<◌, ◌≤◌, Bool, true, false, if◌then◌else◌, List, [], ◌∷◌, ◌++◌, length, Some, refl, sym, true≢false, ap, subst, ◌∙◌, arith, append-nil}
 use Rattle.itm_types.specs.declared.call.Call.{Call}
 use Rattle.itm_types.specs.declared.call.Ran.{Ran}
 use Rattle.itm_types.specs.declared.call.Reply.{Reply as Replied}
@@ -148,7 +148,7 @@ module _ {P : Type 0} {rules : Rules P} (laws : Obeys rules) (c : Course P) (t :
 
   module _ (k : ℕ) (outcome : Outcome) (due : List Ran) (stops : is_done outcome ≡ false) (read : MayRead u e (memory_of v k)) where
     pub stop_ended : EndsAs outcome (stands_for e (stood e.irrevocable u (memory_of v k))) → ran_on (running.inside inside).row.ran (running.inside inside).row.restarts due ≡ ran_of outcome (led (bytes_at v k))
-        → (running.inside inside).row.began ≤ k → k ≤ length v.seen → (outcome ≡ outcomes.Conflict → 2 * k < v.high)
+        → (running.inside inside).row.began + length (running.inside inside).row.restarts ≤ k → k ≤ length v.seen → (outcome ≡ outcomes.Conflict → 2 * k < v.high)
         → (outcome ≡ outcomes.Full → LacksClock rules c.depth (rules.answered (running.inside inside).try.is_open.of_block.start.player (begin_code (running.inside inside).between.again)) (running.inside inside).row (bytes_at v k))
         → HasRun rules c v (t.ended ++ ended_at outcome k due (running.inside inside).row ∷ [])
         × (now_at rules c v (t.ended ++ ended_at outcome k due (running.inside inside).row ∷ []) ≡ after_try rules c.depth (bytes_at v) (running.inside inside).between (Some (running.inside inside).try.is_open.of_block.start) (ended_at outcome k due (running.inside inside).row))

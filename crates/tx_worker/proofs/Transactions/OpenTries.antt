@@ -159,6 +159,6 @@ module _ {P : Type 0} {rules : Rules P} (laws : Obeys rules) (c : Course P) (s :
     pub try_back : IsTry rules c.depth (running.inside inside).between
         (cut_back (running.inside inside).points e.arena e.actions.ran (with_room ahead (running.inside inside).row)) (running.inside inside).points (rules.at_block t.player (rules.depth t.player)) v e
     try_back = record {
-      is_open = back_on next e clock word last.ends running.nested.blocks (read_mid last last.ends.revocable) (agreed_mid last) (try_mid last);
+      is_open = back_on next e clock word last.ends running.nested.blocks stands.settled.even (read_mid last last.ends.revocable) (agreed_mid last) (try_mid last);
       stands_held = λ is. absurd (true≢false (sym is ∙ served.tells.revocable.1));
     }

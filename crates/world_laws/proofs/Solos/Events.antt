@@ -36,7 +36,7 @@ sole_more n k (x ∷ xs) a s f at d z = (s.0, s.1, s.2, s.3, sole_more (n + one_
 module _ {P : Type 0} (rules : Rules P) (deepest n : ℕ) (memory : ℕ → List ℕ) where
   pub last_early : (b : Option (Between P)) (xs : List Attempt) (a : Attempt) → IsRunOf rules deepest n memory b (xs ++ a ∷ []) → a.began ≤ a.at
   last_early None [] a r = absurd r
-  last_early (Some b) [] a r = (try_begun rules deepest n memory b a (begin_of rules deepest b.player b.arena) r.0).2.3.no_older
+  last_early (Some b) [] a r = (let older = (try_begun rules deepest n memory b a (begin_of rules deepest b.player b.arena) r.0).2.3.no_older in omega arith)
   last_early None (x ∷ xs) a r = absurd r
   last_early (Some b) (x ∷ xs) a r = last_early (after_try rules deepest memory b (begin_of rules deepest b.player b.arena) x) xs a r.1
 
