@@ -7,7 +7,7 @@ use Rattle.script_program.specs.Listing.{Listing, opening_of, threads_of}
 use Rattle.tx_attempts.specs.declared.attempt.Attempt.{Attempt}
 use Rattle.tx_attempts.specs.Attempts.{of_thread}
 use Rattle.tx_attempts.specs.Counts.{count_at, count_committed, one_where}
-use Rattle.tx_attempts.specs.Outrun.{AreOutrun}
+use Rattle.tx_attempts.specs.Outrun.{AreDisturbed, AreOutrun}
 use Rattle.tx_history.specs.Legal.{IsLegal, memory_at}
 use Rattle.tx_runs.specs.declared.ending.End.{End}
 use Rattle.tx_host.specs.declared.report.Report.{Report}
@@ -39,5 +39,6 @@ pub record Ran (shuts : Bool) (p : Listing) (r : Report) : Type 0 where
   pub few : commits_of r ≤ p.limits.max_commits  -- no more than the program lets there be
   pub clock : r.history.clock ≡ 2 * commits_of r
   pub outrun : AreOutrun r.history.clock r.history.attempts  -- the clock has moved on from where each conflict had read
+  pub disturbed : AreDisturbed r.history.attempts  -- each reads as many commits past its begin as it tells of blocks that ran again
   pub bytes : r.history.bytes ≡ memory_at r.history (commits_of r)
   pub legal : IsLegal r.history  -- the history is legal, by the plain machine alone

@@ -5,7 +5,7 @@ ghost use Rattle.norec_world.specs.Commits.{CommitsInOrder};
 ghost use Rattle.norec_world.specs.Headline.{AreOpaque};
 ghost use Rattle.norec_world.specs.Tied.{AreTied};
 ghost use Rattle.norec_world.specs.World.{World, observed};
-ghost use Rattle.tx_attempts.specs.Outrun.{AreOutrun};
+ghost use Rattle.tx_attempts.specs.Outrun.{AreDisturbed, AreOutrun};
 ghost use Rattle.tx_history.specs.Bounds.{AreLimited};
 ghost use Rattle.tx_history.specs.declared.history.Version.{Version};
 ghost use Rattle.tx_history.specs.Legal.{IsLegal};
@@ -28,6 +28,11 @@ pub fn legal<P: Player>()
 /// The clock of its last line has moved on from where each attempt had read that ended in a conflict. Does nothing.
 pub fn outrun<P: Player>()
     ensures { (version : Version) (w : World P) → AreOpaque P.Player (observed w) → AreOutrun (told_of version w).clock (told_of version w).attempts }
+{}
+
+/// Each attempt in it reads at least as many commits past its begin as it tells of blocks that ran again. Does nothing.
+pub fn disturbed<P: Player>()
+    ensures { (version : Version) (w : World P) → AreOpaque P.Player (observed w) → AreDisturbed (told_of version w).attempts }
 {}
 
 /// It is also within the limits of its version, where the world is, and where its players access their arenas in 1, 2, 4 or 8

@@ -4,5 +4,5 @@
 mod histories;
 mod runs;
 
-pub use histories::{legal, limited, none_open, outrun};
+pub use histories::{disturbed, legal, limited, none_open, outrun};
 pub use runs::{decided, isolation, one_player};

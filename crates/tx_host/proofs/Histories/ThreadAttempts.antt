@@ -4,17 +4,21 @@ use Rattle.std.proofs.lemmas.Bool.{ne_eqb}
 use Rattle.shared_words.specs.declared.view.View.{View}
 use Rattle.shared_words.specs.declared.words.Words.{Words}
 use Rattle.script_program.specs.Listing.{Listing}
+use Rattle.script_vm.specs.Threads.{thread_rules}
 use Rattle.tx_attempts.specs.declared.attempt.Attempt.{Attempt}
 use Rattle.tx_attempts.specs.Attempts.{of_thread}
-use Rattle.tx_attempts.specs.Outrun.{AreOutrun}
+use Rattle.tx_attempts.specs.Outrun.{AreDisturbed, AreOutrun}
+use Rattle.tx_attempts.proofs.DisturbedRuns.{disturbed_both, disturbed_none, disturbed_run}
 use Rattle.tx_attempts.proofs.LaterClocks.{outrun_both, outrun_none}
 use Rattle.tx_runs.specs.declared.ending.End.{End}
 use Rattle.tx_runs.proofs.RunLists.{of_thread_more}
-use Rattle.tx_worker.specs.Positions.{AreFew, AreLeft, AreOwn}
+use Rattle.tx_worker.specs.Positions.{AreFew, AreLeft, AreOwn, bytes_at}
 use Rattle.tx_host.specs.declared.join.Done.{Done}
+use Rattle.tx_host.specs.Courses.{first_of}
 use Rattle.tx_host.specs.Joins.{Did, attempts_in, ends_in}
 use Rattle.tx_host.specs.Numbers.{Numbered}
 use Rattle.tx_host.specs.Reports.{by_number}
+use Rattle.tx_host.specs.Starts.{code_of}
 use Rattle.tx_host.proofs.Histories.CommitPositions.{few_both, left_both}
 
 -- ## A worker's own
@@ -93,6 +97,12 @@ module _ (words : Words) (p : Listing) (shuts : Bool) (v : View) where
   pub all_outrun : (n : ℕ) (ds : List Done) → Numbered (Did words p shuts v) n ds → AreOutrun v.high (attempts_in ds)
   all_outrun n [] t = outrun_none v.high
   all_outrun n (d ∷ ds) t = outrun_both v.high d.attempts (attempts_in ds) t.0.outrun (all_outrun (n + 1) ds t.1)
+
+  pub all_disturbed : (n : ℕ) (ds : List Done) → Numbered (Did words p shuts v) n ds → AreDisturbed (attempts_in ds)
+  all_disturbed n [] t = disturbed_none
+  all_disturbed n (d ∷ ds) t =
+      disturbed_both d.attempts (attempts_in ds) (disturbed_run thread_rules p.limits.depth (length v.seen) (bytes_at v) (Some (first_of p (code_of p n))) d.attempts t.0.course.run)
+      (all_disturbed (n + 1) ds t.1)
 
 pub ends_count : (ds : List Done) → length (ends_in ds) ≡ length ds
 ends_count [] = refl

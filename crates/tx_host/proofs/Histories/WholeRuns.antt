@@ -15,7 +15,7 @@ use Rattle.script_vm.specs.Threads.{thread_rules}
 use Rattle.tx_attempts.specs.declared.attempt.Attempt.{Attempt}
 use Rattle.tx_attempts.specs.Attempts.{memory_after, of_thread}
 use Rattle.tx_attempts.specs.Counts.{count_at, count_committed, one_where}
-use Rattle.tx_attempts.specs.Outrun.{AreOutrun}
+use Rattle.tx_attempts.specs.Outrun.{AreDisturbed, AreOutrun}
 use Rattle.tx_attempts.proofs.LaterClocks.{outrun_later}
 use Rattle.tx_history.specs.Versions.{depth_of}
 use Rattle.tx_history.specs.Legal.{IsAlone, IsLegal, count_holding, memory_at}
@@ -34,7 +34,7 @@ use Rattle.tx_host.proofs.Histories.CommitPositions.{below_limit, committed_coun
 use Rattle.tx_host.proofs.Passes.Courses.{course_still}
 use Rattle.tx_host.proofs.Histories.LegalRuns.{all_free, all_placed}
 use Rattle.tx_host.proofs.Histories.PositionTotals.{count_is}
-use Rattle.tx_host.proofs.Histories.ThreadAttempts.{all_few, all_left, all_outrun, all_own, all_stand, ends_count}
+use Rattle.tx_host.proofs.Histories.ThreadAttempts.{all_disturbed, all_few, all_left, all_outrun, all_own, all_stand, ends_count}
 
 module _ (words : Words) (p : Listing) (shuts : Bool) (r : Report) (start now : View) (all : List Done) (opens : start ≡ opening start.base) (from : bytes_of start.base ≡ r.history.memory) (begun : r.history.memory ≡ opening_of p) (gathered : Gathers words start p shuts now all) (closed : EndsWith now r.history.clock r.history.bytes) (attempts : r.history.attempts ≡ attempts_in all) (ends_are : r.ends.items ≡ ends_in all) (version : r.history.version ≡ version_of p) (allows : depth_of (version_of p) ≡ p.limits.depth) where
   abbrev rows : List Attempt
@@ -113,6 +113,9 @@ module _ (words : Words) (p : Listing) (shuts : Bool) (r : Report) (start now : 
   outrun : AreOutrun r.history.clock rows
   outrun = outrun_later now.high r.history.clock closed.high rows (subst (AreOutrun now.high) (sym attempts) (all_outrun words p shuts now 0 all gathered.joins.workers))
 
+  disturbed : AreDisturbed rows
+  disturbed = subst AreDisturbed (sym attempts) (all_disturbed words p shuts now 0 all gathered.joins.workers)
+
   legal : IsLegal r.history
   legal = record {
     positions = counted;
@@ -141,6 +144,7 @@ module _ (words : Words) (p : Listing) (shuts : Bool) (r : Report) (start now : 
     few = few;
     clock = clock_is;
     outrun = outrun;
+    disturbed = disturbed;
     bytes = bytes_are;
     legal = legal;
   }
