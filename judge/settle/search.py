@@ -26,15 +26,20 @@ class Search:
         self.done = [0] * len(self.queues)
         self.levels = []  # of each commit: what else may be chosen in its place, and the way back
         self.chain = None  # the commits in order, the last one first
-        self.failed = set()
+        self.failed = {}  # the memories of such states, by the tries done
 
     def fronts(self):
         """The next try of each thread that has one, without those that need no place."""
         fronts = (queue[done] for queue, done in zip(self.queues, self.done) if done < len(queue))
         return [one for one in fronts if not one.may_commit]
 
-    def _state(self):
-        return tuple(self.done), hashlib.blake2b(self.memory, digest_size=16).digest()
+    def _digest(self):
+        return hashlib.blake2b(self.memory, digest_size=16).digest()
+
+    def _has_failed(self):
+        """Whether this state led nowhere. The memory may be large: it is looked at only where it can matter."""
+        memories = self.failed.get(tuple(self.done)) if self.failed else None
+        return memories is not None and self._digest() in memories
 
     def _place(self, number, position):
         """Places what a thread has at this position before its next commit. That commit, if it may stand here; whether
@@ -63,7 +68,7 @@ class Search:
                 return []
             if front:
                 choice.append((-front.ended, number))
-        if self.failed and self._state() in self.failed:
+        if self._has_failed():
             return []
         return [number for _, number in sorted(choice)]
 
@@ -82,7 +87,7 @@ class Search:
         return False
 
     def _go_back(self):
-        self.failed.add(self._state())
+        self.failed.setdefault(tuple(self.done), set()).add(self._digest())
         choice, undo, done, self.chain = self.levels.pop()
         self.done[:] = done
         machine.roll_back(self.memory, undo)
