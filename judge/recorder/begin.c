@@ -54,9 +54,12 @@ static void entered_again(struct thread *t) {
 static void *block_cancelled(struct thread *t) {
     if (t->target >= DEEPEST) fail("a block deeper than %d was cancelled", DEEPEST);
     note(t, ABORT, 0, t->reason, 0, 0, 0);
-    t->depth = t->target;
-    if (!t->depth) try_ended(t, "cancelled");
-    else note_own(t, LOAD, __builtin_frame_address(0));
+    if (!t->target) {
+        try_ended(t, "cancelled");
+    } else {
+        t->depth = t->target;
+        note_own(t, LOAD, __builtin_frame_address(0));
+    }
     return t->block[t->target].back;
 }
 

@@ -10,7 +10,8 @@ static struct thread *before_commit(void) {
 static void committed(struct thread *t) {
     if (!t) return;
     if (t->depth <= DEEPEST) note(t, COMMIT, 0, 0, 0, 0, 0);
-    if (--t->depth == 0) try_ended(t, 0);
+    if (t->depth > 1) t->depth--;
+    else try_ended(t, 0);
 }
 
 ENTRY void _ITM_commitTransaction(void) {

@@ -56,8 +56,22 @@ static struct try ended(const struct event *from, const struct event *end, int t
     return (struct try){from, end, thread, key, end->a, end->b, end->name};
 }
 
+/* Up to where the calls of a try are told that has not ended: its outermost block is open there still, also where its
+ * thread was stopped just after it had noted the last call. */
+static const struct event *open_end(const struct event *from, const struct event *end) {
+    int depth = 1;
+    for (const struct event *e = event_after(from); e != end; e = event_after(e)) {
+        if (e->kind == BEGIN) depth++;
+        if (e->kind == COMMIT) depth--;
+        if (e->kind == ABORT) depth = e->a & OUTER_ABORT ? 0 : depth - 1;
+        if (!depth) return e;
+    }
+    return end;
+}
+
 static struct try unfinished(const struct event *from, const struct thread *t, int thread) {
-    struct try try = {from, (const struct event *)t->told, thread, UINT64_MAX, t->low, commits_called(), "unfinished"};
+    const struct event *end = open_end(from, (const struct event *)t->told);
+    struct try try = {from, end, thread, UINT64_MAX, t->low, commits_called(), "unfinished"};
     if (!t->committing) return try;
     try.low = t->position;
     if (inside) try.high = t->position;
