@@ -131,3 +131,16 @@ ENTRY void *_ITM_calloc(size_t number, size_t size) {
     asker = __builtin_return_address(0);
     return real(number, size);
 }
+
+/* `new` and `new[]` of C++, in a transaction and outside, which malloc serves too; one may be served by another. */
+#define NEW(NAME)                                           \
+    ENTRY void *NAME(size_t size) {                         \
+        NEXT(NAME);                                         \
+        before();                                           \
+        if (!asker) asker = __builtin_return_address(0);    \
+        return real(size);                                  \
+    }
+NEW(_ZGTtnwm)
+NEW(_ZGTtnam)
+NEW(_Znwm)
+NEW(_Znam)

@@ -49,11 +49,17 @@ class Names:
         address = self.recording.words[place // 8].address + place % 8
         return self._heap(address) or self._variable(address - self.recording.base) or f"address {address:#x}"
 
-    def _heap(self, address):
+    def block(self, address):
+        """The block of the heap with this address, or None."""
         i = bisect.bisect_right(self.blocks, address) - 1
         if i < 0 or address >= self.blocks[i] + self.recording.blocks[i].size:
             return None
-        block = self.recording.blocks[i]
+        return self.recording.blocks[i]
+
+    def _heap(self, address):
+        block = self.block(address)
+        if not block:
+            return None
         line = _printed("addr2line", "-s", "-e", self.program, hex(block.caller - 1 - self.recording.base)).strip()
         asked = "" if not line or "?" in line else f", which {line} asked for"
         return f"byte {address - block.address} of {block.size} bytes at {block.address:#x}{asked}"
@@ -105,10 +111,12 @@ class Names:
         """What follows a variable's name for the byte at this offset of it."""
         if type_["tag"] == "array_type" and "GNU_vector" not in type_:
             return self._element(type_, offset)
-        if type_["tag"] in ("structure_type", "union_type"):
-            for entry in type_["members"]:
+        if type_["tag"] in ("structure_type", "class_type", "union_type"):
+            # of a base without members, which lies over another one, there is nothing to tell
+            for entry in sorted(type_["members"], key=lambda entry: entry["tag"] == "inheritance"):
                 start, inner = _number(entry, "data_member_location", 0), self._type(entry)
-                if entry["tag"] == "member" and start <= offset < start + self._size(inner):
+                own = entry["tag"] in ("member", "inheritance") and "external" not in entry
+                if own and start <= offset < start + self._size(inner):
                     name = f".{entry['name']}" if "name" in entry else ""
                     return name + self._member(inner, offset - start)
         return f" (byte {offset})" if offset else ""
