@@ -7,6 +7,9 @@ from recording import WORD
 
 CALLS = 6  # so many are shown up to the one that is wrong
 PLAIN = "if the program stores here without a transaction, that is out of scope"
+FILLED = "that is what the judge fills memory with as it is freed"
+REACHED = "this try had read a pointer to it: the runtime freed it too early, or the program what others still reach"
+KEPT = "this try had read no pointer to it: a program that kept one past the transaction that took it out is wrong"
 
 
 def ordinal(number):
@@ -23,6 +26,13 @@ def whose(one):
         f"thread {one.thread}, {ordinal(one.number)} try of its block, {outcome}",
         f"it stands after {one.at} commits; by its time that may be {range_}",
     ]
+
+
+def pointers(calls):
+    """What these calls read that may be an address."""
+    for data in (call[3] for call in calls if call[0] == machine.READ):
+        for at in range(0, len(data) - WORD + 1, WORD):
+            yield int.from_bytes(data[at : at + WORD], "little")
 
 
 def writes_to(calls, start, stop):
@@ -90,11 +100,17 @@ class Explanation:
         lines = [f"the plain machine has {due.hex()} there: {by}", f"place {start} is {self._spread(start, stop)}"]
         if had:
             lines.append(f"{told.hex()} stood there last before {self._commit(had[-1])}")
-        if set(told) == {FREED}:
-            lines.append("that is what the judge fills memory with as it is freed")
+        if set(told) == {FREED} and not self.run.words[start // WORD].kept:
+            lines += self._freed(start, calls)
         elif not own and (not writers or self._returned_before(writers[-1], one)):
             lines.append(PLAIN)
         return lines
+
+    def _freed(self, place, calls):
+        """Lines on a read of freed memory, by a try with these calls before it."""
+        block = self.names.block(self.run.words[place // WORD].address)
+        pointed = block and any(0 <= address - block.address < block.size for address in pointers(calls))
+        return [FILLED, REACHED if pointed else KEPT]
 
     def _returned_before(self, commit, one):
         """Whether a commit had returned before all that the range of a try tells of its begin."""
