@@ -36,7 +36,8 @@ class Try:
 
 
 class Recording:
-    def __init__(self, path):
+    def __init__(self, path, told):
+        told.step = lambda: f"{len(self.tries)} tries are read"
         self.words, self.blocks, self.tries = [], [], []
         self.base = self.unfinished = None
         with open(path) as text:

@@ -18,6 +18,7 @@ import history
 import machine
 import names
 import private
+import progress
 import recording
 import search
 
@@ -42,11 +43,13 @@ def place_misfit(found, one):
     one.at = max(fitted, key=lambda at: (fitted[at], at), default=first)
 
 
-def settled(run):
+def settled(run, told):
     """The tries with their positions, in the order in which they ended; the memory that they left; whether an order was
     found; and the tries at which the search stands where not. Then the tries are those of the longest order, and the
     first that fits nowhere behind it."""
     found = search.Search(run.opening, run.tries, run.ends_well)
+    commits = sum(one.commits for one in run.tries)
+    told.step = lambda: f"{len(found.levels)} of {commits} commits have found a place"
     success = found.run()
     stuck = found.stuck()
     placed = [one for queue, done in zip(found.queues, found.done) for one in queue[:done]]
@@ -67,6 +70,8 @@ def check(path):
 def summary(run, left_out):
     counts = collections.Counter(one.outcome for one in run.tries)
     told = ", ".join(f"{count} {outcome}" for outcome, count in sorted(counts.items()))
+    if len({one.thread for one in run.tries}) == 1:
+        told += ", by one thread alone"
     blocks = f"\n    {left_out} blocks of the heap, which one thread alone touched, are left out"
     return told + (blocks if left_out else "")
 
@@ -80,10 +85,15 @@ def far(tries, run, stuck):
     return [f"no order of the commits goes on: the longest has {ordered} of {commits}"]
 
 
-def judge(path, to, program):
-    run = recording.Recording(path)
+def judge(path, to, program, told):
+    run = recording.Recording(path, told)
+    if not run.tries:
+        print("nothing to judge: no transaction was recorded")
+        return FAILED
+    told.step = lambda: "what one thread alone touched is left out"
     left_out = private.leave_out(run)
-    tries, memory, success, stuck = settled(run)
+    tries, memory, success, stuck = settled(run, told)
+    told.step = lambda: "the history is written and judged"
     known = not stuck and not run.unfinished
     texts = [history.Text(piece) for piece in history.pieces(run, tries, memory, known)]
     for number, text in enumerate(texts, 1):
@@ -97,8 +107,9 @@ def judge(path, to, program):
         if verdict != "legal":
             line, kind = words
             print(f"bad {kind}  {summary(run, left_out)}\n    {text.path}, line {line}")
-            told = explain.Explanation(run, names.Names(program, run), texts).about(text, int(line), kind)
-            print("".join(f"    {line}\n" for line in told + far(tries, run, stuck)), end="")
+            told.step = lambda: "the verdict is explained"
+            lines = explain.Explanation(run, names.Names(program, run), texts).about(text, int(line), kind)
+            print("".join(f"    {line}\n" for line in lines + far(tries, run, stuck)), end="")
             return BAD
     if not success:
         print(f"undecided: no order was found, though all that was read fits  {summary(run, left_out)}")
@@ -112,7 +123,8 @@ def main(words):
         sys.exit("usage: settle.py RECORDING HISTORY PROGRAM")
     gc.disable()  # nothing here is in a cycle
     try:
-        return judge(*words)
+        with progress.Progress() as told:
+            return judge(*words, told)
     except history.TooLarge:
         print("undecided: a try touched more than a history holds")
         return UNDECIDED
