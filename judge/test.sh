@@ -1,7 +1,7 @@
 #!/bin/sh
 # Tests the judge: programs are legal, faults are told, and verdicts are those that are worked out again. Outside the
-# gate; needs gcc with its libitm, binutils and python3. Runs on threads are never the same twice: a fault that strikes
-# now and then has some runs to be told in.
+# gate; needs gcc and g++ with libitm, binutils and python3. Runs on threads are never the same twice: a fault that
+# strikes now and then has some runs to be told in.
 #
 #   sh judge/test.sh [LIBITM]    with the folder of libraries that faults/libitm.sh built, their faults too
 #
@@ -22,6 +22,9 @@ if ! echo 'int main(void) { __transaction_atomic { } }' | gcc -fgnu-tm -x c -o "
     exit 0
 fi
 
+# the repository's own judge may have to be proved and built first, and tells so on standard error
+printf 'itm-history 1\nmemory 0000000000000000\nfinal 0 0000000000000000\n' | "$ITMRUN" check - >/dev/null || exit 1
+
 # result NAME STATUS: one more test, whose last judgement is in $WORK/told
 result() {
     if [ "$2" = 0 ]; then
@@ -35,7 +38,9 @@ result() {
 
 # printed PROGRAM THREADS METHOD [FOLDER]
 printed() {
-    sh "$here/judge.sh" "$here/${4:-programs}/$1.c" "$2" "$3"
+    file=$here/${4:-programs}/$1
+    [ -f "$file" ] || file=$file.c
+    sh "$here/judge.sh" "$file" "$2" "$3"
 }
 
 judge() {
@@ -51,6 +56,19 @@ gives() {
     result "$name has to give status $due and tell: $words" $?
 }
 
+# refused WORD..: words that name no run are told with the usage, and nothing is judged
+refused() {
+    sh "$here/judge.sh" "$@" >"$WORK/printed" 2>"$WORK/told"
+    [ $? = 1 ] && [ ! -s "$WORK/printed" ] && grep -q '^usage: ' "$WORK/told"
+    result "the words [$*] have to be refused" $?
+}
+
+# tells WORDS: the last judgement does
+tells() {
+    grep -q -e "$1" "$WORK/told"
+    result "it has to tell: $1" $?
+}
+
 # narrow RUN OUTCOMES: no try of these outcomes has a range open
 narrow() {
     awk -v outcomes="$2" '$1 == "attempt" && $6 ~ outcomes { n++; wide += $4 != $5 } END { exit !n || wide }' \
@@ -58,10 +76,10 @@ narrow() {
     result "$1, ${ORDER:-outside}, has to leave no range open" $?
 }
 
-# legal PROGRAM THREADS METHOD: again where libitm itself ended the program, as it may under `default` (README.md)
+# legal PROGRAM THREADS METHOD [FOLDER]: again where libitm itself ended the program, as it may under `default`
 legal() {
     for turn in 1 2 3 4 5 6 7 8 9 10; do
-        judge "$1" "$2" "$3"
+        judge "$@"
         status=$?
         [ "$3" = default ] && grep -q 'signal 6' "$WORK/told" || break
     done
@@ -69,15 +87,52 @@ legal() {
     result "$1 on $2 threads under $3, ${ORDER:-outside}, has to be legal" $?
 }
 
-# told NAME PROGRAM METHOD: the fault that the environment plants shows in one of some runs
+# told NAME PROGRAM METHOD [FOLDER]: the fault that the environment plants shows in one of some runs
 told() {
     for turn in 1 2 3 4 5 6 7 8 9 10; do
-        judge "$2" 4 "$3"
+        judge "$2" 4 "$3" "${4:-programs}"
         [ $? = 3 ] && break
     done
     grep -q ' bad ' "$WORK/told"
     result "$1 has to be told in $2 under $3" $?
 }
+
+# words
+bank=$here/programs/bank.c
+for word in ml_wt 0 00 02 -1 +2 2x 0x2 2.0 ' 2' '' 4097 99999999999999999999; do refused "$bank" "$word" ml_wt; done
+refused
+refused ''
+refused "$here/programs/no.c" 2
+refused "$here/programs" 2
+refused ml_wt "$bank"
+refused 2 "$bank" ml_wt
+refused "$bank" ml_wt
+refused "$bank" ml_wt 2
+refused "$bank" 2 ''
+refused "$bank" 2 3
+refused "$bank" 2 "$bank"
+refused "$bank" 2 ml_wt gl_wt
+
+# a clone whose judge is not built says so, and one whose judge is does not
+mkdir -p "$WORK/clone/crates/itmrun/src" "$WORK/clone/crates/itmrun/out"
+cp -R "$here" "$WORK/clone/judge"
+printf '#!/bin/sh\nexec "%s" "$@"\n' "$ITMRUN" >"$WORK/clone/itmrun"
+cp "$WORK/clone/itmrun" "$WORK/clone/crates/itmrun/out/itmrun.built"
+touch -d '1 hour ago' "$WORK/clone/crates.txt" "$WORK/clone/crates/itmrun/src/main.rt"
+chmod +x "$WORK/clone/itmrun"
+# first_words: what a judgement there has on standard error
+first_words() {
+    (unset ITMRUN && sh "$WORK/clone/judge/judge.sh" "$here/tests/none.c" 1 ml_wt) 2>"$WORK/told" >"$WORK/printed"
+}
+first_words
+tells 'built first: some 20 minutes'
+install "$WORK/clone/crates/itmrun/out/itmrun.built" "$WORK/clone/crates/itmrun/out/itmrun"
+first_words
+[ ! -s "$WORK/told" ]
+result 'nothing has to be said of a judge that is built' $?
+touch -d 'next hour' "$WORK/clone/crates/itmrun/src/main.rt"
+first_words
+tells 'built first: some 20 minutes'
 
 # programs that are legal
 for program in bank counters list words cancel relaxed heap mixed pages copies; do
@@ -92,6 +147,15 @@ for method in $methods; do
     ARGS=200 legal heap 4 $method
 done
 RUNTIME=$(gcc -print-file-name=libitm.so.1) ARGS=100 legal bank 4 ml_wt
+
+# C++, and programs of several files
+for method in ml_wt gl_wt serial; do ARGS=100 legal tally.cpp 4 $method tests; done
+ARGS=100 SOURCES="$here/tests/half.cc" legal halves 4 ml_wt tests
+CC="gcc -DNO=1" CFLAGS='-O1 -DYES=1' LIBS=-lm legal given 1 ml_wt tests
+gives 'a source file that is not given' 1 'undefined reference' printed halves 4 ml_wt tests
+SOURCES="$here/tests/half.h" gives 'a source file of no language' 1 'a source file ends in' printed halves 4 ml_wt tests
+SOURCES="$here/tests/no.c" gives 'a source file that is not there' 1 'there is no file' printed halves 4 ml_wt tests
+CXX=no-compiler gives 'a compiler that is not there' 1 no-compiler printed tally.cpp 4 ml_wt tests
 
 # how narrow the ranges are
 for order in outside inside; do
@@ -118,10 +182,37 @@ CFLAGS='-O2 -mavx' judge barriers 1 ml_wt tests && awk '
 result 'each barrier has to be told once' $?
 
 # what is no history of a whole run, and what cannot be judged
-gives 'a freed block' 3 'bad reply' printed freed 1 ml_wt tests
+gives 'a block that is freed and still reached' 3 'had read a pointer to it' printed freed 1 ml_wt tests
+gives 'a pointer that the program kept' 3 'a program that kept one past .* is wrong' printed kept 1 ml_wt tests
+tells 'kept.c:[0-9]* asked for'
+tells 'committed, by one thread alone'
 gives 'a plain store' 3 'without a transaction' printed plain 1 ml_wt tests
+! grep -q 'as it is freed' "$WORK/told"
+result 'a plain store has to be told as no freed memory' $?
+tells "the program wrote $WORK/plain.1.ml_wt.out\$"
+grep -q stored "$WORK/plain.1.ml_wt.out"
+result 'what the program wrote has to be kept' $?
+(unset WORK && printed plain 1 ml_wt tests) >"$WORK/told" 2>&1
+kept=$(sed -n 's/^ *the program wrote //p' "$WORK/told")
+grep -q stored "$kept"
+result 'what the program wrote has to be kept without WORK' $?
+case $kept in */plain.1.ml_wt.out) rm -rf "$(dirname "$kept")" ;; esac
+gives 'no transaction' 1 'no transaction was recorded' printed none 4 ml_wt tests
+printf 'itm-recording 1\nprogram 0\nunfinished 1\n' >"$WORK/none.recording"
+gives 'a recording without tries' 1 'nothing to judge' python3 "$here/settle/settle.py" "$WORK/none.recording" \
+    "$WORK/none.history" "$WORK/empty"
 gives 'a crash' 4 'stopped: signal 4' printed crash 1 ml_wt tests
 LIMIT=2 gives 'a hang' 4 'stopped: signal 15' printed hang 1 ml_wt tests
+tells 'LIMIT: it had run for 2 seconds'
+CALLS=1000 gives 'more calls than are recorded' 4 'stopped: CALLS' printed bank 4 ml_wt
+awk '/^(attempt|call|end)/ { n++ } END { exit !(n >= 500 && n <= 1100) }' "$WORK/bank.4.ml_wt.recording"
+result 'so many calls have to be recorded' $?
+for calls in 9 10 11 17 18 19; do # around the end of a commit and of a cancel
+    CALLS=$calls gives "the first $calls calls" 4 legal printed cancel 1 ml_wt
+    [ "$(grep -c 'call _ITM_commitTransaction' "$WORK/cancel.1.ml_wt.recording")" = 1 ]
+    result "the first $calls calls have one commit" $?
+done
+CALLS=1k gives 'a misspelled number of calls' 1 'CALLS is a number' printed bank 4 ml_wt
 gives 'a misspelled method' 1 'no method mlwt' printed bank 4 mlwt
 ORDER=insde gives 'a misspelled order' 1 'outside or inside' printed bank 4 ml_wt
 python3 "$here/tests/undecided.py" 20 >"$WORK/undecided.recording"
@@ -133,6 +224,16 @@ ARGS=1200 legal mixed 4 gl_wt
 cp "$WORK/mixed.4.gl_wt.recording" "$WORK/long.recording"
 [ -f "$WORK/mixed.4.gl_wt.history.2" ]
 result 'a long run has to be told in pieces' $?
+judge_long() {
+    python3 "$here/tests/impatient.py" "$1" "$WORK/long.recording" "$WORK/long.history" "$WORK/mixed" 2>"$WORK/told" \
+        >"$WORK/printed"
+}
+judge_long 0.05
+tells '^judge: [0-9]* s: [0-9]* tries are read$'
+tells '^judge: [0-9]* s: [0-9]* of [0-9]* commits have found a place$'
+judge_long 600
+[ ! -s "$WORK/told" ] && grep -q '^legal' "$WORK/printed"
+result 'what is judged at once needs no word of progress' $?
 
 # the fault of libitm, where a run without the judge shows it too
 gcc -O2 -fgnu-tm -o "$WORK/cancelled" "$here/programs/cancelled.c" && "$WORK/cancelled" >"$WORK/cancelled.out"
@@ -161,6 +262,8 @@ FAULT=naked told naked cancel ml_wt
 FAULT=blind ONE_IN=10 told blind counters ml_wt
 FAULT=wide told wide cancel ml_wt
 FAULT=free told free heap ml_wt
+FAULT=stale told stale tally.cpp ml_wt tests
+tells 'is tally\.t'
 unset BELOW ONE_IN
 
 # faults in libitm itself; TESTED.md lists those that no run tells

@@ -38,6 +38,10 @@ static void *run(void *number) {
 int main(int count, char **words) {
     int threads = count > 1 ? atoi(words[1]) : 4;
     pthread_t thread[64];
+    if (threads < 1 || threads > 64) {
+        fputs("THREADS is a number from 1 to 64\n", stderr);
+        return 2;
+    }
     if (count > 2) rounds = atoi(words[2]);
     before();
     pthread_barrier_init(&start, 0, threads);

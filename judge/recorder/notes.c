@@ -6,6 +6,12 @@
 /* for a thread's events */
 static const size_t buffer_size = (size_t)256 << 20;
 
+/* A call with more bytes counts as several, since each takes time to judge. */
+enum { BYTES_A_CALL = 128 };
+
+uint64_t most_calls;
+static _Atomic uint64_t shared_out; /* of the calls that may be noted */
+
 struct thread *threads[THREADS];
 atomic_int thread_count;
 __thread struct thread *self;
@@ -27,11 +33,25 @@ static size_t event_size(size_t data) {
     return (sizeof(struct event) + data + 7) & -8;
 }
 
+/* A thread takes so many at once that threads seldom meet here, and few are left over. While the recording is written,
+ * tries under way may end. */
+__attribute__((noinline, cold)) static void take_share(struct thread *t, uint64_t calls) {
+    uint64_t share = most_calls / THREADS + 1;
+    while (t->share < calls) {
+        if (!stopping && atomic_fetch_add(&shared_out, share) + share > most_calls)
+            stop_full("CALLS: as many calls are recorded as it allows");
+        t->share += share;
+    }
+}
+
 struct event *note(struct thread *t, enum kind kind, const char *name, uint64_t a, uint64_t b, size_t size,
                    const void *data) {
     struct event *event = (struct event *)t->end;
     size_t total = event_size(data ? size : 0);
-    if (total > buffer_size - (t->end - t->start)) stop_here(0);
+    uint64_t calls = kind == END ? 1 : 1 + size / BYTES_A_CALL;
+    if (__builtin_expect(t->share < calls, 0)) take_share(t, calls);
+    if (total > buffer_size - (t->end - t->start)) stop_full("a thread has made too many calls");
+    t->share -= calls;
     *event = (struct event){name, a, b, size, kind};
     if (data) memcpy(event->data, data, size);
     t->end += total;

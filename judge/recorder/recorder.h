@@ -4,6 +4,7 @@
  * the TM ABI is passed on and noted. At exit, or where the program crashes, tell.c writes the recording.
  *
  * RECORD_TO      the file of the recording; nothing is written where it is not set
+ * RECORD_CALLS   so many calls are noted at most, then the program is ended; all are where it is not set
  * RECORD_ORDER   how the order of the commits becomes known, `outside` or `inside` (order.c)
  * RECORD_PAUSES  N: one call in about N sleeps first, up to 64 us, so that short tries of several threads meet */
 #ifndef RECORDER_H
@@ -130,6 +131,7 @@ struct own {
 
 struct thread {
     byte *start, *end; /* its events */
+    uint64_t share;    /* what it may still note before it asks for more */
     int depth;         /* open blocks */
     struct {
         void *back; /* where the program goes on behind its begin */
@@ -150,6 +152,7 @@ struct thread {
 extern struct thread *threads[];
 extern atomic_int thread_count;
 extern __thread struct thread *self;
+extern uint64_t most_calls; /* that are noted */
 
 struct thread *new_thread(void);
 struct event *note(struct thread *, enum kind, const char *name, uint64_t a, uint64_t b, size_t size, const void *data);
@@ -186,6 +189,7 @@ void set_up(void);
 void pause_now_and_then(void);
 void write_recording(void);
 _Noreturn void stop_here(int signal);
+_Noreturn void stop_full(const char *why);
 
 /* Before a call is passed on. The thread where it is in a transaction. */
 static inline struct thread *before(void) {

@@ -55,20 +55,29 @@ ENTRY void exit(int status) {
     __builtin_unreachable();
 }
 
-/* Writes the recording up to here, and ends the program: by this signal, or 0 where a buffer is full. */
+/* Writes the recording up to here, and ends the program, as a signal does. */
 _Noreturn void stop_here(int signal) {
     end_alone();
-    if (signal) fprintf(stderr, "recorder: stopped: signal %d\n", signal);
-    else fputs("recorder: stopped: a thread has made too many calls\n", stderr);
+    fprintf(stderr, "recorder: stopped: signal %d\n", signal);
     write_recording();
     _exit(128 + signal);
+}
+
+/* The same where no more can be noted. */
+_Noreturn void stop_full(const char *why) {
+    end_alone();
+    fprintf(stderr, "recorder: stopped: %s\n", why);
+    write_recording();
+    _exit(128);
 }
 
 void set_up(void) {
     static const int stops[] = {SIGSEGV, SIGBUS, SIGFPE, SIGILL, SIGABRT, SIGTERM};
     for (size_t i = 0; i < sizeof stops / sizeof *stops; i++) signal(stops[i], stop_here);
     const char *calls = getenv("RECORD_PAUSES");
+    const char *most = getenv("RECORD_CALLS");
     pauses = calls ? atoi(calls) : 0;
+    most_calls = most ? strtoull(most, 0, 10) : UINT64_MAX;
     runtime_begin = next("_ITM_beginTransaction");
     open_order();
     open_space();
