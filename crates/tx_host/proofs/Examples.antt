@@ -74,7 +74,7 @@ nothing_to_do : (memory : ℕ → List ℕ) → EndsBy 16 memory (first_of (prog
 nothing_to_do memory = inl (record { between = first_of (program 8 1 16) []; now_is = refl; none = refl })
 
 -- and its run has no call: who tells of no attempt, and that it finished, tells of it
-idle : (words : Words) (base : List ℕ) (start : Standing) → Owns words start.pass → Stands (view_of start.pass) start.engine → IsFresh (program 8 1 16) base 0 start (opening 16 []) → (view_of start.pass).holds ≡ false → WasRun words (program 8 1 16) base false 0 Finished []
+idle : (words : Words) (base : List ℕ) (start : Standing) → Owns words start.pass → Stands (view_of start.pass) start.engine → IsFresh (program 8 1 16) base 0 start (opening 16 []) → (view_of start.pass).holds ≡ false → WasRun words (program 8 1 16) base (view_of start.pass).high false 0 Finished []
 idle words base start own stands fresh free = record {
   start = start;
   player = opening 16 [];
@@ -95,6 +95,7 @@ idle words base start own stands fresh free = record {
   };
   end_is = refl;
   attempts_are = refl;
+  late = omega arith;
   why = refl;
 }
 

@@ -33,7 +33,7 @@ pub record Ran (shuts : Bool) (p : Listing) (r : Report) : Type 0 where
   pub words : Words
   pub base : List ℕ
   pub base_is : bytes_of base ≡ r.history.memory
-  pub rows : (number : ℕ) (end : End) → slice_get r.ends.items number ≡ Some end → WasRun words p base shuts number end (of_thread number r.history.attempts)  -- each made its calls up to that end, within the program's limits
+  pub rows : (number : ℕ) (end : End) → slice_get r.ends.items number ≡ Some end → WasRun words p base r.history.clock shuts number end (of_thread number r.history.attempts)  -- each made its calls up to that end, within the program's limits
   pub by_thread : r.history.attempts ≡ by_number 0 (length (threads_of p)) r.history.attempts  -- there are no others
   pub counted : (position : ℕ) → count_at position r.history.attempts ≡ one_where (nat_lt position (commits_of r))  -- each position below their number is that of one commit
   pub few : commits_of r ≤ p.limits.max_commits  -- no more than the program lets there be

@@ -1,5 +1,5 @@
 -- What a thread of a program did, call by call.
-use Rattle.std.specs.Prelude.{◌≡◌, ◌⊎◌, ℕ, ◌<◌, Bool, List, None, Some}
+use Rattle.std.specs.Prelude.{◌≡◌, ◌⊎◌, ℕ, ◌<◌, ◌≤◌, Bool, List, None, Some}
 use Rattle.norec_core.specs.declared.answer.Answer.{Answer}
 use Rattle.norec_core.specs.declared.answer.Answer.TheVariants.{Busy, Committed, Conflict, Full, Reply, Restarted}
 use Rattle.shared_words.specs.declared.words.Words.{Words}
@@ -14,7 +14,7 @@ use Rattle.tx_runs.specs.declared.ending.End.TheVariants.{Finished, GaveUp, NoMe
 use Rattle.tx_worker.specs.declared.worked.Worked.{Worked}
 use Rattle.tx_worker.specs.Accounts.{Account}
 use Rattle.tx_worker.specs.Calls.{IsMade, IsShut}
-use Rattle.tx_worker.specs.Works.{IsRow}
+use Rattle.tx_worker.specs.Works.{IsRow, view_left}
 use Rattle.tx_host.specs.Starts.{IsFresh}
 
 -- after this answer to a call in the try `nth` of its block there is no further one: no commit more may be, or a conflict was found or the clock was held, and no try is left
@@ -33,7 +33,7 @@ EndsWhere words number retries shuts GaveUp a s a' s' = IsShut thread_rules shut
 EndsWhere words number retries shuts NoMemory a s a' s' = Unit {0}
 
 -- the thread of the program with this number made its calls, on a fresh thread over these words with the program's own limits, until it ended so. Just these attempts are told of it
-pub record WasRun (words : Words) (p : Listing) (base : List ℕ) (shuts : Bool) (number : ℕ) (end : End) (attempts : List Attempt) : Type 0 where
+pub record WasRun (words : Words) (p : Listing) (base : List ℕ) (clock : ℕ) (shuts : Bool) (number : ℕ) (end : End) (attempts : List Attempt) : Type 0 where
   pub start : Standing
   pub player : Thread
   pub own : Owns words start.pass
@@ -43,4 +43,5 @@ pub record WasRun (words : Words) (p : Listing) (base : List ℕ) (shuts : Bool)
   pub row : IsRow thread_rules words start player number p.limits.retries shuts worked
   pub end_is : worked.end ≡ end
   pub attempts_are : worked.attempts ≡ attempts
+  pub late : (view_left worked.pass).high ≤ clock  -- no later clock was seen than this one
   pub why : EndsWhere words number p.limits.retries shuts end row.account row.standing row.left row.thread  -- this follows from it

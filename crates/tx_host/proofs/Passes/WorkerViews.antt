@@ -1,5 +1,5 @@
 -- What a worker did, as a later view has it.
-use Rattle.std.proofs.Common.{◌≡◌, ⊎_elim, inl, inr, ℕ, ◌+◌, ◌/◌, Bool, false, true≢false, List, [], ◌∷◌, ◌++◌, length, arith, Option, None, Some, Result, Ok, Err, IfOk, refl, sym, ap, subst, ◌∙◌}
+use Rattle.std.proofs.Common.{◌≡◌, ⊎_elim, inl, inr, ℕ, ◌+◌, ◌/◌, ◌≤◌, Bool, false, true≢false, List, [], ◌∷◌, ◌++◌, length, arith, Option, None, Some, Result, Ok, Err, IfOk, refl, sym, ap, subst, ◌∙◌}
 use Rattle.norec_core.specs.Core.{Core}
 use Rattle.shared_words.specs.declared.pass.Pass.{Pass}
 use Rattle.shared_words.specs.declared.view.View.{View}
@@ -43,10 +43,25 @@ held_later deepest v w later (Some b) (x ∷ xs) run h = (
   held_later deepest v w later (after_try thread_rules deepest (bytes_at v) b (begins_at thread_rules deepest b) x) xs run.1 h.1,
 )
 
+pub was_later : (words : Words) (p : Listing) (base : List ℕ) (clock later : ℕ) (shuts : Bool) (k : ℕ) (end : End) (xs : List Attempt) → clock ≤ later → WasRun words p base clock shuts k end xs → WasRun words p base later shuts k end xs
+was_later words p base clock later shuts k end xs l w = record {
+  start = w.start;
+  player = w.player;
+  own = w.own;
+  stands = w.stands;
+  fresh = w.fresh;
+  worked = w.worked;
+  row = w.row;
+  end_is = w.end_is;
+  attempts_are = w.attempts_are;
+  late = (let before = w.late in omega arith);
+  why = w.why;
+}
+
 pub did_later : (words : Words) (p : Listing) (shuts : Bool) (v w : View) → IsLater v w → (k : ℕ) (d : Done) → Did words p shuts v k d → Did words p shuts w k d
 did_later words p shuts v w later k d did = record {
   course = course_still p (length v.seen) (length w.seen) (bytes_at v) (bytes_at w) (seen_in v w later) (bytes_in v w later) k (code_of p k) d.end d.attempts did.course;
-  row = subst (λ (base : List ℕ). WasRun words p base shuts k d.end d.attempts) (sym later.base) did.row;
+  row = subst (λ (base : List ℕ). WasRun words p base w.high shuts k d.end d.attempts) (sym later.base) (was_later words p v.base v.high w.high shuts k d.end d.attempts later.high did.row);
   left = all_left_in p.limits.depth v w later d.attempts did.left;
   few = did.few;
   held = held_later p.limits.depth v w later (Some (first_of p (code_of p k))) d.attempts did.course.run did.held;
@@ -132,7 +147,7 @@ module _ {G : Type 0} (words : Words) (base : List ℕ) (p : Listing) (n : ℕ) 
   row_is : IsRow thread_rules words w.start.value w.player.value n p.limits.retries shuts r
   row_is = subst (λ (q : Words × ℕ × ℕ). IsRow thread_rules q.0 w.start.value w.player.value q.1 q.2 shuts r) (λ i. (is.words_are i, is.number_is i, is.retries_are i)) kept.row
 
-  was_run : WasRun words p base shuts n r.end r.attempts
+  was_run : WasRun words p base left_view.high shuts n r.end r.attempts
   was_run = record {
     start = w.start.value;
     player = w.player.value;
@@ -143,6 +158,7 @@ module _ {G : Type 0} (words : Words) (base : List ℕ) (p : Listing) (n : ℕ) 
     row = row_is;
     end_is = refl;
     attempts_are = refl;
+    late = omega arith;
     why = ends_where words n p.limits.retries shuts r.end row_is.account row_is.standing row_is.left row_is.thread row_is.stops;
   }
 
@@ -150,7 +166,7 @@ module _ {G : Type 0} (words : Words) (base : List ℕ) (p : Listing) (n : ℕ) 
   pub did_its : is_held r.pass ≡ false → Did words p shuts left_view n (record { attempts = r.attempts; end = r.end })
   did_its free = record {
     course = course_is;
-    row = subst (λ (b : List ℕ). WasRun words p b shuts n r.end r.attempts) (sym its_base) was_run;
+    row = subst (λ (b : List ℕ). WasRun words p b left_view.high shuts n r.end r.attempts) (sym its_base) was_run;
     left = subst (λ (deepest : ℕ). AreLeft deepest left_view r.attempts) depth_is done.runs.left;
     few = subst (λ (most : ℕ). AreFew most r.attempts) (ap (λ (e : Core). e.max_commits) is.fresh.engine_is) done.few;
     held = subst (λ (q : ℕ × Bool). AreHeld q.0 left_view q.1 r.attempts) (λ i. (depth_is i, free i)) done.held;
