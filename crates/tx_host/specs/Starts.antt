@@ -6,6 +6,7 @@ use Rattle.norec_core.specs.Core.{opening}
 use Rattle.shared_words.specs.declared.view.View.{View}
 use Rattle.shared_words.specs.declared.words.Words.{Words}
 use Rattle.shared_words.specs.Passes.{Owns, view_of}
+use Rattle.shared_words.specs.Views.{cut_right, opening as unwritten}
 use Rattle.script_program.specs.declared.instruction.Instruction.{Instruction}
 use Rattle.script_program.specs.Listing.{Listing, threads_of}
 use Rattle.script_vm.specs.Threads.{Thread, opening as script_opening}
@@ -20,14 +21,16 @@ use Rattle.tx_host.specs.Numbers.{Numbered}
 abbrev pub code_of : Listing → ℕ → List Instruction
 code_of p number = slice_index_or (threads_of p) number []
 
--- the thread of the program with this number, before its first call, on a fresh pass over this memory
+-- nothing was done with it, but that it may have given parts away
+abbrev pub IsUnused : View → Type 0
+IsUnused v = v ≡ record (unwritten v.base) { share = v.share }
+
+-- the thread of the program with this number, before its first call, on a part of the first pass over this memory, which had seen no commit
 pub record IsFresh (p : Listing) (base : List ℕ) (number : ℕ) (t : Standing) (player : Thread) : Type 0 where
   pub player_is : player ≡ script_opening p.limits.depth (code_of p number)
   pub words : ℕ
   pub engine_is : t.engine ≡ opening words (replicate p.arena 0) p.limits.patience p.limits.max_commits p.limits.depth p.limits.restarts
-  pub base_is : (view_of t.pass).base ≡ base
-  pub mine : (view_of t.pass).mine ≡ []
-  pub share : (view_of t.pass).share ≡ 1
+  pub pass_is : view_of t.pass ≡ cut_right (unwritten base)
 
 -- the promise is of the worker with this number
 pub record IsFor {G : Type 0} (words : Words) (base : List ℕ) (p : Listing) (number : ℕ) (w : WorksOn G) : Type 0 where

@@ -7,7 +7,7 @@ ghost use Rattle.shared_words.specs.Passes.{Owns, view_of};
 ghost use Rattle.script_program.specs.Listing.{threads_of};
 ghost use Rattle.script_vm.specs.Threads.{depth_of};
 ghost use Rattle.itm_runtime.specs.Ties.{Stands};
-ghost use Rattle.tx_host.specs.Starts.{AllReady, Prepares, Starts};
+ghost use Rattle.tx_host.specs.Starts.{AllReady, IsUnused, Prepares, Starts};
 
 use itm_runtime::Thread;
 use itm_types::MAX_RETRIES;
@@ -97,7 +97,7 @@ pub(crate) fn prepare<'p>(
     program: &'p Program,
 ) -> Result<Vec<Ready<'p>>, AllocError>
     requires own { Owns words.now pass.old }
-    requires idle { (view_of pass.old).holds ≡ false }
+    requires unused { IsUnused (view_of pass.old) }
     requires parts { length (threads_of program.now) < (view_of pass.old).share }
     ensures own { Owns words.now pass.new }
     ensures ready { IfOk result (λ all. Prepares words.now (view_of pass.old) program.now (view_of pass.new) all) }

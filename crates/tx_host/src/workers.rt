@@ -1,8 +1,10 @@
 //! All workers of one run, in one scope.
 
-ghost use Rattle.std.specs.Prelude.{◌≡◌, false, IfOk};
+ghost use Rattle.std.specs.Prelude.{◌<◌, IfOk};
+ghost use Rattle.itm_types.specs.declared.limits.TheConstants.{MAX_ACTORS};
 ghost use Rattle.shared_words.specs.Passes.{Owns, view_of};
 ghost use Rattle.tx_host.specs.Joins.{Gathers};
+ghost use Rattle.tx_host.specs.Starts.{IsUnused};
 
 use crate::join::{Done, Joined, join_all};
 use crate::report::HostFault;
@@ -28,8 +30,8 @@ fn start_and_join<'s, 'e: 's, R: Threads, G: Gate + Sync, A: ActionSink + Sync>(
     sink: &'e A,
 ) -> Result<(Pass, Vec<Done>), HostFault>
     requires own { Owns words.now pass }
-    requires idle { (view_of pass).holds ≡ false }
-    requires whole { (view_of pass).share ≡ 128 }
+    requires unused { IsUnused (view_of pass) }
+    requires parts { MAX_ACTORS < (view_of pass).share }
     ensures own { IfOk result (λ r. Owns words.now r.0) }
     ensures gathers { IfOk result (λ r. Gathers words.now (view_of pass) program.now G.shuts (view_of r.0) r.1.items) }
 {
@@ -70,8 +72,8 @@ pub(crate) fn run_all<R: Threads + Wait, G: Gate + Sync, A: ActionSink + Sync>(
     sink: &A,
 ) -> Result<(Pass, Vec<Done>), HostFault>
     requires own { Owns words.now pass }
-    requires idle { (view_of pass).holds ≡ false }
-    requires whole { (view_of pass).share ≡ 128 }
+    requires unused { IsUnused (view_of pass) }
+    requires parts { MAX_ACTORS < (view_of pass).share }
     ensures own { IfOk result (λ r. Owns words.now r.0) }
     ensures gathers { IfOk result (λ r. Gathers words.now (view_of pass) program.now G.shuts (view_of r.0) r.1.items) }
 {
@@ -79,7 +81,7 @@ pub(crate) fn run_all<R: Threads + Wait, G: Gate + Sync, A: ActionSink + Sync>(
         thread::scope_env(),
         rt,
         move |scope| -> Result<(Pass, Vec<Done>), HostFault>
-            requires { Owns words.now pass × ((view_of pass).holds ≡ false) × ((view_of pass).share ≡ 128) }
+            requires { Owns words.now pass × IsUnused (view_of pass) × (MAX_ACTORS < (view_of pass).share) }
             ensures { IfOk result (λ r. Owns words.entry.now r.0
                 × Gathers words.entry.now (view_of pass) program.entry.now G.shuts (view_of r.0) r.1.items) }
         { start_and_join(rt, scope, alloc, words, pass, program, gate, sink) },

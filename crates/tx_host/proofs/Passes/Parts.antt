@@ -1,19 +1,20 @@
 -- A pass that gives a part to each worker.
 use Rattle.std.proofs.Common.{◌≡◌, ℕ, ◌+◌, ◌-◌, ◌<◌, false, List, replicate, sym, ap, subst, ◌∙◌, arith}
 use Rattle.itm_types.specs.declared.limits.Limits.{Limits}
+use Rattle.itm_types.specs.declared.limits.TheConstants.{MAX_ACTORS}
 use Rattle.norec_core.specs.Core.{Core, in_transaction, opening}
 use Rattle.shared_words.specs.declared.view.View.{View}
 use Rattle.shared_words.specs.declared.words.Words.{Words}
 use Rattle.shared_words.specs.declared.pass.Pass.{Pass}
 use Rattle.shared_words.specs.Passes.{Owns, view_of}
-use Rattle.shared_words.specs.Views.{cut_left, cut_right}
+use Rattle.shared_words.specs.Views.{cut_left, cut_right, opening as unwritten}
 use Rattle.script_program.specs.Listing.{Listing}
 use Rattle.script_vm.specs.Threads.{Thread, depth_of, opening as script_opening}
 use Rattle.itm_runtime.specs.Standing.{Standing}
 use Rattle.itm_runtime.specs.Ties.{Stands}
 use Rattle.tx_host.specs.declared.start.Ready.{Ready}
 use Rattle.tx_host.specs.declared.start.WorksOn.{WorksOn}
-use Rattle.tx_host.specs.Starts.{IsFor, IsFresh, IsReady, code_of}
+use Rattle.tx_host.specs.Starts.{IsFor, IsFresh, IsReady, IsUnused, code_of}
 
 module _ (s v w : View) (same : v ≡ record s { share = v.share }) (cut : w ≡ cut_left v) where
   pub cut_same : w ≡ record s { share = w.share }
@@ -22,18 +23,24 @@ module _ (s v w : View) (same : v ≡ record s { share = v.share }) (cut : w ≡
   pub cut_share : (n : ℕ) → 0 < v.share → v.share + n ≡ s.share → w.share + (n + 1) ≡ s.share
   cut_share n more e = let now : w.share ≡ v.share - 1 = ap (λ (z : View). z.share) cut in omega arith
 
+-- the first pass over words that nobody has written yet has parts for all
+pub first_unused : (v : View) → v ≡ unwritten v.base → IsUnused v × (MAX_ACTORS < v.share)
+first_unused v first =
+    let whole : v.share ≡ 128 = ap (λ (z : View). z.share) first in
+    (first ∙ ap (λ (n : ℕ). record (unwritten v.base) { share = n }) (sym whole), omega arith)
+
+pub unused_idle : (v : View) → IsUnused v → v.holds ≡ false
+unused_idle v unused = ap (λ (z : View). z.holds) unused
+
 -- a thread over a part that was cut is fresh
-pub is_fresh : (s v : View) (theirs : Pass) (p : Listing) (number : ℕ) (t : Standing) (player : Thread) → v ≡ record s { share = v.share } → view_of theirs ≡ cut_right v → t.pass ≡ theirs → (words : ℕ) (arena : List ℕ) (size : ℕ) (limits : Limits)
+pub is_fresh : (s v : View) (theirs : Pass) (p : Listing) (number : ℕ) (t : Standing) (player : Thread) → IsUnused s → v ≡ record s { share = v.share } → view_of theirs ≡ cut_right v → t.pass ≡ theirs → (words : ℕ) (arena : List ℕ) (size : ℕ) (limits : Limits)
     → t.engine ≡ opening words arena limits.patience limits.max_commits limits.depth limits.restarts → arena ≡ replicate size 0 → size ≡ p.arena → limits ≡ p.limits → player ≡ script_opening p.limits.depth (code_of p number) → IsFresh p s.base number t player
-is_fresh s v theirs p number t player same cut pass words arena size limits engine zeros sized within plays =
-    let now : view_of t.pass ≡ cut_right v = ap view_of pass ∙ cut in
+is_fresh s v theirs p number t player unused same cut pass words arena size limits engine zeros sized within plays =
     record {
       player_is = plays;
       words = words;
       engine_is = engine ∙ (λ i. opening words ((zeros ∙ ap (λ (n : ℕ). replicate n 0) sized) i) (within i).patience (within i).max_commits (within i).depth (within i).restarts);
-      base_is = ap (λ (z : View). z.base) now ∙ ap (λ (z : View). z.base) same;
-      mine = ap (λ (z : View). z.mine) now;
-      share = ap (λ (z : View). z.share) now;
+      pass_is = ap view_of pass ∙ (cut ∙ (ap cut_right same ∙ ap cut_right unused));
     }
 
 -- who starts a worker on what is ready has its promise

@@ -103,13 +103,13 @@ module _ {G : Type 0} (words : Words) (base : List ℕ) (p : Listing) (n : ℕ) 
   first_is i = record { player = is.fresh.player_is i; arena = (is.fresh.engine_is i).arena; again = false; tries = 0 }
 
   pub its_base : left_view.base ≡ base
-  its_base = done.runs.went.base ∙ is.fresh.base_is
+  its_base = done.runs.went.base ∙ ap (λ (z : View). z.base) is.fresh.pass_is
 
   pub its_share : left_view.share ≡ 1
-  its_share = done.runs.went.share ∙ is.fresh.share
+  its_share = done.runs.went.share ∙ ap (λ (z : View). z.share) is.fresh.pass_is
 
   pub its_mine : left_view.mine ≡ positions r.attempts
-  its_mine = done.mine ∙ ap (λ (l : List ℕ). l ++ positions r.attempts) is.fresh.mine
+  its_mine = done.mine ∙ ap (λ (z : View). z.mine ++ positions r.attempts) is.fresh.pass_is
 
   known_is : course.known ≡ 0
   known_is = ap (λ (e : Core). e.clock / 2) is.fresh.engine_is

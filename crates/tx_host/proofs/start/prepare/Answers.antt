@@ -20,7 +20,7 @@ loop-number-preserved c =
       number_is = refl;
       own = subst (Owns c.args.words.now) (sym c.in_ok-thread.ensures.pass) c.split-theirs.ensures.own.1;
       stands = c.in_ok-thread.ensures.stands;
-      fresh = is_fresh start (view_of c.loop-number.pass) c.split-theirs.result p n c.in_ok-thread.thread c.in_ok-player.player old.pass c.split-theirs.ensures.second c.in_ok-thread.ensures.pass (cells_of c.args.words.now - 1) c.in_ok-arena.arena c.arena.result c.limits.result c.in_ok-thread.ensures.engine c.in_ok-arena.ensures c.arena.ensures.value c.limits.ensures.value c.in_ok-player.ensures;
+      fresh = is_fresh start (view_of c.loop-number.pass) c.split-theirs.result p n c.in_ok-thread.thread c.in_ok-player.player c.requires.unused old.pass c.split-theirs.ensures.second c.in_ok-thread.ensures.pass (cells_of c.args.words.now - 1) c.in_ok-arena.arena c.arena.result c.limits.result c.in_ok-thread.ensures.engine c.in_ok-arena.ensures c.arena.ensures.value c.limits.ensures.value c.in_ok-player.ensures;
     } in
     let many : 0 + length c.loop-number.all.items ≡ n = search rules in
     record {
