@@ -22,6 +22,7 @@ use Rattle.tx_host.specs.Reports.{by_number}
 use Rattle.tx_host.specs.Rows.{IsLast, WasRun}
 use Rattle.tx_host.specs.Starts.{IsFresh}
 use Rattle.tx_host.specs.Versions.{version_of}
+use Rattle.tx_host.proofs.Passes.WorkerViews.{joined_self}
 
 -- the second try of a thread's block
 abbrev pub row : ℕ → Attempt
@@ -74,8 +75,8 @@ nothing_to_do : (memory : ℕ → List ℕ) → EndsBy 16 memory (first_of (prog
 nothing_to_do memory = inl (record { between = first_of (program 8 1 16) []; now_is = refl; none = refl })
 
 -- and its run has no call: who tells of no attempt, and that it finished, tells of it
-idle : (words : Words) (base : List ℕ) (start : Standing) → Owns words start.pass → Stands (view_of start.pass) start.engine → IsFresh (program 8 1 16) base 0 start (opening 16 []) → (view_of start.pass).holds ≡ false → WasRun words (program 8 1 16) base (view_of start.pass).high false 0 Finished []
-idle words base start own stands fresh free = record {
+idle : (words : Words) (start : Standing) → Owns words start.pass → Stands (view_of start.pass) start.engine → IsFresh (program 8 1 16) (view_of start.pass).base 0 start (opening 16 []) → (view_of start.pass).holds ≡ false → WasRun words (program 8 1 16) (view_of start.pass) false 0 Finished []
+idle words start own stands fresh free = record {
   start = start;
   player = opening 16 [];
   own = own;
@@ -95,7 +96,7 @@ idle words base start own stands fresh free = record {
   };
   end_is = refl;
   attempts_are = refl;
-  late = omega arith;
+  joined = joined_self (view_of start.pass);
   why = refl;
 }
 

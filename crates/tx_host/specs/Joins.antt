@@ -27,7 +27,7 @@ ends_in (d ∷ ds) = d.end ∷ ends_in ds
 -- what the worker with this number did, by the commits that this view has seen, and the clock; none of its attempts holds the clock
 pub record Did (words : Words) (p : Listing) (shuts : Bool) (v : View) (number : ℕ) (d : Done) : Type 0 where
   pub course : IsCourse p (length v.seen) (bytes_at v) number (code_of p number) d.end d.attempts
-  pub row : WasRun words p v.base v.high shuts number d.end d.attempts
+  pub row : WasRun words p v shuts number d.end d.attempts
   pub left : AreLeft p.limits.depth v d.attempts
   pub few : AreFew p.limits.max_commits d.attempts
   pub held : AreHeld p.limits.depth v false d.attempts

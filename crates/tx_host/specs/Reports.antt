@@ -1,7 +1,9 @@
 -- What a run of a program on threads leaves.
 use Rattle.std.specs.Prelude.{◌≡◌, ℕ, ◌+◌, ◌*◌, ◌≤◌, nat_lt, zero, suc, Bool, List, [], ◌++◌, length, Some, slice_get}
 use Rattle.itm_types.specs.Memory.{bytes_of}
+use Rattle.shared_words.specs.declared.view.View.{View}
 use Rattle.shared_words.specs.declared.words.Words.{Words}
+use Rattle.shared_words.specs.Good.{EndsWith}
 use Rattle.script_program.specs.declared.instruction.Instruction.{Instruction}
 use Rattle.script_program.specs.Listing.{Listing, opening_of, threads_of}
 use Rattle.tx_attempts.specs.declared.attempt.Attempt.{Attempt}
@@ -10,6 +12,7 @@ use Rattle.tx_attempts.specs.Counts.{count_at, count_committed, one_where}
 use Rattle.tx_attempts.specs.Outrun.{AreDisturbed, AreOutrun}
 use Rattle.tx_history.specs.Legal.{IsLegal, memory_at}
 use Rattle.tx_runs.specs.declared.ending.End.{End}
+use Rattle.tx_worker.specs.Positions.{bytes_at, positions}
 use Rattle.tx_host.specs.declared.report.Report.{Report}
 use Rattle.tx_host.specs.Courses.{IsCourse}
 use Rattle.tx_host.specs.Rows.{WasRun}
@@ -31,9 +34,12 @@ pub record Ran (shuts : Bool) (p : Listing) (r : Report) : Type 0 where
   pub threads : (number : ℕ) (code : List Instruction) (end : End) → slice_get (threads_of p) number ≡ Some code → slice_get r.ends.items number ≡ Some end
       → IsCourse p (commits_of r) (memory_at r.history) number code end (of_thread number r.history.attempts)
   pub words : Words
-  pub base : List ℕ
-  pub base_is : bytes_of base ≡ r.history.memory
-  pub rows : (number : ℕ) (end : End) → slice_get r.ends.items number ≡ Some end → WasRun words p base r.history.clock shuts number end (of_thread number r.history.attempts)  -- each made its calls up to that end, within the program's limits
+  pub view : View
+  pub closed : EndsWith view r.history.clock r.history.bytes  -- the words were closed with one pass
+  pub base : bytes_of view.base ≡ r.history.memory
+  pub seen : (k : ℕ) → k ≤ commits_of r → bytes_at view k ≡ memory_at r.history k  -- which had seen just the commits that are told
+  pub mine : view.mine ≡ positions r.history.attempts
+  pub rows : (number : ℕ) (end : End) → slice_get r.ends.items number ≡ Some end → WasRun words p view shuts number end (of_thread number r.history.attempts)  -- each made its calls up to that end, within the program's limits, and its pass was joined to that one
   pub by_thread : r.history.attempts ≡ by_number 0 (length (threads_of p)) r.history.attempts  -- there are no others
   pub counted : (position : ℕ) → count_at position r.history.attempts ≡ one_where (nat_lt position (commits_of r))  -- each position below their number is that of one commit
   pub few : commits_of r ≤ p.limits.max_commits  -- no more than the program lets there be

@@ -1,8 +1,10 @@
 -- What a thread of a program did, call by call.
-use Rattle.std.specs.Prelude.{◌≡◌, ◌⊎◌, ℕ, ◌<◌, ◌≤◌, Bool, List, None, Some}
+use Rattle.std.specs.Prelude.{◌≡◌, ◌⊎◌, ℕ, ◌<◌, ◌≤◌, ◌++◌, Bool, List, None, Some}
 use Rattle.norec_core.specs.declared.answer.Answer.{Answer}
 use Rattle.norec_core.specs.declared.answer.Answer.TheVariants.{Busy, Committed, Conflict, Full, Reply, Restarted}
+use Rattle.shared_words.specs.declared.view.View.{View}
 use Rattle.shared_words.specs.declared.words.Words.{Words}
+use Rattle.shared_words.specs.Commits.{StartsWith}
 use Rattle.shared_words.specs.Passes.{Owns, view_of}
 use Rattle.script_program.specs.Listing.{Listing}
 use Rattle.script_vm.specs.Threads.{Thread, thread_rules}
@@ -32,16 +34,27 @@ EndsWhere words number retries shuts Finished a s a' s' = (thread_rules.next_cal
 EndsWhere words number retries shuts GaveUp a s a' s' = IsShut thread_rules shuts a s a' s' ⊎ ((last : IsMade words thread_rules number retries a s (Some GaveUp) a' s') × IsLast retries a.nth last.answer)
 EndsWhere words number retries shuts NoMemory a s a' s' = Unit {0}
 
--- the thread of the program with this number made its calls, on a fresh thread over these words with the program's own limits, until it ended so. Just these attempts are told of it
-pub record WasRun (words : Words) (p : Listing) (base : List ℕ) (clock : ℕ) (shuts : Bool) (number : ℕ) (end : End) (attempts : List Attempt) : Type 0 where
+abbrev pub LiesIn : {A : Type 0} → List A → List A → Type 0
+LiesIn {A} xs ys = (before after : List A) × (xs ≡ before ++ (ys ++ after))
+
+-- the view v knows what u did: u saw a beginning of its commits, and no later clock; the words that u loaded and the positions of its own commits lie among those of v
+pub record HasJoined (v u : View) : Type 0 where
+  pub base : v.base ≡ u.base
+  pub begins : StartsWith v.seen u.seen
+  pub high : u.high ≤ v.high
+  pub met : LiesIn v.met u.met
+  pub mine : LiesIn v.mine u.mine
+
+-- the thread of the program with this number made its calls, on a fresh thread over these words with the program's own limits, until it ended so, and its pass was joined to that of this view. Just these attempts are told of it
+pub record WasRun (words : Words) (p : Listing) (v : View) (shuts : Bool) (number : ℕ) (end : End) (attempts : List Attempt) : Type 0 where
   pub start : Standing
   pub player : Thread
   pub own : Owns words start.pass
   pub stands : Stands (view_of start.pass) start.engine
-  pub fresh : IsFresh p base number start player
+  pub fresh : IsFresh p v.base number start player
   pub worked : Worked
   pub row : IsRow thread_rules words start player number p.limits.retries shuts worked
   pub end_is : worked.end ≡ end
   pub attempts_are : worked.attempts ≡ attempts
-  pub late : (view_left worked.pass).high ≤ clock  -- no later clock was seen than this one
+  pub joined : HasJoined v (view_left worked.pass)
   pub why : EndsWhere words number p.limits.retries shuts end row.account row.standing row.left row.thread  -- this follows from it

@@ -32,7 +32,6 @@ use Rattle.tx_host.specs.Starts.{code_of}
 use Rattle.tx_host.specs.Versions.{version_of}
 use Rattle.tx_host.proofs.Histories.CommitPositions.{below_limit, committed_count, count_times, memory_is}
 use Rattle.tx_host.proofs.Passes.Courses.{course_still}
-use Rattle.tx_host.proofs.Passes.WorkerViews.{was_later}
 use Rattle.tx_host.proofs.Histories.LegalRuns.{all_free, all_placed}
 use Rattle.tx_host.proofs.Histories.PositionTotals.{count_is}
 use Rattle.tx_host.proofs.Histories.ThreadAttempts.{all_disturbed, all_few, all_left, all_outrun, all_own, all_stand, ends_count}
@@ -85,11 +84,11 @@ module _ (words : Words) (p : Listing) (shuts : Bool) (r : Report) (start now : 
       course_still p n (count_committed rows) (bytes_at now) (memory_at r.history) (let e = commits_are in omega arith) memory_same number (code_of p number) d.0.end d.0.attempts d.1.course in
       subst (λ (q : List Instruction × End × List Attempt). IsCourse p (count_committed rows) (memory_at r.history) number q.0 q.1 q.2) (λ i. (its_code i, d.2 i, its_rows i)) course
 
-  thread_row : (number : ℕ) (end : End) → slice_get r.ends.items number ≡ Some end → WasRun words p now.base r.history.clock shuts number end (of_thread number rows)
+  thread_row : (number : ℕ) (end : End) → slice_get r.ends.items number ≡ Some end → WasRun words p now shuts number end (of_thread number rows)
   thread_row number end end_is =
       let d = all_own words p shuts now number all gathered.joins.workers end (subst (λ (l : List End). slice_get l number ≡ Some end) ends_are end_is) in
       let its_rows : d.0.attempts ≡ of_thread number rows = sym d.3 ∙ ap (of_thread number) (sym attempts) in
-      was_later words p now.base now.high r.history.clock shuts number end (of_thread number rows) closed.high (subst (λ (q : End × List Attempt). WasRun words p now.base now.high shuts number q.0 q.1) (λ i. (d.2 i, its_rows i)) d.1.row)
+      subst (λ (q : End × List Attempt). WasRun words p now shuts number q.0 q.1) (λ i. (d.2 i, its_rows i)) d.1.row
 
   -- the last position is below the limit
   few : count_committed rows ≤ p.limits.max_commits
@@ -137,8 +136,11 @@ module _ (words : Words) (p : Listing) (shuts : Bool) (r : Report) (start now : 
     count = ap length ends_are ∙ (ends_count all ∙ gathered.count);
     threads = thread_course;
     words = words;
-    base = now.base;
-    base_is = ap bytes_of gathered.joins.base ∙ from;
+    view = now;
+    closed = closed;
+    base = ap bytes_of gathered.joins.base ∙ from;
+    seen = λ k few. sym (memory_same k (let e = commits_are in omega arith));
+    mine = mine_is;
     rows = thread_row;
     by_thread = stands_by;
     counted = counted;

@@ -16,7 +16,7 @@ use Rattle.tx_host.specs.declared.start.Ready.{Ready}
 use Rattle.tx_host.specs.Joins.{Did, Gathers, Joins, attempts_in}
 use Rattle.tx_host.specs.Starts.{IsFor, Prepares}
 use Rattle.tx_host.proofs.Numbers.{numbered_map, numbered_push}
-use Rattle.tx_host.proofs.Passes.WorkerViews.{did_its, did_later, its_base, its_mine, its_share, joined_later}
+use Rattle.tx_host.proofs.Passes.WorkerViews.{did_its, did_later, its_base, its_mine, its_share, joined_both}
 
 pub positions_both : (xs ys : List Attempt) → positions (xs ++ ys) ≡ positions xs ++ positions ys
 positions_both [] ys = refl
@@ -40,8 +40,8 @@ module _ {G : Type 0} (words : Words) (base : List ℕ) (p : Listing) (n : ℕ) 
   joins_more start now w all d d_is at many free old j =
       let u : View = view_left r.pass in
       let bases : now.base ≡ u.base = old.base ∙ (at ∙ sym (its_base words base p n shuts promise r is kept)) in
-      let later = joined_later now u w j bases in
-      let did : Did words p shuts w n d = subst (Did words p shuts w n) (sym d_is) (did_later words p shuts u w later.1 n _ (did_its words base p n shuts promise r is kept free)) in
+      let joined = joined_both now u w j bases in
+      let did : Did words p shuts w n d = subst (Did words p shuts w n) (sym d_is) (did_later words p shuts u w joined.1 n _ (did_its words base p n shuts promise r is kept free)) in
       let share : w.share ≡ now.share + u.share = j.share in
       let one : u.share ≡ 1 = its_share words base p n shuts promise r is kept in
       let before : now.share ≡ start.share + n = old.share in
@@ -52,7 +52,7 @@ module _ {G : Type 0} (words : Words) (base : List ℕ) (p : Listing) (n : ℕ) 
         base = j.base ∙ old.base;
         share = omega arith;
         mine = j.mine ∙ ((λ i. old.mine i ++ theirs i) ∙ (append_assoc start.mine (positions (attempts_in all)) (positions d.attempts) ∙ ap (λ (l : List ℕ). start.mine ++ l) (sym all_are)));
-        workers = numbered_push (Did words p shuts w) 0 n all d (omega arith) (numbered_map (Did words p shuts now) (Did words p shuts w) 0 all (λ k x. did_later words p shuts now w later.0 k x) old.workers) did;
+        workers = numbered_push (Did words p shuts w) 0 n all d (omega arith) (numbered_map (Did words p shuts now) (Did words p shuts w) 0 all (λ k x. did_later words p shuts now w joined.0 k x) old.workers) did;
       }
 
 -- all parts are back

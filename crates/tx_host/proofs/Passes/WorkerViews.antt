@@ -1,5 +1,5 @@
 -- What a worker did, as a later view has it.
-use Rattle.std.proofs.Common.{◌≡◌, ⊎_elim, inl, inr, ℕ, ◌+◌, ◌/◌, ◌≤◌, Bool, false, true≢false, List, [], ◌∷◌, ◌++◌, length, arith, Option, None, Some, Result, Ok, Err, IfOk, refl, sym, ap, subst, ◌∙◌}
+use Rattle.std.proofs.Common.{◌≡◌, ⊎_elim, inl, inr, ℕ, ◌+◌, ◌/◌, ◌≤◌, Bool, false, true≢false, List, [], ◌∷◌, ◌++◌, length, arith, Option, None, Some, Result, Ok, Err, IfOk, refl, sym, ap, subst, ◌∙◌, append_assoc, append-nil}
 use Rattle.norec_core.specs.Core.{Core}
 use Rattle.shared_words.specs.declared.pass.Pass.{Pass}
 use Rattle.shared_words.specs.declared.view.View.{View}
@@ -28,8 +28,8 @@ use Rattle.tx_host.specs.declared.join.Done.{Done}
 use Rattle.tx_host.specs.declared.start.WorksOn.{WorksOn}
 use Rattle.tx_host.specs.Courses.{EndsBy, IsCourse, first_of}
 use Rattle.tx_host.specs.Joins.{Did}
-use Rattle.tx_host.specs.Rows.{WasRun}
-use Rattle.tx_host.specs.Starts.{IsFor, code_of}
+use Rattle.tx_host.specs.Rows.{HasJoined, LiesIn, WasRun}
+use Rattle.tx_host.specs.Starts.{IsFor, IsFresh, code_of}
 use Rattle.tx_host.proofs.Rows.{ends_where}
 use Rattle.tx_host.proofs.Passes.Courses.{at_most, course_still}
 
@@ -43,41 +43,91 @@ held_later deepest v w later (Some b) (x ∷ xs) run h = (
   held_later deepest v w later (after_try thread_rules deepest (bytes_at v) b (begins_at thread_rules deepest b) x) xs run.1 h.1,
 )
 
-pub was_later : (words : Words) (p : Listing) (base : List ℕ) (clock later : ℕ) (shuts : Bool) (k : ℕ) (end : End) (xs : List Attempt) → clock ≤ later → WasRun words p base clock shuts k end xs → WasRun words p base later shuts k end xs
-was_later words p base clock later shuts k end xs l w = record {
-  start = w.start;
-  player = w.player;
-  own = w.own;
-  stands = w.stands;
-  fresh = w.fresh;
-  worked = w.worked;
-  row = w.row;
-  end_is = w.end_is;
-  attempts_are = w.attempts_are;
-  late = (let before = w.late in omega arith);
-  why = w.why;
+-- ## What the joined pass knows
+
+lies_self : {A : Type 0} (xs : List A) → LiesIn xs xs
+lies_self {A} xs = ([], [], sym (append-nil xs))
+
+lies_on : {A : Type 0} (xs ys zs : List A) → LiesIn xs ys → LiesIn ys zs → LiesIn xs zs
+lies_on {A} xs ys zs a b = (
+  a.0 ++ b.0,
+  b.1 ++ a.1,
+  a.2 ∙ (ap (λ (l : List A). a.0 ++ (l ++ a.1)) b.2 ∙ regroup a.0 b.0 zs b.1 a.1),
+)
+  where
+    regroup : (p q r s t : List A) → p ++ ((q ++ (r ++ s)) ++ t) ≡ (p ++ q) ++ (r ++ (s ++ t))
+    regroup p q r s t = simp append_assoc
+
+lies_first : {A : Type 0} (xs ys : List A) → LiesIn (xs ++ ys) xs
+lies_first {A} xs ys = ([], ys, refl)
+
+lies_last : {A : Type 0} (xs ys : List A) → LiesIn (xs ++ ys) ys
+lies_last {A} xs ys = (xs, [], ap (λ (l : List A). xs ++ l) (sym (append-nil ys)))
+
+pub joined_self : (v : View) → HasJoined v v
+joined_self v = record { base = refl; begins = starts_self v.seen; high = omega arith; met = lies_self v.met; mine = lies_self v.mine }
+
+pub joined_on : (w v u : View) → HasJoined w v → HasJoined v u → HasJoined w u
+joined_on w v u a b = record {
+  base = a.base ∙ b.base;
+  begins = (b.begins.0 ++ a.begins.0, a.begins.1 ∙ (ap (λ (h : List (List (ℕ × ℕ))). h ++ a.begins.0) b.begins.1 ∙ append_assoc u.seen b.begins.0 a.begins.0));
+  high = (let x = a.high in let y = b.high in omega arith);
+  met = lies_on w.met v.met u.met a.met b.met;
+  mine = lies_on w.mine v.mine u.mine a.mine b.mine;
 }
 
-pub did_later : (words : Words) (p : Listing) (shuts : Bool) (v w : View) → IsLater v w → (k : ℕ) (d : Done) → Did words p shuts v k d → Did words p shuts w k d
-did_later words p shuts v w later k d did = record {
+later_in : (v w : View) → HasJoined w v → IsLater v w
+later_in v w j = record { base = j.base; grows = j.begins; high = j.high }
+
+was_later : (words : Words) (p : Listing) (v w : View) (shuts : Bool) (k : ℕ) (end : End) (xs : List Attempt) → HasJoined w v → WasRun words p v shuts k end xs → WasRun words p w shuts k end xs
+was_later words p v w shuts k end xs j run = record {
+  start = run.start;
+  player = run.player;
+  own = run.own;
+  stands = run.stands;
+  fresh = subst (λ (base : List ℕ). IsFresh p base k run.start run.player) (sym j.base) run.fresh;
+  worked = run.worked;
+  row = run.row;
+  end_is = run.end_is;
+  attempts_are = run.attempts_are;
+  joined = joined_on w v (view_left run.worked.pass) j run.joined;
+  why = run.why;
+}
+
+pub did_later : (words : Words) (p : Listing) (shuts : Bool) (v w : View) → HasJoined w v → (k : ℕ) (d : Done) → Did words p shuts v k d → Did words p shuts w k d
+did_later words p shuts v w joined k d did = let later = later_in v w joined in record {
   course = course_still p (length v.seen) (length w.seen) (bytes_at v) (bytes_at w) (seen_in v w later) (bytes_in v w later) k (code_of p k) d.end d.attempts did.course;
-  row = subst (λ (base : List ℕ). WasRun words p base w.high shuts k d.end d.attempts) (sym later.base) (was_later words p v.base v.high w.high shuts k d.end d.attempts later.high did.row);
+  row = was_later words p v w shuts k d.end d.attempts joined did.row;
   left = all_left_in p.limits.depth v w later d.attempts did.left;
   few = did.few;
   held = held_later p.limits.depth v w later (Some (first_of p (code_of p k))) d.attempts did.course.run did.held;
   outrun = outrun_later v.high w.high later.high d.attempts did.outrun;
 }
 
--- what the joined view has seen goes on from what either had
-pub joined_later : (v u w : View) → Joined v u w → (v.base ≡ u.base) → IsLater v w × IsLater u w
-joined_later v u w j same =
+-- of two views that are joined
+pub joined_both : (v u w : View) → Joined v u w → v.base ≡ u.base → HasJoined w v × HasJoined w u
+joined_both v u w j same =
     let grows : StartsWith w.seen v.seen × StartsWith w.seen u.seen =
     ⊎_elim
     (λ t. subst (λ (h : List (List (ℕ × ℕ))). StartsWith h v.seen × StartsWith h u.seen) (sym t.1) (starts_self v.seen, t.0))
     (λ t. subst (λ (h : List (List (ℕ × ℕ))). StartsWith h v.seen × StartsWith h u.seen) (sym t.1) (t.0, starts_self u.seen))
     j.longer in
-    let high = j.high in
-    (record { base = j.base; grows = grows.0; high = omega arith }, record { base = j.base ∙ same; grows = grows.1; high = omega arith })
+    let high = j.high in (
+      record {
+        base = j.base;
+        begins = grows.0;
+        high = omega arith;
+        met = subst (λ (l : List (ℕ × ℕ × ℕ)). LiesIn l v.met) (sym j.met) (lies_first v.met u.met);
+        mine = subst (λ (l : List ℕ). LiesIn l v.mine) (sym j.mine) (lies_first v.mine u.mine);
+      },
+      record {
+        base = j.base ∙ same;
+        begins = grows.1;
+        high = omega arith;
+        met = subst (λ (l : List (ℕ × ℕ × ℕ)). LiesIn l u.met) (sym j.met) (lies_last v.met u.met);
+        mine = subst (λ (l : List ℕ). LiesIn l u.mine) (sym j.mine) (lies_last v.mine u.mine);
+      },
+    )
 
 -- a pass that came back was joined
 pub joined_left : (v w : View) (back : Result Pass Standing) → is_held back ≡ false → IfOk back (λ q. Joined v (view_of q) w) → Joined v (view_left back) w
@@ -147,18 +197,18 @@ module _ {G : Type 0} (words : Words) (base : List ℕ) (p : Listing) (n : ℕ) 
   row_is : IsRow thread_rules words w.start.value w.player.value n p.limits.retries shuts r
   row_is = subst (λ (q : Words × ℕ × ℕ). IsRow thread_rules q.0 w.start.value w.player.value q.1 q.2 shuts r) (λ i. (is.words_are i, is.number_is i, is.retries_are i)) kept.row
 
-  was_run : WasRun words p base left_view.high shuts n r.end r.attempts
+  was_run : WasRun words p left_view shuts n r.end r.attempts
   was_run = record {
     start = w.start.value;
     player = w.player.value;
     own = is.own;
     stands = is.stands;
-    fresh = is.fresh;
+    fresh = subst (λ (b : List ℕ). IsFresh p b n w.start.value w.player.value) (sym its_base) is.fresh;
     worked = r;
     row = row_is;
     end_is = refl;
     attempts_are = refl;
-    late = omega arith;
+    joined = joined_self left_view;
     why = ends_where words n p.limits.retries shuts r.end row_is.account row_is.standing row_is.left row_is.thread row_is.stops;
   }
 
@@ -166,7 +216,7 @@ module _ {G : Type 0} (words : Words) (base : List ℕ) (p : Listing) (n : ℕ) 
   pub did_its : is_held r.pass ≡ false → Did words p shuts left_view n (record { attempts = r.attempts; end = r.end })
   did_its free = record {
     course = course_is;
-    row = subst (λ (b : List ℕ). WasRun words p b left_view.high shuts n r.end r.attempts) (sym its_base) was_run;
+    row = was_run;
     left = subst (λ (deepest : ℕ). AreLeft deepest left_view r.attempts) depth_is done.runs.left;
     few = subst (λ (most : ℕ). AreFew most r.attempts) (ap (λ (e : Core). e.max_commits) is.fresh.engine_is) done.few;
     held = subst (λ (q : ℕ × Bool). AreHeld q.0 left_view q.1 r.attempts) (λ i. (depth_is i, free i)) done.held;
