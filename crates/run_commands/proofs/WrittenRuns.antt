@@ -1,5 +1,5 @@
 -- What was written of a program's run on threads.
-use Rattle.std.proofs.Common.{◌≡◌, ℕ, false, List, map, take, Option, Some, Ok, Err, refl}
+use Rattle.std.proofs.Common.{◌≡◌, ℕ, false, List, map, take, IfOk, Option, Some, Result, Ok, Err, refl, sym, subst}
 use Rattle.std.specs.Io.KnownBytes.{Appends, Keeps}
 use Rattle.arrayvec.specs.ArrayVec.{ArrayVec}
 use Rattle.script_program.specs.Listing.{Listing}
@@ -10,28 +10,35 @@ use Rattle.text_commands.specs.Answers.{Outputs}
 use Rattle.history_reader.proofs.Canon.LegalTexts.{legal_text}
 use Rattle.tx_history.specs.Bounds.{AreLimited, HistoryFits}
 use Rattle.tx_history.specs.Histories.{history_text}
+use Rattle.tx_host.specs.declared.report.HostFault.{HostFault}
 use Rattle.tx_host.specs.declared.report.HostFault.TheVariants.{Held, NoMemory, NoThread}
 use Rattle.tx_host.specs.declared.report.Report.{Report}
 use Rattle.tx_host.specs.Reports.{Ran}
 use Rattle.tx_runs.specs.declared.ending.End.{End}
-use Rattle.run_commands.specs.Threading.{IsFailure, IsThreadedRun, threading}
+use Rattle.run_commands.specs.Threading.{IsThreadedRun, TellsRun, failure_of, threading}
 
 module _ (p : Listing) (r : Report) (o n : Option (List ℕ)) (ran : Ran false p r) (limited : AreLimited r.history) (fits : HistoryFits r.history) where
   run_of : (endings : ArrayVec (Option End)) → endings.items ≡ map Some r.ends.items → IsThreadedRun p endings (history_text r.history)
   run_of endings stand = record { report = r; ran = ran; stand = stand; told = refl; read = legal_text r.history ran.legal fits limited }
 
   -- the history
-  pub told : (endings : ArrayVec (Option End)) → endings.items ≡ map Some r.ends.items → Appends o n (history_text r.history) → Outputs threading (Ok endings) (Ok p) o n
+  told : (endings : ArrayVec (Option End)) → endings.items ≡ map Some r.ends.items → Appends o n (history_text r.history) → Outputs threading (Ok endings) (Ok p) o n
   told endings stand grew = (p, history_text r.history, refl, run_of endings stand, grew)
 
   -- a beginning of it
-  pub begun : (m : ℕ) × Appends o n (take m (history_text r.history)) → Outputs threading (Err Writing) (Ok p) o n
+  begun : (m : ℕ) × Appends o n (take m (history_text r.history)) → Outputs threading (Err Writing) (Ok p) o n
   begun grew =
       let endings : ArrayVec (Option End) = record { items = map Some r.ends.items } in
       (p, refl, (endings, history_text r.history, grew.0, run_of endings refl, grew.1))
 
 -- nothing, where there was no run
-pub failed : (p : Listing) (o n : Option (List ℕ)) (f : Failure AsmFault) → IsFailure f → Keeps o n → Outputs threading (Err f) (Ok p) o n
-failed p o n f (NoMemory, is) k = rw is k
-failed p o n f (NoThread, is) k = rw is (refl, p, refl, k)
-failed p o n f (Held, is) k = rw is k
+failed : (p : Listing) (o n : Option (List ℕ)) (fault : HostFault) → Keeps o n → Outputs threading (Err (failure_of fault)) (Ok p) o n
+failed p o n NoMemory k = k
+failed p o n NoThread k = (refl, p, refl, k)
+failed p o n Held k = k
+
+-- all that is told of a run is the command's output
+pub output : (p : Listing) (run : Result Report HostFault) (done : Result (ArrayVec (Option End)) (Failure AsmFault)) (o n : Option (List ℕ)) → IfOk run (λ r. Ran false p r) → IfOk run (λ r. AreLimited r.history) → TellsRun run done o n → Outputs threading done (Ok p) o n
+output p (Ok r) (Ok endings) o n ran limited t = told p r o n ran limited t.3 endings t.1 t.0
+output p (Ok r) (Err f) o n ran limited t = subst (λ (e : Failure AsmFault). Outputs threading (Err e) (Ok p) o n) (sym t.2) (begun p r o n ran limited t.3 t.0)
+output p (Err fault) done o n ran limited t = subst (λ (d : Result (ArrayVec (Option End)) (Failure AsmFault)). Outputs threading d (Ok p) o n) (sym t.0) (failed p o n fault t.1)

@@ -1,5 +1,6 @@
 -- The command that runs scripts on threads of their own.
-use Rattle.std.specs.Prelude.{◌≡◌, ℕ, false, true, List, map, Option, Some}
+use Rattle.std.specs.Prelude.{◌≡◌, ℕ, false, true, List, map, Option, Some, Result, Ok, Err, IfErr, IfOk}
+use Rattle.std.specs.Io.KnownBytes.{Keeps}
 use Rattle.arrayvec.specs.ArrayVec.{ArrayVec}
 use Rattle.history_reader.specs.LegalTexts.{IsLegalText}
 use Rattle.script_fields.specs.declared.fault.AsmFault.{AsmFault}
@@ -8,7 +9,9 @@ use Rattle.text_commands.specs.Answers.{Command, HasFront}
 use Rattle.text_commands.specs.Lines.{script_line}
 use Rattle.text_commands.specs.declared.failure.Failure.{Failure}
 use Rattle.text_commands.specs.declared.failure.Failure.TheVariants as failures
+use Rattle.tx_history.specs.Bounds.{HistoryFits}
 use Rattle.tx_history.specs.Histories.{history_text}
+use Rattle.tx_history.specs.Spelling.{Writes}
 use Rattle.tx_host.specs.declared.report.HostFault.{HostFault}
 use Rattle.tx_host.specs.declared.report.HostFault.TheVariants as faults
 use Rattle.tx_host.specs.declared.report.Report.{Report}
@@ -41,5 +44,7 @@ failure_of faults.NoMemory = failures.NoMemory
 failure_of faults.NoThread = failures.NoThread
 failure_of faults.Held = failures.NoMemory
 
-abbrev pub IsFailure : Failure AsmFault → Type 0
-IsFailure failure = (fault : HostFault) × (failure ≡ failure_of fault)
+-- what is told of a run: its own history is written, and how its own threads ended is handed on; of one that gave no report nothing is written
+abbrev pub TellsRun : Result Report HostFault → Result (ArrayVec (Option End)) (Failure AsmFault) → Option (List ℕ) → Option (List ℕ) → Type 0
+TellsRun (Ok report) done old new = Writes old new done (history_text report.history) × IfOk done (λ endings. endings.items ≡ map Some report.ends.items) × IfErr done (λ failure. failure ≡ failures.Writing) × HistoryFits report.history
+TellsRun (Err fault) done old new = (done ≡ Err (failure_of fault)) × Keeps old new

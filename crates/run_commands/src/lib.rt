@@ -9,5 +9,6 @@ mod running;
 mod telling;
 
 pub use by_schedule::sched;
-pub use on_threads::threads;
+pub use endings::Endings;
+pub use on_threads::{tell_run, threads};
 pub use playing::play;

@@ -1,16 +1,15 @@
 //! Scripts that are run on threads of their own, and what they are answered.
 
-ghost use Rattle.std.specs.Prelude.{◌≡◌, ◌+◌, ◌≤◌, ℕ, false, List, Some, IfErr, IfOk, IfSome, Ok, length, map};
+ghost use Rattle.std.specs.Prelude.{◌≡◌, ◌+◌, ◌≤◌, ℕ, List, Some, IfErr, IfOk, IfSome, Ok, length, map};
 ghost use Rattle.script_asm.specs.Assembly.{program_of};
 ghost use Rattle.script_program.specs.Listing.{Listing, threads_of};
 ghost use Rattle.text_commands.specs.declared.failure.Failure.TheVariants.{Writing};
 ghost use Rattle.text_commands.specs.Input.{IsFront};
 ghost use Rattle.text_commands.specs.Answers.{Answers, Outputs};
-ghost use Rattle.tx_history.specs.Bounds.{AreLimited, HistoryFits};
+ghost use Rattle.tx_history.specs.Bounds.{HistoryFits};
 ghost use Rattle.tx_history.specs.Histories.{history_text};
 ghost use Rattle.tx_history.specs.Spelling.{Writes};
-ghost use Rattle.tx_host.specs.Reports.{Ran};
-ghost use Rattle.run_commands.specs.Threading.{IsFailure, failure_of, threading};
+ghost use Rattle.run_commands.specs.Threading.{TellsRun, failure_of, threading};
 
 use crate::endings::{Endings, tell_endings};
 use script_asm::AsmFault;
@@ -73,17 +72,19 @@ fn write_run<W: Write>(writer: &mut W, history: &History) -> Result<(), Failure<
     put_history(writer, history).map_err(|_| Failure::Writing)
 }
 
-/// Runs a program on threads.
-fn run_on<T: Threads + Wait>(
-    rt: &T,
-    alloc: Global,
+/// Tells of a run of the program: writes its history, and hands on how each of its threads ended. Of one that gave no report
+/// it says why, and writes nothing.
+pub fn tell_run<W: Write>(
     program: &Program,
-) -> Result<Report, Failure<AsmFault>>
-    ensures ran { IfOk result (λ report. Ran false program.now report) }
-    ensures limited { IfOk result (λ report. AreLimited report.history) }
-    ensures failure { IfErr result IsFailure }
+    run: Result<Report, HostFault>,
+    writer: &mut W,
+) -> Result<Endings, Failure<AsmFault>>
+    requires { IfOk run (λ report. length report.ends.items ≡ length (threads_of program.now)) }
+    ensures { TellsRun run result (W.contents writer.old) (W.contents writer.new) }
 {
-    run_threads(rt, alloc, program, &Open, &Quiet).map_err(failure_of)
+    let report = run.map_err(failure_of)?;
+    write_run(writer, &report.history)?;
+    Ok(endings(program, &report.ends))
 }
 
 /// Runs a program on threads and writes its history.
@@ -95,9 +96,11 @@ fn play<T: Threads + Wait, W: Write>(
 ) -> Result<Endings, Failure<AsmFault>>
     ensures { Outputs threading result (Ok program.now) (W.contents writer.old) (W.contents writer.new) }
 {
-    let report = run_on(rt, alloc, program)?;
-    write_run(writer, &report.history)?;
-    Ok(endings(program, &report.ends))
+    tell_run(
+        program,
+        run_threads(rt, alloc, program, &Open, &Quiet),
+        writer,
+    )
 }
 
 /// Reads a script, runs it on threads and writes its history.
