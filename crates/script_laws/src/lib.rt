@@ -3,6 +3,7 @@
 
 ghost use Rattle.script_laws.specs.Assembled.{AreNested};
 ghost use Rattle.script_laws.specs.Fed.{AreFed, TellRoom};
+ghost use Rattle.script_laws.specs.Idle.{ComeBackIdle, NoneStayHeld};
 
 /// In the code of each script the blocks and groups stand within each other, each ended before what is around it. Does
 /// nothing.
@@ -16,4 +17,12 @@ pub fn nested()
 pub fn fed()
     ensures tells { TellRoom }
     ensures fed { AreFed }
+{}
+
+/// A thread of nested code that runs on a thread of its own gives its pass back, however its run ends: it closes its blocks
+/// as it finishes, it gives up only where no transaction is irrevocable, and an irrevocable one wants no memory. So no thread
+/// of such a program ends while it holds the clock. Does nothing.
+pub fn idle()
+    ensures back { ComeBackIdle }
+    ensures none_held { NoneStayHeld }
 {}

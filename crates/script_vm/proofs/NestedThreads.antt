@@ -1,5 +1,7 @@
 -- A thread whose code is nested makes no more calls up to its outermost commit than it tells.
-use Rattle.std.proofs.Common.{◌≡◌, ℕ, zero, suc, ◌+◌, ◌<◌, ◌≤◌, Bool, true, false, List, [], ◌∷◌, ◌++◌, length, None, Some, ◌⊎◌, inl, inr, if◌then◌else◌, refl, sym, ap, subst, ◌∙◌, arith}
+use Rattle.std.proofs.Common.{◌≡◌, ℕ, zero, suc, ◌+◌, ◌-◌, ◌<◌, ◌≤◌, Bool, true, false, List, [], ◌∷◌, ◌++◌, length, None, Some, ◌⊎◌, inl, inr, true≢false, if◌then◌else◌, refl, sym, ap, subst, ◌∙◌, arith}
+use Rattle.std.specs.Prelude.{slice_index_or, take}
+use Rattle.std.proofs.lemmas.Bool.{ltb-false}
 use Rattle.itm_types.specs.declared.call.Call.{Call}
 use Rattle.itm_types.specs.declared.call.Call.TheVariants as calls
 use Rattle.itm_types.specs.declared.call.Reply.{Reply}
@@ -8,36 +10,63 @@ use Rattle.tx_player.specs.Replies.{MayReply}
 use Rattle.script_fields.specs.declared.register.Register.{Register}
 use Rattle.script_program.specs.declared.instruction.Instruction.{Instruction}
 use Rattle.script_program.specs.declared.instruction.Instruction.TheVariants as code
-use Rattle.script_vm.specs.declared.stage.Stage.TheVariants.{Runs}
+use Rattle.script_vm.specs.declared.stage.Stage.{Stage}
+use Rattle.script_vm.specs.declared.stage.Stage.TheVariants.{Runs, ToElse, ToEnd}
 use Rattle.script_vm.specs.BlockLaws.{length-closed, none_is_no_call, one_longer, same_call}
 use Rattle.script_vm.specs.Nesting.{Level, block, blocks_in, Nests}
 use Rattle.script_vm.specs.Rooms.{carried_room}
-use Rattle.script_vm.specs.Registers.{with_number, zeros}
-use Rattle.script_vm.specs.Threads.{Block, Thread, answered, answered_at, back_to, begun, call_at, cancelled, cancelled_in, closed, depth_of, ended, entered, goes_on, innermost, may_open, next_call, no_block, open_past, opening, past_block, restarted, room, stopped, told, took}
-use Rattle.script_vm.specs.Work.{settled}
+use Rattle.script_vm.specs.Registers.{bytes_at, number_at, with_bytes, with_number, zeros}
+use Rattle.script_vm.specs.Threads.{Block, Thread, answered, answered_at, at_block, back_to, begun, call_at, cancelled, cancelled_in, closed, depth_of, ended, entered, goes_on, innermost, may_open, next_call, no_block, open_past, opening, past_block, restarted, room, stopped, told, took}
+use Rattle.script_vm.specs.Work.{chosen_by, computed, settled, stage_past, worked}
 use Rattle.script_vm.proofs.NestedCode.{past_nests, room_more, room_nil, room_step, worked_settles}
 
 -- ## A thread
 
+-- code that a thread stands at between two calls: it has ended, or a call is next
+abbrev pub IsAtCall : List Instruction → Type 0
+IsAtCall [] = Unit {0}
+IsAtCall (code.Set to n ∷ more) = ⊥
+IsAtCall (code.Bytes to literal ∷ more) = ⊥
+IsAtCall (code.Move to from ∷ more) = ⊥
+IsAtCall (code.Compute operation to x y ∷ more) = ⊥
+IsAtCall (code.IfNotZero x ∷ more) = ⊥
+IsAtCall (code.Else ∷ more) = ⊥
+IsAtCall (code.EndIf ∷ more) = ⊥
+IsAtCall (call ∷ more) = Unit {0}
+
 -- the code from which its outermost block began is nested
 abbrev pub HasNestedStart : List Block → Type 0
 HasNestedStart [] = Unit {0}
-HasNestedStart (b ∷ inner) = (levels : List Level) × Nests b.rest levels × (blocks_in levels ≡ 0)
+HasNestedStart (b ∷ inner) = (levels : List Level) × Nests b.rest levels × (blocks_in levels ≡ 0) × IsAtCall b.rest
 
 -- its code is nested, with as many blocks around it as it has open
 pub record IsWithin (t : Thread) : Type 0 where
   pub levels : List Level
   pub nests : Nests t.rest levels
   pub blocks : blocks_in levels ≡ depth_of t
+  pub at_call : IsAtCall t.rest
 
 -- or more are open than may be, and it has no more calls
 pub record IsNested (t : Thread) : Type 0 where
-  pub code : IsWithin t ⊎ (t.rest ≡ [])
+  pub code : IsWithin t ⊎ ((t.rest ≡ []) × (t.deepest < depth_of t))
   pub start : HasNestedStart t.blocks
 
 -- how many instructions stand up to the end of its outermost block
 abbrev pub left : Thread → ℕ
 left t = room (depth_of t) t.rest
+
+-- its work is done up to the next call
+worked_at_call : (stage : Stage) (registers : List (List ℕ)) (rest : List Instruction) → IsAtCall (worked stage registers rest).1
+worked_at_call stage registers [] = tt
+worked_at_call Runs registers (code.Set to n ∷ more) = worked_at_call Runs (with_number registers to n) more
+worked_at_call Runs registers (code.Bytes to literal ∷ more) = worked_at_call Runs (with_bytes registers to literal.bytes) more
+worked_at_call Runs registers (code.Move to from ∷ more) = worked_at_call Runs (with_bytes registers to (bytes_at registers from)) more
+worked_at_call Runs registers (code.Compute operation to a b ∷ more) = worked_at_call Runs (with_number registers to (computed operation (number_at registers a) (number_at registers b))) more
+worked_at_call Runs registers (code.IfNotZero r ∷ more) = worked_at_call (chosen_by (number_at registers r)) registers more
+worked_at_call Runs registers (code.Else ∷ more) = worked_at_call (ToEnd 0) registers more
+worked_at_call Runs registers (code.EndIf ∷ more) = worked_at_call Runs registers more
+worked_at_call Runs registers (call ∷ more) = tt
+worked_at_call stage registers (i ∷ more) = worked_at_call (stage_past stage i) registers more
 
 -- it goes on at such code
 record GoesOn (new : Thread) (more : List Instruction) : Type 0 where
@@ -48,7 +77,7 @@ goes_nested : (t : Thread) (registers : List (List ℕ)) (more : List Instructio
 goes_nested t registers more levels x same start =
     let s = worked_settles Runs registers more levels levels x refl in
     record {
-      nested = record { code = inl (record { levels = s.levels; nests = s.nests; blocks = s.blocks_are ∙ same }); start = start };
+      nested = record { code = inl (record { levels = s.levels; nests = s.nests; blocks = s.blocks_are ∙ same; at_call = worked_at_call Runs registers more }); start = start };
       fewer = by_depth (depth_of t) same s.fewer;
     }
   where
@@ -70,6 +99,11 @@ goes_past i d n more new g depth = record {
   nested = g.nested;
   fewer = (let less = g.fewer in let all = room_more n (depth_of new) more in let same = ap (λ (k : ℕ). room k more) depth in omega arith);
 }
+
+-- a block that may not be open is one more than may
+stopped_deeper : (deepest : ℕ) (blocks : List Block) → may_open deepest blocks ≡ false → deepest < length (blocks ++ no_block ∷ [])
+stopped_deeper deepest [] full = absurd (true≢false full)
+stopped_deeper deepest (outer ∷ inner) full = (let many = ltb-false (length (outer ∷ inner)) deepest full in let one = one_longer (outer ∷ inner) no_block in omega arith)
 
 closed_start : (blocks : List Block) → HasNestedStart blocks → HasNestedStart (closed blocks)
 closed_start [] s = tt
@@ -96,9 +130,9 @@ module _ (deepest : ℕ) (registers : List (List ℕ)) (rest : List Instruction)
     told_goes i x (Bytes v) n e = plain i _ n e
     told_goes i x (Refused f) n e = plain i _ n e
 
-    entered_start : (b : Block) → Nests b.rest levels → (all : List Block) → all ≡ blocks → HasNestedStart (all ++ b ∷ [])
-    entered_start b n [] e = (levels, n, same ∙ ap length (sym e))
-    entered_start b n (outer ∷ inner) e = subst HasNestedStart (sym e) start
+    entered_start : (b : Block) → Nests b.rest levels → IsAtCall b.rest → (all : List Block) → all ≡ blocks → HasNestedStart (all ++ b ∷ [])
+    entered_start b n at [] e = (levels, n, same ∙ ap length (sym e), at)
+    entered_start b n at (outer ∷ inner) e = subst HasNestedStart (sym e) start
 
     stopped_start : (all : List Block) → all ≡ blocks → may_open deepest all ≡ false → HasNestedStart (all ++ no_block ∷ [])
     stopped_start [] e full = absurd (cc)
@@ -156,9 +190,9 @@ answered_goes deepest registers (code.Begin props to) more blocks start levels x
             let deep = one_longer blocks b in
             goes_as (code.Begin props to) (length blocks) more _
             (goes_nested (record t { blocks = blocks ++ b ∷ [] }) (with_number registers to n) more (block ∷ levels) x (ap suc same ∙ sym deep)
-            (entered_start deepest registers (code.Begin props to ∷ more) blocks start more levels same b x blocks refl)) deep
+            (entered_start deepest registers (code.Begin props to ∷ more) blocks start more levels same b x tt blocks refl)) deep
         by_room false e = record {
-          nested = record { code = inr refl; start = stopped_start deepest registers (code.Begin props to ∷ more) blocks start more levels same blocks refl e };
+          nested = record { code = inr (refl, stopped_deeper deepest blocks e); start = stopped_start deepest registers (code.Begin props to ∷ more) blocks start more levels same blocks refl e };
           fewer = (let none = room_nil (length (blocks ++ no_block ∷ [])) in omega arith);
         }
     by_reply (Refused why) may =
@@ -197,9 +231,9 @@ pub record Plays (t new : Thread) (c : Call) : Type 0 where
 pub plays : (t : Thread) (c : Call) (r : Reply) → IsNested t → next_call t ≡ Some c → MayReply (depth_of t) c r → Plays t (answered t r) c
 plays t c r nested e may = by_code t.rest nested.code e
   where
-    by_code : (rest : List Instruction) → IsWithin (record t { rest = rest }) ⊎ (rest ≡ []) → call_at t.registers (depth_of t) rest ≡ Some c → Plays (record t { rest = rest }) (answered_at (record t { rest = rest }) rest r) c
+    by_code : (rest : List Instruction) → IsWithin (record t { rest = rest }) ⊎ ((rest ≡ []) × (t.deepest < depth_of t)) → call_at t.registers (depth_of t) rest ≡ Some c → Plays (record t { rest = rest }) (answered_at (record t { rest = rest }) rest r) c
     by_code [] within e = absurd (none_is_no_call c e)
-    by_code (i ∷ more) (inr none) e = absurd (cc)
+    by_code (i ∷ more) (inr none) e = absurd (let gone : i ∷ more ≡ [] = none.0 in cc)
     by_code (i ∷ more) (inl x) e =
         let g = answered_goes t.deepest t.registers i more t.blocks nested.start x.levels x.nests x.blocks c r e may in
         record {
@@ -222,8 +256,91 @@ back_nested t nested = by_blocks t.blocks refl nested.start
   where
     by_blocks : (blocks : List Block) → blocks ≡ t.blocks → HasNestedStart blocks → IsNested (back_to t blocks)
     by_blocks [] e start = nested
-    by_blocks (b ∷ inner) e start = record { code = inl (record { levels = start.0; nests = start.1; blocks = start.2 }); start = tt }
+    by_blocks (b ∷ inner) e start = record { code = inl (record { levels = start.0; nests = start.1; blocks = start.2; at_call = start.3 }); start = tt }
 
 -- before its first call
 pub opening_nested : (deepest : ℕ) (rest : List Instruction) → Nests rest [] → IsNested (opening deepest rest)
 opening_nested deepest rest x = (goes_nested (record { rest = rest; registers = zeros; blocks = []; deepest = deepest }) zeros rest [] x refl tt).nested
+
+-- ## A thread that has no more calls
+
+is_a_call : (registers : List (List ℕ)) (d : ℕ) (rest : List Instruction) → IsAtCall rest → call_at registers d rest ≡ None → rest ≡ []
+is_a_call registers d [] at e = refl
+is_a_call registers d (code.Set to n ∷ more) at e = absurd at
+is_a_call registers d (code.Bytes to literal ∷ more) at e = absurd at
+is_a_call registers d (code.Move to from ∷ more) at e = absurd at
+is_a_call registers d (code.Compute operation to x y ∷ more) at e = absurd at
+is_a_call registers d (code.IfNotZero x ∷ more) at e = absurd at
+is_a_call registers d (code.Else ∷ more) at e = absurd at
+is_a_call registers d (code.EndIf ∷ more) at e = absurd at
+is_a_call registers d (call ∷ more) at e = absurd (cc)
+
+-- has no block open, where no more are open than may be
+pub ended_shut : (t : Thread) → IsNested t → depth_of t ≤ t.deepest → next_call t ≡ None → depth_of t ≡ 0
+ended_shut t nested few e = by_code nested.code
+  where
+    by_code : IsWithin t ⊎ ((t.rest ≡ []) × (t.deepest < depth_of t)) → depth_of t ≡ 0
+    by_code (inl within) =
+        let ends : t.rest ≡ [] = is_a_call t.registers (depth_of t) t.rest within.at_call e in
+        let none : within.levels ≡ [] = subst (λ (rest : List Instruction). Nests rest within.levels) ends within.nests in
+        sym within.blocks ∙ ap blocks_in none
+    by_code (inr more) = absurd (let deep = more.1 in omega arith)
+
+-- ## How many may be open stays
+
+answered_deepest_at : (t : Thread) (rest : List Instruction) (r : Reply) → (answered_at t rest r).deepest ≡ t.deepest
+answered_deepest_at t [] r = refl
+answered_deepest_at t (code.Set to n ∷ more) r = refl
+answered_deepest_at t (code.Bytes to literal ∷ more) r = refl
+answered_deepest_at t (code.Move to from ∷ more) r = refl
+answered_deepest_at t (code.Compute operation to x y ∷ more) r = refl
+answered_deepest_at t (code.IfNotZero x ∷ more) r = refl
+answered_deepest_at t (code.Else ∷ more) r = refl
+answered_deepest_at t (code.EndIf ∷ more) r = refl
+answered_deepest_at t (code.Load width to at ∷ more) (Bytes v) = refl
+answered_deepest_at t (code.Load width to at ∷ more) Done = refl
+answered_deepest_at t (code.Load width to at ∷ more) (Code n) = refl
+answered_deepest_at t (code.Load width to at ∷ more) (Refused f) = refl
+answered_deepest_at t (code.Read hint width to at ∷ more) (Bytes v) = refl
+answered_deepest_at t (code.Read hint width to at ∷ more) Done = refl
+answered_deepest_at t (code.Read hint width to at ∷ more) (Code n) = refl
+answered_deepest_at t (code.Read hint width to at ∷ more) (Refused f) = refl
+answered_deepest_at t (code.Begin props to ∷ more) (Code n) = by_room (may_open t.deepest t.blocks)
+  where
+    by_room : (b : Bool) → (if b then entered t to more n else stopped t).deepest ≡ t.deepest
+    by_room true = refl
+    by_room false = refl
+answered_deepest_at t (code.Begin props to ∷ more) (Refused f) = refl
+answered_deepest_at t (code.Begin props to ∷ more) Done = refl
+answered_deepest_at t (code.Begin props to ∷ more) (Bytes v) = refl
+answered_deepest_at t (code.Commit ∷ more) Done = refl
+answered_deepest_at t (code.Commit ∷ more) (Bytes v) = refl
+answered_deepest_at t (code.Commit ∷ more) (Code n) = refl
+answered_deepest_at t (code.Commit ∷ more) (Refused f) = refl
+answered_deepest_at t (code.Abort outer ∷ more) (Code n) = by_blocks outer t.blocks
+  where
+    by_blocks : (outer : Bool) (all : List Block) → (cancelled_in t outer more n all).deepest ≡ t.deepest
+    by_blocks outer [] = refl
+    by_blocks true (b ∷ inner) = refl
+    by_blocks false (b ∷ inner) = refl
+answered_deepest_at t (code.Abort outer ∷ more) Done = refl
+answered_deepest_at t (code.Abort outer ∷ more) (Bytes v) = refl
+answered_deepest_at t (code.Abort outer ∷ more) (Refused f) = refl
+answered_deepest_at t (code.InTransaction to ∷ more) (Code n) = refl
+answered_deepest_at t (code.InTransaction to ∷ more) Done = refl
+answered_deepest_at t (code.InTransaction to ∷ more) (Bytes v) = refl
+answered_deepest_at t (code.InTransaction to ∷ more) (Refused f) = refl
+answered_deepest_at t (call ∷ more) r = refl
+
+pub answered_deepest : (t : Thread) (r : Reply) → (answered t r).deepest ≡ t.deepest
+answered_deepest t r = answered_deepest_at t t.rest r
+
+pub restarted_deepest : (t : Thread) → (restarted t).deepest ≡ t.deepest
+restarted_deepest t = by_blocks t.blocks
+  where
+    by_blocks : (blocks : List Block) → (back_to t blocks).deepest ≡ t.deepest
+    by_blocks [] = refl
+    by_blocks (b ∷ inner) = refl
+
+pub at_block_deepest : (t : Thread) (d : ℕ) → (at_block t d).deepest ≡ t.deepest
+at_block_deepest t d = answered_deepest (record { rest = (slice_index_or t.blocks (d - 1) no_block).rest; registers = (slice_index_or t.blocks (d - 1) no_block).registers; blocks = take (d - 1) t.blocks; deepest = t.deepest }) (Code 5)

@@ -77,22 +77,24 @@ nothing_to_do memory = inl (record { between = first_of (program 8 1 16) []; now
 -- and its run has no call: who tells of no attempt, and that it finished, tells of it
 idle : (words : Words) (start : Standing) → Owns words start.pass → Stands (view_of start.pass) start.engine → IsFresh (program 8 1 16) (view_of start.pass).base 0 start (opening 16 []) → (view_of start.pass).holds ≡ false → WasRun words (program 8 1 16) (view_of start.pass) false 0 Finished []
 idle words start own stands fresh free = record {
-  start = start;
-  player = opening 16 [];
-  own = own;
-  stands = stands;
-  fresh = fresh;
   worked = record { thread = 0; attempts = []; end = Finished; pass = Ok start.pass };
-  row = record {
-    calls = 0;
-    account = first_account (opening 16 []);
-    standing = start;
-    made = (refl, refl);
-    left = first_account (opening 16 []);
-    thread = start;
-    stops = (refl, refl, refl);
-    attempts = refl;
-    pass = (refl, free);
+  made = record {
+    start = start;
+    player = opening 16 [];
+    own = own;
+    stands = stands;
+    fresh = fresh;
+    row = record {
+      calls = 0;
+      account = first_account (opening 16 []);
+      standing = start;
+      made = (refl, refl);
+      left = first_account (opening 16 []);
+      thread = start;
+      stops = (refl, refl, refl);
+      attempts = refl;
+      pass = (refl, free);
+    };
   };
   end_is = refl;
   attempts_are = refl;

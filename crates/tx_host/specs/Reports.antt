@@ -15,7 +15,7 @@ use Rattle.tx_runs.specs.declared.ending.End.{End}
 use Rattle.tx_worker.specs.Positions.{bytes_at, positions}
 use Rattle.tx_host.specs.declared.report.Report.{Report}
 use Rattle.tx_host.specs.Courses.{IsCourse}
-use Rattle.tx_host.specs.Rows.{WasRun}
+use Rattle.tx_host.specs.Rows.{HeldAmong, WasRun}
 use Rattle.tx_host.specs.Versions.{version_of}
 
 -- the attempts of thread k, then those of k + 1, and so on, of n threads
@@ -25,6 +25,10 @@ by_number k (suc n) attempts = of_thread k attempts ++ by_number (k + 1) n attem
 
 abbrev pub commits_of : Report → ℕ
 commits_of r = count_committed r.history.attempts
+
+-- a thread of the program ended while it held the clock
+abbrev pub StaysHeld : Bool → Listing → Type 0
+StaysHeld shuts p = (words : Words) × (base : List ℕ) × HeldAmong words p base shuts (length (threads_of p))
 
 -- of each thread of the program its run, call by call, and by the bytes that the first commits left, each run alone on those that the one before it left. `shuts` says whether its gate may shut
 pub record Ran (shuts : Bool) (p : Listing) (r : Report) : Type 0 where

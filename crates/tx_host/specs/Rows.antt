@@ -1,5 +1,5 @@
 -- What a thread of a program did, call by call.
-use Rattle.std.specs.Prelude.{◌≡◌, ◌⊎◌, ℕ, ◌<◌, ◌≤◌, ◌++◌, Bool, List, None, Some}
+use Rattle.std.specs.Prelude.{◌≡◌, ◌⊎◌, ℕ, ◌<◌, ◌≤◌, ◌++◌, Bool, true, List, None, Some}
 use Rattle.norec_core.specs.declared.answer.Answer.{Answer}
 use Rattle.norec_core.specs.declared.answer.Answer.TheVariants.{Busy, Committed, Conflict, Full, Reply, Restarted}
 use Rattle.shared_words.specs.declared.view.View.{View}
@@ -16,7 +16,7 @@ use Rattle.tx_runs.specs.declared.ending.End.TheVariants.{Finished, GaveUp, NoMe
 use Rattle.tx_worker.specs.declared.worked.Worked.{Worked}
 use Rattle.tx_worker.specs.Accounts.{Account}
 use Rattle.tx_worker.specs.Calls.{IsMade, IsShut}
-use Rattle.tx_worker.specs.Works.{IsRow, view_left}
+use Rattle.tx_worker.specs.Works.{IsRow, is_held, view_left}
 use Rattle.tx_host.specs.Starts.{IsFresh}
 
 -- after this answer to a call in the try `nth` of its block there is no further one: no commit more may be, or a conflict was found or the clock was held, and no try is left
@@ -45,16 +45,24 @@ pub record HasJoined (v u : View) : Type 0 where
   pub met : LiesIn v.met u.met
   pub mine : LiesIn v.mine u.mine
 
--- the thread of the program with this number made its calls, on a fresh thread over these words with the program's own limits, until it ended so, and its pass was joined to that of this view. Just these attempts are told of it
-pub record WasRun (words : Words) (p : Listing) (v : View) (shuts : Bool) (number : ℕ) (end : End) (attempts : List Attempt) : Type 0 where
+-- the thread of the program with this number made its calls, on a fresh thread over these words with the program's own limits, and this came of it
+pub record MadeCalls (words : Words) (p : Listing) (base : List ℕ) (shuts : Bool) (number : ℕ) (worked : Worked) : Type 0 where
   pub start : Standing
   pub player : Thread
   pub own : Owns words start.pass
   pub stands : Stands (view_of start.pass) start.engine
-  pub fresh : IsFresh p v.base number start player
-  pub worked : Worked
+  pub fresh : IsFresh p base number start player
   pub row : IsRow thread_rules words start player number p.limits.retries shuts worked
+
+-- one of the first n threads did, and its last transaction stays irrevocable and open
+abbrev pub HeldAmong : Words → Listing → List ℕ → Bool → ℕ → Type 0
+HeldAmong words p base shuts n = (number : ℕ) × (worked : Worked) × (number < n) × MadeCalls words p base shuts number worked × (is_held worked.pass ≡ true)
+
+-- the thread with this number did, until it ended so, and its pass was joined to that of this view. Just these attempts are told of it
+pub record WasRun (words : Words) (p : Listing) (v : View) (shuts : Bool) (number : ℕ) (end : End) (attempts : List Attempt) : Type 0 where
+  pub worked : Worked
+  pub made : MadeCalls words p v.base shuts number worked
   pub end_is : worked.end ≡ end
   pub attempts_are : worked.attempts ≡ attempts
   pub joined : HasJoined v (view_left worked.pass)
-  pub why : EndsWhere words number p.limits.retries shuts end row.account row.standing row.left row.thread  -- this follows from it
+  pub why : EndsWhere words number p.limits.retries shuts end made.row.account made.row.standing made.row.left made.row.thread  -- this follows from it

@@ -1,12 +1,13 @@
 //! Joining workers, and their passes.
 
-ghost use Rattle.std.specs.Prelude.{◌≡◌, ◌≤◌, false, [], IfOk, vec_len, vec_capacity};
+ghost use Rattle.std.specs.Prelude.{◌≡◌, ◌≤◌, true, false, [], IfOk, vec_len, vec_capacity};
 ghost use Rattle.shared_words.specs.Passes.{Owns, view_of};
 ghost use Rattle.shared_words.specs.Steps.{Joined as JoinedViews};
 ghost use Rattle.script_program.specs.Listing.{Listing};
 ghost use Rattle.tx_worker.specs.Works.{IsBack, is_held};
 ghost use Rattle.tx_host.specs.Starts.{Promised};
 ghost use Rattle.tx_host.specs.Joins.{Joins};
+ghost use Rattle.tx_host.specs.Rows.{HeldAmong};
 
 use crate::start::WorksOn;
 use itm_runtime::Thread;
@@ -67,6 +68,7 @@ pub(crate) fn join_all<'e, R: Threads, G: Gate>(
     ensures own { Owns words.now result.pass }
     ensures idle { (view_of result.pass).holds ≡ false }
     ensures len { vec_len result.all ≡ vec_len handles.entry }
+    ensures held { result.held ≡ true → HeldAmong words.now program.now (view_of pass).base G.shuts (vec_len handles.entry) }
     ensures joins { result.held ≡ false → Joins words.now (view_of pass) program.now G.shuts (vec_len handles.entry) (view_of result.pass) result.all.items }
 {
     let mut pass = pass;

@@ -1,12 +1,12 @@
 //! A whole run, from a program to its report.
 
-ghost use Rattle.std.specs.Prelude.{◌≡◌, ◌+◌, ◌*◌, false, IfOk, length};
+ghost use Rattle.std.specs.Prelude.{◌≡◌, ◌+◌, ◌*◌, false, IfErr, IfOk, length};
 ghost use Rattle.script_program.specs.Listing.{opening_of};
 ghost use Rattle.shared_words.specs.Good.{EndsWith};
 ghost use Rattle.shared_words.specs.Passes.{Owns, cells_of, view_of};
 ghost use Rattle.tx_history.specs.Bounds.{AreLimited};
 ghost use Rattle.tx_host.specs.Limits.{IsLimitedListing};
-ghost use Rattle.tx_host.specs.Reports.{Ran};
+ghost use Rattle.tx_host.specs.Reports.{Ran, StaysHeld};
 
 use crate::gather::gather_all;
 use crate::report::{HostFault, Report};
@@ -62,6 +62,7 @@ pub fn run_threads<R: Threads + Wait, G: Gate + Sync, A: ActionSink + Sync>(
 ) -> Result<Report, HostFault>
     ensures ran { IfOk result (λ r. Ran G.shuts program.now r) }
     ensures limited { IfOk result (λ r. AreLimited r.history) }
+    ensures held { IfErr result (λ fault. fault ≡ HostFault.Held → StaysHeld G.shuts program.now) }
 {
     let Ok((before, room)) = memories(alloc, program) else {
         return Err(HostFault::NoMemory);

@@ -1,9 +1,10 @@
 //! All workers of one run, in one scope.
 
-ghost use Rattle.std.specs.Prelude.{◌<◌, IfOk};
+ghost use Rattle.std.specs.Prelude.{◌≡◌, ◌<◌, IfErr, IfOk};
 ghost use Rattle.itm_types.specs.declared.limits.TheConstants.{MAX_ACTORS};
 ghost use Rattle.shared_words.specs.Passes.{Owns, view_of};
 ghost use Rattle.tx_host.specs.Joins.{Gathers};
+ghost use Rattle.tx_host.specs.Reports.{StaysHeld};
 ghost use Rattle.tx_host.specs.Starts.{IsUnused};
 
 use crate::join::{Done, Joined, join_all};
@@ -34,6 +35,7 @@ fn start_and_join<'s, 'e: 's, R: Threads, G: Gate + Sync, A: ActionSink + Sync>(
     requires parts { MAX_ACTORS < (view_of pass).share }
     ensures own { IfOk result (λ r. Owns words.now r.0) }
     ensures gathers { IfOk result (λ r. Gathers words.now (view_of pass) program.now G.shuts (view_of r.0) r.1.items) }
+    ensures held { IfErr result (λ fault. fault ≡ HostFault.Held → StaysHeld G.shuts program.now) }
 {
     let mut pass = pass;
     let count = program.threads();
@@ -76,6 +78,7 @@ pub(crate) fn run_all<R: Threads + Wait, G: Gate + Sync, A: ActionSink + Sync>(
     requires parts { MAX_ACTORS < (view_of pass).share }
     ensures own { IfOk result (λ r. Owns words.now r.0) }
     ensures gathers { IfOk result (λ r. Gathers words.now (view_of pass) program.now G.shuts (view_of r.0) r.1.items) }
+    ensures held { IfErr result (λ fault. fault ≡ HostFault.Held → StaysHeld G.shuts program.now) }
 {
     thread::scope(
         thread::scope_env(),
@@ -83,7 +86,8 @@ pub(crate) fn run_all<R: Threads + Wait, G: Gate + Sync, A: ActionSink + Sync>(
         move |scope| -> Result<(Pass, Vec<Done>), HostFault>
             requires { Owns words.now pass × IsUnused (view_of pass) × (MAX_ACTORS < (view_of pass).share) }
             ensures { IfOk result (λ r. Owns words.entry.now r.0
-                × Gathers words.entry.now (view_of pass) program.entry.now G.shuts (view_of r.0) r.1.items) }
+                × Gathers words.entry.now (view_of pass) program.entry.now G.shuts (view_of r.0) r.1.items)
+                × IfErr result (λ fault. fault ≡ HostFault.Held → StaysHeld G.shuts program.entry.now) }
         { start_and_join(rt, scope, alloc, words, pass, program, gate, sink) },
     )
 }

@@ -1,5 +1,5 @@
 -- One more worker's pass is joined.
-use Rattle.std.proofs.Common.{◌≡◌, ℕ, ◌+◌, false, List, [], ◌∷◌, ◌++◌, length, if◌then◌else◌, Bool, true, Vec, Global, sym, refl, ap, ◌∙◌, subst, append_assoc, append-nil, arith}
+use Rattle.std.proofs.Common.{◌≡◌, ℕ, ◌+◌, ◌<◌, ◌≤◌, false, List, [], ◌∷◌, ◌++◌, length, if◌then◌else◌, Bool, true, Vec, Global, sym, refl, ap, ◌∙◌, subst, append_assoc, append-nil, arith}
 use Rattle.shared_words.specs.declared.view.View.{View}
 use Rattle.shared_words.specs.declared.words.Words.{Words}
 use Rattle.shared_words.specs.Steps.{Joined}
@@ -14,6 +14,7 @@ use Rattle.tx_host.specs.declared.join.Done.{Done}
 use Rattle.tx_host.specs.declared.start.WorksOn.{WorksOn}
 use Rattle.tx_host.specs.declared.start.Ready.{Ready}
 use Rattle.tx_host.specs.Joins.{Did, Gathers, Joins, attempts_in}
+use Rattle.tx_host.specs.Rows.{HeldAmong}
 use Rattle.tx_host.specs.Starts.{IsFor, Prepares}
 use Rattle.tx_host.proofs.Numbers.{numbered_map, numbered_push}
 use Rattle.tx_host.proofs.Passes.WorkerViews.{did_its, did_later, its_base, its_mine, its_share, joined_both}
@@ -54,6 +55,13 @@ module _ {G : Type 0} (words : Words) (base : List ℕ) (p : Listing) (n : ℕ) 
         mine = j.mine ∙ ((λ i. old.mine i ++ theirs i) ∙ (append_assoc start.mine (positions (attempts_in all)) (positions d.attempts) ∙ ap (λ (l : List ℕ). start.mine ++ l) (sym all_are)));
         workers = numbered_push (Did words p shuts w) 0 n all d (omega arith) (numbered_map (Did words p shuts now) (Did words p shuts w) 0 all (λ k x. did_later words p shuts now w joined.0 k x) old.workers) did;
       }
+
+-- ## A worker whose pass did not come back
+
+pub held_more : (words : Words) (p : Listing) (base : List ℕ) (shuts : Bool) (n m : ℕ) → n ≤ m → HeldAmong words p base shuts n → HeldAmong words p base shuts m
+held_more words p base shuts n m l h = (h.0, h.1, (let few = h.2 in omega arith), h.3, h.4)
+
+-- ## All of them
 
 -- all parts are back
 pub gathers : (words : Words) (p : Listing) (shuts : Bool) (start given now : View) (ready : Vec Ready Global) (all : List Done) (n : ℕ) → Prepares words start p given ready → n ≡ length (threads_of p) → length all ≡ n → now.holds ≡ false → Joins words given p shuts n now all → Gathers words start p shuts now all

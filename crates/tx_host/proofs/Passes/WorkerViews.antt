@@ -28,7 +28,7 @@ use Rattle.tx_host.specs.declared.join.Done.{Done}
 use Rattle.tx_host.specs.declared.start.WorksOn.{WorksOn}
 use Rattle.tx_host.specs.Courses.{EndsBy, IsCourse, first_of}
 use Rattle.tx_host.specs.Joins.{Did}
-use Rattle.tx_host.specs.Rows.{HasJoined, LiesIn, WasRun}
+use Rattle.tx_host.specs.Rows.{HasJoined, LiesIn, MadeCalls, WasRun}
 use Rattle.tx_host.specs.Starts.{IsFor, IsFresh, code_of}
 use Rattle.tx_host.proofs.Rows.{ends_where}
 use Rattle.tx_host.proofs.Passes.Courses.{at_most, course_still}
@@ -42,6 +42,10 @@ held_later deepest v w later (Some b) (x ∷ xs) run h = (
   λ e. ap (λ (m : List ℕ). (alone deepest m x).irrevocable) (bytes_in v w later x.at (at_most thread_rules deepest (length v.seen) (bytes_at v) b (begins_at thread_rules deepest b) x run.0)) ∙ h.0 e,
   held_later deepest v w later (after_try thread_rules deepest (bytes_at v) b (begins_at thread_rules deepest b) x) xs run.1 h.1,
 )
+
+-- over the same memory
+abbrev made_over : (words : Words) (p : Listing) (base same : List ℕ) (shuts : Bool) (k : ℕ) (w : Worked) → base ≡ same → MadeCalls words p base shuts k w → MadeCalls words p same shuts k w
+made_over words p base same shuts k w is m = record { start = m.start; player = m.player; own = m.own; stands = m.stands; fresh = subst (λ (b : List ℕ). IsFresh p b k m.start m.player) is m.fresh; row = m.row }
 
 -- ## What the joined pass knows
 
@@ -81,13 +85,8 @@ later_in v w j = record { base = j.base; grows = j.begins; high = j.high }
 
 was_later : (words : Words) (p : Listing) (v w : View) (shuts : Bool) (k : ℕ) (end : End) (xs : List Attempt) → HasJoined w v → WasRun words p v shuts k end xs → WasRun words p w shuts k end xs
 was_later words p v w shuts k end xs j run = record {
-  start = run.start;
-  player = run.player;
-  own = run.own;
-  stands = run.stands;
-  fresh = subst (λ (base : List ℕ). IsFresh p base k run.start run.player) (sym j.base) run.fresh;
   worked = run.worked;
-  row = run.row;
+  made = made_over words p v.base w.base shuts k run.worked (sym j.base) run.made;
   end_is = run.end_is;
   attempts_are = run.attempts_are;
   joined = joined_on w v (view_left run.worked.pass) j run.joined;
@@ -197,15 +196,14 @@ module _ {G : Type 0} (words : Words) (base : List ℕ) (p : Listing) (n : ℕ) 
   row_is : IsRow thread_rules words w.start.value w.player.value n p.limits.retries shuts r
   row_is = subst (λ (q : Words × ℕ × ℕ). IsRow thread_rules q.0 w.start.value w.player.value q.1 q.2 shuts r) (λ i. (is.words_are i, is.number_is i, is.retries_are i)) kept.row
 
+  pub made_its : MadeCalls words p base shuts n r
+  made_its = record { start = w.start.value; player = w.player.value; own = is.own; stands = is.stands; fresh = is.fresh; row = row_is }
+
   was_run : WasRun words p left_view shuts n r.end r.attempts
+  unfolding row_is made_its
   was_run = record {
-    start = w.start.value;
-    player = w.player.value;
-    own = is.own;
-    stands = is.stands;
-    fresh = subst (λ (b : List ℕ). IsFresh p b n w.start.value w.player.value) (sym its_base) is.fresh;
     worked = r;
-    row = row_is;
+    made = made_over words p base left_view.base shuts n r (sym its_base) made_its;
     end_is = refl;
     attempts_are = refl;
     joined = joined_self left_view;

@@ -1,12 +1,13 @@
-use Rattle.std.proofs.Common.{rules, ◌≡◌, ℕ, ◌+◌, false, true≢false, length, vec_len, sym, subst, refl, ◌∙◌}
+use Rattle.std.proofs.Common.{rules, arith, ◌≡◌, ℕ, ◌+◌, ◌<◌, ◌≤◌, true, false, true≢false, length, vec_len, sym, subst, refl, ◌∙◌}
 use Rattle.std.specs.Vec.Iter.{into_iter_items}
 use Rattle.shared_words.specs.Passes.{view_of}
 use Rattle.script_program.specs.Listing.{Listing}
 use Rattle.tx_host.specs.declared.join.Done.{Done}
 use Rattle.tx_host.specs.Starts.{Promised}
 use Rattle.tx_host.specs.Joins.{Joins}
-use Rattle.tx_host.proofs.Passes.WorkerViews.{its_back, joined_left}
-use Rattle.tx_host.proofs.Passes.JoinedWorkers.{joins_more}
+use Rattle.tx_host.specs.Rows.{HeldAmong}
+use Rattle.tx_host.proofs.Passes.WorkerViews.{its_back, joined_left, made_its}
+use Rattle.tx_host.proofs.Passes.JoinedWorkers.{held_more, joins_more}
 use Rattle.tx_host.proofs.join.join_all.Goals as goal
 use Rattle.tx_host.proofs.join.join_all.Goals.{then-held, else-held}
 
@@ -39,7 +40,19 @@ loop-handle-preserved g c =
           subst (Joins c.args.words.now start p g.G.Gate.shuts (n + 1) (view_of c.take_in-holds.new.pass)) (sym pushed.items)
           (joins_more c.args.words.now start.base p n g.G.Gate.shuts c.in-Some.handle.promise c.join-attempts.result rest.0 c.join-attempts.ensures start (view_of c.loop-handle.pass) (view_of c.take_in-holds.new.pass) c.loop-handle.all.items done refl refl many (sym taken.held ∙ both.1) (old.joins both.0) (joined_left (view_of c.loop-handle.pass) (view_of c.take_in-holds.new.pass) c.join-attempts.result.pass (sym taken.held ∙ both.1) taken.joined)) in
           subst (λ (m : ℕ). Joins c.args.words.now start p g.G.Gate.shuts m (view_of c.take_in-holds.new.pass) c.push_reserved.new.self.items) (sym pushed.len) more);
+      held = λ holds.
+          (let base = start.base in
+          let among : HeldAmong c.args.words.now p base g.G.Gate.shuts (n + 1) =
+          elim c.if-held.branch [
+            | then-held w ↦ held_more c.args.words.now p base g.G.Gate.shuts n (n + 1) (omega arith) (old.held w.if-held.true)
+            | else-held w ↦ (n, c.join-attempts.result, omega arith, made_its c.args.words.now base p n g.G.Gate.shuts c.in-Some.handle.promise c.join-attempts.result rest.0 c.join-attempts.ensures, sym taken.held ∙ (sym w.held-is ∙ holds))
+          ] in
+          subst (λ (m : ℕ). HeldAmong c.args.words.now p base g.G.Gate.shuts m) (sym pushed.len) among);
       rest = subst (λ (m : ℕ). Promised c.args.words.now start.base p m (into_iter_items c.next.new.self)) (sym pushed.len) rest.1;
       count = search rules;
       room = search rules;
     }
+
+pub returns-clause-held : goal.returns-clause-held
+returns-clause-held g c = λ held.
+    held_more c.args.words.now c.args.program.now (view_of c.args.pass).base g.G.Gate.shuts (vec_len c.loop-handle.all) (vec_len c.args.handles) (let count = c.loop-handle.invariant.count in omega arith) (c.loop-handle.invariant.held held)

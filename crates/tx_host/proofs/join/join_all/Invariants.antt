@@ -1,8 +1,9 @@
-use Rattle.std.proofs.Common.{◌≡◌, ◌+◌, ◌≤◌, false, vec_len, vec_capacity}
+use Rattle.std.proofs.Common.{◌≡◌, ◌+◌, ◌≤◌, true, false, vec_len, vec_capacity}
 use Rattle.std.specs.Vec.Iter.{into_iter_items, into_iter_len}
 use Rattle.shared_words.specs.Passes.{Owns, view_of}
 use Rattle.tx_host.specs.Starts.{Promised}
 use Rattle.tx_host.specs.Joins.{Joins}
+use Rattle.tx_host.specs.Rows.{HeldAmong}
 use Rattle.tx_host.proofs.join.join_all.Given as goal
 
 abbrev pub invariant-loop-handle : goal.invariant-loop-handle
@@ -10,6 +11,7 @@ invariant-loop-handle g l = record {
   own : Owns l.words l.pass;
   idle : (view_of l.pass).holds ≡ false;
   joins : l.held ≡ false → Joins l.words (view_of l.fn.pass) l.fn.program g.G.Gate.shuts (vec_len l.all) (view_of l.pass) l.all.items;
+  held : l.held ≡ true → HeldAmong l.words l.fn.program (view_of l.fn.pass).base g.G.Gate.shuts (vec_len l.all);
   rest : Promised l.words (view_of l.fn.pass).base l.fn.program (vec_len l.all) (into_iter_items l.handle-iterator);
   count : vec_len l.all + into_iter_len l.handle-iterator ≡ vec_len l.fn.handles;
   room : vec_len l.fn.handles ≤ vec_capacity l.all;
