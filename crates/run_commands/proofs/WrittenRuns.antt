@@ -1,9 +1,11 @@
 -- What was written of a program's run on threads.
-use Rattle.std.proofs.Common.{◌≡◌, ℕ, false, List, map, take, IfOk, Option, Some, Result, Ok, Err, refl, sym, subst}
+use Rattle.std.proofs.Common.{◌≡◌, ℕ, false, List, map, take, IfErr, IfOk, Option, Some, Result, Ok, Err, refl, sym, subst}
 use Rattle.std.specs.Io.KnownBytes.{Appends, Keeps}
 use Rattle.arrayvec.specs.ArrayVec.{ArrayVec}
 use Rattle.script_program.specs.Listing.{Listing}
 use Rattle.script_fields.specs.declared.fault.AsmFault.{AsmFault}
+use Rattle.script_laws.specs.Assembled.{HasNestedCode}
+use Rattle.script_laws.proofs.IdleThreads.{none_stay_held}
 use Rattle.text_commands.specs.declared.failure.Failure.{Failure}
 use Rattle.text_commands.specs.declared.failure.Failure.TheVariants.{Writing}
 use Rattle.text_commands.specs.Answers.{Outputs}
@@ -13,7 +15,7 @@ use Rattle.tx_history.specs.Histories.{history_text}
 use Rattle.tx_host.specs.declared.report.HostFault.{HostFault}
 use Rattle.tx_host.specs.declared.report.HostFault.TheVariants.{Held, NoMemory, NoThread}
 use Rattle.tx_host.specs.declared.report.Report.{Report}
-use Rattle.tx_host.specs.Reports.{Ran}
+use Rattle.tx_host.specs.Reports.{Ran, StaysHeld}
 use Rattle.tx_runs.specs.declared.ending.End.{End}
 use Rattle.run_commands.specs.Threading.{IsThreadedRun, TellsRun, failure_of, threading}
 
@@ -42,3 +44,8 @@ pub output : (p : Listing) (run : Result Report HostFault) (done : Result (Array
 output p (Ok r) (Ok endings) o n ran limited t = told p r o n ran limited t.3 endings t.1 t.0
 output p (Ok r) (Err f) o n ran limited t = subst (λ (e : Failure AsmFault). Outputs threading (Err e) (Ok p) o n) (sym t.2) (begun p r o n ran limited t.3 t.0)
 output p (Err fault) done o n ran limited t = subst (λ (d : Result (ArrayVec (Option End)) (Failure AsmFault)). Outputs threading d (Ok p) o n) (sym t.0) (failed p o n fault t.1)
+
+-- no thread of nested code ends while it holds the clock
+pub never_held : (p : Listing) (run : Result Report HostFault) → HasNestedCode p → IfErr run (λ fault. fault ≡ Held → StaysHeld false p) → IfErr run (λ fault. fault ≡ Held → ⊥)
+never_held p (Ok r) nested held = held
+never_held p (Err fault) nested held = λ is. none_stay_held false p nested (held is)

@@ -38,7 +38,7 @@ threading = record {
   threads = true;
 }
 
--- why there is no history
+-- why there is no history; no thread of a program that is run ends while it holds the clock
 abbrev pub failure_of : HostFault → Failure AsmFault
 failure_of faults.NoMemory = failures.NoMemory
 failure_of faults.NoThread = failures.NoThread

@@ -2,6 +2,7 @@
 
 ghost use Rattle.std.specs.Prelude.{◌≡◌, ◌+◌, ◌≤◌, ℕ, List, Some, IfErr, IfOk, IfSome, Ok, length, map};
 ghost use Rattle.script_asm.specs.Assembly.{program_of};
+ghost use Rattle.script_laws.specs.Assembled.{HasNestedCode};
 ghost use Rattle.script_program.specs.Listing.{Listing, threads_of};
 ghost use Rattle.text_commands.specs.declared.failure.Failure.TheVariants.{Writing};
 ghost use Rattle.text_commands.specs.Input.{IsFront};
@@ -25,13 +26,15 @@ use tx_host::{HostFault, Report, run_threads};
 use tx_runs::End;
 use tx_worker::{Open, Quiet};
 
-/// Why there is no history. A thread stays irrevocable where memory was refused to it.
+/// Why there is no history.
 fn failure_of(fault: HostFault) -> Failure<AsmFault>
+    requires { fault ≡ HostFault.Held → ⊥ }
     ensures { result ≡ failure_of fault }
 {
     match fault {
-        HostFault::NoMemory | HostFault::Held => Failure::NoMemory,
+        HostFault::NoMemory => Failure::NoMemory,
         HostFault::NoThread => Failure::NoThread,
+        HostFault::Held => unreachable!(),
     }
 }
 
@@ -79,21 +82,26 @@ pub fn tell_run<W: Write>(
     run: Result<Report, HostFault>,
     writer: &mut W,
 ) -> Result<Endings, Failure<AsmFault>>
-    requires { IfOk run (λ report. length report.ends.items ≡ length (threads_of program.now)) }
+    requires count { IfOk run (λ report. length report.ends.items ≡ length (threads_of program.now)) }
+    requires free { IfErr run (λ fault. fault ≡ HostFault.Held → ⊥) }
     ensures { TellsRun run result (W.contents writer.old) (W.contents writer.new) }
 {
-    let report = run.map_err(failure_of)?;
+    let report = match run {
+        Ok(report) => report,
+        Err(fault) => return Err(failure_of(fault)),
+    };
     write_run(writer, &report.history)?;
     Ok(endings(program, &report.ends))
 }
 
-/// Runs a program on threads and writes its history.
+/// Runs a program on threads and writes its history. Its code is nested, so no thread ends while it holds the clock.
 fn play<T: Threads + Wait, W: Write>(
     rt: &T,
     alloc: Global,
     program: &Program,
     writer: &mut W,
 ) -> Result<Endings, Failure<AsmFault>>
+    requires { HasNestedCode program.now }
     ensures { Outputs threading result (Ok program.now) (W.contents writer.old) (W.contents writer.new) }
 {
     tell_run(
