@@ -359,6 +359,7 @@ count 'the documents' python3 -B "$root/tests/documents.py"
 count 'the tables' sh "$root/tests/tables.sh"
 count 'threads that stop' sh "$root/tests/sweeps.sh" stops
 count 'what is refused or cut off' env SCRIPTS=few sh "$root/tests/sweeps.sh" sched asm check threads cuts files engines
+count 'bodies that only tests refuse' sh "$root/tests/planted.sh"
 
 echo "$passed passed, $failed failed"
 [ "$failed" = 0 ]

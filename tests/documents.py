@@ -7,6 +7,8 @@ The last line is "N passed, M failed"; the exit status is 0 where none failed.
 - Of every other span each word stands in the code, the definitions, the proofs, the tests or the examples.
 - A block of Rattle is a part of a source file; a plain block of README.md or CALLING.md is a file of examples/, what a
   program prints, or a line of crates.txt. README.md counts the must-fail edits right.
+- The runtime needs no handle, as CALLING.md has it: where no thread is started, no source names a lock, a thread or a cell
+  that threads share, but for the table of words.
 - A link leads to a page that is there.
 """
 
@@ -28,6 +30,11 @@ ITEM = re.compile(r"(\w+)::(\w+)")
 BLOCK = re.compile(r"^ *```(\w*)\n(.*?)^ *```$", re.M | re.S)
 SPAN = re.compile(r"`([^`\n]+)`")
 LINK = re.compile(r"\]\(([^)#]+)[^)]*\)")
+THREADS = re.compile(r"\b(?:std|core)\s*(?:::\s*(?:sync\b|thread\b|\*|\{[^;]*\b(?:sync|thread)\b)|\s+as\b)")
+
+# the crates that start threads or wait for them, and those of the kit that share nothing between threads
+THREADED = {"tx_host", "run_commands", "itmrun", "bank", "runtime_bench", "thread_tests"}
+UNSHARED = {"arrayvec", "hex", "indexmap", "itoa", "smallvec", "thiserror"}
 
 HINTS = {"R": ["R", "RaR", "RaW", "RfW"], "W": ["W", "WaR", "WaW"]}
 TYPES = ["U1", "U2", "U4", "U8", "F", "D", "M64", "M128", "M256", "CF", "CD"]
@@ -150,10 +157,27 @@ class Documents:
         there = len([*ROOT.glob("crates/*/must-fail/*.edit")])
         self.expect(f"refuses {there} planted errors" in page.read_text(), page, "there are", str(there), "planted errors")
 
+    def handles(self):
+        """CALLING.md says that the runtime needs no handle: it has nothing by which one thread could wait for another."""
+        page = ROOT / "docs/CALLING.md"
+        named = set()
+        for path, text in self.code.items():
+            lines = [it for it in text.splitlines() if not it.lstrip().startswith(("//", "ghost "))]
+            if THREADS.search("\n".join(lines)):
+                named.add(path.parts[1])
+        self.expect(named == THREADED, page, "locks, shared cells or threads in", *sorted(named ^ THREADED))
+        lines = [it.partition(":") for it in self.texts[pathlib.Path("crates.txt")].splitlines()]
+        below = {name.split()[0]: set(uses.split()) for name, _, uses in lines}
+        for name in sorted(below.keys() - THREADED):
+            shared = below[name] - below.keys() - UNSHARED
+            of_words = {"atomic_table"} if name == "shared_words" else set()
+            self.expect(shared == of_words, page, name, "uses", *sorted(shared))
+
 
 def main():
     documents = Documents()
     documents.counts()
+    documents.handles()
     for page in PAGES:
         documents.page(page)
     print(f"{documents.passed} passed, {documents.failed} failed")
