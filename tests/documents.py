@@ -166,8 +166,9 @@ class Documents:
             if THREADS.search("\n".join(lines)):
                 named.add(path.parts[1])
         self.expect(named == THREADED, page, "locks, shared cells or threads in", *sorted(named ^ THREADED))
-        lines = [it.partition(":") for it in self.texts[pathlib.Path("crates.txt")].splitlines()]
-        below = {name.split()[0]: set(uses.split()) for name, _, uses in lines}
+        lines = [it.partition("#")[0] for it in self.texts[pathlib.Path("crates.txt")].splitlines()]
+        pairs = [it.partition(":") for it in lines if it.strip()]
+        below = {name.split()[0]: set(uses.split()) for name, _, uses in pairs}
         for name in sorted(below.keys() - THREADED):
             shared = below[name] - below.keys() - UNSHARED
             of_words = {"atomic_table"} if name == "shared_words" else set()

@@ -50,8 +50,9 @@ class Edit:
 
 def listed():
     """What each crate of crates.txt stands on."""
-    pairs = [line.partition(":") for line in (ROOT / "crates.txt").read_text().splitlines()]
-    return {name.split()[0]: below.split() for name, _, below in pairs if name.strip()}
+    lines = [line.partition("#")[0] for line in (ROOT / "crates.txt").read_text().splitlines()]
+    pairs = [line.partition(":") for line in lines if line.strip()]
+    return {name.split()[0]: below.split() for name, _, below in pairs}
 
 
 def reaching(tests, crate):
