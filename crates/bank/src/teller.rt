@@ -9,7 +9,7 @@ use crate::transfer::{Outcome, RECEIPT, Transfer, make};
 use itm_runtime::Thread;
 use itm_types::{Limits, MAX_COMMITS, Ran, USUAL_DEPTH};
 use shared_words::{Pass, Words};
-use std::alloc::Global;
+use std::alloc::{AllocError, Global};
 use undo_log::Arena;
 
 /// How many accounts there are.
@@ -104,7 +104,9 @@ pub fn serve(alloc: Global, words: &Words, pass: Pass) -> Served
     ensures { IfOk result (HaveServed words.now 1) }
 {
     let arena = Arena::new(alloc, 0)?;
-    let mut thread = Thread::new(alloc, words, pass, arena, LIMITS)?;
+    let Ok(mut thread) = Thread::new(alloc, words, pass, arena, LIMITS) else {
+        return Err(Fault::Memory(AllocError));
+    };
     let tally = make_all(words, &mut thread)?;
     match thread.into_parts() {
         Ok((pass, _arena)) => Ok((pass, tally)),

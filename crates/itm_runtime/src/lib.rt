@@ -4,9 +4,11 @@
 mod drive;
 mod equality;
 mod numbers;
+mod refused;
 mod slow_path;
 mod stop;
 mod thread;
 
+pub use refused::ThreadRefused;
 pub use stop::Stop;
 pub use thread::Thread;

@@ -13,11 +13,12 @@ ghost use Rattle.itm_runtime.specs.CallResults.{IsAnswered, Returns};
 ghost use Rattle.itm_runtime.specs.Standing.{start_of};
 
 use crate::drive::{finish, finish_commit, finish_fast, finish_read};
+use crate::refused::ThreadRefused;
 use itm_types::{
     Call, Datum, Limits, MAX_COMMITS, MAX_PATIENCE, Props, Ran, ReadHint, Reply, Width, WriteHint,
 };
 use norec_core::{Answer, Undone};
-use norec_engine::{Engine, FastStep};
+use norec_engine::{Engine, EngineRefused, FastStep};
 use shared_words::{Pass, Words};
 use std::alloc::{AllocError, Global};
 use std::marker::Model;
@@ -48,14 +49,14 @@ impl Model for Thread {
 
 impl Thread {
     /// A thread outside a transaction, with its arena, over the words that own the pass. Takes memory for the begins of open
-    /// blocks.
+    /// blocks; where that is refused, the pass and the arena come back.
     pub fn new(
         alloc: Global,
         words: &Words,
         pass: Pass,
         arena: Arena,
         limits: Limits,
-    ) -> Result<Thread, AllocError>
+    ) -> Result<Thread, ThreadRefused>
         requires own { Owns words.now pass }
         requires idle { (view_of pass).holds ≡ false }
         requires patience { (0 < limits.patience) × (limits.patience ≤ MAX_PATIENCE) }
@@ -65,10 +66,13 @@ impl Thread {
         ensures engine { IfOk result (λ t. t.engine
             ≡ opening (cells_of words.now - 1) arena limits.patience limits.max_commits limits.depth limits.restarts) }
         ensures stands { IfOk result (λ t. Stands (view_of t.pass) t.engine) }
+        ensures err { IfErr result (λ refused. (refused.pass ≡ pass) × (refused.arena ≡ arena)) }
     {
         let count = (words.size() / 8) as u32;
-        let engine = Engine::new(alloc, count, arena, limits)?;
-        Ok(Thread { pass, engine })
+        match Engine::new(alloc, count, arena, limits) {
+            Ok(engine) => Ok(Thread { pass, engine }),
+            Err(EngineRefused { arena }) => Err(ThreadRefused { pass, arena }),
+        }
     }
 
     /// An outermost block begins, `again` where an earlier try of it got past its begin; inside a transaction this is

@@ -1,6 +1,6 @@
 //! One thread's transactions over shared cells that someone else steps on.
 
-ghost use Rattle.std.specs.Prelude.{◌≡◌, ◌^◌, ◌<◌, ◌≤◌, IfOk, IsSome, true, IsTrue, ◌↔◌, is_some, false, []};
+ghost use Rattle.std.specs.Prelude.{◌≡◌, ◌^◌, ◌<◌, ◌≤◌, IfErr, IfOk, IsSome, true, IsTrue, ◌↔◌, is_some, false, []};
 ghost use Rattle.user_actions.specs.Actions.{total};
 ghost use Rattle.norec_core.specs.Core.{in_transaction, opening, irrevocable_room};
 ghost use Rattle.norec_core.specs.Proceeds.{IsUndone, Fits};
@@ -11,6 +11,7 @@ ghost use Rattle.norec_core.specs.Undoing.{undone_of, after_undoing};
 ghost use Rattle.norec_engine.specs.NextSteps.{next_in, ComesInto};
 ghost use Rattle.norec_core.specs.Moves.{IsResumed};
 
+use crate::refused::EngineRefused;
 use crate::restarting::may_validate;
 use crate::turns;
 use crate::turns::take;
@@ -53,15 +54,23 @@ impl Model for Engine {
 
 impl Engine {
     /// An engine outside a transaction, over a memory of 1 to 131,072 words, with its thread's arena. Takes memory for
-    /// the begins of open blocks.
-    pub fn new(alloc: Global, words: u32, arena: Arena, limits: Limits) -> Result<Self, AllocError>
+    /// the begins of open blocks; where that is refused, the arena comes back.
+    pub fn new(
+        alloc: Global,
+        words: u32,
+        arena: Arena,
+        limits: Limits,
+    ) -> Result<Self, EngineRefused>
         requires words { (0 < words) × (words ≤ MAX_WORDS) }
         requires patience { (0 < limits.patience) × (limits.patience ≤ MAX_PATIENCE) }
         requires commits { (0 < limits.max_commits) × (limits.max_commits ≤ MAX_COMMITS) }
         requires depth { 0 < limits.depth }
         ensures ok { IfOk result (λ e. e ≡ opening words arena limits.patience limits.max_commits limits.depth limits.restarts) }
+        ensures err { IfErr result (λ refused. refused.arena ≡ arena) }
     {
-        let frames = Frames::new(alloc, arena.size(), limits.depth)?;
+        let Ok(frames) = Frames::new(alloc, arena.size(), limits.depth) else {
+            return Err(EngineRefused { arena });
+        };
         Ok(Engine {
             state: Data {
                 words,

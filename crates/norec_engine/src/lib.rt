@@ -5,9 +5,11 @@
 mod engine;
 mod fast_path;
 mod next;
+mod refused;
 mod restarting;
 mod turns;
 
 pub use engine::Engine;
 pub use fast_path::FastStep;
 pub use norec_core::{Answer, Next, Undone};
+pub use refused::EngineRefused;

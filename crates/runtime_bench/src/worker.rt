@@ -213,7 +213,9 @@ pub fn serve(
         restarts: task.restarts,
         ..LIMITS
     };
-    let mut thread = Thread::new(alloc, words, pass, arena, limits)?;
+    let Ok(mut thread) = Thread::new(alloc, words, pass, arena, limits) else {
+        return Err(Fault::Memory);
+    };
     let tally = run_part(words, &mut thread, task, seed, beside, stop)?;
     match thread.into_parts() {
         Ok((pass, _)) => Ok((pass, tally)),

@@ -51,7 +51,7 @@ fn over(alloc: Global, words: u32) -> Result<Engine, AllocError>
         depth: USUAL_DEPTH,
         restarts: 0,
     };
-    Engine::new(alloc, words, Arena::new(alloc, 4)?, limits)
+    Ok(Engine::new(alloc, words, Arena::new(alloc, 4)?, limits)?)
 }
 
 /// The same, for which memory is found at the second time at the latest.

@@ -88,7 +88,7 @@ pub(super) fn thread(
         restarts: 0,
     };
     let arena = Arena::new(alloc, arena)?;
-    Thread::new(alloc, words, pass, arena, limits)
+    Ok(Thread::new(alloc, words, pass, arena, limits)?)
 }
 
 /// An engine over so many words, with an arena of so many bytes, of so much patience, that restarts inner blocks so often.
@@ -110,7 +110,12 @@ pub(super) fn engine(
         depth: USUAL_DEPTH,
         restarts,
     };
-    Engine::new(alloc, words, Arena::new(alloc, arena)?, limits)
+    Ok(Engine::new(
+        alloc,
+        words,
+        Arena::new(alloc, arena)?,
+        limits,
+    )?)
 }
 
 pub(super) fn read(at: u64) -> Call {
