@@ -7,7 +7,7 @@ ghost use Rattle.norec_core.specs.Proceeds.{IsUndone};
 ghost use Rattle.norec_core.specs.Restarts.{IsRestart};
 ghost use Rattle.norec_core.specs.Undoing.{after_undoing, undone_of};
 ghost use Rattle.norec_engine.specs.RestartingCalls.{arena_ahead};
-ghost use Rattle.shared_words.specs.Passes.{Owns, view_of, cells_of};
+ghost use Rattle.shared_words.specs.Passes.{Owns, commits_known, view_of, cells_of};
 ghost use Rattle.itm_runtime.specs.Ties.{Stands};
 ghost use Rattle.itm_runtime.specs.CallResults.{IsAnswered, Returns};
 ghost use Rattle.itm_runtime.specs.Standing.{start_of};
@@ -269,6 +269,14 @@ impl Thread {
         ensures stands { Stands (view_of self.now.pass) self.now.engine }
     {
         self.engine.clock()
+    }
+
+    /// How many commits its pass knows of, by the latest clock that it has seen; also those that it knew of before the thread
+    /// was made of it.
+    pub fn known(&self) -> u64
+        ensures { result ≡ commits_known (view_of self.now.pass) }
+    {
+        self.pass.high() / 2
     }
 
     /// The number of atomic steps of the last call.

@@ -12,7 +12,7 @@ use Rattle.norec_core.specs.declared.answer.Answer.TheVariants.{Busy, Committed,
 use Rattle.norec_core.specs.Core.{Core, in_transaction, irrevocable_room, is_inside, is_within}
 use Rattle.norec_core.proofs.Replies.ReplyCases.{Ways, reply_cases}
 use Rattle.shared_words.specs.declared.words.Words.{Words}
-use Rattle.shared_words.specs.Passes.{Owns, cells_of, view_of}
+use Rattle.shared_words.specs.Passes.{Owns, cells_of, commits_known, view_of}
 use Rattle.itm_runtime.specs.CallResults.{IsAnswered}
 use Rattle.itm_runtime.specs.Served.{Start}
 use Rattle.itm_runtime.specs.Standing.{Standing, start_of}
@@ -67,7 +67,7 @@ module _ (words : Words) (start : Standing) (code : List Instruction) (number re
 
   first_running : Stands (view_of start.pass) start.engine → in_transaction start.engine ≡ false → IsRunning thread_rules course (view_of start.pass) start.engine (first_account (opening deepest code))
   first_running stands shut = record {
-    has_run = record { went = went_self (view_of start.pass); run = tt; left = tt; since = tt; known = stands.known; own = tt; few = tt; outrun = outrun_none (view_of start.pass).high };
+    has_run = record { went = went_self (view_of start.pass); run = tt; left = tt; since = tt; known = stands.over.known; own = tt; few = tt; outrun = outrun_none (view_of start.pass).high };
     mine = sym (append-nil (view_of start.pass).mine);
     tried = omega arith;
     tries = omega arith;
@@ -81,7 +81,7 @@ module _ (words : Words) (start : Standing) (code : List Instruction) (number re
       stage_is = refl;
       now_is = refl;
       before = record { calls = 0; leads = (refl, refl); again = refl; tries = omega arith };
-      known = (let l : start.engine.clock / 2 ≤ start.engine.clock / 2 = omega arith in l);
+      known = (let l : commits_known (view_of start.pass) ≤ commits_known (view_of start.pass) = omega arith in l);
       looked = omega arith;
     };
   }
@@ -122,7 +122,7 @@ module _ (words : Words) (start : Standing) (code : List Instruction) (number re
     ahead = unwrap_or (irrevocable_room s.engine call) 0
 
     abbrev stage_came : Stage → Stage
-    stage_came g = stage_at g call (λ props. begun number a.nth (s.engine.clock / 2) props s.engine.arena ahead) ahead
+    stage_came g = stage_at g call (λ props. begun number a.nth (commits_known (view_of s.pass)) props s.engine.arena ahead) ahead
 
     abbrev took : Answer → Taken Thread
     took answer = took_in thread_rules retries (asked words thread_rules number retries s a call) call answer (stand_of s'.engine)
@@ -213,7 +213,7 @@ module _ (words : Words) (start : Standing) (code : List Instruction) (number re
         | inr (inr g) ↦ absurd (true≢false (sym (sym (last (Reply r) x).is_mid.kept.irrevocable ∙ g.irrevocable) ∙ free))
       ]
 
-      least_outside : (c : Call) (n : ℕ) → HasLeft (stage_at outside c (λ props. begun number a.nth (s.engine.clock / 2) props s.engine.arena ahead) ahead) n → ahead ≤ n
+      least_outside : (c : Call) (n : ℕ) → HasLeft (stage_at outside c (λ props. begun number a.nth (commits_known (view_of s.pass)) props s.engine.arena ahead) ahead) n → ahead ≤ n
       least_outside (Begin props room) n h = omega arith
       least_outside c n h = absurd h
 
@@ -280,7 +280,7 @@ module _ (words : Words) (start : Standing) (code : List Instruction) (number re
           room = λ held row points is. absurd (let f : outside ≡ within row points = is in cc);
         }
 
-    sent_outside : (c : Call) → sent_back thread_rules (stage_at outside c (λ props. begun number a.nth (s.engine.clock / 2) props s.engine.arena ahead) ahead) a.player ≡ a.player
+    sent_outside : (c : Call) → sent_back thread_rules (stage_at outside c (λ props. begun number a.nth (commits_known (view_of s.pass)) props s.engine.arena ahead) ahead) a.player ≡ a.player
     sent_outside (Begin props room) = refl
     sent_outside c = refl
 

@@ -72,6 +72,23 @@ took_holds v w c s t n is h = ap (λ (u : View). u.holds) (h.0 is).0
 pub missed_holds : (v w : View) (c s t n : ℕ) → n ≢ s → StepTells v (Cas c s t) n w → w.holds ≡ v.holds
 missed_holds v w c s t n away h = ap (λ (u : View). u.holds) (h.1 away).0
 
+-- ## The latest clock
+
+pub load_latest : (v w : View) (c n : ℕ) → c ≡ 0 → StepTells v (Load c) n w → w.high ≡ n
+load_latest v w c n is t = ap (λ (u : View). u.high) (t.0 is).0
+
+load_other : (v w : View) (st : Step) (k n : ℕ) → Loaded v st k n w → (b : Bool) → v.holds ≡ b → w.high ≡ v.high
+load_other v w st k n l false e = ap (λ (u : View). u.high) (l.0 e)
+load_other v w st k n l true e = ap (λ (u : View). u.high) (l.1 e).0
+
+pub load_high : (v w : View) (c n : ℕ) → c ≢ 0 → StepTells v (Load c) n w → w.high ≡ v.high
+load_high v w zero n away t = absurd (away refl)
+load_high v w (suc k) n away t = (let l : Loaded v (Load (suc k)) k n w = t.1 k (omega arith) in load_other v w (Load (suc k)) k n l v.holds refl)
+
+pub store_high : (v w : View) (c x n : ℕ) → c ≢ 0 → StepTells v (Store c x) n w → w.high ≡ v.high
+store_high v w zero x n away t = absurd (away refl)
+store_high v w (suc k) x n away t = (let e : w ≡ wrote v (Store (suc k) x) k x = t.1 k (omega arith) in ap (λ (u : View). u.high) e)
+
 pub splits : (id : ℕ) (v : View) → 1 < v.share → Splits AreGood id v (cut_left v) (cut_right v)
 splits id v room s g at = ends.splits s.words s.views g id v at room
 

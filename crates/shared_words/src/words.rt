@@ -54,6 +54,7 @@ impl Words {
             seat,
             left: 127,
             busy: false,
+            high: 0,
         };
         let size = 8 * words.len();
         Ok((Words { table, size }, pass))
@@ -103,16 +104,23 @@ impl Words {
         ensures moves { Moves (view_of pass.old) step result (view_of pass.new) }
     {
         match step {
-            Step::Load(cell) => self
-                .table
-                .shared
-                .load::<Loads>(&mut pass.seat, cell as usize),
+            Step::Load(cell) => {
+                let value = self
+                    .table
+                    .shared
+                    .load::<Loads>(&mut pass.seat, cell as usize);
+                if cell == 0 {
+                    pass.high = value;
+                }
+                value
+            }
             Step::Store(cell, new) => {
                 self.table
                     .shared
                     .store::<Stores>(&mut pass.seat, cell as usize, new);
                 if cell == 0 {
                     pass.busy = false;
+                    pass.high = new;
                 }
                 0
             }
@@ -121,6 +129,7 @@ impl Words {
                     .table
                     .shared
                     .compare_exchange::<Exchanges>(&mut pass.seat, cell as usize, old, new);
+                pass.high = found;
                 if found == old {
                     pass.busy = true;
                 }
@@ -144,6 +153,7 @@ impl Words {
             seat,
             left: 0,
             busy: false,
+            high: pass.high,
         }
     }
 
@@ -158,11 +168,13 @@ impl Words {
             seat,
             left,
             busy: _,
+            high,
         } = other;
         self.table.shared.join_seat::<Both>(&mut pass.seat, seat);
         // a join tells nothing itself: this load tells how the two views lay to each other
         self.table.shared.load::<Settles>(&mut pass.seat, 0);
         pass.left += left + 1;
+        pass.high = pass.high.max(high);
     }
 
     /// Gives the bytes of the memory, as many as `size` tells, and the clock. With the pass that has the whole share these

@@ -1,11 +1,12 @@
 -- A player's run on a thread as a row of calls, each with its answer and with what the answer made of the run.
-use Rattle.std.specs.Prelude.{◌≡◌, ◌⊎◌, ℕ, zero, suc, ◌/◌, Bool, true, false, List, ◌++◌, Option, None, Some, unwrap_or}
+use Rattle.std.specs.Prelude.{◌≡◌, ◌⊎◌, ℕ, zero, suc, Bool, true, false, List, ◌++◌, Option, None, Some, unwrap_or}
 use Rattle.itm_types.specs.Calls.{is_begin}
 use Rattle.itm_types.specs.declared.call.Call.{Call}
 use Rattle.norec_core.specs.declared.answer.Answer.{Answer}
 use Rattle.norec_core.specs.Core.{irrevocable_room}
 use Rattle.norec_core.specs.Undoing.{after_undoing}
 use Rattle.shared_words.specs.declared.words.Words.{Words}
+use Rattle.shared_words.specs.Passes.{commits_known, view_of}
 use Rattle.itm_runtime.specs.CallResults.{IsAnswered}
 use Rattle.itm_runtime.specs.Standing.{Standing, start_of}
 use Rattle.tx_attempts.specs.declared.attempt.Attempt.{Attempt}
@@ -39,9 +40,9 @@ module _ {P : Type 0} (rules : Rules P) where
     pub thread : s' ≡ s
 
 module _ {P : Type 0} (words : Words) (rules : Rules P) (number retries : ℕ) where
-  -- the tally as its call comes to this thread: an attempt begins with half the clock that the thread has seen last
+  -- the tally as its call comes to this thread: an attempt begins with the commits that its pass knows of
   abbrev pub asked : Standing → Account P → Call → Tally P
-  asked s a call = came number (s.engine.clock / 2) s.engine.arena (unwrap_or (irrevocable_room s.engine call) 0) (tally_in a) call
+  asked s a call = came number (commits_known (view_of s.pass)) s.engine.arena (unwrap_or (irrevocable_room s.engine call) 0) (tally_in a) call
 
   -- the player's next call was made on the thread, and this came of its answer: the run goes on, or is over
   pub record IsMade (a : Account P) (s : Standing) (end : Option End) (a' : Account P) (s' : Standing) : Type 0 where

@@ -4,6 +4,7 @@ use Rattle.itm_types.specs.Memory.{IsMemory}
 use Rattle.norec_core.specs.Core.{Core, in_transaction}
 use Rattle.norec_core.specs.Stands.{stands_for}
 use Rattle.shared_words.specs.declared.view.View.{View}
+use Rattle.shared_words.specs.Passes.{commits_known}
 use Rattle.shared_words.specs.Views.{held}
 use Rattle.itm_runtime.specs.Ties.{memory_of}
 use Rattle.itm_runtime.specs.Served.{Went}
@@ -87,7 +88,7 @@ module _ {P : Type 0} (rules : Rules P) where
     pub stage_is : t.stage ≡ outside
     pub now_is : now_at c v t.ended ≡ Some between
     pub before : IsBefore c.depth between t e.arena
-    pub known : known_after c.known t.ended ≤ e.clock / 2
+    pub known : known_after c.known t.ended ≤ commits_known v
     pub looked : c.view.looks + t.nth ≤ v.looks + 1
 
   pub record IsRunning (c : Course P) (v : View) (e : Core) (t : Account P) : Type 0 where

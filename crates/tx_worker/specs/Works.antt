@@ -1,9 +1,9 @@
 -- What a thread's whole run leaves.
-use Rattle.std.specs.Prelude.{◌≡◌, ◌⊎◌, ℕ, ◌+◌, ◌/◌, ◌≤◌, ◌++◌, ◌∷◌, [], Bool, true, false, List, None, Some, Result, Ok, Err, length}
+use Rattle.std.specs.Prelude.{◌≡◌, ◌⊎◌, ℕ, ◌+◌, ◌≤◌, ◌++◌, ◌∷◌, [], Bool, true, false, List, None, Some, Result, Ok, Err, length}
 use Rattle.shared_words.specs.declared.pass.Pass.{Pass}
 use Rattle.shared_words.specs.declared.view.View.{View}
 use Rattle.shared_words.specs.declared.words.Words.{Words}
-use Rattle.shared_words.specs.Passes.{Owns, view_of}
+use Rattle.shared_words.specs.Passes.{Owns, commits_known, view_of}
 use Rattle.itm_runtime.specs.Standing.{Standing}
 use Rattle.itm_runtime.specs.Ties.{Stands}
 use Rattle.tx_attempts.specs.declared.attempt.Attempt.{Attempt}
@@ -58,7 +58,7 @@ course_of start player number retries = record {
   retries = retries;
   restarts = start.engine.restarts;
   depth = start.engine.depth;
-  known = start.engine.clock / 2;
+  known = commits_known (view_of start.pass);
   first = record { player = player; arena = start.engine.arena; again = false; tries = 0 };
 }
 

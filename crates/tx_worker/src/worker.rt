@@ -1,8 +1,8 @@
 //! One thread's player with its transactions.
 
-ghost use Rattle.std.specs.Prelude.{◌≡◌, ◌/◌, ◌<◌, ◌≤◌, Bool, false, Some, unwrap_or, IsOk, OnOk, OnErr, vec_len, vec_capacity};
+ghost use Rattle.std.specs.Prelude.{◌≡◌, ◌<◌, ◌≤◌, Bool, false, Some, unwrap_or, IsOk, OnOk, OnErr, vec_len, vec_capacity};
 ghost use Rattle.norec_core.specs.Core.{irrevocable_room};
-ghost use Rattle.shared_words.specs.Passes.{Owns};
+ghost use Rattle.shared_words.specs.Passes.{Owns, commits_known, view_of};
 ghost use Rattle.shared_words.specs.declared.words.Words.{Words as WordsValue};
 ghost use Rattle.itm_runtime.specs.CallResults.{Returns};
 ghost use Rattle.tx_runs.specs.OpenAttempts.{Open};
@@ -110,19 +110,19 @@ impl<P: Player> Worker<P> {
         }
     }
 
-    /// The attempt that an outermost begin is to open. It begins with the commits that the thread has seen.
+    /// The attempt that an outermost begin is to open. It begins with the commits that the thread knows of.
     fn prepare_begin(&mut self, alloc: Global, call: &Call, props: Props) -> Result<(), AllocError>
         ensures same { self.new ≡ record self.old { run = record self.old.run { current = self.new.run.current }; ended = self.new.ended } }
         ensures ended { self.new.ended.items ≡ self.old.ended.items }
         ensures begins { OnOk result ((o : Open) × (self.new.run.current ≡ Current.Begins o) × (o.row ≡ begun self.old.run.thread self.old.run.nth
-            (self.old.thread.engine.clock / 2) props self.old.thread.engine.arena (unwrap_or (irrevocable_room self.old.thread.engine call.now) 0))
+            (commits_known (view_of self.old.thread.pass)) props self.old.thread.engine.arena (unwrap_or (irrevocable_room self.old.thread.engine call.now) 0))
             × (o.row.calls.room ≤ o.deep) × (o.row.calls.room ≤ o.ends) × (o.row.calls.room ≤ o.cancels)) }
         ensures place { OnOk result (vec_len self.new.ended < vec_capacity self.new.ended) }
         ensures still { OnErr result (self.new.run.current ≡ self.old.run.current) }
     {
         self.ended.reserve(1)?;
         let ahead = ahead_of(self.thread.irrevocable_room(call));
-        let began = self.thread.clock() / 2;
+        let began = self.thread.known();
         let arena = self.thread.arena().bytes();
         let attempt = self.run.attempt(alloc, began, props, arena, ahead)?;
         self.run.current = Current::Begins(attempt);

@@ -4,7 +4,7 @@ use Rattle.norec_core.specs.Core.{Core}
 use Rattle.shared_words.specs.declared.pass.Pass.{Pass}
 use Rattle.shared_words.specs.declared.view.View.{View}
 use Rattle.shared_words.specs.declared.words.Words.{Words}
-use Rattle.shared_words.specs.Passes.{view_of}
+use Rattle.shared_words.specs.Passes.{commits_known, view_of}
 use Rattle.shared_words.specs.Commits.{StartsWith}
 use Rattle.shared_words.specs.Steps.{Joined}
 use Rattle.shared_words.proofs.ListPlaces.{starts_self}
@@ -161,7 +161,7 @@ module _ {G : Type 0} (words : Words) (base : List ℕ) (p : Listing) (n : ℕ) 
   its_mine = done.mine ∙ ap (λ (z : View). z.mine ++ positions r.attempts) is.fresh.pass_is
 
   known_is : course.known ≡ 0
-  known_is = ap (λ (e : Core). e.clock / 2) is.fresh.engine_is
+  known_is = ap (λ (z : View). commits_known z) is.fresh.pass_is
 
   ends_by : (end : End) → EndsAs thread_rules course w.start.value.engine.max_commits shuts end left_view r.attempts → EndsBy course.depth (bytes_at left_view) course.first end r.attempts
   ends_by Finished e = ⊎_elim

@@ -19,6 +19,7 @@ use Rattle.norec_core.specs.Stands.{stands_for}
 use Rattle.norec_core.specs.declared.answer.Answer.{Answer}
 use Rattle.norec_core.specs.declared.answer.Answer.TheVariants.{Busy, Committed, Conflict, Full, Reply}
 use Rattle.shared_words.specs.declared.view.View.{View}
+use Rattle.shared_words.specs.Passes.{commits_known}
 use Rattle.shared_words.specs.Views.{held}
 use Rattle.itm_runtime.specs.Served.{IsUndone, Meets, Served, Start, Went, came_over, left_over, memory_in, mine_after}
 use Rattle.itm_runtime.specs.Ties.{Stands, memory_of}
@@ -162,7 +163,7 @@ module _ {P : Type 0} {rules : Rules P} (laws : Obeys rules) (c : Course P) (s :
         outside = λ now. record {
           between = was.between;
           stage_is = refl;
-          known = (let k = was.known in omega arith);
+          known = (let k = was.known in let up = went.high in omega arith);
           now_is = later.1 ∙ was.now_is;
           before = record {
             calls = k.calls;
@@ -191,7 +192,7 @@ module _ {P : Type 0} {rules : Rules P} (laws : Obeys rules) (c : Course P) (s :
 
     -- the attempt, with room for so many calls
     abbrev row : ℕ → Attempt
-    row ahead = record (begun c.number t.nth (s.engine.clock / 2) props s.engine.arena ahead) { at = e.snapshot / 2 }
+    row ahead = record (begun c.number t.nth (commits_known s.view) props s.engine.arena ahead) { at = e.snapshot / 2 }
 
     -- as the engine comes to its answer
     module _ (last : IsLast s v (Reply r) e) (ahead : ℕ) where
@@ -215,7 +216,7 @@ module _ {P : Type 0} {rules : Rules P} (laws : Obeys rules) (c : Course P) (s :
           led rules laws c.depth was.before.calls was.between.player was.between.arena t.player s.engine.arena was.before.leads
           ∙ begin_here rules laws c.depth t.player s.engine.arena props room (asks ∙ ap (λ (x : Call). Some x) is) accepted
 
-      to_open : IsToOpen rules was.between (begun c.number t.nth (s.engine.clock / 2) props s.engine.arena ahead) t.player last.mid props room
+      to_open : IsToOpen rules was.between (begun c.number t.nth (commits_known s.view) props s.engine.arena ahead) t.player last.mid props room
       to_open = record {
         comes = subst (λ (x : ℕ × List ℕ). begins_at rules x.0 was.between ≡ Some (record { player = t.player; arena = x.1; props = props })) (λ i. (sym depth_mid i, sym arena_mid i)) comes;
         asks = asks ∙ ap (λ (x : Call). Some x) is;
@@ -232,8 +233,8 @@ module _ {P : Type 0} {rules : Rules P} (laws : Obeys rules) (c : Course P) (s :
         revocable = revocable_mid;
       }
 
-      began : s.engine.clock / 2 ≤ e.snapshot / 2
-      began = (let known = before.known in let seen = (served.opens outside now).seen in omega arith)
+      began : commits_known s.view ≤ e.snapshot / 2
+      began = (let known = before.over.known in let seen = (served.opens outside now).seen in omega arith)
 
       agreed_mid : (m : List ℕ) × IsMemory mid.words m × Agrees m e.log
       agreed_mid = (let some = stands.settled.agreed in (some.0, subst (λ (n : ℕ). IsMemory n some.0) (rests mid e (Reply r) last.ends).words some.1, some.2))
@@ -250,7 +251,7 @@ module _ {P : Type 0} {rules : Rules P} (laws : Obeys rules) (c : Course P) (s :
         stands_held = λ irrevocable. begins_over s v e before outside props room is r served now irrevocable;
       }
 
-    pub opens : IsLast s v (Reply r) e → (ahead : ℕ) → IsRunning rules c v e (record t { player = rules.answered t.player r; again = true; stage = within (record (begun c.number t.nth (s.engine.clock / 2) props s.engine.arena ahead) { at = e.snapshot / 2 }) [] })
+    pub opens : IsLast s v (Reply r) e → (ahead : ℕ) → IsRunning rules c v e (record t { player = rules.answered t.player r; again = true; stage = within (record (begun c.number t.nth (commits_known s.view) props s.engine.arena ahead) { at = e.snapshot / 2 }) [] })
     opens last ahead =
         let nested = nested_outside running outside in
         let later = run_later rules c s.view v served.went t.ended running.has_run in

@@ -208,7 +208,7 @@ module _ {P : Type 0} {rules : Rules P} (laws : Obeys rules) (c : Course P) (s :
         outside = λ now. record {
           between = was.between;
           stage_is = was.stage_is;
-          known = (let k = was.known in let up = served.rises in omega arith);
+          known = (let k = was.known in let up = served.went.high in omega arith);
           now_is = later.1 ∙ was.now_is;
           before = record {
             calls = suc was.before.calls;

@@ -5,7 +5,7 @@ use Rattle.norec_core.specs.declared.answer.Answer.{Answer}
 use Rattle.norec_core.specs.Core.{Core, in_transaction, irrevocable_room}
 use Rattle.shared_words.specs.declared.view.View.{View}
 use Rattle.shared_words.specs.declared.words.Words.{Words}
-use Rattle.shared_words.specs.Passes.{Owns, cells_of, view_of}
+use Rattle.shared_words.specs.Passes.{Owns, cells_of, commits_known, view_of}
 use Rattle.itm_runtime.specs.CallResults.{IsAnswered}
 use Rattle.itm_runtime.specs.Served.{Served, Start}
 use Rattle.itm_runtime.specs.Standing.{Standing, start_of}
@@ -37,11 +37,11 @@ module _ {P : Type 0} {rules : Rules P} (laws : Obeys rules) (words : Words) (c 
 
   -- by the course's own number and tries, where the player stands like this
   abbrev Took_at : Stage → Taken P
-  Took_at g = took_in rules c.retries (record (tally_in a) { stage = stage_at g call (λ props. begun c.number a.nth (s.engine.clock / 2) props s.engine.arena ahead) ahead }) call answer (stand_of s'.engine)
+  Took_at g = took_in rules c.retries (record (tally_in a) { stage = stage_at g call (λ props. begun c.number a.nth (commits_known (view_of s.pass)) props s.engine.arena ahead) ahead }) call answer (stand_of s'.engine)
 
   took_so : (g : Stage) → a.stage ≡ g → Took_at g ≡ Took
   took_so g is = λ i. took_in rules (sym retries_is i)
-      (record (tally_in a) { stage = stage_at (sym is i) call (λ props. begun (sym number_is i) a.nth (s.engine.clock / 2) props s.engine.arena ahead) ahead }) call answer (stand_of e)
+      (record (tally_in a) { stage = stage_at (sym is i) call (λ props. begun (sym number_is i) a.nth (commits_known (view_of s.pass)) props s.engine.arena ahead) ahead }) call answer (stand_of e)
 
   -- the start by where the player stands
   abbrev start_at : Stage → Start

@@ -8,7 +8,7 @@ use Rattle.norec_core.specs.declared.answer.Answer.{Answer}
 use Rattle.norec_core.specs.Core.{in_transaction, irrevocable_room}
 use Rattle.norec_core.specs.Proceeds.{MayStarve}
 use Rattle.shared_words.specs.declared.words.Words.{Words}
-use Rattle.shared_words.specs.Passes.{view_of}
+use Rattle.shared_words.specs.Passes.{commits_known, view_of}
 use Rattle.itm_runtime.specs.CallResults.{IsAnswered, IsThreadStarved}
 use Rattle.itm_runtime.specs.Standing.{Standing, start_of}
 use Rattle.tx_attempts.specs.declared.attempt.Attempt.{Attempt}
@@ -65,7 +65,7 @@ roomier call row ahead (Within o) (Within o') never is = (
 
 module _ {P : Type 0} {rules : Rules P} {words : Words} {c : Course P} {b : Bounds} {old mid : Worker P} {call : Call} (works : IsWorking rules words c b old) (asks : rules.next_call old.run.player ≡ Some call) (same : OnlyRoom old mid) (prepared : IsPrepared words rules old call mid) where
   abbrev opens : Props → Attempt
-  opens props = begun old.run.thread old.run.nth (old.thread.engine.clock / 2) props old.thread.engine.arena (unwrap_or (irrevocable_room old.thread.engine call) 0)
+  opens props = begun old.run.thread old.run.nth (commits_known (view_of old.thread.pass)) props old.thread.engine.arena (unwrap_or (irrevocable_room old.thread.engine call) 0)
 
   stage_is : stage_of mid.run.current ≡ stage_at (stage_of old.run.current) call opens (unwrap_or (irrevocable_room old.thread.engine call) 0)
   stage_is = ap (λ (t : Tally P). t.stage) prepared.came

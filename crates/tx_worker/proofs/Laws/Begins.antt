@@ -4,7 +4,7 @@ use Rattle.itm_types.specs.declared.limits.TheConstants.{MAX_RETRIES}
 use Rattle.nest_frames.specs.Nest.{Frame}
 use Rattle.norec_core.specs.Core.{in_transaction, is_inside}
 use Rattle.shared_words.specs.declared.words.Words.{Words}
-use Rattle.shared_words.specs.Passes.{Owns, view_of}
+use Rattle.shared_words.specs.Passes.{Owns, commits_known, view_of}
 use Rattle.itm_runtime.specs.Standing.{Standing}
 use Rattle.itm_runtime.specs.Ties.{Stands}
 use Rattle.tx_attempts.specs.declared.attempt.Attempt.{Attempt}
@@ -35,7 +35,7 @@ module _ {P : Type 0} (rules : Rules P) (words : Words) (thread : Standing) (pla
     run = tt;
     left = tt;
     since = tt;
-    known = stands.known;
+    known = stands.over.known;
     own = tt;
     few = tt;
     outrun = outrun_none (view_of thread.pass).high;
@@ -57,7 +57,7 @@ module _ {P : Type 0} (rules : Rules P) (words : Words) (thread : Standing) (pla
       stage_is = refl;
       now_is = refl;
       before = record { calls = 0; leads = (refl, refl); again = refl; tries = omega arith };
-      known = (let l : thread.engine.clock / 2 ≤ thread.engine.clock / 2 = omega arith in l);
+      known = (let l : commits_known (view_of thread.pass) ≤ commits_known (view_of thread.pass) = omega arith in l);
       looked = omega arith;
     };
   }

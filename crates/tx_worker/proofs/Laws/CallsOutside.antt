@@ -10,6 +10,7 @@ use Rattle.norec_core.specs.declared.answer.Answer.{Answer}
 use Rattle.norec_core.specs.declared.answer.Answer.TheVariants.{Busy, Committed, Conflict, Full, Reply, Restarted}
 use Rattle.norec_core.specs.Core.{Core, in_transaction}
 use Rattle.shared_words.specs.declared.view.View.{View}
+use Rattle.shared_words.specs.Passes.{commits_known}
 use Rattle.itm_runtime.specs.Served.{Served, Start, mine_after}
 use Rattle.itm_runtime.specs.Ties.{Stands}
 use Rattle.tx_attempts.specs.declared.attempt.Attempt.{Attempt}
@@ -33,10 +34,10 @@ module _ {P : Type 0} {rules : Rules P} (laws : Obeys rules) (c : Course P) (s :
     (asks : rules.next_call a.player ≡ Some s.call) (shut_before : in_transaction s.engine ≡ false) (ahead : ℕ) where
   -- the attempt that a begin is to open
   abbrev pub row_for : Props → Attempt
-  row_for props = begun c.number a.nth (s.engine.clock / 2) props s.engine.arena ahead
+  row_for props = begun c.number a.nth (commits_known s.view) props s.engine.arena ahead
 
   abbrev pub Took : Call → Answer → Taken P
-  Took call answer = took_in rules c.retries (record (tally_in a) { stage = stage_at outside call (λ props. begun c.number a.nth (s.engine.clock / 2) props s.engine.arena ahead) ahead }) call answer (stand_of e)
+  Took call answer = took_in rules c.retries (record (tally_in a) { stage = stage_at outside call (λ props. begun c.number a.nth (commits_known s.view) props s.engine.arena ahead) ahead }) call answer (stand_of e)
 
   nested : IsNested rules false a.player
   nested = subst (λ (i : Bool). IsNested rules i a.player) shut_before running.nested

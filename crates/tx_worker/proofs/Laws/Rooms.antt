@@ -13,7 +13,7 @@ use Rattle.norec_core.specs.Restarts.{IsRestart}
 use Rattle.norec_engine.specs.RestartingCalls.{arena_ahead}
 use Rattle.user_actions.specs.Actions.{total}
 use Rattle.shared_words.specs.declared.words.Words.{Words}
-use Rattle.shared_words.specs.Passes.{cells_of}
+use Rattle.shared_words.specs.Passes.{cells_of, commits_known, view_of}
 use Rattle.itm_runtime.specs.Served.{Served, Start}
 use Rattle.itm_runtime.specs.Standing.{start_of}
 use Rattle.tx_attempts.specs.declared.attempt.Attempt.{Attempt}
@@ -102,7 +102,7 @@ module _ {P : Type 0} {rules : Rules P} {words : Words} {c : Course P} {b : Boun
 
   -- the attempt that an outermost begin is to open
   abbrev opens : Worker P → Props → Attempt
-  opens w props = begun w.run.thread w.run.nth (w.thread.engine.clock / 2) props w.thread.engine.arena (unwrap_or (irrevocable_room w.thread.engine call) 0)
+  opens w props = begun w.run.thread w.run.nth (commits_known (view_of w.thread.pass)) props w.thread.engine.arena (unwrap_or (irrevocable_room w.thread.engine call) 0)
 
   -- as its engine came to the answer
   pub last : IsLast (start_of old.thread call (begins_again (stage_of old.run.current) old.run.again call)) (view_in new) answer new.thread.engine

@@ -8,6 +8,7 @@ use Rattle.norec_core.specs.Core.{Core, in_transaction}
 use Rattle.norec_core.specs.Stands.{stands_for}
 use Rattle.user_actions.specs.Actions.{Actions}
 use Rattle.shared_words.specs.declared.view.View.{View}
+use Rattle.shared_words.specs.Passes.{commits_known}
 use Rattle.itm_runtime.specs.Served.{Start, Went}
 use Rattle.itm_runtime.specs.Ties.{Stands, memory_of}
 use Rattle.tx_attempts.proofs.AloneCalls.{player_snoc}
@@ -65,7 +66,7 @@ module _ {P : Type 0} {rules : Rules P} (laws : Obeys rules) (c : Course P) (s :
     pub depth : length e.blocks ≡ depth_after (length s.engine.blocks) s.call r
     pub deepest : e.depth ≡ s.engine.depth
     pub limit : e.restarts ≡ s.engine.restarts
-    pub clock : (if is_committed outcome then suc (e.snapshot / 2) else e.snapshot / 2) ≤ e.clock / 2
+    pub clock : (if is_committed outcome then suc (e.snapshot / 2) else e.snapshot / 2) ≤ commits_known v
 
   module _ (outcome : Outcome) (closes : Closes outcome) where
     -- what is told as run in the end

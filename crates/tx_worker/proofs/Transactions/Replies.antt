@@ -144,7 +144,7 @@ module _ {P : Type 0} {rules : Rules P} (laws : Obeys rules) (c : Course P) (s :
             depth = depth_is;
             deepest = served.limits.2;
             limit = served.limits.3;
-            clock = (let up = stands.settled.reached in omega arith);
+            clock = (let up = stands.settled.reached in let behind = stands.behind in let high = stands.over.high in omega arith);
           })
 
   -- ## It commits
@@ -194,7 +194,7 @@ module _ {P : Type 0} {rules : Rules P} (laws : Obeys rules) (c : Course P) (s :
           depth = depth_over;
           deepest = served.limits.2;
           limit = served.limits.3;
-          clock = (let up = served.tells.clock is in omega arith);
+          clock = (let up = served.tells.clock is in let behind = stands.behind in let high = stands.over.high in omega arith);
         }
     by_wrote false is =
         let calls = (running.inside inside).row.calls.list in
@@ -214,7 +214,7 @@ module _ {P : Type 0} {rules : Rules P} (laws : Obeys rules) (c : Course P) (s :
           depth = depth_over;
           deepest = served.limits.2;
           limit = served.limits.3;
-          clock = (let up = stands.settled.reached in omega arith);
+          clock = (let up = stands.settled.reached in let behind = stands.behind in let high = stands.over.high in omega arith);
         }
 
     pub commits : IsRunning rules c v e (closed t (rules.answered t.player Done) (ended_at (if wrote then outcomes.Committed else outcomes.ReadOnly) (e.snapshot / 2) e.actions.ran (row_with 0 s.call Done (running.inside inside).row)))

@@ -103,7 +103,7 @@ module _ {P : Type 0} {rules : Rules P} (laws : Obeys rules) (c : Course P) (s :
           outside = λ o. record {
             between = record { player = rules.restarted t.player; arena = e.arena; again = true; tries = h.row.nth };
             stage_is = refl;
-            known = (let k = known_more c.known t.ended (ended_at outcomes.Conflict (e.snapshot / 2) e.actions.ran h.row) in let up = stands.settled.reached in omega arith);
+            known = (let k = known_more c.known t.ended (ended_at outcomes.Conflict (e.snapshot / 2) e.actions.ran h.row) in let up = stands.settled.reached in let behind = stands.behind in let high = stands.over.high in omega arith);
             now_is = conflict_ended.1 ∙ (λ i. Some (record { player = player i; arena = arena i; again = true; tries = h.row.nth }));
             before = record { calls = 0; leads = (refl, refl); again = h.again; tries = (let same = h.nth in omega arith) };
             looked = (let looked = h.looked in let looks = served.tells.looks in omega arith);
