@@ -1,5 +1,5 @@
 -- What was written of a program's run on threads.
-use Rattle.std.proofs.Common.{◌≡◌, ℕ, false, List, map, take, IfErr, IfOk, Option, Some, Result, Ok, Err, refl, sym, subst}
+use Rattle.std.proofs.Common.{◌≡◌, ℕ, List, map, take, IfErr, IfOk, Option, Some, Result, Ok, Err, refl, sym, subst}
 use Rattle.std.specs.Io.KnownBytes.{Appends, Keeps}
 use Rattle.arrayvec.specs.ArrayVec.{ArrayVec}
 use Rattle.script_program.specs.Listing.{Listing}
@@ -17,9 +17,10 @@ use Rattle.tx_host.specs.declared.report.HostFault.TheVariants.{Held, NoMemory, 
 use Rattle.tx_host.specs.declared.report.Report.{Report}
 use Rattle.tx_host.specs.Reports.{Ran, StaysHeld}
 use Rattle.tx_runs.specs.declared.ending.End.{End}
+use Rattle.tx_worker.specs.Gates.{all_let}
 use Rattle.run_commands.specs.Threading.{IsThreadedRun, TellsRun, failure_of, threading}
 
-module _ (p : Listing) (r : Report) (o n : Option (List ℕ)) (ran : Ran false p r) (limited : AreLimited r.history) (fits : HistoryFits r.history) where
+module _ (p : Listing) (r : Report) (o n : Option (List ℕ)) (ran : Ran all_let p r) (limited : AreLimited r.history) (fits : HistoryFits r.history) where
   run_of : (endings : ArrayVec (Option End)) → endings.items ≡ map Some r.ends.items → IsThreadedRun p endings (history_text r.history)
   run_of endings stand = record { report = r; ran = ran; stand = stand; told = refl; read = legal_text r.history ran.legal fits limited }
 
@@ -40,12 +41,12 @@ failed p o n NoThread k = (refl, p, refl, k)
 failed p o n Held k = k
 
 -- all that is told of a run is the command's output
-pub output : (p : Listing) (run : Result Report HostFault) (done : Result (ArrayVec (Option End)) (Failure AsmFault)) (o n : Option (List ℕ)) → IfOk run (λ r. Ran false p r) → IfOk run (λ r. AreLimited r.history) → TellsRun run done o n → Outputs threading done (Ok p) o n
+pub output : (p : Listing) (run : Result Report HostFault) (done : Result (ArrayVec (Option End)) (Failure AsmFault)) (o n : Option (List ℕ)) → IfOk run (λ r. Ran all_let p r) → IfOk run (λ r. AreLimited r.history) → TellsRun run done o n → Outputs threading done (Ok p) o n
 output p (Ok r) (Ok endings) o n ran limited t = told p r o n ran limited t.3 endings t.1 t.0
 output p (Ok r) (Err f) o n ran limited t = subst (λ (e : Failure AsmFault). Outputs threading (Err e) (Ok p) o n) (sym t.2) (begun p r o n ran limited t.3 t.0)
 output p (Err fault) done o n ran limited t = subst (λ (d : Result (ArrayVec (Option End)) (Failure AsmFault)). Outputs threading d (Ok p) o n) (sym t.0) (failed p o n fault t.1)
 
 -- no thread of nested code ends while it holds the clock
-pub never_held : (p : Listing) (run : Result Report HostFault) → HasNestedCode p → IfErr run (λ fault. fault ≡ Held → StaysHeld false p) → IfErr run (λ fault. fault ≡ Held → ⊥)
+pub never_held : (p : Listing) (run : Result Report HostFault) → HasNestedCode p → IfErr run (λ fault. fault ≡ Held → StaysHeld all_let p) → IfErr run (λ fault. fault ≡ Held → ⊥)
 never_held p (Ok r) nested held = held
-never_held p (Err fault) nested held = λ is. none_stay_held false p nested (held is)
+never_held p (Err fault) nested held = λ is. none_stay_held all_let p nested (held is)

@@ -1,5 +1,5 @@
 -- The command that runs scripts on threads of their own.
-use Rattle.std.specs.Prelude.{◌≡◌, ℕ, false, true, List, map, Option, Some, Result, Ok, Err, IfErr, IfOk}
+use Rattle.std.specs.Prelude.{◌≡◌, ℕ, true, List, map, Option, Some, Result, Ok, Err, IfErr, IfOk}
 use Rattle.std.specs.Io.KnownBytes.{Keeps}
 use Rattle.arrayvec.specs.ArrayVec.{ArrayVec}
 use Rattle.history_reader.specs.LegalTexts.{IsLegalText}
@@ -17,12 +17,13 @@ use Rattle.tx_host.specs.declared.report.HostFault.TheVariants as faults
 use Rattle.tx_host.specs.declared.report.Report.{Report}
 use Rattle.tx_host.specs.Reports.{Ran}
 use Rattle.tx_runs.specs.declared.ending.End.{End}
+use Rattle.tx_worker.specs.Gates.{all_let}
 use Rattle.run_commands.specs.Endings.{ending_lines, endings_status}
 
 -- a run of the program on threads, after which they stand so, and the text of its history
 pub record IsThreadedRun (p : Listing) (endings : ArrayVec (Option End)) (text : List ℕ) : Type 0 where
   pub report : Report
-  pub ran : Ran false p report  -- whose gate never shuts
+  pub ran : Ran all_let p report  -- whose gate lets all calls through
   pub stand : endings.items ≡ map Some report.ends.items
   pub told : text ≡ history_text report.history
   pub read : IsLegalText text  -- so who checks it finds it legal

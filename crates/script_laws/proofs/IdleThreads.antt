@@ -23,7 +23,8 @@ use Rattle.tx_runs.specs.Nesting.{IsDeep}
 use Rattle.tx_runs.proofs.RunLists.{there_is}
 use Rattle.tx_worker.specs.declared.worked.Worked.{Worked}
 use Rattle.tx_worker.specs.Accounts.{Account, first_account}
-use Rattle.tx_worker.specs.Calls.{StopsAs}
+use Rattle.tx_worker.specs.Gates.{Gating, call_number}
+use Rattle.tx_worker.specs.Calls.{StopsAt}
 use Rattle.tx_worker.specs.Works.{IsRow, Parts, is_held}
 use Rattle.tx_worker.proofs.Laws.Answers.{both}
 use Rattle.script_laws.proofs.KeptThreads.{IsKept, course, first_kept, kept_all, some_open}
@@ -38,16 +39,16 @@ module _ (words : Words) (start : Standing) (code : List Instruction) (number re
       by_holder true = free
       by_holder false = refl
 
-  free_at : (shuts : Bool) (end : End) (a : Account Thread) (s : Standing) (over : Account Thread) (thread : Standing) → IsKept words start code number retries a s → StopsAs words thread_rules number retries shuts end a s over thread → thread.engine.irrevocable ≡ false
-  free_at shuts Finished a s over thread k stops =
+  free_at : (gate : Gating) (calls : ℕ) (end : End) (a : Account Thread) (s : Standing) (over : Account Thread) (thread : Standing) → IsKept words start code number retries a s → StopsAt words thread_rules number retries gate calls end a s over thread → thread.engine.irrevocable ≡ false
+  free_at gate calls Finished a s over thread k stops =
       let few : depth_of a.player ≤ a.player.deepest = subst (λ (n : ℕ). depth_of a.player ≤ n) (sym k.deep) k.few in
       let none = ended_shut a.player k.nested few stops.0 in
       let shut : in_transaction s.engine ≡ false = some_open s.engine.blocks (sym k.running.depth ∙ none) in
       ap (λ (t : Standing). t.engine.irrevocable) stops.2 ∙ shut_revocable s.engine k.stands.settled shut
-  free_at shuts GaveUp a s over thread k (inl shut) = ap (λ (t : Standing). t.engine.irrevocable) shut.thread ∙ shut.free
-  free_at shuts GaveUp a s over thread k (inr made) =
+  free_at gate calls GaveUp a s over thread k (inl shut) = ap (λ (t : Standing). t.engine.irrevocable) shut.thread ∙ shut.free
+  free_at gate calls GaveUp a s over thread k (inr (made, passed)) =
       shut_revocable thread.engine made.answered.stands.settled ((both thread_laws words (course words start code number retries) a s k.running k.own k.stands number retries refl refl made.call made.asks made.answer thread made.answered).1 GaveUp made.end_is).shut
-  free_at shuts NoMemory a s over thread k starved = ap (λ (e : Core). e.irrevocable) starved.engine ∙ undone_free s.engine (by_mode s.engine.irrevocable refl)
+  free_at gate calls NoMemory a s over thread k (starved, passed) = ap (λ (e : Core). e.irrevocable) starved.engine ∙ undone_free s.engine (by_mode s.engine.irrevocable refl)
     where
       by_mode : (b : Bool) → s.engine.irrevocable ≡ b → s.engine.irrevocable ≡ false
       by_mode false free = free
@@ -65,20 +66,20 @@ idle_by thread (Ok pass) parts free = refl
 idle_by thread (Err kept) parts free = absurd (true≢false (sym parts.1 ∙ free))
 
 pub come_back_idle : ComeBackIdle
-come_back_idle words start code number retries shuts worked nests own stands shut row =
-    let k = kept_all words start code number retries row.calls (first_account (opening start.engine.depth code)) start row.account row.standing (first_kept words start code number retries nests own stands shut) row.made in
-    idle_by row.thread worked.pass row.pass (free_at words start code number retries shuts worked.end row.account row.standing row.left row.thread k row.stops)
+come_back_idle words start code number retries gate worked nests own stands shut row =
+    let k = kept_all words start code number retries gate row.calls (first_account (opening start.engine.depth code)) start row.account row.standing (first_kept words start code number retries nests own stands shut) row.made in
+    idle_by row.thread worked.pass row.pass (free_at words start code number retries gate (call_number row.calls) worked.end row.account row.standing row.left row.thread k row.stops)
 
 -- ## A program
 
-made_idle : (shuts : Bool) (p : Listing) (words : Words) (base : List ℕ) (number : ℕ) (worked : Worked) → HasNestedCode p → number < length (threads_of p) → MadeCalls words p base shuts number worked → is_held worked.pass ≡ false
-made_idle shuts p words base number worked nested there made =
+made_idle : (gate : Gating) (p : Listing) (words : Words) (base : List ℕ) (number : ℕ) (worked : Worked) → HasNestedCode p → number < length (threads_of p) → MadeCalls words p base gate number worked → is_held worked.pass ≡ false
+made_idle gate p words base number worked nested there made =
     let code = there_is (threads_of p) number there in
     let its_code : code_of p number ≡ code.0 = get_or_from_slice_get (threads_of p) number code.0 [] code.1 in
     let deep : made.start.engine.depth ≡ p.limits.depth = ap (λ (e : Core). e.depth) made.fresh.engine_is in
     let player : made.player ≡ opening made.start.engine.depth code.0 = made.fresh.player_is ∙ (λ i. opening (sym deep i) (its_code i)) in
-    come_back_idle words made.start code.0 number p.limits.retries shuts worked (nested number code.0 code.1) made.own made.stands (ap in_transaction made.fresh.engine_is)
-    (subst (λ (q : Thread). IsRow thread_rules words made.start q number p.limits.retries shuts worked) player made.row)
+    come_back_idle words made.start code.0 number p.limits.retries gate worked (nested number code.0 code.1) made.own made.stands (ap in_transaction made.fresh.engine_is)
+    (subst (λ (q : Thread). IsRow thread_rules words made.start q number p.limits.retries gate worked) player made.row)
 
 pub none_stay_held : NoneStayHeld
-none_stay_held shuts p nested held = true≢false (sym held.2.4 ∙ made_idle shuts p held.0 held.1 held.2.0 held.2.1 nested held.2.2 held.2.3)
+none_stay_held gate p nested held = true≢false (sym held.2.4 ∙ made_idle gate p held.0 held.1 held.2.0 held.2.1 nested held.2.2 held.2.3)

@@ -35,6 +35,7 @@ use Rattle.tx_runs.proofs.EngineReplies.{engine_may}
 use Rattle.tx_runs.proofs.IrrevocableCalls.{goes_same}
 use Rattle.tx_runs.proofs.Players.{nested_outside}
 use Rattle.tx_worker.specs.Accounts.{Account, account_after, first_account}
+use Rattle.tx_worker.specs.Gates.{Gating}
 use Rattle.tx_worker.specs.Calls.{HasMade, IsMade, asked}
 use Rattle.tx_worker.specs.Progress.{Course, IsRunning}
 use Rattle.tx_worker.specs.Works.{course_of}
@@ -330,6 +331,6 @@ module _ (words : Words) (start : Standing) (code : List Instruction) (number re
   kept_next : (a : Account Thread) (s : Standing) (a' : Account Thread) (s' : Standing) → IsKept a s → IsMade words thread_rules number retries a s None a' s' → IsKept a' s'
   kept_next a s a' s' k m = subst (λ (b : Account Thread). IsKept b s') (sym m.account) (kept_on a s k s' m.call m.asks m.answer m.answered m.end_is)
 
-  pub kept_all : (n : ℕ) (a : Account Thread) (s : Standing) (a' : Account Thread) (s' : Standing) → IsKept a s → HasMade words thread_rules number retries n a s a' s' → IsKept a' s'
-  kept_all zero a s a' s' k made = subst (λ (q : Account Thread × Standing). IsKept q.0 q.1) (λ i. (sym made.0 i, sym made.1 i)) k
-  kept_all (suc n) a s a' s' k made = kept_next made.0 made.1 a' s' (kept_all n a s made.0 made.1 k made.2) made.3
+  pub kept_all : (gate : Gating) (n : ℕ) (a : Account Thread) (s : Standing) (a' : Account Thread) (s' : Standing) → IsKept a s → HasMade words thread_rules number retries gate n a s a' s' → IsKept a' s'
+  kept_all gate zero a s a' s' k made = subst (λ (q : Account Thread × Standing). IsKept q.0 q.1) (λ i. (sym made.0 i, sym made.1 i)) k
+  kept_all gate (suc n) a s a' s' k made = kept_next made.0 made.1 a' s' (kept_all gate n a s made.0 made.1 k made.2) made.3

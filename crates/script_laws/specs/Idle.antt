@@ -1,5 +1,5 @@
 -- Threads of nested code that run on threads of their own: none ends while it holds the clock.
-use Rattle.std.specs.Prelude.{◌≡◌, ℕ, Bool, false, List, []}
+use Rattle.std.specs.Prelude.{◌≡◌, ℕ, false, List, []}
 use Rattle.norec_core.specs.Core.{in_transaction}
 use Rattle.shared_words.specs.declared.words.Words.{Words}
 use Rattle.shared_words.specs.Passes.{Owns, view_of}
@@ -11,14 +11,15 @@ use Rattle.script_program.specs.Listing.{Listing}
 use Rattle.script_vm.specs.Nesting.{Nests}
 use Rattle.script_vm.specs.Threads.{opening, thread_rules}
 use Rattle.tx_host.specs.Reports.{StaysHeld}
+use Rattle.tx_worker.specs.Gates.{Gating}
 use Rattle.tx_worker.specs.declared.worked.Worked.{Worked}
 use Rattle.tx_worker.specs.Works.{IsRow, is_held}
 
 -- whichever calls a thread of nested code makes, and however they end, also where memory is refused to it: it gives its pass back, which does not hold the clock. As many of its blocks may be open as of its engine
 abbrev pub ComeBackIdle : Type 0
-ComeBackIdle = (words : Words) (start : Standing) (code : List Instruction) (number retries : ℕ) (shuts : Bool) (worked : Worked) → Nests code [] → Owns words start.pass → Stands (view_of start.pass) start.engine → in_transaction start.engine ≡ false
-    → IsRow thread_rules words start (opening start.engine.depth code) number retries shuts worked → is_held worked.pass ≡ false
+ComeBackIdle = (words : Words) (start : Standing) (code : List Instruction) (number retries : ℕ) (gate : Gating) (worked : Worked) → Nests code [] → Owns words start.pass → Stands (view_of start.pass) start.engine → in_transaction start.engine ≡ false
+    → IsRow thread_rules words start (opening start.engine.depth code) number retries gate worked → is_held worked.pass ≡ false
 
 -- so no thread of a program whose code is nested ends while it holds the clock
 abbrev pub NoneStayHeld : Type 0
-NoneStayHeld = (shuts : Bool) (p : Listing) → HasNestedCode p → StaysHeld shuts p → ⊥
+NoneStayHeld = (gate : Gating) (p : Listing) → HasNestedCode p → StaysHeld gate p → ⊥

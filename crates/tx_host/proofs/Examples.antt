@@ -14,6 +14,7 @@ use Rattle.tx_history.specs.declared.history.Version.TheVariants.{One, Two, Thre
 use Rattle.tx_history.specs.Depths.{depth_from}
 use Rattle.tx_history.specs.Versions.{depth_of}
 use Rattle.tx_worker.specs.Accounts.{first_account}
+use Rattle.tx_worker.specs.Gates.{all_let}
 use Rattle.tx_host.specs.declared.join.Done.{Done}
 use Rattle.tx_host.specs.Courses.{EndsBy, first_of}
 use Rattle.tx_host.specs.Joins.{attempts_in, ends_in}
@@ -75,7 +76,7 @@ nothing_to_do : (memory : ℕ → List ℕ) → EndsBy 16 memory (first_of (prog
 nothing_to_do memory = inl (record { between = first_of (program 8 1 16) []; now_is = refl; none = refl })
 
 -- and its run has no call: who tells of no attempt, and that it finished, tells of it
-idle : (words : Words) (start : Standing) → Owns words start.pass → Stands (view_of start.pass) start.engine → IsFresh (program 8 1 16) (view_of start.pass).base 0 start (opening 16 []) → (view_of start.pass).holds ≡ false → WasRun words (program 8 1 16) (view_of start.pass) false 0 Finished []
+idle : (words : Words) (start : Standing) → Owns words start.pass → Stands (view_of start.pass) start.engine → IsFresh (program 8 1 16) (view_of start.pass).base 0 start (opening 16 []) → (view_of start.pass).holds ≡ false → WasRun words (program 8 1 16) (view_of start.pass) all_let 0 Finished []
 idle words start own stands fresh free = record {
   worked = record { thread = 0; attempts = []; end = Finished; pass = Ok start.pass };
   made = record {

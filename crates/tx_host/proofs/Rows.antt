@@ -15,7 +15,8 @@ use Rattle.tx_runs.specs.declared.ending.End.TheVariants.{Finished, GaveUp, NoMe
 use Rattle.tx_runs.specs.declared.savepoint.Savepoint.{Savepoint}
 use Rattle.tx_runs.specs.Tallies.{Stage, Stand, Taken, Tally, begins, outside, over_as, replied, sent_back, took_in, tried, went_on, within, stand_of}
 use Rattle.tx_worker.specs.Accounts.{Account}
-use Rattle.tx_worker.specs.Calls.{StopsAs, asked}
+use Rattle.tx_worker.specs.Gates.{Gating}
+use Rattle.tx_worker.specs.Calls.{StopsAt, asked}
 use Rattle.tx_host.specs.Rows.{EndsWhere, IsLast}
 
 went_on_end : {P : Type 0} (open_still : Bool) (t : Tally P) (row : Attempt) (points : List Savepoint) (s : Stand) → (went_on open_still t row points s).end ≡ None
@@ -47,8 +48,8 @@ last_of rules retries t call (Restarted clock word) s e = none_is_some None Gave
 last_of rules retries t call (Busy clock) s e = tried_end retries t [] e
 last_of rules retries t call (Full at) s e = tt
 
-pub ends_where : (words : Words) (number retries : ℕ) (shuts : Bool) (end : End) (a : Account Thread) (s : Standing) (a' : Account Thread) (s' : Standing) → StopsAs words thread_rules number retries shuts end a s a' s' → EndsWhere words number retries shuts end a s a' s'
-ends_where words number retries shuts Finished a s a' s' k = k.0
-ends_where words number retries shuts GaveUp a s a' s' (inl k) = inl k
-ends_where words number retries shuts GaveUp a s a' s' (inr made) = inr (made, last_of thread_rules retries (asked words thread_rules number retries s a made.call) made.call made.answer (stand_of s'.engine) made.end_is)
-ends_where words number retries shuts NoMemory a s a' s' k = tt
+pub ends_where : (words : Words) (number retries : ℕ) (gate : Gating) (call : ℕ) (end : End) (a : Account Thread) (s : Standing) (a' : Account Thread) (s' : Standing) → StopsAt words thread_rules number retries gate call end a s a' s' → EndsWhere words number retries gate call end a s a' s'
+ends_where words number retries gate call Finished a s a' s' k = k.0
+ends_where words number retries gate call GaveUp a s a' s' (inl k) = inl k
+ends_where words number retries gate call GaveUp a s a' s' (inr (made, passed)) = inr (made, last_of thread_rules retries (asked words thread_rules number retries s a made.call) made.call made.answer (stand_of s'.engine) made.end_is)
+ends_where words number retries gate call NoMemory a s a' s' k = tt

@@ -12,6 +12,7 @@ use Rattle.tx_attempts.specs.Counts.{count_at, count_committed, one_where}
 use Rattle.tx_attempts.specs.Outrun.{AreDisturbed, AreOutrun}
 use Rattle.tx_history.specs.Legal.{IsLegal, memory_at}
 use Rattle.tx_runs.specs.declared.ending.End.{End}
+use Rattle.tx_worker.specs.Gates.{Gating}
 use Rattle.tx_worker.specs.Positions.{bytes_at, positions}
 use Rattle.tx_host.specs.declared.report.Report.{Report}
 use Rattle.tx_host.specs.Courses.{IsCourse}
@@ -27,11 +28,11 @@ abbrev pub commits_of : Report → ℕ
 commits_of r = count_committed r.history.attempts
 
 -- a thread of the program ended while it held the clock
-abbrev pub StaysHeld : Bool → Listing → Type 0
-StaysHeld shuts p = (words : Words) × (base : List ℕ) × HeldAmong words p base shuts (length (threads_of p))
+abbrev pub StaysHeld : Gating → Listing → Type 0
+StaysHeld gate p = (words : Words) × (base : List ℕ) × HeldAmong words p base gate (length (threads_of p))
 
--- of each thread of the program its run, call by call, and by the bytes that the first commits left, each run alone on those that the one before it left. `shuts` says whether its gate may shut
-pub record Ran (shuts : Bool) (p : Listing) (r : Report) : Type 0 where
+-- of each thread of the program its run, call by call, and by the bytes that the first commits left, each run alone on those that the one before it left. `gate` is what its gate may answer
+pub record Ran (gate : Gating) (p : Listing) (r : Report) : Type 0 where
   pub version : r.history.version ≡ version_of p
   pub memory : r.history.memory ≡ opening_of p
   pub count : length r.ends.items ≡ length (threads_of p)
@@ -43,7 +44,7 @@ pub record Ran (shuts : Bool) (p : Listing) (r : Report) : Type 0 where
   pub base : bytes_of view.base ≡ r.history.memory
   pub seen : (k : ℕ) → k ≤ commits_of r → bytes_at view k ≡ memory_at r.history k  -- which had seen just the commits that are told
   pub mine : view.mine ≡ positions r.history.attempts
-  pub rows : (number : ℕ) (end : End) → slice_get r.ends.items number ≡ Some end → WasRun words p view shuts number end (of_thread number r.history.attempts)  -- each made its calls up to that end, within the program's limits, and its pass was joined to that one
+  pub rows : (number : ℕ) (end : End) → slice_get r.ends.items number ≡ Some end → WasRun words p view gate number end (of_thread number r.history.attempts)  -- each made its calls up to that end, within the program's limits, and its pass was joined to that one
   pub by_thread : r.history.attempts ≡ by_number 0 (length (threads_of p)) r.history.attempts  -- there are no others
   pub counted : (position : ℕ) → count_at position r.history.attempts ≡ one_where (nat_lt position (commits_of r))  -- each position below their number is that of one commit
   pub few : commits_of r ≤ p.limits.max_commits  -- no more than the program lets there be

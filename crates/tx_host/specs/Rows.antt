@@ -14,6 +14,7 @@ use Rattle.tx_attempts.specs.declared.attempt.Attempt.{Attempt}
 use Rattle.tx_runs.specs.declared.ending.End.{End}
 use Rattle.tx_runs.specs.declared.ending.End.TheVariants.{Finished, GaveUp, NoMemory}
 use Rattle.tx_worker.specs.declared.worked.Worked.{Worked}
+use Rattle.tx_worker.specs.Gates.{Gating, call_number}
 use Rattle.tx_worker.specs.Accounts.{Account}
 use Rattle.tx_worker.specs.Calls.{IsMade, IsShut}
 use Rattle.tx_worker.specs.Works.{IsRow, is_held, view_left}
@@ -29,10 +30,10 @@ IsLast retries nth (Busy clock) = retries < nth
 IsLast retries nth (Full at) = Unit {0}
 
 -- it finished where its player had no more calls; it gave up where the gate was shut to its next call, or at the answer to its last call, after which there is no further try
-abbrev pub EndsWhere : Words → ℕ → ℕ → Bool → End → Account Thread → Standing → Account Thread → Standing → Type 0
-EndsWhere words number retries shuts Finished a s a' s' = (thread_rules.next_call a.player ≡ None)
-EndsWhere words number retries shuts GaveUp a s a' s' = IsShut thread_rules shuts a s a' s' ⊎ ((last : IsMade words thread_rules number retries a s (Some GaveUp) a' s') × IsLast retries a.nth last.answer)
-EndsWhere words number retries shuts NoMemory a s a' s' = Unit {0}
+abbrev pub EndsWhere : Words → ℕ → ℕ → Gating → ℕ → End → Account Thread → Standing → Account Thread → Standing → Type 0
+EndsWhere words number retries gate call Finished a s a' s' = (thread_rules.next_call a.player ≡ None)
+EndsWhere words number retries gate call GaveUp a s a' s' = IsShut thread_rules (gate.shuts number call) a s a' s' ⊎ ((last : IsMade words thread_rules number retries a s (Some GaveUp) a' s') × IsLast retries a.nth last.answer)
+EndsWhere words number retries gate call NoMemory a s a' s' = Unit {0}
 
 abbrev pub LiesIn : {A : Type 0} → List A → List A → Type 0
 LiesIn {A} xs ys = (before after : List A) × (xs ≡ before ++ (ys ++ after))
@@ -46,23 +47,23 @@ pub record HasJoined (v u : View) : Type 0 where
   pub mine : LiesIn v.mine u.mine
 
 -- the thread of the program with this number made its calls, on a fresh thread over these words with the program's own limits, and this came of it
-pub record MadeCalls (words : Words) (p : Listing) (base : List ℕ) (shuts : Bool) (number : ℕ) (worked : Worked) : Type 0 where
+pub record MadeCalls (words : Words) (p : Listing) (base : List ℕ) (gate : Gating) (number : ℕ) (worked : Worked) : Type 0 where
   pub start : Standing
   pub player : Thread
   pub own : Owns words start.pass
   pub stands : Stands (view_of start.pass) start.engine
   pub fresh : IsFresh p base number start player
-  pub row : IsRow thread_rules words start player number p.limits.retries shuts worked
+  pub row : IsRow thread_rules words start player number p.limits.retries gate worked
 
 -- one of the first n threads did, and its last transaction stays irrevocable and open
-abbrev pub HeldAmong : Words → Listing → List ℕ → Bool → ℕ → Type 0
-HeldAmong words p base shuts n = (number : ℕ) × (worked : Worked) × (number < n) × MadeCalls words p base shuts number worked × (is_held worked.pass ≡ true)
+abbrev pub HeldAmong : Words → Listing → List ℕ → Gating → ℕ → Type 0
+HeldAmong words p base gate n = (number : ℕ) × (worked : Worked) × (number < n) × MadeCalls words p base gate number worked × (is_held worked.pass ≡ true)
 
 -- the thread with this number did, until it ended so, and its pass was joined to that of this view. Just these attempts are told of it
-pub record WasRun (words : Words) (p : Listing) (v : View) (shuts : Bool) (number : ℕ) (end : End) (attempts : List Attempt) : Type 0 where
+pub record WasRun (words : Words) (p : Listing) (v : View) (gate : Gating) (number : ℕ) (end : End) (attempts : List Attempt) : Type 0 where
   pub worked : Worked
-  pub made : MadeCalls words p v.base shuts number worked
+  pub made : MadeCalls words p v.base gate number worked
   pub end_is : worked.end ≡ end
   pub attempts_are : worked.attempts ≡ attempts
   pub joined : HasJoined v (view_left worked.pass)
-  pub why : EndsWhere words number p.limits.retries shuts end made.row.account made.row.standing made.row.left made.row.thread  -- this follows from it
+  pub why : EndsWhere words number p.limits.retries gate (call_number made.row.calls) end made.row.account made.row.standing made.row.left made.row.thread  -- this follows from it

@@ -68,8 +68,8 @@ pub(crate) fn join_all<'e, R: Threads, G: Gate>(
     ensures own { Owns words.now result.pass }
     ensures idle { (view_of result.pass).holds ≡ false }
     ensures len { vec_len result.all ≡ vec_len handles.entry }
-    ensures held { result.held ≡ true → HeldAmong words.now program.now (view_of pass).base G.shuts (vec_len handles.entry) }
-    ensures joins { result.held ≡ false → Joins words.now (view_of pass) program.now G.shuts (vec_len handles.entry) (view_of result.pass) result.all.items }
+    ensures held { result.held ≡ true → HeldAmong words.now program.now (view_of pass).base G.answers (vec_len handles.entry) }
+    ensures joins { result.held ≡ false → Joins words.now (view_of pass) program.now G.answers (vec_len handles.entry) (view_of result.pass) result.all.items }
 {
     let mut pass = pass;
     let mut all = room;

@@ -36,7 +36,7 @@ impl<'a, G: Gate> Promise<Worked> for WorksOn<'a, G> {
     ghost use Rattle.script_vm.specs.Threads.{thread_rules};
     ghost use Rattle.tx_worker.specs.Works.{Works};
 
-    ghost kept_by = { λ p w. Works thread_rules p.words.now p.start.value p.player.value p.number p.retries G.shuts w };
+    ghost kept_by = { λ p w. Works thread_rules p.words.now p.start.value p.player.value p.number p.retries G.answers w };
 }
 
 /// What one worker is to be given: its number, its own thread and its player.

@@ -60,9 +60,9 @@ pub fn run_threads<R: Threads + Wait, G: Gate + Sync, A: ActionSink + Sync>(
     gate: &G,
     sink: &A,
 ) -> Result<Report, HostFault>
-    ensures ran { IfOk result (λ r. Ran G.shuts program.now r) }
+    ensures ran { IfOk result (λ r. Ran G.answers program.now r) }
     ensures limited { IfOk result (λ r. AreLimited r.history) }
-    ensures held { IfErr result (λ fault. fault ≡ HostFault.Held → StaysHeld G.shuts program.now) }
+    ensures held { IfErr result (λ fault. fault ≡ HostFault.Held → StaysHeld G.answers program.now) }
 {
     let Ok((before, room)) = memories(alloc, program) else {
         return Err(HostFault::NoMemory);

@@ -34,8 +34,8 @@ fn start_and_join<'s, 'e: 's, R: Threads, G: Gate + Sync, A: ActionSink + Sync>(
     requires unused { IsUnused (view_of pass) }
     requires parts { MAX_ACTORS < (view_of pass).share }
     ensures own { IfOk result (λ r. Owns words.now r.0) }
-    ensures gathers { IfOk result (λ r. Gathers words.now (view_of pass) program.now G.shuts (view_of r.0) r.1.items) }
-    ensures held { IfErr result (λ fault. fault ≡ HostFault.Held → StaysHeld G.shuts program.now) }
+    ensures gathers { IfOk result (λ r. Gathers words.now (view_of pass) program.now G.answers (view_of r.0) r.1.items) }
+    ensures held { IfErr result (λ fault. fault ≡ HostFault.Held → StaysHeld G.answers program.now) }
 {
     let mut pass = pass;
     let count = program.threads();
@@ -77,8 +77,8 @@ pub(crate) fn run_all<R: Threads + Wait, G: Gate + Sync, A: ActionSink + Sync>(
     requires unused { IsUnused (view_of pass) }
     requires parts { MAX_ACTORS < (view_of pass).share }
     ensures own { IfOk result (λ r. Owns words.now r.0) }
-    ensures gathers { IfOk result (λ r. Gathers words.now (view_of pass) program.now G.shuts (view_of r.0) r.1.items) }
-    ensures held { IfErr result (λ fault. fault ≡ HostFault.Held → StaysHeld G.shuts program.now) }
+    ensures gathers { IfOk result (λ r. Gathers words.now (view_of pass) program.now G.answers (view_of r.0) r.1.items) }
+    ensures held { IfErr result (λ fault. fault ≡ HostFault.Held → StaysHeld G.answers program.now) }
 {
     thread::scope(
         thread::scope_env(),
@@ -86,8 +86,8 @@ pub(crate) fn run_all<R: Threads + Wait, G: Gate + Sync, A: ActionSink + Sync>(
         move |scope| -> Result<(Pass, Vec<Done>), HostFault>
             requires { Owns words.now pass × IsUnused (view_of pass) × (MAX_ACTORS < (view_of pass).share) }
             ensures { IfOk result (λ r. Owns words.entry.now r.0
-                × Gathers words.entry.now (view_of pass) program.entry.now G.shuts (view_of r.0) r.1.items)
-                × IfErr result (λ fault. fault ≡ HostFault.Held → StaysHeld G.shuts program.entry.now) }
+                × Gathers words.entry.now (view_of pass) program.entry.now G.answers (view_of r.0) r.1.items)
+                × IfErr result (λ fault. fault ≡ HostFault.Held → StaysHeld G.answers program.entry.now) }
         { start_and_join(rt, scope, alloc, words, pass, program, gate, sink) },
     )
 }

@@ -17,6 +17,7 @@ use Rattle.tx_runs.specs.declared.ending.End.TheVariants.{Finished, GaveUp, NoMe
 use Rattle.tx_runs.specs.declared.savepoint.Savepoint.{Savepoint}
 use Rattle.tx_runs.specs.Tallies.{outside, within, Tally, begins_again, came, over_as, took_in, stand_of}
 use Rattle.tx_worker.specs.Accounts.{Account, account_after, tally_in}
+use Rattle.tx_worker.specs.Gates.{Gating, IsLet, call_number}
 
 module _ {P : Type 0} (rules : Rules P) where
   -- memory was refused to the player's next call, which begins a block where none is open. What was open is given up, unless it is irrevocable
@@ -53,13 +54,19 @@ module _ {P : Type 0} (words : Words) (rules : Rules P) (number retries : ℕ) w
     pub account : a' ≡ account_after a (took_in rules retries (asked s a call) call answer (stand_of s'.engine))
     pub end_is : (took_in rules retries (asked s a call) call answer (stand_of s'.engine)).end ≡ end
 
-  -- so many calls were made, none of which ended the run
-  abbrev pub HasMade : ℕ → Account P → Standing → Account P → Standing → Type 0
-  HasMade zero a s a' s' = (a' ≡ a) × (s' ≡ s)
-  HasMade (suc n) a s a' s' = (last : Account P) × (then : Standing) × HasMade n a s last then × IsMade last then None a' s'
+  -- so many calls were made, each let through by the gate, and none of which ended the run
+  abbrev pub HasMade : Gating → ℕ → Account P → Standing → Account P → Standing → Type 0
+  HasMade gate zero a s a' s' = (a' ≡ a) × (s' ≡ s)
+  HasMade gate (suc n) a s a' s' = (last : Account P) × (then : Standing) × HasMade gate n a s last then × IsMade last then None a' s' × IsLet gate number (call_number n) then
 
   -- how the run ends where the player stands like this: it has no more calls; the gate is shut; an answer ends it; memory was refused
   abbrev pub StopsAs : Bool → End → Account P → Standing → Account P → Standing → Type 0
   StopsAs shuts Finished a s a' s' = (rules.next_call a.player ≡ None) × (a' ≡ a) × (s' ≡ s)
   StopsAs shuts GaveUp a s a' s' = IsShut rules shuts a s a' s' ⊎ IsMade a s (Some GaveUp) a' s'
   StopsAs shuts NoMemory a s a' s' = IsStarved rules a s a' s'
+
+  -- the same at the call with this number: the gate shuts to it, or it was let through
+  abbrev pub StopsAt : Gating → ℕ → End → Account P → Standing → Account P → Standing → Type 0
+  StopsAt gate call Finished a s a' s' = (rules.next_call a.player ≡ None) × (a' ≡ a) × (s' ≡ s)
+  StopsAt gate call GaveUp a s a' s' = IsShut rules (gate.shuts number call) a s a' s' ⊎ (IsMade a s (Some GaveUp) a' s' × IsLet gate number call s)
+  StopsAt gate call NoMemory a s a' s' = IsStarved rules a s a' s' × IsLet gate number call s

@@ -1,4 +1,5 @@
 pub mod Accounts
+pub mod Gates
 pub mod Positions
 pub mod Calls
 pub mod Progress

@@ -28,7 +28,8 @@ use Rattle.tx_runs.specs.Tallies.{begins_again, outside, stand_of}
 use Rattle.tx_player.specs.Rules.{Rules}
 use Rattle.tx_worker.specs.declared.worker.Worker.{Worker}
 use Rattle.tx_worker.specs.Accounts.{Account, account_of, told}
-use Rattle.tx_worker.specs.Calls.{IsMade, StopsAs, asked}
+use Rattle.tx_worker.specs.Calls.{IsMade, StopsAs, StopsAt, asked}
+use Rattle.tx_worker.specs.Gates.{Gating, IsLet, call_number}
 use Rattle.tx_worker.specs.Positions.{AreFew, AreOver}
 use Rattle.tx_worker.specs.Progress.{Course, IsRunning}
 
@@ -187,6 +188,16 @@ module _ {P : Type 0} (rules : Rules P) where
     pub told_is : told (account_of new) (stand_of new.thread.engine) ≡ told left (stand_of new.thread.engine)
     pub may_stop : MayStop (new.thread.engine.snapshot / 2) new.thread.engine.actions.ran new.run.current
     pub may_tell : MayTell new.run.current new.ended
+
+  -- it has stopped at its call with this number, which the gate shut out or let through
+  pub record IsStoppedAt (words : Words) (c : Course P) (b : Bounds) (gate : Gating) (call : ℕ) (end : End) (old new : Worker P) : Type 0 where
+    pub stopped : IsStopped words c b (gate.shuts old.run.thread call) end old new
+    pub stops : StopsAt words rules old.run.thread old.run.retries gate call end (account_of old) old.thread stopped.left new.thread
+
+  -- it goes on after its next call, which was let through and is counted, or it has stopped at it
+  abbrev pub GoesOnOrStopsAt : Words → Gating → Worker P → Option End → Worker P → Type 0
+  GoesOnOrStopsAt words gate old None new = GoesOn words old new × IsLet gate old.run.thread old.calls old.thread × (new.calls ≡ call_number (old.calls + 1))
+  GoesOnOrStopsAt words gate old (Some end) new = (c : Course P) (b : Bounds) → IsWorking words c b old → IsStoppedAt words c b gate old.calls end old new
 
   -- it goes on, or it has stopped
   abbrev pub GoesOnOrStops : Words → Bool → Worker P → Option End → Worker P → Type 0

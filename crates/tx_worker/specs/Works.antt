@@ -18,7 +18,8 @@ use Rattle.tx_player.specs.Rules.{Rules}
 use Rattle.tx_worker.specs.declared.worked.Worked.{Worked}
 use Rattle.tx_runs.specs.Tallies.{stand_of}
 use Rattle.tx_worker.specs.Accounts.{Account, first_account, told}
-use Rattle.tx_worker.specs.Calls.{HasMade, StopsAs}
+use Rattle.tx_worker.specs.Calls.{HasMade, StopsAt}
+use Rattle.tx_worker.specs.Gates.{Gating, call_number}
 use Rattle.tx_worker.specs.Positions.{AreFew, bytes_at, positions}
 use Rattle.tx_worker.specs.Progress.{Course, HasRun, now_at}
 
@@ -81,7 +82,7 @@ module _ {P : Type 0} (rules : Rules P) where
     pub begins : begins_at rules c.depth between ≡ Some start
     pub none : rules.next_call (player_then rules.answered (rules.answered start.player (begin_code between.again)) last.calls.list) ≡ None
 
-  -- it finished where its player had no more calls; it gave up where the gate was shut, as many commits as may be were done, or it had looked at the clock as often as there are tries
+  -- it finished where its player had no more calls; it gave up where the gate may have been shut to its next call, as many commits as may be were done, or it had looked at the clock as often as there are tries
   abbrev pub EndsAs : Course P → ℕ → Bool → End → View → List Attempt → Type 0
   EndsAs c max_commits shuts Finished v attempts = IsOver c v attempts ⊎ IsOverWithin c v attempts
   EndsAs c max_commits shuts GaveUp v attempts = (shuts ≡ true) ⊎ (max_commits ≤ length v.seen) ⊎ (c.view.looks + (c.retries + 1) ≤ v.looks)
@@ -98,19 +99,19 @@ module _ {P : Type 0} (rules : Rules P) where
     pub ends : EndsAs c max_commits shuts w.end (view_left w.pass) w.attempts
 
   -- the run as a row of calls, each with what came of it, and how it ended
-  pub record IsRow (words : Words) (start : Standing) (player : P) (number retries : ℕ) (shuts : Bool) (w : Worked) : Type 0 where
+  pub record IsRow (words : Words) (start : Standing) (player : P) (number retries : ℕ) (gate : Gating) (w : Worked) : Type 0 where
     pub calls : ℕ
     pub account : Account P
     pub standing : Standing
-    pub made : HasMade words rules number retries calls (first_account player) start account standing
+    pub made : HasMade words rules number retries gate calls (first_account player) start account standing
     pub left : Account P
     pub thread : Standing
-    pub stops : StopsAs words rules number retries shuts w.end account standing left thread
+    pub stops : StopsAt words rules number retries gate (call_number calls) w.end account standing left thread
     pub attempts : w.attempts ≡ told left (stand_of thread.engine)  -- just these attempts are told
     pub pass : Parts thread w.pass
 
   -- a player's run on a thread
-  pub record Works (words : Words) (start : Standing) (player : P) (number retries : ℕ) (shuts : Bool) (w : Worked) : Type 0 where
+  pub record Works (words : Words) (start : Standing) (player : P) (number retries : ℕ) (gate : Gating) (w : Worked) : Type 0 where
     pub number_is : w.thread ≡ number
-    pub row : IsRow words start player number retries shuts w
-    pub finished : IsFinished words (course_of start player number retries) start.engine.max_commits shuts w  -- this follows from it
+    pub row : IsRow words start player number retries gate w
+    pub finished : IsFinished words (course_of start player number retries) start.engine.max_commits (gate.shuts number (call_number row.calls)) w  -- this follows from it

@@ -10,14 +10,16 @@ pub struct GateShut;
 /// Asked before, and told after, each call of a thread, but for those of a transaction that is irrevocable as they come.
 /// Calls are numbered from 0 over the whole run of a thread.
 pub trait Gate {
-    ghost use Rattle.std.specs.Prelude.{◌≡◌, Bool, true, OnErr};
+    ghost use Rattle.std.specs.Prelude.{◌≡◌, true, OnErr, OnOk};
+    ghost use Rattle.tx_worker.specs.Gates.{Gating};
 
-    /// Whether it may shut.
-    ghost shuts: { Bool };
+    /// Which calls it may shut out, and which it may let through.
+    ghost answers: { Gating };
 
     /// Whether the call may be made.
     fn at(&self, thread: u8, call: u64) -> Result<(), GateShut>
-        ensures { OnErr result (shuts ≡ true) };
+        ensures shuts { OnErr result (answers.shuts thread call ≡ true) }
+        ensures lets { OnOk result (answers.lets thread call ≡ true) };
 
     /// The call was made, or memory was refused to it.
     fn done(&self, thread: u8, call: u64);
@@ -28,9 +30,9 @@ pub trait Gate {
 pub struct Open;
 
 impl Gate for Open {
-    ghost use Rattle.std.specs.Prelude.{false};
+    ghost use Rattle.tx_worker.specs.Gates.{all_let};
 
-    ghost shuts = { false };
+    ghost answers = { all_let };
 
     fn at(&self, _thread: u8, _call: u64) -> Result<(), GateShut> {
         Ok(())

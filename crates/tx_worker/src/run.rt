@@ -40,7 +40,7 @@ pub fn work<P: Player, G: Gate, A: ActionSink>(
     requires depth { P.depth player ≡ 0 }
     requires limit { thread.engine.restarts < 2 ^ 32 }
     requires few { retries ≤ MAX_RETRIES }
-    ensures { Works P.Player words.now thread player number retries G.shuts result }
+    ensures { Works P.Player words.now thread player number retries G.answers result }
 {
     let mut worker = Worker {
         run: PlayerRun::new(number, retries, player),

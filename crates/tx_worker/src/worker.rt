@@ -1,6 +1,6 @@
 //! One thread's player with its transactions.
 
-ghost use Rattle.std.specs.Prelude.{◌≡◌, ◌<◌, ◌≤◌, Bool, false, Some, unwrap_or, IsOk, OnOk, OnErr, vec_len, vec_capacity};
+ghost use Rattle.std.specs.Prelude.{◌≡◌, ◌/◌, ◌<◌, ◌≤◌, Bool, false, Some, unwrap_or, IsOk, OnOk, OnErr, vec_len, vec_capacity};
 ghost use Rattle.norec_core.specs.Core.{irrevocable_room};
 ghost use Rattle.shared_words.specs.Passes.{Owns, commits_known, view_of};
 ghost use Rattle.shared_words.specs.declared.words.Words.{Words as WordsValue};
@@ -37,7 +37,7 @@ pub(crate) struct Worker<P> {
 
 impl<P: Player> Worker<P> {
     ghost use Rattle.tx_worker.specs.Progress.{Course};
-    ghost use Rattle.tx_worker.specs.Workers.{IsWorking, IsStopped, GoesOnOrStops, IsAsked, IsHungry};
+    ghost use Rattle.tx_worker.specs.Workers.{IsWorking, IsStopped, GoesOnOrStops, GoesOnOrStopsAt, IsAsked, IsHungry};
 
     /// The player's next call, where the gate lets it through. Answers how the thread ended, if it did.
     pub(crate) fn call_next<G: Gate, A: ActionSink>(
@@ -48,22 +48,23 @@ impl<P: Player> Worker<P> {
         sink: &A,
     ) -> Option<End>
         requires { (c : Course P) × (b : Bounds) × IsWorking P.Player words.now c b self.old }
-        ensures { GoesOnOrStops P.Player words.now G.shuts self.old result self.new }
+        ensures { GoesOnOrStopsAt P.Player words.now G.answers self.old result self.new }
     {
         let Some(call) = self.run.player.next() else {
             return Some(End::Finished);
         };
+        let number = self.calls;
         let asked = !self.thread.is_irrevocable();
         if asked {
-            if let Err(_) = gate.at(self.run.thread, self.calls) {
+            if let Err(_) = gate.at(self.run.thread, number) {
                 return Some(End::GaveUp);
             }
         }
         let end = self.make(alloc, words, sink, call);
         if asked {
-            gate.done(self.run.thread, self.calls);
+            gate.done(self.run.thread, number);
         }
-        self.calls = self.calls.saturating_add(1);
+        self.calls = number.saturating_add(1);
         end
     }
 

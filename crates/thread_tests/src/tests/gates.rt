@@ -56,9 +56,9 @@ impl<'a> InTurns<'a> {
 }
 
 impl<'a> Gate for InTurns<'a> {
-    ghost use Rattle.std.specs.Prelude.{true};
+    ghost use Rattle.tx_worker.specs.Gates.{any_answer};
 
-    ghost shuts = { true };
+    ghost answers = { any_answer };
 
     fn at(&self, thread: u8, call: u64) -> Result<(), GateShut> {
         let others = if thread == 0 {
@@ -91,9 +91,9 @@ pub(super) struct ShutsAt {
 }
 
 impl Gate for ShutsAt {
-    ghost use Rattle.std.specs.Prelude.{true};
+    ghost use Rattle.tx_worker.specs.Gates.{any_answer};
 
-    ghost shuts = { true };
+    ghost answers = { any_answer };
 
     fn at(&self, _thread: u8, call: u64) -> Result<(), GateShut> {
         if call < self.call {
@@ -128,9 +128,9 @@ fn digit_of(call: u64) -> u64 {
 }
 
 impl Gate for Tallies {
-    ghost use Rattle.std.specs.Prelude.{false};
+    ghost use Rattle.tx_worker.specs.Gates.{all_let};
 
-    ghost shuts = { false };
+    ghost answers = { all_let };
 
     fn at(&self, _thread: u8, call: u64) -> Result<(), GateShut> {
         self.asked.fetch_add(digit_of(call), Ordering::SeqCst);

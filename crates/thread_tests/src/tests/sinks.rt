@@ -37,9 +37,9 @@ impl ActionSink for Digits {
 
 /// As a gate, a digit for each call that it is asked about and for each one that it is told of.
 impl Gate for Digits {
-    ghost use Rattle.std.specs.Prelude.{false};
+    ghost use Rattle.tx_worker.specs.Gates.{all_let};
 
-    ghost shuts = { false };
+    ghost answers = { all_let };
 
     fn at(&self, _thread: u8, _call: u64) -> Result<(), GateShut> {
         self.add(0xa);
@@ -78,9 +78,9 @@ impl ActionSink for Meanwhile {
 }
 
 impl Gate for Meanwhile {
-    ghost use Rattle.std.specs.Prelude.{true};
+    ghost use Rattle.tx_worker.specs.Gates.{any_answer};
 
-    ghost shuts = { true };
+    ghost answers = { any_answer };
 
     fn at(&self, thread: u8, _call: u64) -> Result<(), GateShut> {
         if thread == 1 {

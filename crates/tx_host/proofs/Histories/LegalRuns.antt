@@ -16,6 +16,7 @@ use Rattle.tx_history.specs.Versions.{depth_of}
 use Rattle.tx_history.specs.Legal.{count_holding, is_holding, is_unfinished, memory_at}
 use Rattle.tx_runs.specs.Runs.{begins_at}
 use Rattle.tx_history.proofs.Runs.AloneRuns.{IsPlaced, of_run}
+use Rattle.tx_worker.specs.Gates.{Gating}
 use Rattle.tx_worker.specs.Positions.{bytes_at}
 use Rattle.tx_worker.specs.Works.{AreHeld}
 use Rattle.tx_host.specs.declared.join.Done.{Done}
@@ -39,14 +40,14 @@ holds_not NoMemory b n = refl
 holds_not Unfinished b n = ap one_where (n refl)
 
 -- each attempt is one alone on the memory of its position
-pub all_placed : (words : Words) (p : Listing) (shuts : Bool) (v : View) (n : ℕ) (ds : List Done) → Numbered (Did words p shuts v) n ds → All (IsPlaced thread_rules p.limits.depth (length v.seen) (bytes_at v)) (attempts_in ds)
-all_placed words p shuts v n [] t = All-nil (IsPlaced thread_rules p.limits.depth (length v.seen) (bytes_at v))
-all_placed words p shuts v n (d ∷ ds) t =
+pub all_placed : (words : Words) (p : Listing) (gate : Gating) (v : View) (n : ℕ) (ds : List Done) → Numbered (Did words p gate v) n ds → All (IsPlaced thread_rules p.limits.depth (length v.seen) (bytes_at v)) (attempts_in ds)
+all_placed words p gate v n [] t = All-nil (IsPlaced thread_rules p.limits.depth (length v.seen) (bytes_at v))
+all_placed words p gate v n (d ∷ ds) t =
     All-append (IsPlaced thread_rules p.limits.depth (length v.seen) (bytes_at v)) d.attempts (attempts_in ds)
     (of_run thread_rules p.limits.depth (length v.seen) (bytes_at v) (Some (first_of p (code_of p n))) d.attempts t.0.course.run)
-    (all_placed words p shuts v (n + 1) ds t.1)
+    (all_placed words p gate v (n + 1) ds t.1)
 
-module _ (words : Words) (p : Listing) (shuts : Bool) (h : History) (v : View) (same : (k : ℕ) → k ≤ length v.seen → memory_at h k ≡ bytes_at v k) (allows : depth_of h.version ≡ p.limits.depth) where
+module _ (words : Words) (p : Listing) (gate : Gating) (h : History) (v : View) (same : (k : ℕ) → k ≤ length v.seen → memory_at h k ≡ bytes_at v k) (allows : depth_of h.version ≡ p.limits.depth) where
   none_holds : (b : Option (Between Thread)) (xs : List Attempt) → IsRunOf thread_rules p.limits.depth (length v.seen) (bytes_at v) b xs → AreHeld p.limits.depth v false xs → count_holding h xs ≡ 0
   none_holds b [] run held = refl
   none_holds None (x ∷ xs) run held = absurd run
@@ -58,7 +59,7 @@ module _ (words : Words) (p : Listing) (shuts : Bool) (h : History) (v : View) (
       omega arith
 
   -- none holds the clock
-  pub all_free : (n : ℕ) (ds : List Done) → Numbered (Did words p shuts v) n ds → count_holding h (attempts_in ds) ≡ 0
+  pub all_free : (n : ℕ) (ds : List Done) → Numbered (Did words p gate v) n ds → count_holding h (attempts_in ds) ≡ 0
   all_free n [] t = refl
   all_free n (d ∷ ds) t =
       let both = holding_both h d.attempts (attempts_in ds) in

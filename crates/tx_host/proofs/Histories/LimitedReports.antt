@@ -14,6 +14,7 @@ use Rattle.tx_history.specs.Bounds.{AreLimited, HasArenaWidth, IsLimited, IsMemo
 use Rattle.tx_history.specs.Legal.{memory_at}
 use Rattle.tx_history.proofs.ToldRestarts.{may_tell}
 use Rattle.tx_history.specs.Versions.{MayRestart, thread_limit}
+use Rattle.tx_worker.specs.Gates.{Gating}
 use Rattle.tx_worker.specs.Positions.{AreOwn}
 use Rattle.tx_history.proofs.Runs.LimitedRuns.{IsOwn, own_run}
 use Rattle.tx_host.specs.declared.report.Report.{Report}
@@ -43,7 +44,7 @@ limited_each version thread tries k restarts t n l (x ∷ xs) told own all few =
     })
     (limited_each version thread tries k restarts t n l xs told own.2 (All-tail (IsOwn HasArenaWidth k) x xs all) few.1)
 
-module _ (p : Listing) (shuts : Bool) (r : Report) (ran : Ran shuts p r) (limits : IsLimitedListing p) where
+module _ (p : Listing) (gate : Gating) (r : Report) (ran : Ran gate p r) (limits : IsLimitedListing p) where
   limited_thread : (thread : ℕ) → thread < length (threads_of p) → All (IsLimited (version_of p)) (of_thread thread r.history.attempts)
   limited_thread thread l =
       let code = there_is (threads_of p) thread l in

@@ -12,6 +12,7 @@ use Rattle.tx_attempts.proofs.DisturbedRuns.{disturbed_both, disturbed_none, dis
 use Rattle.tx_attempts.proofs.LaterClocks.{outrun_both, outrun_none}
 use Rattle.tx_runs.specs.declared.ending.End.{End}
 use Rattle.tx_runs.proofs.RunLists.{of_thread_more}
+use Rattle.tx_worker.specs.Gates.{Gating}
 use Rattle.tx_worker.specs.Positions.{AreFew, AreLeft, AreOwn, bytes_at}
 use Rattle.tx_host.specs.declared.join.Done.{Done}
 use Rattle.tx_host.specs.Courses.{first_of}
@@ -34,21 +35,21 @@ own_none thread other tries (x ∷ xs) own apart =
 
 -- ## All workers
 
-module _ (words : Words) (p : Listing) (shuts : Bool) (v : View) where
+module _ (words : Words) (p : Listing) (gate : Gating) (v : View) where
   -- none is of an earlier thread
-  none_before : (n other : ℕ) (ds : List Done) → Numbered (Did words p shuts v) n ds → other < n → of_thread other (attempts_in ds) ≡ []
+  none_before : (n other : ℕ) (ds : List Done) → Numbered (Did words p gate v) n ds → other < n → of_thread other (attempts_in ds) ≡ []
   none_before n other [] t l = refl
   none_before n other (d ∷ ds) t l =
       of_thread_more other d.attempts (attempts_in ds)
       ∙ (λ i. own_none n other (p.limits.retries + 1) d.attempts t.0.course.own (λ e. (omega arith)) i ++ none_before (n + 1) other ds t.1 (omega arith) i)
 
   -- those of the worker with this number
-  own_there : (n i : ℕ) (ds : List Done) → Numbered (Did words p shuts v) n ds → (end : End) → slice_get (ends_in ds) i ≡ Some end → (d : Done) × Did words p shuts v (n + i) d × (d.end ≡ end) × (of_thread (n + i) (attempts_in ds) ≡ d.attempts)
+  own_there : (n i : ℕ) (ds : List Done) → Numbered (Did words p gate v) n ds → (end : End) → slice_get (ends_in ds) i ≡ Some end → (d : Done) × Did words p gate v (n + i) d × (d.end ≡ end) × (of_thread (n + i) (attempts_in ds) ≡ d.attempts)
   own_there n i [] t end e = absurd (cc)
   own_there n zero (d ∷ ds) t end e =
       let same : n ≡ n + 0 = omega arith in (
         d,
-        subst (λ k. Did words p shuts v k d) same t.0,
+        subst (λ k. Did words p gate v k d) same t.0,
         (let f : Some d.end ≡ Some end = e in cc),
         subst (λ k. of_thread k (d.attempts ++ attempts_in ds) ≡ d.attempts) same
             (of_thread_more n d.attempts (attempts_in ds)
@@ -58,7 +59,7 @@ module _ (words : Words) (p : Listing) (shuts : Bool) (v : View) where
       let r = own_there (n + 1) i ds t.1 end e in
       let same : (n + 1) + i ≡ n + suc i = omega arith in (
         r.0,
-        subst (λ k. Did words p shuts v k r.0) same r.1,
+        subst (λ k. Did words p gate v k r.0) same r.1,
         r.2,
         of_thread_more (n + suc i) d.attempts (attempts_in ds)
             ∙ ((λ j. own_none n (n + suc i) (p.limits.retries + 1) d.attempts t.0.course.own (λ f. omega arith) j ++ of_thread (n + suc i) (attempts_in ds))
@@ -66,7 +67,7 @@ module _ (words : Words) (p : Listing) (shuts : Bool) (v : View) where
       )
 
   -- they stand by thread
-  stand_by : (n : ℕ) (ds : List Done) (all : List Attempt) → Numbered (Did words p shuts v) n ds → ((k : ℕ) → n ≤ k → of_thread k all ≡ of_thread k (attempts_in ds)) → attempts_in ds ≡ by_number n (length ds) all
+  stand_by : (n : ℕ) (ds : List Done) (all : List Attempt) → Numbered (Did words p gate v) n ds → ((k : ℕ) → n ≤ k → of_thread k all ≡ of_thread k (attempts_in ds)) → attempts_in ds ≡ by_number n (length ds) all
   stand_by n [] all t same = refl
   stand_by n (d ∷ ds) all t same =
       let mine : of_thread n all ≡ d.attempts =
@@ -77,28 +78,28 @@ module _ (words : Words) (p : Listing) (shuts : Bool) (v : View) where
       ∙ (λ j. own_none n k (p.limits.retries + 1) d.attempts t.0.course.own (λ f. omega arith) j ++ of_thread k (attempts_in ds)))) in
       λ i. sym mine i ++ rest i
 
-  pub all_stand : (ds : List Done) → Numbered (Did words p shuts v) 0 ds → attempts_in ds ≡ by_number 0 (length ds) (attempts_in ds)
+  pub all_stand : (ds : List Done) → Numbered (Did words p gate v) 0 ds → attempts_in ds ≡ by_number 0 (length ds) (attempts_in ds)
   all_stand ds t = stand_by 0 ds (attempts_in ds) t (λ k l. refl)
 
-  pub all_own : (i : ℕ) (ds : List Done) → Numbered (Did words p shuts v) 0 ds → (end : End) → slice_get (ends_in ds) i ≡ Some end → (d : Done) × Did words p shuts v i d × (d.end ≡ end) × (of_thread i (attempts_in ds) ≡ d.attempts)
+  pub all_own : (i : ℕ) (ds : List Done) → Numbered (Did words p gate v) 0 ds → (end : End) → slice_get (ends_in ds) i ≡ Some end → (d : Done) × Did words p gate v i d × (d.end ≡ end) × (of_thread i (attempts_in ds) ≡ d.attempts)
   all_own i ds t end e =
       let r = own_there 0 i ds t end e in
       let same : 0 + i ≡ i = omega arith in
-      (r.0, subst (λ k. Did words p shuts v k r.0) same r.1, r.2, subst (λ k. of_thread k (attempts_in ds) ≡ r.0.attempts) same r.3)
+      (r.0, subst (λ k. Did words p gate v k r.0) same r.1, r.2, subst (λ k. of_thread k (attempts_in ds) ≡ r.0.attempts) same r.3)
 
-  pub all_left : (n : ℕ) (ds : List Done) → Numbered (Did words p shuts v) n ds → AreLeft p.limits.depth v (attempts_in ds)
+  pub all_left : (n : ℕ) (ds : List Done) → Numbered (Did words p gate v) n ds → AreLeft p.limits.depth v (attempts_in ds)
   all_left n [] t = tt
   all_left n (d ∷ ds) t = left_both p.limits.depth v d.attempts (attempts_in ds) t.0.left (all_left (n + 1) ds t.1)
 
-  pub all_few : (n : ℕ) (ds : List Done) → Numbered (Did words p shuts v) n ds → AreFew p.limits.max_commits (attempts_in ds)
+  pub all_few : (n : ℕ) (ds : List Done) → Numbered (Did words p gate v) n ds → AreFew p.limits.max_commits (attempts_in ds)
   all_few n [] t = tt
   all_few n (d ∷ ds) t = few_both p.limits.max_commits d.attempts (attempts_in ds) t.0.few (all_few (n + 1) ds t.1)
 
-  pub all_outrun : (n : ℕ) (ds : List Done) → Numbered (Did words p shuts v) n ds → AreOutrun v.high (attempts_in ds)
+  pub all_outrun : (n : ℕ) (ds : List Done) → Numbered (Did words p gate v) n ds → AreOutrun v.high (attempts_in ds)
   all_outrun n [] t = outrun_none v.high
   all_outrun n (d ∷ ds) t = outrun_both v.high d.attempts (attempts_in ds) t.0.outrun (all_outrun (n + 1) ds t.1)
 
-  pub all_disturbed : (n : ℕ) (ds : List Done) → Numbered (Did words p shuts v) n ds → AreDisturbed (attempts_in ds)
+  pub all_disturbed : (n : ℕ) (ds : List Done) → Numbered (Did words p gate v) n ds → AreDisturbed (attempts_in ds)
   all_disturbed n [] t = disturbed_none
   all_disturbed n (d ∷ ds) t =
       disturbed_both d.attempts (attempts_in ds) (disturbed_run thread_rules p.limits.depth (length v.seen) (bytes_at v) (Some (first_of p (code_of p n))) d.attempts t.0.course.run)

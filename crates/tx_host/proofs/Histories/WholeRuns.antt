@@ -21,6 +21,7 @@ use Rattle.tx_history.specs.Versions.{depth_of}
 use Rattle.tx_history.specs.Legal.{IsAlone, IsLegal, count_holding, memory_at}
 use Rattle.tx_history.proofs.Runs.AloneRuns.{IsPlaced}
 use Rattle.tx_runs.specs.declared.ending.End.{End}
+use Rattle.tx_worker.specs.Gates.{Gating}
 use Rattle.tx_worker.specs.Positions.{AreFew, AreLeft, bytes_at, positions}
 use Rattle.tx_host.specs.declared.join.Done.{Done}
 use Rattle.tx_host.specs.declared.report.Report.{Report}
@@ -36,7 +37,7 @@ use Rattle.tx_host.proofs.Histories.LegalRuns.{all_free, all_placed}
 use Rattle.tx_host.proofs.Histories.PositionTotals.{count_is}
 use Rattle.tx_host.proofs.Histories.ThreadAttempts.{all_disturbed, all_few, all_left, all_outrun, all_own, all_stand, ends_count}
 
-module _ (words : Words) (p : Listing) (shuts : Bool) (r : Report) (start now : View) (all : List Done) (opens : start ≡ opening start.base) (from : bytes_of start.base ≡ r.history.memory) (begun : r.history.memory ≡ opening_of p) (gathered : Gathers words start p shuts now all) (closed : EndsWith now r.history.clock r.history.bytes) (attempts : r.history.attempts ≡ attempts_in all) (ends_are : r.ends.items ≡ ends_in all) (version : r.history.version ≡ version_of p) (allows : depth_of (version_of p) ≡ p.limits.depth) where
+module _ (words : Words) (p : Listing) (gate : Gating) (r : Report) (start now : View) (all : List Done) (opens : start ≡ opening start.base) (from : bytes_of start.base ≡ r.history.memory) (begun : r.history.memory ≡ opening_of p) (gathered : Gathers words start p gate now all) (closed : EndsWith now r.history.clock r.history.bytes) (attempts : r.history.attempts ≡ attempts_in all) (ends_are : r.ends.items ≡ ends_in all) (version : r.history.version ≡ version_of p) (allows : depth_of (version_of p) ≡ p.limits.depth) where
   abbrev rows : List Attempt
   rows = r.history.attempts
 
@@ -62,7 +63,7 @@ module _ (words : Words) (p : Listing) (shuts : Bool) (r : Report) (start now : 
   ]) ∙ ap (λ (m : ℕ). one_where (nat_lt k m)) (sym commits_are)
 
   left : AreLeft p.limits.depth now rows
-  left = subst (AreLeft p.limits.depth now) (sym attempts) (all_left words p shuts now 0 all gathered.joins.workers)
+  left = subst (AreLeft p.limits.depth now) (sym attempts) (all_left words p gate now 0 all gathered.joins.workers)
 
   deepest_is : depth_of r.history.version ≡ p.limits.depth
   deepest_is = ap depth_of version ∙ allows
@@ -77,44 +78,44 @@ module _ (words : Words) (p : Listing) (shuts : Bool) (r : Report) (start now : 
 
   thread_course : (number : ℕ) (code : List Instruction) (end : End) → slice_get (threads_of p) number ≡ Some code → slice_get r.ends.items number ≡ Some end → IsCourse p (count_committed rows) (memory_at r.history) number code end (of_thread number rows)
   thread_course number code end code_is end_is =
-      let d = all_own words p shuts now number all gathered.joins.workers end (subst (λ (l : List End). slice_get l number ≡ Some end) ends_are end_is) in
+      let d = all_own words p gate now number all gathered.joins.workers end (subst (λ (l : List End). slice_get l number ≡ Some end) ends_are end_is) in
       let its_code : code_of p number ≡ code = get_or_from_slice_get (threads_of p) number code [] code_is in
       let its_rows : d.0.attempts ≡ of_thread number rows = sym d.3 ∙ ap (of_thread number) (sym attempts) in
       let course : IsCourse p (count_committed rows) (memory_at r.history) number (code_of p number) d.0.end d.0.attempts =
       course_still p n (count_committed rows) (bytes_at now) (memory_at r.history) (let e = commits_are in omega arith) memory_same number (code_of p number) d.0.end d.0.attempts d.1.course in
       subst (λ (q : List Instruction × End × List Attempt). IsCourse p (count_committed rows) (memory_at r.history) number q.0 q.1 q.2) (λ i. (its_code i, d.2 i, its_rows i)) course
 
-  thread_row : (number : ℕ) (end : End) → slice_get r.ends.items number ≡ Some end → WasRun words p now shuts number end (of_thread number rows)
+  thread_row : (number : ℕ) (end : End) → slice_get r.ends.items number ≡ Some end → WasRun words p now gate number end (of_thread number rows)
   thread_row number end end_is =
-      let d = all_own words p shuts now number all gathered.joins.workers end (subst (λ (l : List End). slice_get l number ≡ Some end) ends_are end_is) in
+      let d = all_own words p gate now number all gathered.joins.workers end (subst (λ (l : List End). slice_get l number ≡ Some end) ends_are end_is) in
       let its_rows : d.0.attempts ≡ of_thread number rows = sym d.3 ∙ ap (of_thread number) (sym attempts) in
-      subst (λ (q : End × List Attempt). WasRun words p now shuts number q.0 q.1) (λ i. (d.2 i, its_rows i)) d.1.row
+      subst (λ (q : End × List Attempt). WasRun words p now gate number q.0 q.1) (λ i. (d.2 i, its_rows i)) d.1.row
 
   -- the last position is below the limit
   few : count_committed rows ≤ p.limits.max_commits
   few = (let most = up_to n (omega arith) in let same = commits_are in omega arith)
     where
       below : AreFew p.limits.max_commits rows
-      below = subst (AreFew p.limits.max_commits) (sym attempts) (all_few words p shuts now 0 all gathered.joins.workers)
+      below = subst (AreFew p.limits.max_commits) (sym attempts) (all_few words p gate now 0 all gathered.joins.workers)
 
       up_to : (m : ℕ) → m ≤ n → m ≤ p.limits.max_commits
       up_to zero l = omega arith
       up_to (suc k) l = (let it = below_limit p.limits.max_commits k rows below (let one = once k (omega arith) in omega arith) in omega arith)
 
   stands_by : rows ≡ by_number 0 (length (threads_of p)) rows
-  stands_by = subst (λ (q : List Attempt × ℕ). q.0 ≡ by_number 0 q.1 q.0) (λ i. (sym attempts i, gathered.count i)) (all_stand words p shuts now all gathered.joins.workers)
+  stands_by = subst (λ (q : List Attempt × ℕ). q.0 ≡ by_number 0 q.1 q.0) (λ i. (sym attempts i, gathered.count i)) (all_stand words p gate now all gathered.joins.workers)
 
   placed : All (IsPlaced thread_rules p.limits.depth n (bytes_at now)) rows
-  placed = subst (All (IsPlaced thread_rules p.limits.depth n (bytes_at now))) (sym attempts) (all_placed words p shuts now 0 all gathered.joins.workers)
+  placed = subst (All (IsPlaced thread_rules p.limits.depth n (bytes_at now))) (sym attempts) (all_placed words p gate now 0 all gathered.joins.workers)
 
   clock_is : r.history.clock ≡ 2 * count_committed rows
   clock_is = closed.clock_is ∙ ap (λ (m : ℕ). 2 * m) (sym commits_are)
 
   outrun : AreOutrun r.history.clock rows
-  outrun = outrun_later now.high r.history.clock closed.high rows (subst (AreOutrun now.high) (sym attempts) (all_outrun words p shuts now 0 all gathered.joins.workers))
+  outrun = outrun_later now.high r.history.clock closed.high rows (subst (AreOutrun now.high) (sym attempts) (all_outrun words p gate now 0 all gathered.joins.workers))
 
   disturbed : AreDisturbed rows
-  disturbed = subst AreDisturbed (sym attempts) (all_disturbed words p shuts now 0 all gathered.joins.workers)
+  disturbed = subst AreDisturbed (sym attempts) (all_disturbed words p gate now 0 all gathered.joins.workers)
 
   legal : IsLegal r.history
   legal = record {
@@ -125,11 +126,11 @@ module _ (words : Words) (p : Listing) (shuts : Bool) (r : Report) (start now : 
     final = inl (record {
       clock = clock_is;
       bytes = bytes_are;
-      holding = ap (count_holding r.history) attempts ∙ all_free words p shuts r.history now memory_same deepest_is 0 all gathered.joins.workers;
+      holding = ap (count_holding r.history) attempts ∙ all_free words p gate r.history now memory_same deepest_is 0 all gathered.joins.workers;
     });
   }
 
-  pub ran : Ran shuts p r
+  pub ran : Ran gate p r
   ran = record {
     version = version;
     memory = begun;

@@ -8,6 +8,7 @@ use Rattle.script_vm.specs.Threads.{thread_rules}
 use Rattle.tx_attempts.specs.declared.attempt.Attempt.{Attempt}
 use Rattle.tx_attempts.specs.Attempts.{is_committed}
 use Rattle.tx_worker.specs.declared.worked.Worked.{Worked}
+use Rattle.tx_worker.specs.Gates.{Gating}
 use Rattle.tx_worker.specs.Positions.{positions}
 use Rattle.tx_worker.specs.Works.{Works, is_held, view_left}
 use Rattle.tx_host.specs.declared.join.Done.{Done}
@@ -31,41 +32,41 @@ pub attempts_push : (ds : List Done) (d : Done) → attempts_in (ds ++ d ∷ [])
 attempts_push [] d = append-nil d.attempts
 attempts_push (x ∷ xs) d = ap (λ (l : List Attempt). x.attempts ++ l) (attempts_push xs d) ∙ sym (append_assoc x.attempts (attempts_in xs) d.attempts)
 
-pub joins_none : (words : Words) (v : View) (p : Listing) (shuts : Bool) → Joins words v p shuts 0 v []
-joins_none words v p shuts = record { base = refl; share = omega arith; mine = sym (append-nil v.mine); workers = tt }
+pub joins_none : (words : Words) (v : View) (p : Listing) (gate : Gating) → Joins words v p gate 0 v []
+joins_none words v p gate = record { base = refl; share = omega arith; mine = sym (append-nil v.mine); workers = tt }
 
-module _ {G : Type 0} (words : Words) (base : List ℕ) (p : Listing) (n : ℕ) (shuts : Bool) (promise : WorksOn G) (r : Worked) (is : IsFor words base p n promise) (kept : Works thread_rules promise.words.now promise.start.value promise.player.value promise.number promise.retries shuts r) where
+module _ {G : Type 0} (words : Words) (base : List ℕ) (p : Listing) (n : ℕ) (gate : Gating) (promise : WorksOn G) (r : Worked) (is : IsFor words base p n promise) (kept : Works thread_rules promise.words.now promise.start.value promise.player.value promise.number promise.retries gate r) where
   -- a worker whose pass came back
-  pub joins_more : (start now w : View) (all : List Done) (d : Done) → d ≡ record { attempts = r.attempts; end = r.end } → start.base ≡ base → length all ≡ n → is_held r.pass ≡ false → Joins words start p shuts n now all → Joined now (view_left r.pass) w
-      → Joins words start p shuts (n + 1) w (all ++ d ∷ [])
+  pub joins_more : (start now w : View) (all : List Done) (d : Done) → d ≡ record { attempts = r.attempts; end = r.end } → start.base ≡ base → length all ≡ n → is_held r.pass ≡ false → Joins words start p gate n now all → Joined now (view_left r.pass) w
+      → Joins words start p gate (n + 1) w (all ++ d ∷ [])
   joins_more start now w all d d_is at many free old j =
       let u : View = view_left r.pass in
-      let bases : now.base ≡ u.base = old.base ∙ (at ∙ sym (its_base words base p n shuts promise r is kept)) in
+      let bases : now.base ≡ u.base = old.base ∙ (at ∙ sym (its_base words base p n gate promise r is kept)) in
       let joined = joined_both now u w j bases in
-      let did : Did words p shuts w n d = subst (Did words p shuts w n) (sym d_is) (did_later words p shuts u w joined.1 n _ (did_its words base p n shuts promise r is kept free)) in
+      let did : Did words p gate w n d = subst (Did words p gate w n) (sym d_is) (did_later words p gate u w joined.1 n _ (did_its words base p n gate promise r is kept free)) in
       let share : w.share ≡ now.share + u.share = j.share in
-      let one : u.share ≡ 1 = its_share words base p n shuts promise r is kept in
+      let one : u.share ≡ 1 = its_share words base p n gate promise r is kept in
       let before : now.share ≡ start.share + n = old.share in
       let attempts_are : d.attempts ≡ r.attempts = ap (λ (x : Done). x.attempts) d_is in
-      let theirs : u.mine ≡ positions d.attempts = its_mine words base p n shuts promise r is kept ∙ ap positions (sym attempts_are) in
+      let theirs : u.mine ≡ positions d.attempts = its_mine words base p n gate promise r is kept ∙ ap positions (sym attempts_are) in
       let all_are : positions (attempts_in (all ++ d ∷ [])) ≡ positions (attempts_in all) ++ positions d.attempts = ap positions (attempts_push all d) ∙ positions_both (attempts_in all) d.attempts in
       record {
         base = j.base ∙ old.base;
         share = omega arith;
         mine = j.mine ∙ ((λ i. old.mine i ++ theirs i) ∙ (append_assoc start.mine (positions (attempts_in all)) (positions d.attempts) ∙ ap (λ (l : List ℕ). start.mine ++ l) (sym all_are)));
-        workers = numbered_push (Did words p shuts w) 0 n all d (omega arith) (numbered_map (Did words p shuts now) (Did words p shuts w) 0 all (λ k x. did_later words p shuts now w joined.0 k x) old.workers) did;
+        workers = numbered_push (Did words p gate w) 0 n all d (omega arith) (numbered_map (Did words p gate now) (Did words p gate w) 0 all (λ k x. did_later words p gate now w joined.0 k x) old.workers) did;
       }
 
 -- ## A worker whose pass did not come back
 
-pub held_more : (words : Words) (p : Listing) (base : List ℕ) (shuts : Bool) (n m : ℕ) → n ≤ m → HeldAmong words p base shuts n → HeldAmong words p base shuts m
-held_more words p base shuts n m l h = (h.0, h.1, (let few = h.2 in omega arith), h.3, h.4)
+pub held_more : (words : Words) (p : Listing) (base : List ℕ) (gate : Gating) (n m : ℕ) → n ≤ m → HeldAmong words p base gate n → HeldAmong words p base gate m
+held_more words p base gate n m l h = (h.0, h.1, (let few = h.2 in omega arith), h.3, h.4)
 
 -- ## All of them
 
 -- all parts are back
-pub gathers : (words : Words) (p : Listing) (shuts : Bool) (start given now : View) (ready : Vec Ready Global) (all : List Done) (n : ℕ) → Prepares words start p given ready → n ≡ length (threads_of p) → length all ≡ n → now.holds ≡ false → Joins words given p shuts n now all → Gathers words start p shuts now all
-gathers words p shuts start given now ready all n prepared many count idle joins =
+pub gathers : (words : Words) (p : Listing) (gate : Gating) (start given now : View) (ready : Vec Ready Global) (all : List Done) (n : ℕ) → Prepares words start p given ready → n ≡ length (threads_of p) → length all ≡ n → now.holds ≡ false → Joins words given p gate n now all → Gathers words start p gate now all
+gathers words p gate start given now ready all n prepared many count idle joins =
     let share : now.share ≡ given.share + n = joins.share in
     let parts : given.share + length (threads_of p) ≡ start.share = prepared.share in
     record {

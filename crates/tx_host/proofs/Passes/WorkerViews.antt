@@ -20,6 +20,7 @@ use Rattle.tx_runs.specs.declared.ending.End.TheVariants.{Finished, GaveUp, NoMe
 use Rattle.tx_runs.specs.Restarts.{RestartAtMost}
 use Rattle.tx_runs.specs.Runs.{begins_at}
 use Rattle.tx_worker.specs.declared.worked.Worked.{Worked}
+use Rattle.tx_worker.specs.Gates.{Gating, call_number}
 use Rattle.tx_worker.specs.Positions.{AreFew, AreLeft, AreOwn, AreSince, bytes_at, positions}
 use Rattle.tx_worker.specs.Progress.{Course}
 use Rattle.tx_worker.specs.Works.{AreHeld, EndsAs, IsBack, IsFinished, IsRow, Works, course_of, is_held, view_left}
@@ -44,8 +45,8 @@ held_later deepest v w later (Some b) (x ∷ xs) run h = (
 )
 
 -- over the same memory
-abbrev made_over : (words : Words) (p : Listing) (base same : List ℕ) (shuts : Bool) (k : ℕ) (w : Worked) → base ≡ same → MadeCalls words p base shuts k w → MadeCalls words p same shuts k w
-made_over words p base same shuts k w is m = record { start = m.start; player = m.player; own = m.own; stands = m.stands; fresh = subst (λ (b : List ℕ). IsFresh p b k m.start m.player) is m.fresh; row = m.row }
+abbrev made_over : (words : Words) (p : Listing) (base same : List ℕ) (gate : Gating) (k : ℕ) (w : Worked) → base ≡ same → MadeCalls words p base gate k w → MadeCalls words p same gate k w
+made_over words p base same gate k w is m = record { start = m.start; player = m.player; own = m.own; stands = m.stands; fresh = subst (λ (b : List ℕ). IsFresh p b k m.start m.player) is m.fresh; row = m.row }
 
 -- ## What the joined pass knows
 
@@ -83,20 +84,20 @@ joined_on w v u a b = record {
 later_in : (v w : View) → HasJoined w v → IsLater v w
 later_in v w j = record { base = j.base; grows = j.begins; high = j.high }
 
-was_later : (words : Words) (p : Listing) (v w : View) (shuts : Bool) (k : ℕ) (end : End) (xs : List Attempt) → HasJoined w v → WasRun words p v shuts k end xs → WasRun words p w shuts k end xs
-was_later words p v w shuts k end xs j run = record {
+was_later : (words : Words) (p : Listing) (v w : View) (gate : Gating) (k : ℕ) (end : End) (xs : List Attempt) → HasJoined w v → WasRun words p v gate k end xs → WasRun words p w gate k end xs
+was_later words p v w gate k end xs j run = record {
   worked = run.worked;
-  made = made_over words p v.base w.base shuts k run.worked (sym j.base) run.made;
+  made = made_over words p v.base w.base gate k run.worked (sym j.base) run.made;
   end_is = run.end_is;
   attempts_are = run.attempts_are;
   joined = joined_on w v (view_left run.worked.pass) j run.joined;
   why = run.why;
 }
 
-pub did_later : (words : Words) (p : Listing) (shuts : Bool) (v w : View) → HasJoined w v → (k : ℕ) (d : Done) → Did words p shuts v k d → Did words p shuts w k d
-did_later words p shuts v w joined k d did = let later = later_in v w joined in record {
+pub did_later : (words : Words) (p : Listing) (gate : Gating) (v w : View) → HasJoined w v → (k : ℕ) (d : Done) → Did words p gate v k d → Did words p gate w k d
+did_later words p gate v w joined k d did = let later = later_in v w joined in record {
   course = course_still p (length v.seen) (length w.seen) (bytes_at v) (bytes_at w) (seen_in v w later) (bytes_in v w later) k (code_of p k) d.end d.attempts did.course;
-  row = was_later words p v w shuts k d.end d.attempts joined did.row;
+  row = was_later words p v w gate k d.end d.attempts joined did.row;
   left = all_left_in p.limits.depth v w later d.attempts did.left;
   few = did.few;
   held = held_later p.limits.depth v w later (Some (first_of p (code_of p k))) d.attempts did.course.run did.held;
@@ -135,14 +136,18 @@ joined_left v w (Err t) free j = absurd (true≢false free)
 
 -- ## A worker that keeps its promise
 
-module _ {G : Type 0} (words : Words) (base : List ℕ) (p : Listing) (n : ℕ) (shuts : Bool) (w : WorksOn G) (r : Worked) (is : IsFor words base p n w) (kept : Works thread_rules w.words.now w.start.value w.player.value w.number w.retries shuts r) where
+module _ {G : Type 0} (words : Words) (base : List ℕ) (p : Listing) (n : ℕ) (gate : Gating) (w : WorksOn G) (r : Worked) (is : IsFor words base p n w) (kept : Works thread_rules w.words.now w.start.value w.player.value w.number w.retries gate r) where
   abbrev left_view : View
   left_view = view_left r.pass
 
   abbrev course : Course Thread
   course = course_of w.start.value w.player.value w.number w.retries
 
-  done : IsFinished thread_rules w.words.now course w.start.value.engine.max_commits shuts r
+  -- whether the gate may shut out the call after those that were made
+  abbrev may_shut : Bool
+  may_shut = gate.shuts w.number (call_number kept.row.calls)
+
+  done : IsFinished thread_rules w.words.now course w.start.value.engine.max_commits may_shut r
   done = kept.finished
 
   depth_is : course.depth ≡ p.limits.depth
@@ -163,7 +168,7 @@ module _ {G : Type 0} (words : Words) (base : List ℕ) (p : Listing) (n : ℕ) 
   known_is : course.known ≡ 0
   known_is = ap (λ (z : View). commits_known z) is.fresh.pass_is
 
-  ends_by : (end : End) → EndsAs thread_rules course w.start.value.engine.max_commits shuts end left_view r.attempts → EndsBy course.depth (bytes_at left_view) course.first end r.attempts
+  ends_by : (end : End) → EndsAs thread_rules course w.start.value.engine.max_commits may_shut end left_view r.attempts → EndsBy course.depth (bytes_at left_view) course.first end r.attempts
   ends_by Finished e = ⊎_elim
       (λ o. inl (record { between = o.between; now_is = o.now_is; none = o.none }))
       (λ o. inr (record {
@@ -193,25 +198,25 @@ module _ {G : Type 0} (words : Words) (base : List ℕ) (p : Listing) (n : ℕ) 
   pub its_back : IsBack words r.pass
   its_back = subst (λ (q : Words). IsBack q r.pass) is.words_are done.back
 
-  row_is : IsRow thread_rules words w.start.value w.player.value n p.limits.retries shuts r
-  row_is = subst (λ (q : Words × ℕ × ℕ). IsRow thread_rules q.0 w.start.value w.player.value q.1 q.2 shuts r) (λ i. (is.words_are i, is.number_is i, is.retries_are i)) kept.row
+  row_is : IsRow thread_rules words w.start.value w.player.value n p.limits.retries gate r
+  row_is = subst (λ (q : Words × ℕ × ℕ). IsRow thread_rules q.0 w.start.value w.player.value q.1 q.2 gate r) (λ i. (is.words_are i, is.number_is i, is.retries_are i)) kept.row
 
-  pub made_its : MadeCalls words p base shuts n r
+  pub made_its : MadeCalls words p base gate n r
   made_its = record { start = w.start.value; player = w.player.value; own = is.own; stands = is.stands; fresh = is.fresh; row = row_is }
 
-  was_run : WasRun words p left_view shuts n r.end r.attempts
+  was_run : WasRun words p left_view gate n r.end r.attempts
   unfolding row_is made_its
   was_run = record {
     worked = r;
-    made = made_over words p base left_view.base shuts n r (sym its_base) made_its;
+    made = made_over words p base left_view.base gate n r (sym its_base) made_its;
     end_is = refl;
     attempts_are = refl;
     joined = joined_self left_view;
-    why = ends_where words n p.limits.retries shuts r.end row_is.account row_is.standing row_is.left row_is.thread row_is.stops;
+    why = ends_where words n p.limits.retries gate (call_number row_is.calls) r.end row_is.account row_is.standing row_is.left row_is.thread row_is.stops;
   }
 
   -- where its pass came back
-  pub did_its : is_held r.pass ≡ false → Did words p shuts left_view n (record { attempts = r.attempts; end = r.end })
+  pub did_its : is_held r.pass ≡ false → Did words p gate left_view n (record { attempts = r.attempts; end = r.end })
   did_its free = record {
     course = course_is;
     row = was_run;

@@ -14,7 +14,7 @@ use Rattle.tx_host.proofs.join.join_all.Goals.{then-held, else-held}
 pub take_in-holds-requires-clause-back : goal.take_in-holds-requires-clause-back
 take_in-holds-requires-clause-back g c =
     let rest = subst (Promised c.args.words.now (view_of c.args.pass).base c.args.program.now (vec_len c.loop-handle.all)) c.in-Some.ensures.steps.0 c.loop-handle.invariant.rest in
-    its_back c.args.words.now (view_of c.args.pass).base c.args.program.now (vec_len c.loop-handle.all) g.G.Gate.shuts c.in-Some.handle.promise c.join-attempts.result rest.0 c.join-attempts.ensures
+    its_back c.args.words.now (view_of c.args.pass).base c.args.program.now (vec_len c.loop-handle.all) g.G.Gate.answers c.in-Some.handle.promise c.join-attempts.result rest.0 c.join-attempts.ensures
 
 pub loop-handle-preserved : goal.loop-handle-preserved
 loop-handle-preserved g c =
@@ -36,18 +36,18 @@ loop-handle-preserved g c =
             | then-held w ↦ absurd (true≢false (sym w.if-held.true ∙ (sym w.held-is ∙ free)))
             | else-held w ↦ (w.if-held.false, sym w.held-is ∙ free)
           ] in
-          let more : Joins c.args.words.now start p g.G.Gate.shuts (n + 1) (view_of c.take_in-holds.new.pass) c.push_reserved.new.self.items =
-          subst (Joins c.args.words.now start p g.G.Gate.shuts (n + 1) (view_of c.take_in-holds.new.pass)) (sym pushed.items)
-          (joins_more c.args.words.now start.base p n g.G.Gate.shuts c.in-Some.handle.promise c.join-attempts.result rest.0 c.join-attempts.ensures start (view_of c.loop-handle.pass) (view_of c.take_in-holds.new.pass) c.loop-handle.all.items done refl refl many (sym taken.held ∙ both.1) (old.joins both.0) (joined_left (view_of c.loop-handle.pass) (view_of c.take_in-holds.new.pass) c.join-attempts.result.pass (sym taken.held ∙ both.1) taken.joined)) in
-          subst (λ (m : ℕ). Joins c.args.words.now start p g.G.Gate.shuts m (view_of c.take_in-holds.new.pass) c.push_reserved.new.self.items) (sym pushed.len) more);
+          let more : Joins c.args.words.now start p g.G.Gate.answers (n + 1) (view_of c.take_in-holds.new.pass) c.push_reserved.new.self.items =
+          subst (Joins c.args.words.now start p g.G.Gate.answers (n + 1) (view_of c.take_in-holds.new.pass)) (sym pushed.items)
+          (joins_more c.args.words.now start.base p n g.G.Gate.answers c.in-Some.handle.promise c.join-attempts.result rest.0 c.join-attempts.ensures start (view_of c.loop-handle.pass) (view_of c.take_in-holds.new.pass) c.loop-handle.all.items done refl refl many (sym taken.held ∙ both.1) (old.joins both.0) (joined_left (view_of c.loop-handle.pass) (view_of c.take_in-holds.new.pass) c.join-attempts.result.pass (sym taken.held ∙ both.1) taken.joined)) in
+          subst (λ (m : ℕ). Joins c.args.words.now start p g.G.Gate.answers m (view_of c.take_in-holds.new.pass) c.push_reserved.new.self.items) (sym pushed.len) more);
       held = λ holds.
           (let base = start.base in
-          let among : HeldAmong c.args.words.now p base g.G.Gate.shuts (n + 1) =
+          let among : HeldAmong c.args.words.now p base g.G.Gate.answers (n + 1) =
           elim c.if-held.branch [
-            | then-held w ↦ held_more c.args.words.now p base g.G.Gate.shuts n (n + 1) (omega arith) (old.held w.if-held.true)
-            | else-held w ↦ (n, c.join-attempts.result, omega arith, made_its c.args.words.now base p n g.G.Gate.shuts c.in-Some.handle.promise c.join-attempts.result rest.0 c.join-attempts.ensures, sym taken.held ∙ (sym w.held-is ∙ holds))
+            | then-held w ↦ held_more c.args.words.now p base g.G.Gate.answers n (n + 1) (omega arith) (old.held w.if-held.true)
+            | else-held w ↦ (n, c.join-attempts.result, omega arith, made_its c.args.words.now base p n g.G.Gate.answers c.in-Some.handle.promise c.join-attempts.result rest.0 c.join-attempts.ensures, sym taken.held ∙ (sym w.held-is ∙ holds))
           ] in
-          subst (λ (m : ℕ). HeldAmong c.args.words.now p base g.G.Gate.shuts m) (sym pushed.len) among);
+          subst (λ (m : ℕ). HeldAmong c.args.words.now p base g.G.Gate.answers m) (sym pushed.len) among);
       rest = subst (λ (m : ℕ). Promised c.args.words.now start.base p m (into_iter_items c.next.new.self)) (sym pushed.len) rest.1;
       count = search rules;
       room = search rules;
@@ -55,4 +55,4 @@ loop-handle-preserved g c =
 
 pub returns-clause-held : goal.returns-clause-held
 returns-clause-held g c = λ held.
-    held_more c.args.words.now c.args.program.now (view_of c.args.pass).base g.G.Gate.shuts (vec_len c.loop-handle.all) (vec_len c.args.handles) (let count = c.loop-handle.invariant.count in omega arith) (c.loop-handle.invariant.held held)
+    held_more c.args.words.now c.args.program.now (view_of c.args.pass).base g.G.Gate.answers (vec_len c.loop-handle.all) (vec_len c.args.handles) (let count = c.loop-handle.invariant.count in omega arith) (c.loop-handle.invariant.held held)

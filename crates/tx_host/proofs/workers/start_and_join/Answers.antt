@@ -9,7 +9,7 @@ returns-clause-gathers g c =
     let prepared = c.in-Ok-prepare.ensures.ready in
     let n : ℕ = vec_len c.start_all-handles.result.handles in
     let count : length c.join_all-pass.result.all.items ≡ n = search rules in
-    gathers c.args.words.now c.args.program.now g.G.Gate.shuts (view_of c.args.pass) (view_of c.prepare.new.pass) (view_of c.join_all-pass.result.pass) c.in-Ok-prepare.all c.join_all-pass.result.all.items n prepared
+    gathers c.args.words.now c.args.program.now g.G.Gate.answers (view_of c.args.pass) (view_of c.prepare.new.pass) (view_of c.join_all-pass.result.pass) c.in-Ok-prepare.all c.join_all-pass.result.all.items n prepared
     (c.start_all-handles.ensures.whole c.if-not-whole.false ∙ prepared.count) count c.join_all-pass.ensures.idle (c.join_all-pass.ensures.joins c.if-held.false)
 
 pub returns-then-held-clause-held : goal.returns-then-held-clause-held
@@ -19,4 +19,4 @@ returns-then-held-clause-held g c = λ same.
     let few = c.start_all-handles.ensures.few in
     let count = prepared.count in
     let base : List ℕ = (view_of c.prepare.new.pass).base in
-    (c.args.words.now, base, held_more c.args.words.now c.args.program.now base g.G.Gate.shuts n (length (threads_of c.args.program.now)) (omega arith) (c.join_all-pass.ensures.held c.if-held.true)))
+    (c.args.words.now, base, held_more c.args.words.now c.args.program.now base g.G.Gate.answers n (length (threads_of c.args.program.now)) (omega arith) (c.join_all-pass.ensures.held c.if-held.true)))

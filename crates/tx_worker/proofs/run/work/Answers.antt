@@ -1,15 +1,20 @@
-use Rattle.std.proofs.Common.{◌≤◌, ℕ, suc, None, refl, sym, ap, subst, ◌∙◌, arith}
+use Rattle.std.proofs.Common.{◌≡◌, ◌≤◌, ◌+◌, ℕ, suc, Bool, None, refl, sym, ap, subst, ◌∙◌, arith}
 use Rattle.norec_core.specs.Core.{in_transaction}
 use Rattle.tx_runs.specs.declared.player_run.PlayerRun.{PlayerRun}
 use Rattle.tx_worker.specs.declared.worker.Worker.{Worker}
 use Rattle.tx_worker.specs.Accounts.{account_of}
-use Rattle.tx_worker.specs.Calls.{IsMade, StopsAs}
+use Rattle.tx_worker.specs.Calls.{IsMade, StopsAs, StopsAt}
+use Rattle.tx_worker.specs.Gates.{IsLet, call_number}
 use Rattle.tx_runs.specs.Nesting.{whole}
 use Rattle.tx_worker.specs.Workers.{Bounds, bounds_of}
 use Rattle.tx_worker.specs.Works.{course_of}
 use Rattle.tx_worker.proofs.Laws.Begins.{begins_bound, begins_works}
 use Rattle.tx_worker.proofs.Laws.Ends.{finished}
 use Rattle.tx_worker.proofs.run.work.Goals as goal
+
+-- one more is counted
+counted : (n before now : ℕ) → before ≡ call_number n → now ≡ call_number (before + 1) → now ≡ call_number (suc n)
+counted n before now b e = omega arith
 
 pub loop-end-init : goal.loop-end-init
 loop-end-init g c =
@@ -18,7 +23,7 @@ loop-end-init g c =
     (record { run = c.new.result; thread = c.args.thread; ended = c.new-2.result; calls = 0 }) (ap (λ (run : PlayerRun g.row.P.Denot). record { run = run; thread = c.args.thread; ended = c.new-2.result; calls = 0 }) c.new.ensures) in
     record {
       works = first.0;
-      made = (0, (first.1, refl));
+      made = (0, (first.1, refl), refl);
       bound =
           (subst (λ (run : PlayerRun g.row.P.Denot). whole g.P.Player (in_transaction c.args.thread.engine) run.player ≤ g.P.Player.calls_left c.args.player) (sym c.new.ensures)
           (begins_bound g.P.Player c.args.words.now c.args.thread c.args.player c.args.number c.args.retries r.own r.stands r.outside r.depth r.limit r.few));
@@ -27,10 +32,10 @@ loop-end-init g c =
     }
 
 pub finish-requires-clause-may_stop : goal.finish-requires-clause-may_stop
-finish-requires-clause-may_stop g c = (c.in-Some.ensures (course_of c.args.thread c.args.player c.args.number c.args.retries) (bounds_of c.args.thread.engine) c.loop-end.invariant.works).may_stop
+finish-requires-clause-may_stop g c = (c.in-Some.ensures (course_of c.args.thread c.args.player c.args.number c.args.retries) (bounds_of c.args.thread.engine) c.loop-end.invariant.works).stopped.may_stop
 
 pub finish-requires-clause-may_tell : goal.finish-requires-clause-may_tell
-finish-requires-clause-may_tell g c = (c.in-Some.ensures (course_of c.args.thread c.args.player c.args.number c.args.retries) (bounds_of c.args.thread.engine) c.loop-end.invariant.works).may_tell
+finish-requires-clause-may_tell g c = (c.in-Some.ensures (course_of c.args.thread c.args.player c.args.number c.args.retries) (bounds_of c.args.thread.engine) c.loop-end.invariant.works).stopped.may_tell
 
 pub returns-in-Some : goal.returns-in-Some
 returns-in-Some g c =
@@ -38,11 +43,17 @@ returns-in-Some g c =
     let bounds = bounds_of c.args.thread.engine in
     let old = c.loop-end.invariant in
     let w : Worker g.row.P.Denot = c.loop-end.worker in
-    let x = c.in-Some.ensures course bounds old.works in
+    let at = c.in-Some.ensures course bounds old.works in
+    let x = at.stopped in
     let e = c.finish.ensures in
-    let stops : StopsAs c.args.words.now g.P.Player c.args.number c.args.retries g.G.Gate.shuts c.finish.result.end (account_of w) w.thread x.left c.call_next.new.self.thread =
-    subst (λ (y : ℕ × ℕ). StopsAs c.args.words.now g.P.Player y.0 y.1 g.G.Gate.shuts c.finish.result.end (account_of w) w.thread x.left c.call_next.new.self.thread) (λ i. (old.number i, old.retries i))
-    (subst (λ (end : _). StopsAs c.args.words.now g.P.Player w.run.thread w.run.retries g.G.Gate.shuts end (account_of w) w.thread x.left c.call_next.new.self.thread) (sym e.end) x.stops) in
+    let number : ℕ = call_number old.made.0 in
+    let shuts : Bool = g.G.Gate.answers.shuts c.args.number number in
+    let told : StopsAs c.args.words.now g.P.Player c.args.number c.args.retries shuts c.finish.result.end (account_of w) w.thread x.left c.call_next.new.self.thread =
+    subst (λ (y : ℕ × ℕ × ℕ). StopsAs c.args.words.now g.P.Player y.0 y.1 (g.G.Gate.answers.shuts y.0 y.2) c.finish.result.end (account_of w) w.thread x.left c.call_next.new.self.thread) (λ i. (old.number i, old.retries i, old.made.2 i))
+    (subst (λ (end : _). StopsAs c.args.words.now g.P.Player w.run.thread w.run.retries (g.G.Gate.answers.shuts w.run.thread w.calls) end (account_of w) w.thread x.left c.call_next.new.self.thread) (sym e.end) x.stops) in
+    let stops : StopsAt c.args.words.now g.P.Player c.args.number c.args.retries g.G.Gate.answers number c.finish.result.end (account_of w) w.thread x.left c.call_next.new.self.thread =
+    subst (λ (y : ℕ × ℕ × ℕ). StopsAt c.args.words.now g.P.Player y.0 y.1 g.G.Gate.answers y.2 c.finish.result.end (account_of w) w.thread x.left c.call_next.new.self.thread) (λ i. (old.number i, old.retries i, old.made.2 i))
+    (subst (λ (end : _). StopsAt c.args.words.now g.P.Player w.run.thread w.run.retries g.G.Gate.answers w.calls end (account_of w) w.thread x.left c.call_next.new.self.thread) (sym e.end) at.stops) in
     record {
       number_is = e.number ∙ x.same.number;
       row = record {
@@ -56,13 +67,13 @@ returns-in-Some g c =
         attempts = e.attempts ∙ x.told_is;
         pass = e.pass;
       };
-      finished = finished g.met.P.Player.laws c.args.words.now course c.args.thread.engine.max_commits g.G.Gate.shuts (account_of w) w.thread old.works.running old.works.same.own old.works.same.stands old.works.same.over (ap (λ (b : Bounds). b.max_commits) old.works.same.bounds)
-          c.args.number c.args.retries refl refl c.finish.result x.left c.call_next.new.self.thread stops x.over x.below x.same.own x.same.stands e.pass (e.attempts ∙ x.told_is);
+      finished = finished g.met.P.Player.laws c.args.words.now course c.args.thread.engine.max_commits shuts (account_of w) w.thread old.works.running old.works.same.own old.works.same.stands old.works.same.over (ap (λ (b : Bounds). b.max_commits) old.works.same.bounds)
+          c.args.number c.args.retries refl refl c.finish.result x.left c.call_next.new.self.thread told x.over x.below x.same.own x.same.stands e.pass (e.attempts ∙ x.told_is);
     }
 
 pub loop-end-preserved : goal.loop-end-preserved
 loop-end-preserved g c =
-    let t = c.in_default.ensures in
+    let t = c.in_default.ensures.0 in
     let old = c.loop-end.invariant in
     let bound = old.bound in
     let falls = t.falls.whole_falls in
@@ -77,7 +88,9 @@ loop-end-preserved g c =
           w.thread,
           old.made.1,
           subst (λ (y : ℕ × ℕ). IsMade c.args.words.now g.P.Player y.0 y.1 (account_of w) w.thread None (account_of new) new.thread) (λ i. (old.number i, old.retries i)) t.made,
+          subst (λ (y : ℕ × ℕ). IsLet g.G.Gate.answers y.0 y.1 w.thread) (λ i. (old.number i, old.made.2 i)) c.in_default.ensures.1,
         ),
+        counted old.made.0 w.calls new.calls old.made.2 c.in_default.ensures.2,
       );
       bound = omega arith;
       number = t.thread ∙ old.number;
