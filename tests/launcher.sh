@@ -224,12 +224,47 @@ check 'the program is proved' 0
 only=
 launch sched script
 check 'a proved program says nothing of it' 0
-touch "$built"
-sleep 0.1
-touch "$copy/crates/itmrun/src"
+# (whatever the program is made of may be newer than it)
+mkdir -p "$copy/crates/other/src" "$copy/crates/other/specs" "$copy/crates/other/proofs"
 echo "$unproved" >"$work/want_errors"
+for newer in crates.txt crates/itmrun/src crates/other/src crates/other/specs crates/other/proofs; do
+    touch "$built"
+    sleep 0.1
+    touch "$copy/$newer"
+    launch sched script
+    check "$newer is newer than the program" 0
+done
+only=0
 launch sched script
-check 'a source is newer than the program' 0
+check 'a program that need not be proved' 0
+only=1
+echo 'itmrun: proved 1 of 1: itmrun' >"$work/want_errors"
+launch sched script
+check 'a program that is not current is proved anew' 0
+only=
+
+# a pipe by its name is left to the program (the last line ends a writer whom nobody has read)
+mkfifo "$work/here/named"
+rm -f "$built"
+echo "$unproved" >"$work/want_errors"
+cat "$work/here/script" >"$work/here/named" &
+launch sched named
+check 'a pipe by its name' 0
+: <>"$work/here/named"
+wait "$!"
+
+# the launcher by links, one of them relative, and a wrong word of the caller's
+ln -s copy/itmrun "$work/near"
+ln -s "$work/near" "$work/here/far"
+want_line 'itmrun: reading failed'
+(cd "$work/here" && PATH=$path ITMRUN_PROVED= exec sh ./far sched absent) <"$work/input" >"$work/output" 2>"$work/errors"
+status=$?
+check 'a launcher by links' 5
+want_line 'itmrun: ITMRUN_PROVED is 1, or not set'
+only=2
+launch sched script
+check 'ITMRUN_PROVED that is neither' 127
+only=
 
 # sources that cannot be run, and no rt
 rm -f "$built"
