@@ -179,8 +179,8 @@ judge() {
     tell_end "$went" "$file"
     [ "$verdict" != 1 ] || grep -v '^recorder: ' "$file.err" | sed 's/^/    /'
     [ "$verdict" != 3 ] || tell_output "$file"
-    # legal up to where a signal, LIMIT or CALLS ended the program
-    [ "$verdict" = 0 ] && [ "$went" -ge 124 ] && return 4
+    # legal up to where a signal, LIMIT or CALLS ended the program; a large status of its own is no such end
+    [ "$verdict" = 0 ] && { [ "$went" = 124 ] || grep -q '^recorder: stopped: ' "$file.err"; } && return 4
     return "$verdict"
 }
 

@@ -202,6 +202,7 @@ printf 'itm-recording 1\nprogram 0\nunfinished 1\n' >"$WORK/none.recording"
 gives 'a recording without tries' 1 'nothing to judge' python3 "$here/settle/settle.py" "$WORK/none.recording" \
     "$WORK/none.history" "$WORK/empty"
 gives 'a crash' 4 'stopped: signal 4' printed crash 1 ml_wt tests
+gives 'a large status' 0 'the program ended with status 200' printed status 1 ml_wt tests
 LIMIT=2 gives 'a hang' 4 'stopped: signal 15' printed hang 1 ml_wt tests
 tells 'LIMIT: it had run for 2 seconds'
 CALLS=1000 gives 'more calls than are recorded' 4 'stopped: CALLS' printed bank 4 ml_wt
