@@ -14,12 +14,14 @@ from worked import Setup, worked
 from cuts import cuts
 from driver import Wrong
 from files import files
-from refused import asm, check, sched
+from refused import BEFORE, THREAD, WHOLE, asm, check, sched
 from refused_threads import threads
 from stops import stops
 
 MOST = 600  # of what is wrong, so many characters are told
 SWEEPS = {it.__name__: it for it in (sched, asm, check, threads, stops, cuts, files)}
+# the answers that have to come, so that no program passes that tells want of memory of a whole run alone
+DUE = {"sched": {BEFORE, THREAD, WHOLE}, "threads": {BEFORE, THREAD, "no thread"}}
 
 
 def tried(sweep, setup, script):
@@ -43,6 +45,10 @@ def main(program, library, jobs, scripts, *names):
                 else:
                     counts += result
             passed += counts.total()
+            lacking = sorted(DUE.get(name, set()) - counts.keys())
+            if lacking or not counts:
+                failed += 1
+                print(f"failed: {name}: no answer was: {', '.join(lacking) or 'one'}", flush=True)
             said = ", ".join(f"{count} {kind}" for kind, count in sorted(counts.items()))
             print(f"{name}: {said} ({time.monotonic() - start:.0f} s)", flush=True)
     print(f"{passed} passed, {failed} failed")
