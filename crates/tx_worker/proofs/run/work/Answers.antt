@@ -1,4 +1,4 @@
-use Rattle.std.proofs.Common.{◌≡◌, ◌≤◌, ◌+◌, ℕ, suc, Bool, None, refl, sym, ap, subst, ◌∙◌, arith}
+use Rattle.std.proofs.Common.{◌≡◌, ◌<◌, ◌≤◌, ◌+◌, ℕ, suc, Bool, None, refl, sym, ap, subst, ◌∙◌, arith}
 use Rattle.norec_core.specs.Core.{in_transaction}
 use Rattle.tx_runs.specs.declared.player_run.PlayerRun.{PlayerRun}
 use Rattle.tx_worker.specs.declared.worker.Worker.{Worker}
@@ -6,6 +6,7 @@ use Rattle.tx_worker.specs.Accounts.{account_of}
 use Rattle.tx_worker.specs.Calls.{IsMade, StopsAs, StopsAt}
 use Rattle.tx_worker.specs.Gates.{IsLet, call_number}
 use Rattle.tx_runs.specs.Nesting.{whole}
+use Rattle.tx_runs.specs.Ranks.{rank, restarts_left}
 use Rattle.tx_worker.specs.Workers.{Bounds, bounds_of}
 use Rattle.tx_worker.specs.Works.{course_of}
 use Rattle.tx_worker.proofs.Laws.Begins.{begins_bound, begins_works}
@@ -96,3 +97,14 @@ loop-end-preserved g c =
       number = t.thread ∙ old.number;
       retries = t.retries ∙ old.retries;
     }
+
+pub loop-end-smaller : goal.loop-end-smaller
+loop-end-smaller g c =
+    let t = c.in_default.ensures.0 in
+    let old = c.loop-end.invariant in
+    let w : Worker g.row.P.Denot = c.loop-end.worker in
+    let new : Worker g.row.P.Denot = c.call_next.new.self in
+    let k : ℕ = g.P.Player.calls_left c.args.player in
+    subst (λ (y : ℕ × ℕ). rank g.P.Player y.0 y.1 k (in_transaction new.thread.engine) new.run.nth (restarts_left new.thread.engine) new.run.player
+          < rank g.P.Player y.0 y.1 k (in_transaction w.thread.engine) w.run.nth (restarts_left w.thread.engine) w.run.player)
+    (λ i. (old.retries i, old.works.running.limit i)) (t.falls.rank_falls k old.bound)
