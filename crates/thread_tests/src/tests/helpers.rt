@@ -110,12 +110,7 @@ pub(super) fn engine(
         depth: USUAL_DEPTH,
         restarts,
     };
-    Ok(Engine::new(
-        alloc,
-        words,
-        Arena::new(alloc, arena)?,
-        limits,
-    )?)
+    Ok(Engine::new(alloc, words, Arena::new(alloc, arena)?, limits)?)
 }
 
 pub(super) fn read(at: u64) -> Call {

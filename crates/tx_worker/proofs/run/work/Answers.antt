@@ -106,5 +106,5 @@ loop-end-smaller g c =
     let new : Worker g.row.P.Denot = c.call_next.new.self in
     let k : ℕ = g.P.Player.calls_left c.args.player in
     subst (λ (y : ℕ × ℕ). rank g.P.Player y.0 y.1 k (in_transaction new.thread.engine) new.run.nth (restarts_left new.thread.engine) new.run.player
-          < rank g.P.Player y.0 y.1 k (in_transaction w.thread.engine) w.run.nth (restarts_left w.thread.engine) w.run.player)
+    < rank g.P.Player y.0 y.1 k (in_transaction w.thread.engine) w.run.nth (restarts_left w.thread.engine) w.run.player)
     (λ i. (old.retries i, old.works.running.limit i)) (t.falls.rank_falls k old.bound)
