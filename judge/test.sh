@@ -264,7 +264,7 @@ FAULT=blind ONE_IN=10 told blind counters ml_wt
 FAULT=wide told wide cancel ml_wt
 FAULT=free told free heap ml_wt
 FAULT=stale told stale tally.cpp ml_wt tests
-tells 'is tally\.t'
+tells 'is tally\.t\|which tally\.cpp:[0-9]* asked for'
 unset BELOW ONE_IN
 
 # faults in libitm itself; TESTED.md lists those that no run tells
