@@ -82,4 +82,4 @@ made_idle gate p words base number worked nested there made =
     (subst (λ (q : Thread). IsRow thread_rules words made.start q number p.limits.retries gate worked) player made.row)
 
 pub none_stay_held : NoneStayHeld
-none_stay_held gate p nested held = true≢false (sym held.2.4 ∙ made_idle gate p held.0 held.1 held.2.0 held.2.1 nested held.2.2 held.2.3)
+none_stay_held gate p nested held = true≢false (sym held.3.4 ∙ made_idle gate p held.0 held.1 held.3.0 held.3.1 nested held.3.2 held.3.3)

@@ -27,9 +27,9 @@ by_number k (suc n) attempts = of_thread k attempts ++ by_number (k + 1) n attem
 abbrev pub commits_of : Report → ℕ
 commits_of r = count_committed r.history.attempts
 
--- a thread of the program ended while it held the clock
+-- in a run over the program's memory a thread of it ended while it held the clock
 abbrev pub StaysHeld : Gating → Listing → Type 0
-StaysHeld gate p = (words : Words) × (base : List ℕ) × HeldAmong words p base gate (length (threads_of p))
+StaysHeld gate p = (words : Words) × (base : List ℕ) × (bytes_of base ≡ opening_of p) × HeldAmong words p base gate (length (threads_of p))
 
 -- of each thread of the program its run, call by call, and by the bytes that the first commits left, each run alone on those that the one before it left. `gate` is what its gate may answer
 pub record Ran (gate : Gating) (p : Listing) (r : Report) : Type 0 where

@@ -1,10 +1,11 @@
 //! All workers of one run, in one scope.
 
-ghost use Rattle.std.specs.Prelude.{◌≡◌, ◌<◌, IfErr, IfOk};
+ghost use Rattle.std.specs.Prelude.{◌≡◌, ◌<◌, IfErr, IfOk, length};
 ghost use Rattle.itm_types.specs.declared.limits.TheConstants.{MAX_ACTORS};
+ghost use Rattle.script_program.specs.Listing.{threads_of};
 ghost use Rattle.shared_words.specs.Passes.{Owns, view_of};
 ghost use Rattle.tx_host.specs.Joins.{Gathers};
-ghost use Rattle.tx_host.specs.Reports.{StaysHeld};
+ghost use Rattle.tx_host.specs.Rows.{HeldAmong};
 ghost use Rattle.tx_host.specs.Starts.{IsUnused};
 
 use crate::join::{Done, Joined, join_all};
@@ -35,7 +36,7 @@ fn start_and_join<'s, 'e: 's, R: Threads, G: Gate + Sync, A: ActionSink + Sync>(
     requires parts { MAX_ACTORS < (view_of pass).share }
     ensures own { IfOk result (λ r. Owns words.now r.0) }
     ensures gathers { IfOk result (λ r. Gathers words.now (view_of pass) program.now G.answers (view_of r.0) r.1.items) }
-    ensures held { IfErr result (λ fault. fault ≡ HostFault.Held → StaysHeld G.answers program.now) }
+    ensures held { IfErr result (λ fault. fault ≡ HostFault.Held → HeldAmong words.now program.now (view_of pass).base G.answers (length (threads_of program.now))) }
 {
     let mut pass = pass;
     let count = program.threads();
@@ -78,7 +79,7 @@ pub(crate) fn run_all<R: Threads + Wait, G: Gate + Sync, A: ActionSink + Sync>(
     requires parts { MAX_ACTORS < (view_of pass).share }
     ensures own { IfOk result (λ r. Owns words.now r.0) }
     ensures gathers { IfOk result (λ r. Gathers words.now (view_of pass) program.now G.answers (view_of r.0) r.1.items) }
-    ensures held { IfErr result (λ fault. fault ≡ HostFault.Held → StaysHeld G.answers program.now) }
+    ensures held { IfErr result (λ fault. fault ≡ HostFault.Held → HeldAmong words.now program.now (view_of pass).base G.answers (length (threads_of program.now))) }
 {
     thread::scope(
         thread::scope_env(),
@@ -87,7 +88,7 @@ pub(crate) fn run_all<R: Threads + Wait, G: Gate + Sync, A: ActionSink + Sync>(
             requires { Owns words.now pass × IsUnused (view_of pass) × (MAX_ACTORS < (view_of pass).share) }
             ensures { IfOk result (λ r. Owns words.entry.now r.0
                 × Gathers words.entry.now (view_of pass) program.entry.now G.answers (view_of r.0) r.1.items)
-                × IfErr result (λ fault. fault ≡ HostFault.Held → StaysHeld G.answers program.entry.now) }
+                × IfErr result (λ fault. fault ≡ HostFault.Held → HeldAmong words.entry.now program.entry.now (view_of pass).base G.answers (length (threads_of program.entry.now))) }
         { start_and_join(rt, scope, alloc, words, pass, program, gate, sink) },
     )
 }

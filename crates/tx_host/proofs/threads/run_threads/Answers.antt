@@ -1,7 +1,11 @@
-use Rattle.std.proofs.Common.{rules, ◌≡◌, List, ℕ, ◌∙◌, sym}
+use Rattle.std.proofs.Common.{rules, ◌≡◌, List, ℕ, ◌∙◌, ap, subst, sym, Err, IfErr, Result}
+use Rattle.std.proofs.lemmas.Result.{err_from_is_err_and}
 use Rattle.itm_types.specs.Memory.{bytes_of}
 use Rattle.shared_words.specs.Passes.{view_of}
+use Rattle.tx_host.specs.declared.report.HostFault.{HostFault}
+use Rattle.tx_host.specs.declared.report.HostFault.TheVariants.{Held}
 use Rattle.tx_host.specs.declared.report.Report.{Report}
+use Rattle.tx_host.specs.Reports.{StaysHeld}
 use Rattle.tx_host.proofs.Histories.LimitedReports.{limited_report}
 use Rattle.tx_host.proofs.Histories.WholeRuns.{ran}
 use Rattle.tx_host.proofs.threads.run_threads.Goals as goal
@@ -21,3 +25,11 @@ returns-clause-ran g c =
 
 pub returns-clause-limited : goal.returns-clause-limited
 returns-clause-limited g c = limited_report c.args.program.now g.G.Gate.answers _ (returns-clause-ran g c) c.in-Ok.ensures.limits
+
+pub returns-in_err-pass-clause-held : goal.returns-in_err-pass-clause-held
+returns-in_err-pass-clause-held g c =
+    let r = err_from_is_err_and c.from_residual.result c.from_residual.ensures.1 in
+    let base : List ℕ = (view_of c.in-Ok-new.pass).base in
+    let from : bytes_of base ≡ c.in-Ok.before.items = search rules in
+    subst (λ (x : Result _ HostFault). IfErr x (λ fault. fault ≡ Held → StaysHeld g.G.Gate.answers c.args.program.now)) (sym (r.1 ∙ ap Err r.2))
+    (λ same. (c.in-Ok-new.words, base, from ∙ c.in-Ok.ensures.before, c.in_err-pass.ensures.held same))

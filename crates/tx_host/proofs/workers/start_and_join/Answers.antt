@@ -1,6 +1,8 @@
-use Rattle.std.proofs.Common.{rules, arith, ◌≡◌, ◌≤◌, ℕ, ◌∙◌, List, length, vec_len}
+use Rattle.std.proofs.Common.{rules, arith, ◌≡◌, ◌≤◌, ℕ, ◌∙◌, ap, subst, List, length, vec_len}
+use Rattle.shared_words.specs.declared.view.View.{View}
 use Rattle.shared_words.specs.Passes.{view_of}
 use Rattle.script_program.specs.Listing.{threads_of}
+use Rattle.tx_host.specs.Rows.{HeldAmong}
 use Rattle.tx_host.proofs.Passes.JoinedWorkers.{gathers, held_more}
 use Rattle.tx_host.proofs.workers.start_and_join.Goals as goal
 
@@ -19,4 +21,5 @@ returns-then-held-clause-held g c = λ same.
     let few = c.start_all-handles.ensures.few in
     let count = prepared.count in
     let base : List ℕ = (view_of c.prepare.new.pass).base in
-    (c.args.words.now, base, held_more c.args.words.now c.args.program.now base g.G.Gate.answers n (length (threads_of c.args.program.now)) (omega arith) (c.join_all-pass.ensures.held c.if-held.true)))
+    subst (λ (b : List ℕ). HeldAmong c.args.words.now c.args.program.now b g.G.Gate.answers (length (threads_of c.args.program.now))) (ap (λ (v : View). v.base) prepared.pass)
+    (held_more c.args.words.now c.args.program.now base g.G.Gate.answers n (length (threads_of c.args.program.now)) (omega arith) (c.join_all-pass.ensures.held c.if-held.true)))
