@@ -68,7 +68,7 @@ fn failing_writes(rt: HostRuntime) {
     }
 }
 
-/// The same history row by row, whose lines are one write each.
+/// The same history row by row takes as many writes, and the one after them fails.
 #[test]
 fn rows(rt: HostRuntime) {
     let tried = attempt(rt.alloc());
