@@ -3,3 +3,4 @@ pub mod Instructions
 pub mod Listing
 pub mod Sections
 pub mod Schedules
+pub mod SameInstructions

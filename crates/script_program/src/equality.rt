@@ -2,13 +2,19 @@
 
 ghost use Rattle.std.proofs.Common.{rules, tests};
 
-use crate::instruction::{ArenaWidth, Operation};
+use crate::instruction::{ArenaWidth, Instruction, Operation};
 use crate::opening::Size;
 use crate::schedule::Item;
 use itm_types::ExactEq;
 
 impl ExactEq for ArenaWidth {
     ghost exact = { Prim.search (tests, rules) };
+}
+
+impl ExactEq for Instruction {
+    ghost use Rattle.script_program.specs.SameInstructions.{same_instruction};
+
+    ghost exact = { same_instruction };
 }
 
 impl ExactEq for Item {
