@@ -48,7 +48,12 @@ is_number() {
 [ $# -ge 1 ] || { sed -n '2,/^set/s/^# \{0,1\}//p' "$0" >&2 && exit 1; }
 [ $# -le 3 ] || wrong_words "too many words: $*"
 [ -f "$1" ] || wrong_words "there is no file $1"
-program=$1 threads=${2-4} methods=${3-default}
+# a file may be named like an option of the compiler
+case $1 in
+-*) program=./$1 ;;
+*) program=$1 ;;
+esac
+threads=${2-4} methods=${3-default}
 is_number "$threads" && [ "$threads" -le 4096 ] || wrong_words "THREADS is a number from 1 to 4096, and not '$threads'"
 runtime=${RUNTIME:-}
 if [ -n "$runtime" ]; then
@@ -77,6 +82,9 @@ for source in "$program" ${SOURCES:-}; do
     *) stop "a source file ends in .c, .cc, .cpp or .cxx, and not as $source" ;;
     esac
 done
+case " ${SOURCES:-}" in
+*' -'*) stop 'in SOURCES a file whose name begins with - is named as ./-' ;;
+esac
 
 # says so where the repository's own judge has to be proved and built first, as the launcher will find too
 announce_build() {
@@ -130,8 +138,16 @@ build "$program" ${SOURCES:-}
 [ -n "${ITMRUN:-}" ] || announce_build
 ITMRUN=${ITMRUN:-$here/../itmrun} ITMRUN_PROVED=1
 export ITMRUN ITMRUN_PROVED PYTHONDONTWRITEBYTECODE=1
+# answers FILE STATUS: whether the judge ends so on this history
+answers() {
+    "$ITMRUN" check "$1" >/dev/null
+    [ $? = "$2" ]
+}
+
+# a history with nothing in it, and one whose final byte nobody wrote
 printf 'itm-history 1\nmemory 0000000000000000\nfinal 0 0000000000000000\n' >"$work/least.history"
-"$ITMRUN" check "$work/least.history" >/dev/null || stop "$ITMRUN does not judge"
+printf 'itm-history 1\nmemory 0000000000000000\nfinal 0 0100000000000000\n' >"$work/wrong.history"
+answers "$work/least.history" 0 && answers "$work/wrong.history" 3 || stop "$ITMRUN does not judge"
 
 # run METHOD FILE: the program, recorded in FILE.recording
 run() (

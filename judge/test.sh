@@ -155,6 +155,13 @@ CC="gcc -DNO=1" CFLAGS='-O1 -DYES=1' LIBS=-lm legal given 1 ml_wt tests
 gives 'a source file that is not given' 1 'undefined reference' printed halves 4 ml_wt tests
 SOURCES="$here/tests/half.h" gives 'a source file of no language' 1 'a source file ends in' printed halves 4 ml_wt tests
 SOURCES="$here/tests/no.c" gives 'a source file that is not there' 1 'there is no file' printed halves 4 ml_wt tests
+SOURCES=-half.c gives 'a source file named as an option' 1 'is named as ./-' printed halves 4 ml_wt tests
+mkdir -p "$WORK/named"
+cp "$here/programs/bank.c" "$WORK/named/-bank.c"
+cp "$here/programs/program.h" "$WORK/named"
+gives 'a program named as an option' 0 legal sh -c 'cd "$1" && sh "$2" -bank.c 2 ml_wt' - "$WORK/named" "$here/judge.sh"
+ITMRUN=/bin/true gives 'a judge to which all is legal' 1 'does not judge' printed bank 2 ml_wt
+ITMRUN=/bin/false gives 'a judge to which nothing is' 1 'does not judge' printed bank 2 ml_wt
 CXX=no-compiler gives 'a compiler that is not there' 1 no-compiler printed tally.cpp 4 ml_wt tests
 
 # how narrow the ranges are

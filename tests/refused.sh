@@ -20,10 +20,11 @@ cd "$work/crates/memory_tests"
 scripts=${SCRIPTS:-all}
 case $scripts in
 few) engines=read_and_write plains=calls worlds=inner_cancel ;;
-*)
+all)
     engines='log read_and_write copies_and_fills beyond_room actions' plains='calls begins'
     worlds='outer_cancel inner_cancel mode every_call cancels'
     ;;
+*) echo "SCRIPTS is all or few, and not $scripts" >&2 && exit 1 ;;
 esac
 
 # make NAME CALL: so many tests of this call, which answers whether nothing was refused

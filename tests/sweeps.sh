@@ -25,6 +25,10 @@ if [ -z "$program" ]; then
 fi
 work=$(mktemp -d) || exit 1
 trap 'rm -rf "$work"' EXIT
+case ${SCRIPTS:-all} in
+all | few) ;;
+*) echo "SCRIPTS is all or few, and not $SCRIPTS" >&2 && exit 1 ;;
+esac
 [ $# -gt 0 ] || set -- sched asm check threads stops cuts files engines
 passed=0
 failed=0
