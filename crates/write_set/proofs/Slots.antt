@@ -270,36 +270,17 @@ AreKept-add slots order at word c kept here none place mask value =
 
 -- a slot that joins
 pub AreKept-front : (slots new : Slots) (order : List ℕ) (word : ℕ) (c : Slot) → AreKept slots order → position (nat_eq word) (keys_of slots) ≡ None → new ≡ insert_entry nat_eq slots word c → IsDistinct nat_eq (keys_of new)
-    → (new ≡ slots ++ (word, c) ∷ []) × AreKept new order × (rows_of new order ≡ rows_of slots order)
+    → AreKept new order × (rows_of new order ≡ rows_of slots order) × (slice_get (keys_of new) (length slots) ≡ Some word)
 AreKept-front slots new order word c kept none inserted distinct =
     let more : new ≡ slots ++ (word, c) ∷ [] = inserted ∙ insert_entry-absent nat_eq word c slots (Missing-position (nat_eq word) slots none).absent in
     let rows : rows_of new order ≡ rows_of slots order = ap (λ slots. rows_of slots order) more ∙ rows_of-front slots (word, c) order (within_slots slots order kept.placed) in (
-      more,
       record {
         are = subst AreRows (sym rows) kept.are;
         placed = λ i at h. (let was = kept.placed i at h in (was.0, ap (λ slots. slice_get slots at) more ∙ got_front slots (word, c) at was.0 was.1, was.2));
         distinct = distinct;
       },
       rows,
-    )
-
--- and its row
-pub AreKept-new : (slots new : Slots) (order : List ℕ) (at word : ℕ) (c : Slot) → AreKept slots order → position (nat_eq word) (keys_of slots) ≡ None → new ≡ insert_entry nat_eq slots word c → IsDistinct nat_eq (keys_of new)
-    → at ≡ length slots → c.place ≡ length order → c.mask < 2 ^ 64 → c.value < 2 ^ 64
-    → AreKept new (order ++ at ∷ []) × (rows_of new (order ++ at ∷ []) ≡ rows_of slots order ++ row word c.mask c.value ∷ [])
-AreKept-new slots new order at word c kept none inserted distinct end place mask value =
-    let front = AreKept-front slots new order word c kept none inserted distinct in
-    let got : slice_get new at ≡ Some (word, c) = (λ i. slice_get (front.0 i) (end i)) ∙ got_last slots (word, c) in
-    let rows : rows_of new (order ++ at ∷ []) ≡ rows_of slots order ++ row word c.mask c.value ∷ [] = rows_of-push new order at ∙ (λ i. front.2 i ++ row_of_got new at (word, c) got i ∷ []) in (
-      record {
-        are = subst AreRows (sym rows) (AreRows-push (rows_of slots order) (row word c.mask c.value) kept.are (none_without slots order word kept none) mask value);
-        placed = λ i x h. elim (got_push order at i x h) [
-          | inl there ↦ front.1.placed i x there
-          | inr last ↦ ((word, c), subst (λ x. slice_get new x ≡ Some (word, c)) last.1 got, place ∙ sym last.0)
-        ];
-        distinct = distinct;
-      },
-      rows,
+      got_key new (length slots) (word, c) ((λ i. slice_get (more i) (length slots)) ∙ got_last slots (word, c)),
     )
 
 -- a row that is written

@@ -29,9 +29,11 @@ pub record Keyed : Type 0 where
   pub rows : List Row
   pub words : List ℕ
 
+-- what contracts see of slots and an order of them
 abbrev pub keyed : Slots → List ℕ → Keyed
 keyed slots order = record { rows = rows_of slots order; words = keys_of slots }
 
+-- what holds of them in every write set: the rows are apart and fit, each one's slot tells its place, and no word has two slots
 pub record AreKept (slots : Slots) (order : List ℕ) : Type 0 where
   pub are : AreRows (rows_of slots order)
   pub placed : ArePlaced slots order
