@@ -1,5 +1,7 @@
 -- What each step owes the table.
-use Rattle.std.proofs.Common.{◌≡◌, ℕ, zero, suc, ◌<◌, ◌≤◌, ◌≢◌, ◌^◌, Bool, true, false, List, get_or, set, sym, refl, ap, ◌∙◌, subst, arith, ◌==◌, cond}
+use Rattle.std.proofs.Common.{◌≡◌, ℕ, zero, suc, ◌<◌, ◌≤◌, ◌≢◌, ◌^◌, Bool, true, false, List, get_or, set, sym, refl, ap, ◌∙◌, subst, arith, ◌==◌, cond, Some, bit_xor}
+use Rattle.std.specs.Int.Bits.{xor_assoc, xor_self, xor_zero_l}
+use Rattle.std.proofs.lemmas.Option.{get_or_from_slice_get}
 use mathlib.Core.Option.{some, none}
 use lib.ListN.{get_elem?}
 use lib.Seq.{set-get_or}
@@ -7,16 +9,16 @@ use prog.Atomic.{either}
 use Rattle.atomic_table.specs.Table.{keeps, step, Allows, Splits, Joins}
 use Rattle.shared_words.specs.declared.view.View.{View}
 use Rattle.itm_types.specs.declared.step.Step.TheVariants.{Load, Store, Cas}
-use Rattle.shared_words.specs.Views.{wrote, cut_left, cut_right, both, spent, shares}
+use Rattle.shared_words.specs.Views.{wrote, held, held_cells, cut_left, cut_right, both, spent, shares}
 use Rattle.itm_types.specs.declared.step.Step.{Step}
-use Rattle.shared_words.specs.Steps.{Loaded, Lawful, StepTells, cells_after, finds}
+use Rattle.shared_words.specs.Steps.{Loaded, Lawful, StepTells, WasFound, cells_after, finds}
 use Rattle.shared_words.specs.Moves.{Moves}
 use Rattle.shared_words.specs.Good.{Good}
-use Rattle.shared_words.proofs.GoodSteps.{share_of}
+use Rattle.shared_words.proofs.GoodSteps.{held_word, share_of}
 use Rattle.shared_words.proofs.StepViews.{turns}
 use Rattle.shared_words.proofs.ListPlaces.{set_again, set_else, weigh_le}
 use Rattle.shared_words.proofs.PassViews as ends
-use Rattle.shared_words.specs.Rule.{Held, AreGood, loads, stores, exchanges, settled}
+use Rattle.shared_words.specs.Rule.{Held, AreGood, loads, stores, changes, exchanges, settled}
 
 same_views : (ws : List ℕ) (vs : List View) (id : ℕ) (v : View) → get_elem? vs id ≡ some v → Good ws vs → Good ws (set vs id v)
 same_views ws vs id v at g = subst (Good ws) (sym (set_again vs id v at)) g
@@ -40,6 +42,14 @@ module _ (slots id : ℕ) (me : Held) (alive : 0 < me.0.share) where
   allows_store c x can small s g h at fit = let r = turns s.words s.views g id me.0 at alive (Store c x) can small in
       (r.0, keeps, tt, r.1, (r.2, r.3, refl, moves s.words s.views id me.0 g at (Store c x) r))
 
+  -- the holder changes a word that stands as its own stores have left it
+  pub allows_change : (c bits : ℕ) → 0 < c → me.0.holds ≡ true → bit_xor (get_or (held_cells me.0) c 0) bits < 2 ^ 64 → Allows AreGood slots id me c (λ n. bit_xor n bits) (changes (step slots c bits 0 none) me)
+  allows_change zero bits word holds small s g h at fit = absurd (omega arith)
+  allows_change (suc k) bits word holds small s g h at fit =
+      let x : ℕ = bit_xor (get_or (held me.0) k 0) bits in
+      let r = turns s.words s.views g id me.0 at alive (Store (suc k) x) (holds, λ e. absurd (omega arith)) small in
+      (r.0, keeps, tt, subst (λ (n : ℕ). Good (set s.words (suc k) (bit_xor n bits)) (set s.views id r.0)) (sym (held_word s.words s.views g id me.0 at k alive holds)) r.1, (r.2, r.3, refl, moves s.words s.views id me.0 g at (Store (suc k) x) r))
+
   pub allows_exchange : (c old new : ℕ) → Lawful me.0 (Cas c old new) → Allows AreGood slots id me c (λ n. either (n == old) new n) (exchanges (step slots c old new none) me)
   allows_exchange c old new can s g h at fit = let r = turns s.words s.views g id me.0 at alive (Cas c old new) can tt in
       (r.0, keeps, tt, subst (λ (l : List ℕ). Good l (set s.views id r.0)) (either_set s.words c new (get_or s.words c 0 == old)) r.1, (r.2, r.3, refl, moves s.words s.views id me.0 g at (Cas c old new) r))
@@ -50,6 +60,15 @@ module _ (slots id : ℕ) (me : Held) where
       let t = ends.settles s.words s.views g id me.0 at in
       let le : me.0.share ≤ 128 = (let a : me.0.share ≤ shares s.views = weigh_le share_of s.views id me.0 at in let b = g.whole in omega arith) in
       (me.0, keeps, tt, same_words s.words 0 (set s.views id me.0) (same_views s.words s.views id me.0 at g), (refl, t.0, t.1, le))
+
+-- the bits in which two values differ make the one of the other
+xor_back : (a b : ℕ) → bit_xor a (bit_xor a b) ≡ b
+xor_back a b = sym (xor_assoc a a b) ∙ ap (λ (x : ℕ). bit_xor x b) (xor_self a) ∙ xor_zero_l b
+
+-- so those in which a value differs from what was found of a word make the value of what stands there
+pub changed : (v : View) (c n x : ℕ) → 0 < c → WasFound v (Store c x) (Some n) → bit_xor (get_or (held_cells v) c 0) (bit_xor n x) ≡ x
+changed v zero n x word told = absurd (omega arith)
+changed v (suc k) n x word told = ap (λ (y : ℕ). bit_xor y (bit_xor n x)) (get_or_from_slice_get (held v) k n 0 told) ∙ xor_back n x
 
 load_one : (v w : View) (st : Step) (k n : ℕ) → Loaded v st k n w → (b : Bool) → v.holds ≡ b → w.holds ≡ v.holds
 load_one v w st k n l false e = ap (λ (u : View). u.holds) (l.0 e)

@@ -1,12 +1,12 @@
 -- The rule of the table of cells, and what each operation on it tells.
-use Rattle.std.specs.Prelude.{◌≡◌, ℕ, ◌≤◌, List}
+use Rattle.std.specs.Prelude.{◌≡◌, ℕ, ◌≤◌, List, slice_index, bit_xor}
 use Rattle.atomic_table.specs.Table.{State, Me}
 use Rattle.atomic_table.specs.Table as table
 use Rattle.shared_words.specs.declared.view.View.{View}
 use Rattle.itm_types.specs.declared.step.Step.{Step}
 use Rattle.itm_types.specs.declared.step.Step.TheVariants.{Load, Store, Cas}
 use Rattle.shared_words.specs.Commits.{StartsWith}
-use Rattle.shared_words.specs.Views.{opening, times}
+use Rattle.shared_words.specs.Views.{opening, held_cells, times}
 use Rattle.shared_words.specs.Steps.{StepTells}
 use Rattle.shared_words.specs.Good.{Good}
 use Rattle.shared_words.specs.Moves.{Moves}
@@ -30,6 +30,10 @@ loads s m n w = MakesStep (Load s.word) m n w
 
 abbrev pub stores : table.Step ℕ → Held → ℕ → Held → Type 0
 stores s m n w = MakesStep (Store s.word s.first) m 0 w
+
+-- bits of a word are changed by the holder, who sees what stands there
+abbrev pub changes : table.Step ℕ → Held → ℕ → Held → Type 0
+changes s m n w = MakesStep (Store s.word (bit_xor (slice_index (held_cells m.0) s.word) s.first)) m 0 w
 
 abbrev pub exchanges : table.Step ℕ → Held → ℕ → Held → Type 0
 exchanges s m n w = MakesStep (Cas s.word s.first s.second) m n w

@@ -1,5 +1,5 @@
 -- The kinds of atomic step: which are lawful for a pass with the view v, and what its view w is afterwards, where n was found.
-use Rattle.std.specs.Prelude.{◌≡◌, ◌≢◌, ℕ, ◌+◌, ◌/◌, ◌%◌, ◌^◌, ◌<◌, ◌≤◌, max, true, false, cond, ◌==◌, List, ◌++◌, ◌⊎◌, length, slice_index, slice_set}
+use Rattle.std.specs.Prelude.{◌≡◌, ◌≢◌, ℕ, suc, ◌+◌, ◌/◌, ◌%◌, ◌^◌, ◌<◌, ◌≤◌, max, true, false, cond, ◌==◌, List, ◌++◌, ◌⊎◌, length, Option, Some, slice_get, slice_index, slice_set}
 use Rattle.shared_words.specs.declared.view.View.{View}
 use Rattle.itm_types.specs.declared.limits.TheConstants.{MAX_COMMITS}
 use Rattle.itm_types.specs.declared.step.Step.{Step}
@@ -52,6 +52,11 @@ abbrev pub ValueFits : Step → Type 0
 ValueFits (Load c) = Unit {0}
 ValueFits (Store c x) = x < 2 ^ 64
 ValueFits (Cas c s t) = Unit {0}
+
+-- what was found, if anything, of the word that the step stores is what the holder's own stores have left there
+abbrev pub WasFound : View → Step → Option ℕ → Type 0
+WasFound v (Store (suc k) x) (Some n) = slice_get (held v) k ≡ Some n
+WasFound v st found = Unit {0}
 
 -- cell 0 is the clock, and the words follow it
 abbrev pub cell_of : Step → ℕ

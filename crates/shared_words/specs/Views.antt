@@ -44,6 +44,10 @@ freed v st n = record v { seen = v.seen ++ v.done ∷ []; mine = v.mine ++ v.clo
 abbrev pub held : View → List ℕ
 held v = stored (after v.base v.seen) v.done
 
+-- the cells as the holder sees them
+abbrev pub held_cells : View → List ℕ
+held_cells v = (v.clock + 1) ∷ held v
+
 -- what stays where a view is split
 abbrev pub cut_left : View → View
 cut_left v = record v { share = v.share - 1 }

@@ -1,6 +1,6 @@
 //! The rule of the cells, and what each operation tells. These types are for the proofs alone.
 
-ghost use Rattle.shared_words.specs.Rule.{AreGood, first_view, loads, stores, exchanges, settled};
+ghost use Rattle.shared_words.specs.Rule.{AreGood, first_view, loads, stores, changes, exchanges, settled};
 ghost use Rattle.shared_words.specs.Views.{cut_left, cut_right, both, spent};
 
 use crate::view::View;
@@ -27,6 +27,13 @@ pub(crate) struct Stores;
 
 impl Play<u8, View> for Stores {
     ghost then = { stores };
+}
+
+/// A store of a word by what it changes of it.
+pub(crate) struct Changes;
+
+impl Play<u8, View> for Changes {
+    ghost then = { changes };
 }
 
 /// A compare-exchange.

@@ -1,12 +1,12 @@
 //! The cells.
 
-ghost use Rattle.std.specs.Prelude.{◌≡◌, ◌+◌, ◌*◌, ◌<◌, ◌≤◌, true, false, [], length, IfOk, IfErr};
+ghost use Rattle.std.specs.Prelude.{◌≡◌, ◌+◌, ◌*◌, ◌<◌, ◌≤◌, true, false, [], length, Some, IfOk, IfErr};
 ghost use Rattle.itm_types.specs.declared.limits.TheConstants.{MAX_MEMORY};
 
 use crate::bytes::words_of;
 use crate::fault::WordsFault;
 use crate::pass::Pass;
-use crate::rule::{Both, Core, Cut, Exchanges, Loads, Settles, Stores};
+use crate::rule::{Both, Changes, Core, Cut, Exchanges, Loads, Settles, Stores};
 use crate::view::View;
 use atomic_table::Table;
 use itm_types::{MAX_MEMORY, MAX_WORDS, Step, put_word};
@@ -38,7 +38,7 @@ impl Words {
     ghost use Rattle.shared_words.specs.Views.{opening, cut_left, cut_right};
     ghost use Rattle.shared_words.specs.Good.{EndsHeld, EndsWith};
     ghost use Rattle.shared_words.specs.Moves.{Moves};
-    ghost use Rattle.shared_words.specs.Steps.{Lawful, StepTells, Joined, cell_of};
+    ghost use Rattle.shared_words.specs.Steps.{Lawful, StepTells, WasFound, Joined, cell_of};
 
     fn of_words(alloc: Global, words: &Vec<u64>) -> Result<(Words, Pass), AllocError>
         requires fit { AllFit words.now.items }
@@ -136,6 +136,44 @@ impl Words {
                 found
             }
         }
+    }
+
+    /// The same, where `found` is what the thread found of the word that it stores a part of: that part alone is stored. So
+    /// data of the program's own that lie in the rest of the word stay, whoever stores there in between.
+    #[inline(always)]
+    pub fn step_over(&self, pass: &mut Pass, step: Step, found: Option<u64>) -> u64
+        requires own { Owns self.now pass.old }
+        requires cell { cell_of step < cells_of self.now }
+        requires lawful { Lawful (view_of pass.old) step }
+        requires found { WasFound (view_of pass.old) step found }
+        ensures own { Owns self.now pass.new }
+        ensures turn { StepTells (view_of pass.old) step result (view_of pass.new) }
+        ensures moves { Moves (view_of pass.old) step result (view_of pass.new) }
+    {
+        match (step, found) {
+            (Step::Store(cell, new), Some(found)) if cell > 0 => {
+                self.change(pass, cell, found, new);
+                0
+            }
+            _ => self.step(pass, step),
+        }
+    }
+
+    /// Stores in a word by one operation that changes the bits in which the new value differs from what was found, and no
+    /// others.
+    #[inline(always)]
+    fn change(&self, pass: &mut Pass, cell: u32, found: u64, new: u64)
+        requires own { Owns self.now pass.old }
+        requires cell { (0 < cell) × (cell < cells_of self.now) }
+        requires holds { (view_of pass.old).holds ≡ true }
+        requires found { WasFound (view_of pass.old) (Step.Store cell new) (Some found) }
+        ensures own { Owns self.now pass.new }
+        ensures turn { StepTells (view_of pass.old) (Step.Store cell new) 0 (view_of pass.new) }
+        ensures moves { Moves (view_of pass.old) (Step.Store cell new) 0 (view_of pass.new) }
+    {
+        self.table
+            .shared
+            .fetch_xor::<Changes>(&mut pass.seat, cell as usize, found ^ new);
     }
 
     /// Cuts a new pass from this one, which has one split less. The new pass has seen what this one has, and holds
