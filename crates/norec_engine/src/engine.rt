@@ -260,6 +260,17 @@ impl Engine {
         self.state.clock
     }
 
+    /// What the step before found, where the one that it waits for stores a part of that word.
+    #[inline(always)]
+    pub fn got(&self) -> Option<u64>
+        ensures { result ≡ self.now.got }
+    {
+        match (self.irrevocable, self.pending) {
+            (false, Pending::Store(_)) | (true, Pending::Place) => self.state.got,
+            _ => None,
+        }
+    }
+
     /// The room that the call asks for, where it is served and makes the transaction irrevocable.
     pub fn irrevocable_room(&self, call: &Call) -> Option<u32>
         ensures { result ≡ irrevocable_room self.now call.now }
