@@ -155,7 +155,7 @@ fn store(words: &Words, pass: &mut Pass, engine: &mut Engine, first: Step, answe
     }
 }
 
-/// Does one step of a call; tells the next one.
+/// Does one step of a call; tells the next one. A part of a word is stored here alone, for the fast path stores whole words.
 fn go_on(
     words: &Words,
     pass: &mut Pass,
@@ -167,7 +167,7 @@ fn go_on(
     requires due { (s : Start) × InCall s (view_of pass.old) engine.old step }
     ensures { StepsOn words.now (view_of pass.old) engine.old step pass.new engine.new (next_in result answer.new) }
 {
-    let found = words.step(pass, step);
+    let found = words.step_over(pass, step, engine.got());
     engine.resume_into(found, answer)
 }
 

@@ -1,5 +1,5 @@
 -- From step to step of a call.
-use Rattle.std.proofs.Common.{◌≡◌, ◌≢◌, ℕ, zero, suc, ◌+◌, ◌/◌, ◌<◌, ◌≤◌, Bool, true, false, Option, None, Some, IsSome, refl, sym, ap, subst, ◌∙◌, arith}
+use Rattle.std.proofs.Common.{◌≡◌, ◌≢◌, ℕ, zero, suc, ◌+◌, ◌/◌, ◌<◌, ◌≤◌, Bool, true, false, Option, None, Some, IsSome, slice_get, refl, sym, ap, subst, ◌∙◌, arith}
 use mathlib.Core.Logic.{dite}
 use native.Mathlib.Decide.{ℕ_discrete}
 use Rattle.itm_types.specs.declared.limits.TheConstants.{MAX_COMMITS}
@@ -16,11 +16,12 @@ use Rattle.norec_core.specs.Endings.{EndsSo, IsEnding, ending_after, ending_from
 use Rattle.norec_core.proofs.Replies.AnsweredEngines.{rests}
 use Rattle.norec_core.specs.Core.{Core, came, handed_to, in_transaction, is_inside}
 use Rattle.norec_core.specs.Order.{asked_from, stage_from}
-use Rattle.norec_core.specs.Proceeds.{Ends, Proceeds, IsLawful, Fits, FitsStep, most}
+use Rattle.norec_core.specs.Proceeds.{Ends, Got, Proceeds, IsLawful, Fits, FitsStep, most}
 use Rattle.norec_core.specs.Moves.{IsCalled, IsResumed}
 use Rattle.norec_core.proofs.Engines.KeptFields.{handed_is, most_same}
 use Rattle.shared_words.specs.declared.view.View.{View}
-use Rattle.shared_words.specs.Steps.{Lawful, StepTells, cell_of}
+use Rattle.shared_words.specs.Steps.{Lawful, StepTells, WasFound, cell_of}
+use Rattle.shared_words.specs.Views.{held}
 use Rattle.shared_words.specs.Passes.{IsOver}
 use Rattle.itm_runtime.specs.Ties.{IsTied, Stands}
 use Rattle.itm_runtime.specs.Served.{Start, Served, IsPatient}
@@ -45,6 +46,21 @@ lawful_of v e t (Load (suc word)) l = λ z. absurd (omega arith)
 lawful_of v e t (Store zero value) l = (t.holds ∙ l.1, λ z. (let clock = (t.clocks (t.settled.holder l.1).0).clock in let is = l.2.0 in omega arith))
 lawful_of v e t (Store (suc word) value) l = (t.holds ∙ l.1, λ z. absurd (omega arith))
 lawful_of v e t (Cas cell from to) l = let few = t.settled.limit in let less = l.5 in (l.0, l.6, (t.holds ∙ l.1, l.4, (let r : from / 2 < MAX_COMMITS = omega arith in r)))
+
+-- what the engine has found of a word that it stores is what the holder's stores have left
+pub got_there : (s : Start) (v : View) (e : Core) (step : Step) (found : Option ℕ) → InCall s v e step → found ≡ e.got → WasFound v step found
+got_there s v e (Load cell) found i is = tt
+got_there s v e (Store zero value) found i is = tt
+got_there s v e (Cas cell from to) found i is = tt
+got_there s v e (Store (suc word) value) found i is = by_found found (subst (λ (o : Option ℕ). Got o (slice_get (held v) word)) (sym is) (by_mode e.irrevocable refl))
+  where
+    by_mode : (b : Bool) → e.irrevocable ≡ b → Got e.got (slice_get (held v) word)
+    by_mode true irr = (i.held_on (sym i.kept.irrevocable ∙ irr)).got word value i.waits
+    by_mode false revocable = (let stores = i.lawful.2 revocable in subst (λ (w : ℕ). Got e.got (slice_get (held v) w)) (sym stores.word_is) (i.tied.holding i.lawful.1 revocable).got)
+
+    by_found : (o : Option ℕ) → Got o (slice_get (held v) word) → WasFound v (Store (suc word) value) o
+    by_found None g = tt
+    by_found (Some n) g = g
 
 inside : (e : Core) (step : Step) → IsLawful e step → cell_of step ≤ e.words
 inside e (Load cell) l = l.0
