@@ -358,6 +358,7 @@ count() {
 count 'the documents' python3 -B "$root/tests/documents.py"
 count 'the tables' sh "$root/tests/tables.sh"
 count 'threads that stop' sh "$root/tests/sweeps.sh" stops
+count 'plain data beside parts of words' sh "$root/tests/neighbours.sh"
 count 'what is refused or cut off' env SCRIPTS=few sh "$root/tests/sweeps.sh" sched asm check threads cuts files engines
 count 'bodies that only tests refuse' sh "$root/tests/planted.sh"
 
