@@ -75,6 +75,9 @@ calls=${CALLS:-2000000}
 is_number "$calls" || stop "CALLS is a number from 1 on, and not $calls"
 command -v python3 >/dev/null || stop 'there is no python3'
 
+case " ${SOURCES:-}" in
+*' -'*) stop 'in SOURCES a file whose name begins with - is named as ./-' ;;
+esac
 for source in "$program" ${SOURCES:-}; do
     [ -f "$source" ] || stop "there is no file $source"
     case $source in
@@ -82,9 +85,6 @@ for source in "$program" ${SOURCES:-}; do
     *) stop "a source file ends in .c, .cc, .cpp or .cxx, and not as $source" ;;
     esac
 done
-case " ${SOURCES:-}" in
-*' -'*) stop 'in SOURCES a file whose name begins with - is named as ./-' ;;
-esac
 
 # says so where the repository's own judge has to be proved and built first, as the launcher will find too
 announce_build() {
