@@ -1,17 +1,16 @@
--- An index as rows join and are cut, and what it finds.
-use Rattle.std.proofs.Common.{map, true, eqb, ◌^◌, ◌||◌, lit<, ◌≡◌, ◌≢◌, ◌⊎◌, ℕ, zero, suc, ◌==◌, ◌<◌, ◌≤◌, false, List, [], ◌∷◌, ◌++◌, Option, Some, None, length, take, slice_get, slice_set, get_or, ◌+◌, refl, sym, ap, subst, ◌∙◌, inl, inr, arith}
+-- An index as rows join, and what it finds.
+use Rattle.std.proofs.Common.{map, Bool, true, if◌then◌else◌, eqb, ◌^◌, ◌||◌, ◌≡◌, ◌≢◌, ◌⊎◌, ℕ, zero, suc, ◌==◌, ◌<◌, ◌≤◌, false, List, [], ◌∷◌, ◌++◌, Option, Some, None, length, take, slice_get, slice_set, get_or, ◌-◌, refl, sym, ap, subst, ◌∙◌, inl, inr, arith}
 use Rattle.std.specs.List.{list_any, AllByRecursion, IsDistinct}
 use Rattle.std.proofs.lemmas.Bool.{cases_Bool, eqb-true, eqb-false, ne_eqb}
-use Rattle.std.proofs.lemmas.List.{length-map, length-set, length-take-le, take_all, take_more}
+use Rattle.std.proofs.lemmas.List.{length-map, length-set, length-append, length_push, take_all}
 use Rattle.std.proofs.lemmas.Map.Keys.{IsDistinct-cons}
 use Rattle.std.proofs.lemmas.Map.Steps.{length-le_from_distinct_below}
-use Rattle.std.proofs.lemmas.Option.{slice_get_within}
-use Rattle.itm_types.specs.declared.limits.TheConstants.{MAX_WORDS}
+use Rattle.std.proofs.lemmas.Option.{slice_get_within, same_Some}
 use Rattle.itm_types.specs.declared.row.LogRow.{LogRow}
 use Rattle.itm_types.specs.LogRows.{value_of, AreSingle}
 use Rattle.itm_types.proofs.LogRows.{other_word, value_here, value_there}
 use Rattle.itm_types.proofs.Words.{slice_get-set_same, slice_get-set_other}
-use Rattle.value_log.specs.Index.{AllBelow, IsIndex}
+use Rattle.value_log.specs.Index.{slot_of, AllBelow, FallsTo, IsLast, AreHeads, AreLinks, IsIndex}
 
 -- ## Rows by place
 
@@ -39,21 +38,30 @@ row_of (y ∷ ys) word value e = elim (cases_Bool (y.word == word)) [
   | inr other ↦ (let rest = row_of ys word value (sym (value_there y ys word other) ∙ e) in (suc rest.0, rest.1, rest.2, rest.3, rest.4))
 ]
 
--- none of the rows before a row has its word
-pub none_before : (rows : List LogRow) (n : ℕ) (x : LogRow) → AreSingle rows → slice_get rows n ≡ Some x → value_of x.word (take n rows) ≡ None
-none_before [] n x s e = absurd (cc)
-none_before (y ∷ ys) zero x s e = refl
-none_before (y ∷ ys) (suc n) x s e =
-    let apart = other_at ys y.word n x s.0 e in
-    value_there y (take n ys) x.word (other_way x.word y.word apart) ∙ none_before ys n x s.1 e
+itself : (a : ℕ) → (a == a) ≡ true
+itself a = elim (cases_Bool (a == a)) [
+  | inl same ↦ same
+  | inr other ↦ absurd (eqb-false a a other refl)
+]
+
+-- in a log the word of each row has that row's value
+pub value_at : (rows : List LogRow) (n : ℕ) (x : LogRow) → AreSingle rows → slice_get rows n ≡ Some x → value_of x.word rows ≡ Some x.value
+value_at [] n x s e = absurd (cc)
+value_at (y ∷ ys) zero x s e = (let same : y ≡ x = cc in subst (λ (z : LogRow). value_of z.word (y ∷ ys) ≡ Some z.value) same (value_here y ys y.word (itself y.word)))
+value_at (y ∷ ys) (suc n) x s e = value_there y ys x.word (other_way x.word y.word (other_at ys y.word n x s.0 e)) ∙ value_at ys n x s.1 e
   where
     other_way : (a b : ℕ) → (a == b) ≡ false → (b == a) ≡ false
-    other_way a b e = elim (cases_Bool (b == a)) [
-      | inl same ↦ absurd (eqb-false a b e (sym (eqb-true b a same)))
-      | inr other ↦ other
-    ]
+    other_way a b e = ne_eqb b a (λ same. eqb-false a b e (sym same))
 
-pub below_push : (rows : List LogRow) (r : LogRow) → AllBelow rows → r.word < MAX_WORDS → AllBelow (rows ++ r ∷ [])
+-- and a word that no row has has none
+pub no_value : (rows : List LogRow) (word : ℕ) → ((i : ℕ) (x : LogRow) → slice_get rows i ≡ Some x → x.word ≢ word) → value_of word rows ≡ None
+no_value rows word none = of (value_of word rows) refl
+  where
+    of : (o : Option ℕ) → value_of word rows ≡ o → value_of word rows ≡ None
+    of None e = e
+    of (Some value) e = (let at = row_of rows word value e in absurd (none at.0 at.1 at.2 at.3))
+
+pub below_push : (rows : List LogRow) (r : LogRow) → AllBelow rows → r.word < 2 ^ 32 - 1 → AllBelow (rows ++ r ∷ [])
 below_push [] r b l = (l, tt)
 below_push (y ∷ ys) r b l = (b.0, below_push ys r b.1 l)
 
@@ -61,12 +69,6 @@ pub below_cut : (n : ℕ) (rows : List LogRow) → AllBelow rows → AllBelow (t
 below_cut zero rows b = tt
 below_cut (suc n) [] b = tt
 below_cut (suc n) (y ∷ ys) b = (b.0, below_cut n ys b.1)
-
-got_cut : (n : ℕ) (rows : List LogRow) (i : ℕ) (x : LogRow) → slice_get (take n rows) i ≡ Some x → slice_get rows i ≡ Some x
-got_cut zero rows i x e = absurd (cc)
-got_cut (suc n) [] i x e = absurd (cc)
-got_cut (suc n) (y ∷ ys) zero x e = e
-got_cut (suc n) (y ∷ ys) (suc i) x e = got_cut n ys i x e
 
 -- ## How many rows there are
 
@@ -77,9 +79,8 @@ words_of rows = map (λ (r : LogRow). r.word) rows
 pub few_rows : (rows : List LogRow) → AreSingle rows → AllBelow rows → length rows < 2 ^ 32
 unfolding words_of IsDistinct
 few_rows rows single below =
-    let at_most : length (words_of rows) ≤ MAX_WORDS = length-le_from_distinct_below (words_of rows) MAX_WORDS (distinct rows single) (λ q h. within rows q below h) in
-    let fits : MAX_WORDS < 2 ^ 32 = lit< tt in
-    omega (arith, at_most, fits, length-map rows (λ (r : LogRow). r.word))
+    let at_most : length (words_of rows) ≤ 2 ^ 32 - 1 = length-le_from_distinct_below (words_of rows) (2 ^ 32 - 1) (distinct rows single) (λ q h. within rows q below h) in
+    omega (arith, at_most, length-map rows (λ (r : LogRow). r.word))
   where
     apart : (rows : List LogRow) (word : ℕ) → value_of word rows ≡ None → AllByRecursion (λ y. eqb word y ≡ false) (map (λ (r : LogRow). r.word) rows)
     apart [] word e = tt
@@ -91,87 +92,151 @@ few_rows rows single below =
     distinct [] s = tt
     distinct (r ∷ rs) s = IsDistinct-cons eqb r.word (map (λ (r : LogRow). r.word) rs) (apart rs r.word s.0) (distinct rs s.1)
 
-    within : (rows : List LogRow) (q : ℕ) → AllBelow rows → list_any (eqb q) (map (λ (r : LogRow). r.word) rows) ≡ true → q < MAX_WORDS
+    within : (rows : List LogRow) (q : ℕ) → AllBelow rows → list_any (eqb q) (map (λ (r : LogRow). r.word) rows) ≡ true → q < 2 ^ 32 - 1
     within [] q b h = absurd (cc)
     within (y ∷ ys) q b h = elim (cases_Bool (eqb q y.word)) [
-      | inl same ↦ subst (λ (n : ℕ). n < MAX_WORDS) (sym (eqb-true q y.word same)) b.0
+      | inl same ↦ subst (λ (n : ℕ). n < 2 ^ 32 - 1) (sym (eqb-true q y.word same)) b.0
       | inr other ↦ within ys q b.1 (sym (ap (λ t. t || list_any (eqb q) (map (λ (r : LogRow). r.word) ys)) other) ∙ h)
     ]
 
+-- ## Which rows fall to a slot
+
+got_left : (rows more : List LogRow) (i : ℕ) (x : LogRow) → slice_get rows i ≡ Some x → slice_get (rows ++ more) i ≡ Some x
+got_left [] more i x e = absurd (cc)
+got_left (y ∷ ys) more zero x e = e
+got_left (y ∷ ys) more (suc i) x e = got_left ys more i x e
+
+got_last : (rows : List LogRow) (r : LogRow) → slice_get (rows ++ r ∷ []) (length rows) ≡ Some r
+got_last [] r = refl
+got_last (y ∷ ys) r = got_last ys r
+
+module _ (slots : ℕ) (rows : List LogRow) (r : LogRow) where
+  falls_more : (slot i : ℕ) → FallsTo slots rows slot i → FallsTo slots (rows ++ r ∷ []) slot i
+  falls_more slot i f = (f.0, got_left rows (r ∷ []) i f.0 f.1, f.2)
+
+  falls_push : (slot i : ℕ) → FallsTo slots (rows ++ r ∷ []) slot i → FallsTo slots rows slot i ⊎ ((i ≡ length rows) × (slot_of slots r.word ≡ slot))
+  falls_push slot i f = elim (got_push rows r i f.0 f.1) [
+    | inl there ↦ inl (f.0, there, f.2)
+    | inr last ↦ inr (last.0, subst (λ (x : LogRow). slot_of slots x.word ≡ slot) (sym last.1) f.2)
+  ]
+
+  -- a row that joins behind the end changes nothing before it
+  last_more : (slot end place : ℕ) → end ≤ length rows → IsLast slots rows slot end place → IsLast slots (rows ++ r ∷ []) slot end place
+  last_more slot end place l is i below f = elim (falls_push slot i f) [
+    | inl there ↦ (let at = is i below there in (at.0, at.1, falls_more slot place at.2))
+    | inr last ↦ (let same = last.0 in absurd (omega (arith, l, below, same)))
+  ]
+
+  -- one that falls to another slot changes nothing
+  last_other : (slot place : ℕ) → slot_of slots r.word ≢ slot → IsLast slots rows slot (length rows) place → IsLast slots (rows ++ r ∷ []) slot (length (rows ++ r ∷ [])) place
+  last_other slot place other is i below f = elim (falls_push slot i f) [
+    | inl there ↦ (let at = is i (slice_get_within rows i there.0 there.1) there in (at.0, subst (λ (n : ℕ). place < n) (sym (length_push rows r)) (omega (arith, at.1)), falls_more slot place at.2))
+    | inr last ↦ absurd (other last.1)
+  ]
+
+  -- and it is itself the last one of its own
+  last_own : (slot : ℕ) → slot_of slots r.word ≡ slot → IsLast slots (rows ++ r ∷ []) slot (length (rows ++ r ∷ [])) (length rows)
+  last_own slot own i below f = (let long = length_push rows r in (omega (arith, below, long), omega (arith, long), (r, got_last rows r, own)))
+
 -- ## The index
 
-pub index_push : (places : List ℕ) (rows : List LogRow) (r : LogRow) → IsIndex places rows → value_of r.word rows ≡ None → IsIndex (slice_set places r.word (length rows)) (rows ++ r ∷ [])
-index_push places rows r is none i x e l =
-    let long : x.word < length places = omega (arith, l, length-set places r.word (length rows)) in
-    elim (got_push rows r i x e) [
-      | inl there ↦ slice_get-set_other places r.word x.word (length rows) (λ same. eqb-false x.word r.word (other_at rows r.word i x none there) (sym same)) ∙ is i x there long
-      | inr last ↦ (
-          let here : r.word < length places = subst (λ (z : LogRow). z.word < length places) (sym last.1) long in
-          subst (λ (z : LogRow). slice_get (slice_set places r.word (length rows)) z.word ≡ Some i) last.1
-          (slice_get-set_same places r.word (length rows) here ∙ ap Some (sym last.0)))
-    ]
+pub index_none : (last before : List ℕ) → IsIndex last before []
+index_none last before = record { within = omega arith; heads = λ slot place e i below f. absurd (cc); links = λ i place r e h. absurd (cc) }
 
-pub index_cut : (places : List ℕ) (n : ℕ) (rows : List LogRow) → IsIndex places rows → IsIndex places (take n rows)
-index_cut places n rows is i x e l = is i x (got_cut n rows i x e) l
+module _ (last before : List ℕ) (rows : List LogRow) (r : LogRow) (old : ℕ) where
+  pub index_push : slice_get last (slot_of (length last) r.word) ≡ Some old → length rows < length before → IsIndex last before rows
+      → IsIndex (slice_set last (slot_of (length last) r.word) (length rows)) (slice_set before (length rows) old) (rows ++ r ∷ [])
+  index_push there room is = record { within = omega (arith, room, length_push rows r, length-set before (length rows) old); heads = subst (λ (n : ℕ). AreHeads n new_last (rows ++ r ∷ [])) (sym size) heads; links = subst (λ (n : ℕ). AreLinks n new_before (rows ++ r ∷ [])) (sym size) links }
+    where
+      own : ℕ
+      own = slot_of (length last) r.word
+
+      new_last : List ℕ
+      new_last = slice_set last own (length rows)
+
+      new_before : List ℕ
+      new_before = slice_set before (length rows) old
+
+      size : length new_last ≡ length last
+      size = length-set last own (length rows)
+
+      heads : AreHeads (length last) new_last (rows ++ r ∷ [])
+      heads s p e = elim (cases_Bool (own == s)) [
+        | inl same ↦ (
+            let here = eqb-true own s same in
+            let place : p ≡ length rows = same_Some p (length rows) (sym e ∙ (ap (slice_get new_last) (sym here) ∙ slice_get-set_same last own (length rows) (slice_get_within last own old there))) in
+            subst (λ (n : ℕ). IsLast (length last) (rows ++ r ∷ []) s (length (rows ++ r ∷ [])) n) (sym place) (last_own (length last) rows r s here))
+        | inr other ↦ (
+            let apart = eqb-false own s other in
+            last_other (length last) rows r s p apart (is.heads s p (sym (slice_get-set_other last own s (length rows) apart) ∙ e)))
+      ]
+
+      links : AreLinks (length last) new_before (rows ++ r ∷ [])
+      links i p x e h = elim (got_push rows r i x e) [
+        | inl before_it ↦ (
+            let within = slice_get_within rows i x before_it in
+            last_more (length last) rows r (slot_of (length last) x.word) i p (omega (arith, within))
+            (is.links i p x before_it (sym (slice_get-set_other before (length rows) i old (λ same. omega (arith, within, same))) ∙ h)))
+        | inr it ↦ (
+            let place : p ≡ old = same_Some p old (sym h ∙ (ap (slice_get new_before) it.0 ∙ slice_get-set_same before (length rows) old room)) in
+            subst (λ (n : ℕ). IsLast (length last) (rows ++ r ∷ []) (slot_of (length last) x.word) i n) (sym place)
+            (subst (λ (n : ℕ). IsLast (length last) (rows ++ r ∷ []) (slot_of (length last) x.word) n old) (sym it.0)
+            (subst (λ (z : LogRow). IsLast (length last) (rows ++ r ∷ []) (slot_of (length last) z.word) (length rows) old) it.1
+            (last_more (length last) rows r own (length rows) old (omega arith) (is.heads own old there)))))
+      ]
+
+-- links of more places change nothing
+pub index_longer : (last before more : List ℕ) (rows : List LogRow) → IsIndex last before rows → IsIndex last (before ++ more) rows
+index_longer last before more rows is = record { within = omega (arith, is.within, length-append before more); heads = is.heads; links = λ i place r e h. is.links i place r e (sym (left before i (omega (arith, slice_get_within rows i r e, is.within))) ∙ h) }
+  where
+    left : (xs : List ℕ) (i : ℕ) → i < length xs → slice_get (xs ++ more) i ≡ slice_get xs i
+    left [] i l = absurd (omega arith)
+    left (x ∷ xs) zero l = refl
+    left (x ∷ xs) (suc i) l = left xs i (omega arith)
+
+pub index_resized : (ok : Bool) (last before more : List ℕ) (rows : List LogRow) (n : ℕ) → length before ≤ n → IsIndex last before rows
+    → IsIndex last (if ok then take n before ++ more else before) rows
+index_resized true last before more rows n long is = subst (λ (b : List ℕ). IsIndex last (b ++ more) rows) (sym (take_all n before long)) (index_longer last before more rows is)
+index_resized false last before more rows n long is = is
 
 -- ## The index of rows, one after the other
 
-got_or : (rows : List LogRow) (i : ℕ) (d : LogRow) → i < length rows → slice_get rows i ≡ Some (get_or rows i d)
+pub noted_none : (last before : List ℕ) (rows : List LogRow) → IsIndex last before (take 0 rows)
+noted_none last before rows = index_none last before
+
+pub got_or : (rows : List LogRow) (i : ℕ) (d : LogRow) → i < length rows → slice_get rows i ≡ Some (get_or rows i d)
 got_or [] i d l = absurd (omega arith)
 got_or (y ∷ ys) zero d l = refl
 got_or (y ∷ ys) (suc i) d l = got_or ys i d (omega arith)
 
-pub noted_none : (places : List ℕ) (rows : List LogRow) → IsIndex places (take 0 rows)
-noted_none places rows i x e l = absurd (cc)
-
-pub noted_more : (places : List ℕ) (rows : List LogRow) (place : ℕ) (d : LogRow) → place < length rows → AreSingle rows → IsIndex places (take place rows)
-    → IsIndex (slice_set places (get_or rows place d).word place) (take (place + 1) rows)
-noted_more places rows place d l single is =
-    let r : LogRow = get_or rows place d in
-    let size : length (take place rows) ≡ place = length-take-le place rows (omega arith) in
-    let more = index_push places (take place rows) r is (none_before rows place r single (got_or rows place d l)) in
-    subst (IsIndex (slice_set places r.word place)) (sym (take_more rows place d l)) (subst (λ (n : ℕ). IsIndex (slice_set places r.word n) (take place rows ++ r ∷ [])) size more)
-
-pub noted_all : (places : List ℕ) (rows : List LogRow) (place : ℕ) → length rows ≤ place → IsIndex places (take place rows) → IsIndex places rows
-noted_all places rows place l is = subst (IsIndex places) (take_all place rows l) is
-
 -- ## What it finds
 
-module _ (places : List ℕ) (rows : List LogRow) (is : IsIndex places rows) (word p : ℕ) (there : slice_get places word ≡ Some p) where
-  -- either the word has no row, or its place leads to it
-  found : (o : Option ℕ) → value_of word rows ≡ o → (o ≡ None) ⊎ ((x : LogRow) × (slice_get rows p ≡ Some x) × (x.word ≡ word) × (o ≡ Some x.value))
-  found None e = inl refl
-  found (Some value) e =
-      let at = row_of rows word value e in
-      let long : at.1.word < length places = subst (λ (n : ℕ). n < length places) (sym at.3) (slice_get_within places word p there) in
-      let place : p ≡ at.0 = one_place p at.0 (sym there ∙ (ap (slice_get places) (sym at.3) ∙ is at.0 at.1 at.2 long)) in
-      inr (at.1, ap (slice_get rows) place ∙ at.2, at.3, ap Some (sym at.4))
-    where
-      one_place : (a b : ℕ) → ◌≡◌ {A = Option ℕ} (Some a) (Some b) → a ≡ b
-      one_place a b e = cc
+-- the word's row, if it has one, stands before the end
+abbrev pub StandsBefore : List LogRow → ℕ → ℕ → Type 0
+StandsBefore rows word end = (i : ℕ) (x : LogRow) → slice_get rows i ≡ Some x → x.word ≡ word → i < end
 
-  pub no_row : slice_get rows p ≡ None → None ≡ value_of word rows
-  no_row e = elim (found (value_of word rows) refl) [
-    | inl none ↦ sym none
-    | inr at ↦ (let got = at.1 in absurd (cc))
-  ]
+pub stands_before : (rows : List LogRow) (word : ℕ) → StandsBefore rows word (length rows)
+stands_before rows word i x e same = slice_get_within rows i x e
 
-  module _ (x : LogRow) (here : slice_get rows p ≡ Some x) where
-    one_row : (a b : LogRow) → ◌≡◌ {A = Option LogRow} (Some a) (Some b) → a ≡ b
-    one_row a b e = cc
+module _ (slots : ℕ) (rows : List LogRow) (word end place : ℕ) (is : IsLast slots rows (slot_of slots word) end place) (stands : StandsBefore rows word end) where
+  -- where its row is, the place is not before it
+  not_past : (i : ℕ) (x : LogRow) → slice_get rows i ≡ Some x → x.word ≡ word → (i ≤ place) × (place < end) × FallsTo slots rows (slot_of slots word) place
+  not_past i x e same = is i (stands i x e same) (x, e, ap (slot_of slots) same)
 
-    pub its_row : x.word ≡ word → Some x.value ≡ value_of word rows
-    its_row same = elim (found (value_of word rows) refl) [
-      | inl none ↦ absurd (eqb-false x.word word (other_at rows word p x none here) same)
-      | inr at ↦ (
-          let row : x ≡ at.0 = one_row x at.0 (sym here ∙ at.1) in
-          ap (λ (r : LogRow). Some r.value) row ∙ sym at.3)
-    ]
+  pub none_at_end : end ≤ place → value_of word rows ≡ None
+  none_at_end l = no_value rows word (λ i x e same. (let at = not_past i x e same in omega (arith, l, at.1)))
 
-    pub other_row : x.word ≢ word → None ≡ value_of word rows
-    other_row apart = elim (found (value_of word rows) refl) [
-      | inl none ↦ sym none
-      | inr at ↦ (
-          let row : x ≡ at.0 = one_row x at.0 (sym here ∙ at.1) in
-          absurd (apart (ap (λ (r : LogRow). r.word) row ∙ at.2)))
-    ]
+  module _ (r : LogRow) (here : slice_get rows place ≡ Some r) where
+    pub none_past_chain : slot_of slots r.word ≢ slot_of slots word → value_of word rows ≡ None
+    none_past_chain other = no_value rows word (λ i x e same. (
+        let at = not_past i x e same in
+        let row = same_Some at.2.0 r (sym at.2.1 ∙ here) in
+        other (subst (λ (z : LogRow). slot_of slots z.word ≡ slot_of slots word) row at.2.2)))
+
+    pub still_before : r.word ≢ word → StandsBefore rows word place
+    still_before other i x e same =
+        let at = not_past i x e same in
+        elim (cases_Bool (i == place)) [
+          | inl here' ↦ (let row = same_Some x r (sym e ∙ (ap (slice_get rows) (eqb-true i place here') ∙ here)) in absurd (other (ap (λ (z : LogRow). z.word) (sym row) ∙ same)))
+          | inr apart ↦ (let ne = eqb-false i place apart in omega (arith, at.0, ne))
+        ]

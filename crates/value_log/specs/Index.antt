@@ -1,19 +1,46 @@
 -- The index of a value log, and what holds of the fields of every log.
-use Rattle.std.specs.Prelude.{◌≡◌, ℕ, ◌<◌, List, [], ◌∷◌, length, Some, slice_get}
-use Rattle.itm_types.specs.declared.limits.TheConstants.{MAX_WORDS}
+use Rattle.std.specs.Prelude.{◌≡◌, ℕ, ◌<◌, ◌≤◌, ◌-◌, ◌*◌, ◌/◌, ◌%◌, ◌^◌, List, [], ◌∷◌, length, Some, slice_get}
+use Rattle.value_log.specs.declared.index.TheConstants.{SPREAD}
 use Rattle.itm_types.specs.declared.row.LogRow.{LogRow}
 use Rattle.itm_types.specs.LogRows.{AreSingle}
 
 -- each row's word is one that a memory can have
 abbrev pub AllBelow : List LogRow → Type 0
 AllBelow [] = Unit {0}
-AllBelow (r ∷ rs) = (r.word < MAX_WORDS) × AllBelow rs
+AllBelow (r ∷ rs) = (r.word < 2 ^ 32 - 1) × AllBelow rs
 
--- of each word that has a row, and is not past its end, the list has the row's place
-abbrev pub IsIndex : List ℕ → List LogRow → Type 0
-IsIndex places rows = (i : ℕ) (r : LogRow) → slice_get rows i ≡ Some r → r.word < length places → slice_get places r.word ≡ Some i
+-- the slot to which a word falls, of so many
+abbrev pub slot_of : ℕ → ℕ → ℕ
+slot_of slots word = word * SPREAD % 2 ^ 32 * slots / 2 ^ 32
 
-pub record IsKept (rows : List LogRow) (places : List ℕ) : Type 0 where
+-- the row at the place falls to the slot
+abbrev pub FallsTo : ℕ → List LogRow → ℕ → ℕ → Type 0
+FallsTo slots rows slot place = (r : LogRow) × (slice_get rows place ≡ Some r) × (slot_of slots r.word ≡ slot)
+
+-- if one of the rows before the end falls to the slot, then the last one that does stands at the place
+abbrev pub IsLast : ℕ → List LogRow → ℕ → ℕ → ℕ → Type 0
+IsLast slots rows slot end place = (i : ℕ) → i < end → FallsTo slots rows slot i → (i ≤ place) × (place < end) × FallsTo slots rows slot place
+
+-- each slot leads to the last row that falls to it
+abbrev pub AreHeads : ℕ → List ℕ → List LogRow → Type 0
+AreHeads slots last rows = (slot place : ℕ) → slice_get last slot ≡ Some place → IsLast slots rows slot (length rows) place
+
+-- each row leads to the one before it that falls to the same slot
+abbrev pub AreLinks : ℕ → List ℕ → List LogRow → Type 0
+AreLinks slots before rows = (i place : ℕ) (r : LogRow) → slice_get rows i ≡ Some r → slice_get before i ≡ Some place → IsLast slots rows (slot_of slots r.word) i place
+
+pub record IsIndex (last before : List ℕ) (rows : List LogRow) : Type 0 where
+  pub within : length rows ≤ length before
+  pub heads : AreHeads (length last) last rows
+  pub links : AreLinks (length last) before rows
+
+-- what holds of an index, which may have been made or not
+pub record IsRight (last before : List ℕ) (rows : List LogRow) : Type 0 where
+  pub few : length last ≤ 2 ^ 32
+  pub index : 0 < length last → IsIndex last before rows
+
+pub record IsKept (rows : List LogRow) (capacity : ℕ) (last before : List ℕ) : Type 0 where
   pub single : AreSingle rows
   pub below : AllBelow rows
-  pub index : IsIndex places rows
+  pub index : IsRight last before rows
+  pub room : 0 < length last → capacity ≤ length before

@@ -1,11 +1,11 @@
 //! The value log.
 
-ghost use Rattle.std.specs.Prelude.{◌≡◌, ◌+◌, ◌^◌, ◌<◌, ◌≤◌, ℕ, List, [], ◌∷◌, ◌++◌, IfSome, IsOk, None, OnOk, OnErr, Some, length, slice_get, take};
+ghost use Rattle.std.specs.Prelude.{◌≡◌, ◌+◌, ◌-◌, ◌^◌, ◌<◌, ◌≤◌, ℕ, List, [], ◌∷◌, ◌++◌, IfSome, IsOk, None, OnOk, OnErr, Some, length, slice_get, take};
 ghost use Rattle.itm_types.specs.LogRows.{value_of, AreSingle};
 ghost use Rattle.itm_types.specs.Memory.{Agrees};
 
 use crate::index::Index;
-use itm_types::{LogRow, MAX_WORDS};
+use itm_types::LogRow;
 use smallvec::SmallVec;
 use std::alloc::{AllocError, Global};
 use std::marker::Model;
@@ -30,7 +30,7 @@ impl Model for ValueLog {
 
     ghost view = { λ l. record { rows = l.rows.items; room = l.rows.capacity - length l.rows.items } };
 
-    ghost invariant = { λ l. IsKept l.rows.items l.index.places.items };
+    ghost invariant = { λ l. IsKept l.rows.items l.rows.capacity l.index.last.items l.index.before.items };
 }
 
 impl ValueLog {
@@ -70,7 +70,7 @@ impl ValueLog {
         // In every memory that agrees with the log, the word has that value.
         ensures word { IfSome result (λ value. (m : List ℕ) → Agrees m self.now.rows → slice_get m word ≡ Some value) }
     {
-        if self.index.covers(word) {
+        if self.index.is_made() {
             self.index.find(self.rows.as_slice(), word)
         } else {
             scan(self.rows.as_slice(), word)
@@ -88,35 +88,33 @@ impl ValueLog {
         ensures kept { self.old.room ≤ self.new.room }
         ensures has_room { more ≤ self.old.room → IsOk result }
     {
-        if more <= self.rows.capacity() - self.rows.len() && !self.index.is_behind() {
+        if more <= self.rows.capacity() - self.rows.len() {
             return Ok(());
         }
         self.grow(more)
     }
 
-    /// The same, where there is not enough room, or the index lacks a row.
+    /// The same, where there is not enough room.
     #[cold]
     #[inline(never)]
     fn grow(&mut self, more: usize) -> Result<(), AllocError>
+        requires { self.old.room < more }
         ensures rows { self.new.rows ≡ self.old.rows }
         ensures ok { OnOk result (more ≤ self.new.room) }
         ensures err { OnErr result (self.new ≡ self.old) }
         ensures kept { self.old.room ≤ self.new.room }
-        ensures has_room { more ≤ self.old.room → IsOk result }
     {
-        let covered = self.index.cover(self.rows.as_slice());
-        if more <= self.rows.capacity() - self.rows.len() {
-            // Where the index is refused its memory, the rows are looked through for the words that it lacks.
-            return Ok(());
-        }
-        covered?;
-        self.rows.reserve(more)
+        let len = self.rows.len();
+        let wanted = len.checked_add(more).ok_or(AllocError)?;
+        let rows = wanted.checked_next_power_of_two().ok_or(AllocError)?;
+        self.index.reserve(self.rows.as_slice(), rows)?;
+        self.rows.reserve_exact(rows - len)
     }
 
     /// Adds the row of a word that has none at the end, where there is room. Takes no memory.
     pub fn add(&mut self, row: LogRow)
         requires room { 0 < self.old.room }
-        requires word { row.word < MAX_WORDS }
+        requires word { row.word < 2 ^ 32 - 1 }
         requires first { value_of row.word self.old.rows ≡ None }
         ensures rows { self.new.rows ≡ self.old.rows ++ row ∷ [] }
         ensures room { self.new.room + 1 ≡ self.old.room }
@@ -133,6 +131,7 @@ impl ValueLog {
     {
         if len < self.rows.len() {
             self.rows.truncate(len);
+            self.index.keep(self.rows.as_slice());
         }
     }
 

@@ -1,6 +1,7 @@
-use Rattle.std.proofs.Common.{take}
+use Rattle.std.proofs.Common.{◌≡◌, length, take}
 use Rattle.value_log.specs.Index.{IsIndex}
 use Rattle.value_log.proofs.index.Index.cover.Given as goal
 
 abbrev pub invariant-loop-place : goal.invariant-loop-place
-invariant-loop-place l = IsIndex l.self.places.items (take l.place l.rows)
+invariant-loop-place l = IsIndex l.self.last.items l.self.before.items (take l.place l.rows)
+    × (length l.self.last.items ≡ length l.initial.self.last.items) × (length l.self.before.items ≡ length l.initial.self.before.items)

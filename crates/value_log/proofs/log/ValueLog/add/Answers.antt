@@ -1,29 +1,36 @@
-use Rattle.std.proofs.Common.{◌≡◌, List, ℕ, None, length, slice_set, sym, ap, subst, ◌∙◌, arith}
+use Rattle.std.proofs.Common.{◌≡◌, List, ℕ, None, ◌<◌, ◌≤◌, length, sym, ap, subst, arith}
 use Rattle.itm_types.specs.declared.row.LogRow.{LogRow}
 use Rattle.itm_types.specs.LogRows.{value_of, AreSingle}
 use Rattle.value_log.specs.Log.{Log}
 use Rattle.itm_types.proofs.LogRows.{single_push}
-use Rattle.value_log.specs.Index.{AllBelow, IsIndex}
-use Rattle.value_log.proofs.IndexedRows.{below_push, few_rows, index_push}
+use Rattle.value_log.specs.Index.{AllBelow, IsRight}
+use Rattle.value_log.proofs.IndexedRows.{below_push, few_rows}
 use Rattle.value_log.proofs.log.ValueLog.add.Goals as goal
 
-pub note-requires : goal.note-requires
-note-requires c = omega (arith, c.len.ensures.value, few_rows c.self.inside.rows.items c.self.invariant.single c.self.invariant.below)
+pub note-requires-clause-few : goal.note-requires-clause-few
+note-requires-clause-few c = omega (arith, c.len.ensures.value, few_rows c.self.inside.rows.items c.self.invariant.single c.self.invariant.below)
+
+pub note-requires-clause-room : goal.note-requires-clause-room
+note-requires-clause-room c = λ made.
+    let free = subst (λ (l : Log). 0 < l.room) (sym c.self.view_is) c.requires.room in
+    omega (arith, free, c.len.ensures.value, c.self.invariant.room made)
+
+pub note-requires-clause-slots : goal.note-requires-clause-slots
+note-requires-clause-slots c = c.self.invariant.index.few
 
 pub invariant_of-self : goal.invariant_of-self
 invariant_of-self c =
     let kept = c.self.invariant in
     let rows = c.self.inside.rows.items in
-    let places = c.self.inside.index.places.items in
     let row = c.args.row in
     let added = c.push_reserved.ensures.items in
     let first = subst (λ (rs : List LogRow). value_of row.word rs ≡ None) (sym (ap (λ (l : Log). l.rows) c.self.view_is)) c.requires.first in
-    let noted = c.note.ensures ∙ ap (λ (n : ℕ). slice_set places row.word n) c.len.ensures.value in
     record {
       single = subst AreSingle (sym added) (single_push rows row kept.single first);
       below = subst AllBelow (sym added) (below_push rows row kept.below c.requires.word);
-      index = subst (λ (ps : List ℕ). IsIndex ps c.push_reserved.new.self.items) (sym noted)
-          (subst (IsIndex (slice_set places row.word (length rows))) (sym added) (index_push places rows row kept.index first));
+      index = subst (IsRight c.note.new.self.last.items c.note.new.self.before.items) (sym added) (c.note.ensures.right rows (sym c.len.ensures.value) kept.index row.value);
+      room = λ made. subst (λ (n : ℕ). c.push_reserved.new.self.capacity ≤ n) (sym c.note.ensures.before)
+          (subst (λ (n : ℕ). n ≤ length c.self.inside.index.before.items) (sym c.push_reserved.ensures.capacity) (kept.room (subst (λ (n : ℕ). 0 < n) c.note.ensures.last made)));
     }
 
 pub returns-clause-single : goal.returns-clause-single

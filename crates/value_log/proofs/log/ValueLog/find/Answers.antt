@@ -11,12 +11,12 @@ stands : (rows : List LogRow) (word : ℕ) (o : Option ℕ) → o ≡ value_of w
 stands rows word None e = tt
 stands rows word (Some value) e = λ m agrees. value_stands m word value rows agrees (sym e)
 
-pub returns-then-covers-clause-word : goal.returns-then-covers-clause-word
-returns-then-covers-clause-word c =
+pub returns-then-is_made-clause-word : goal.returns-then-is_made-clause-word
+returns-then-is_made-clause-word c =
     let rows = c.as_slice.ensures ∙ ap (λ (l : Log). l.rows) c.self.view_is in
     stands c.args.self.now.rows c.args.word c.find.result (c.find.ensures ∙ ap (value_of c.args.word) rows)
 
-pub returns-else-covers-clause-word : goal.returns-else-covers-clause-word
-returns-else-covers-clause-word c =
-    let rows = c.as_slice-else-covers.ensures ∙ ap (λ (l : Log). l.rows) c.self.view_is in
+pub returns-else-is_made-clause-word : goal.returns-else-is_made-clause-word
+returns-else-is_made-clause-word c =
+    let rows = c.as_slice-else-is_made.ensures ∙ ap (λ (l : Log). l.rows) c.self.view_is in
     stands c.args.self.now.rows c.args.word c.scan.result (c.scan.ensures ∙ ap (value_of c.args.word) rows)
