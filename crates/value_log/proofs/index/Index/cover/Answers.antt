@@ -12,6 +12,8 @@ loop-place-preserved c =
     let row = get_or rows place nothing in
     let within = c.loop-place-test.true in
     let size = length-take-le place rows (omega (arith, within)) in
-    let more = c.put.ensures.index (take place rows) size c.loop-place.invariant.0 row.value in
-    (subst (IsIndex c.put.new.self.last.items c.put.new.self.before.items) (sym (take_more rows place nothing within)) more,
-        c.put.ensures.last ∙ c.loop-place.invariant.1, c.put.ensures.before ∙ c.loop-place.invariant.2)
+    let more = c.put.ensures.index (take place rows) size c.loop-place.invariant.0 row.value in (
+      subst (IsIndex c.put.new.self.last.items c.put.new.self.before.items) (sym (take_more rows place nothing within)) more,
+      c.put.ensures.last ∙ c.loop-place.invariant.1,
+      c.put.ensures.before ∙ c.loop-place.invariant.2,
+    )

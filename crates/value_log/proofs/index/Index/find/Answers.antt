@@ -34,7 +34,7 @@ returns-then-slot c =
     let here = got_or rows place nothing (omega (arith, c.loop-place-test.true, c.loop-place.invariant.0)) in
     let is = subst (λ (n : ℕ). IsLast slots rows n end place) own c.loop-place.invariant.1 in
     sym (none_past_chain slots rows c.args.word end place is c.loop-place.invariant.2 (get_or rows place nothing) here
-        (λ same. c.if-slot.true (c.slot.ensures.slot ∙ (same ∙ sym own))))
+    (λ same. c.if-slot.true (c.slot.ensures.slot ∙ (same ∙ sym own))))
 
 pub loop-place-preserved : goal.loop-place-preserved
 loop-place-preserved c =
@@ -49,10 +49,11 @@ loop-place-preserved c =
     let here = got_or rows place nothing within in
     let there = slice_get-get_or before place next (omega (arith, within, c.requires.index.within)) ∙ ap Some (sym c.index-in-loop-place.ensures) in
     let own = c.slot-slot.ensures.slot in
-    let is = subst (λ (n : ℕ). IsLast slots rows n end place) own c.loop-place.invariant.1 in
-    (omega (arith, within),
-        subst (λ (n : ℕ). IsLast slots rows n place next) (sym c.slot.ensures.slot ∙ c.if-slot.false) (c.requires.index.links place next row here there),
-        still_before slots rows c.args.word end place is c.loop-place.invariant.2 row here c.if-row-word.false)
+    let is = subst (λ (n : ℕ). IsLast slots rows n end place) own c.loop-place.invariant.1 in (
+      omega (arith, within),
+      subst (λ (n : ℕ). IsLast slots rows n place next) (sym c.slot.ensures.slot ∙ c.if-slot.false) (c.requires.index.links place next row here there),
+      still_before slots rows c.args.word end place is c.loop-place.invariant.2 row here c.if-row-word.false,
+    )
 
 pub returns : goal.returns
 returns c =
