@@ -195,7 +195,8 @@ impl Thread {
         }
     }
 
-    /// The transaction becomes irrevocable, with room for as many commit actions.
+    /// The transaction becomes irrevocable. `room` is the number of calls to come for which memory is taken ahead: of these
+    /// commit actions alone want any. It is no limit: a call beyond it is served where there is memory.
     pub fn irrevocable(&mut self, words: &Words, room: u32) -> Result<Answer, AllocError>
         requires own { Owns words.now self.old.pass }
         ensures { Returns (λ a. a) words.now self.old (Call.Mode room) false result self.new }
