@@ -140,7 +140,9 @@ module _ {P : Type 0} (rules : Rules P) (deepest : ℕ) where
   after_try memory b None a = None
   after_try memory b (Some start) a = follows a.outcome (rules.answered start.player (begin_code b.again)) a (alone deepest (memory a.at) a)
 
-  -- The attempts of one actor, in order, are its player's own: none is left out before another, and each is opaque.
+  -- The attempts of one actor, in order, are its player's own: each is of the block to which the player's calls lead from
+  -- where the attempt before left it, and each is opaque. No block is left out before another, but a try of one may be that
+  -- came to a conflict, where the next one shows nothing of it.
   abbrev pub IsRunOf : ℕ → (ℕ → List ℕ) → Option (Between P) → List Attempt → Type 0
   IsRunOf n memory b [] = Unit {0}
   IsRunOf n memory None (a ∷ rest) = ⊥
