@@ -5,7 +5,7 @@ ghost use Rattle.word_pieces.specs.Pieces.{IsPiece, gathered, part_of};
 ghost use Rattle.norec_core.specs.Accesses.{parts};
 ghost use Rattle.norec_core.specs.OwnAccesses.{word_of};
 
-use itm_types::{Copying, MAX_MEMORY, Props, ReadHint, Width, WriteHint};
+use itm_types::{Copying, MAX_BYTES, Props, ReadHint, Width, WriteHint};
 use word_pieces::{Piece, piece_at};
 
 /// A begin of an outermost block.
@@ -40,7 +40,7 @@ pub struct Reading {
 impl Reading {
     /// The piece, if there are as many.
     pub fn piece(self) -> Option<Piece>
-        requires place { self.at ≤ MAX_MEMORY }
+        requires place { self.at ≤ MAX_BYTES }
         requires small { self.size ≤ 32 }
         ensures value { result ≡ slice_get (parts self) self.number }
         ensures piece { IfSome result IsPiece }
@@ -69,7 +69,8 @@ impl Reading {
 
     /// The word of the piece.
     pub fn word(self) -> u32
-        requires { self.at ≤ MAX_MEMORY }
+        requires place { self.at ≤ MAX_BYTES }
+        requires few { self.number < 5 }
         ensures { result ≡ word_of self }
     {
         (self.at / 8) as u32 + u32::from(self.number)

@@ -5,14 +5,13 @@ ghost use Rattle.itm_types.specs.Copies.{both_shared, overlap};
 ghost use Rattle.norec_core.specs.Copies.{chunks_in, direction_of};
 ghost use Rattle.norec_core.specs.Order.{chunk_reading};
 
-use itm_types::{CopyPair, Copying, MAX_MEMORY};
+use itm_types::{CopyPair, Copying, MAX_BYTES};
 use norec_core::{Purpose, Reading};
 use word_pieces::{Chunks, Direction};
 
 /// The chunk of this number of a copy's source, at its first piece, if there are as many.
 pub fn chunk_reading(copying: Copying, number: u32) -> Option<Reading>
-    requires small { copying.size ≤ MAX_MEMORY }
-    requires place { copying.from + copying.size ≤ MAX_MEMORY }
+    requires { copying.from + copying.size ≤ MAX_BYTES }
     ensures value { result ≡ option_map (chunk_reading copying number) (slice_get (chunks_in copying) number) }
     ensures some { IfSome result (λ r. (r.size ≤ 32) × (copying.from ≤ r.at) × (r.at + r.size ≤ copying.from + copying.size)) }
 {
@@ -27,11 +26,10 @@ pub fn chunk_reading(copying: Copying, number: u32) -> Option<Reading>
 
 /// The chunks that a copy is taken in.
 pub fn chunks(copying: Copying) -> Chunks
-    requires { copying.size ≤ MAX_MEMORY }
     ensures size { result.size ≡ copying.size }
     ensures direction { result.direction ≡ direction_of copying }
 {
-    Chunks::new(copying.size as u32, direction(copying))
+    Chunks::new(copying.size, direction(copying))
 }
 
 /// From which end a copy is taken: one to a higher place that overlaps its source from the high end.

@@ -108,11 +108,11 @@ few_placed k (Out to) n = omega (arith, few_take k.to k.size (chunks_in k) n (pa
 few_placed k (In from) n = omega (arith, few_take k.from k.size (chunks_in k) n (parts-chunks_of (direction_of k) k.size))
 few_placed k (Within from to) n = omega (arith, few_take k.from k.size (chunks_in k) (suc n) (parts-chunks_of (direction_of k) k.size), few_take k.to k.size (chunks_in k) n (parts-chunks_of (direction_of k) k.size))
 
-few_loads : (d : Data) (what : Purpose) (at size : ℕ) → d.words ≤ MAX_WORDS → LoadsFor d what at size → before_loads what ≤ 491520
+few_loads : (d : Data) (what : Purpose) (at size : ℕ) → d.words ≤ MAX_WORDS → LoadsFor d what at size → before_loads what ≤ 16106127360
 few_loads d (for.Value hint width) at size w l = omega arith
 few_loads d (for.Chunk k n) at size w l = omega (arith, few_steps k k.pair n, few_chunks d k n (l.0).chunk (l.0).served w (l.0).is)
 
-few_places : (d : Data) (what : Target) (at size : ℕ) → d.words ≤ MAX_WORDS → PlacesFor d what at size → before_places what ≤ 491525
+few_places : (d : Data) (what : Target) (at size : ℕ) → d.words ≤ MAX_WORDS → PlacesFor d what at size → before_places what ≤ 16106127365
 few_places d (into.Value hint width) at size w p = omega arith
 few_places d (into.Fill hint to byte size n) at count w p = (let there = (chunk_there Up size n p.2 p.3).0 in omega (arith, few_take to size (chunks_of Up size) n (parts-chunks_of Up size), there, p.0, w))
 few_places d (into.Chunk k n) at size w p = omega (arith, few_placed k k.pair n, few_chunks d k n (p.0).chunk (p.0).served w (p.0).is)

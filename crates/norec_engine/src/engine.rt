@@ -53,7 +53,7 @@ impl Model for Engine {
 }
 
 impl Engine {
-    /// An engine outside a transaction, over a memory of 1 to 131,072 words, with its thread's arena. Takes memory for
+    /// An engine outside a transaction, over a memory of 1 to 2^32 - 8 words, with its thread's arena. Takes memory for
     /// the begins of open blocks; where that is refused, the arena comes back.
     pub fn new(
         alloc: Global,

@@ -9,7 +9,7 @@ ghost use Rattle.norec_data.specs.declared.data.Data.{Data};
 ghost use Rattle.norec_data.specs.View.{phase_of};
 ghost use Rattle.norec_irrevocable.specs.Phases.{IsNext};
 
-use itm_types::{MAX_MEMORY, Value};
+use itm_types::{MAX_BYTES, Value};
 use norec_core::Writing;
 use norec_data::Pending;
 use word_pieces::piece_at;
@@ -17,7 +17,7 @@ use word_pieces::piece_at;
 /// What the access waits for at its piece, if there are as many: a piece of a whole word is stored at once, and of
 /// another one the word is loaded first.
 pub(crate) fn next_place(writing: Writing) -> Option<Pending>
-    requires place { writing.at + writing.size ≤ MAX_MEMORY }
+    requires place { writing.at + writing.size ≤ MAX_BYTES }
     requires small { writing.size ≤ 32 }
     ensures some { IfSome result (λ pending. (d : Data) → d.writing ≡ writing → d.got ≡ None
         → IsNext writing (phase_of d pending)) }

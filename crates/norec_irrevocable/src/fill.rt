@@ -48,7 +48,7 @@ pub(crate) fn fill_on(
     ensures { (bytes : List ℕ) → HeldGoesTo (in_call state.old (Call.Fill hint to byte size) bytes) (fill_from hint to byte size number)
         (λ m. filled_each (kept state.old m) to (byte % 256) (drop number (chunks_of Up size))) (λ m. Done) state.old result state.new }
 {
-    let Some(chunk) = Chunks::new(size as u32, Direction::Up).get(number) else {
+    let Some(chunk) = Chunks::new(size, Direction::Up).get(number) else {
         return Turn::EndIrrevocable(CallEnd::Done);
     };
     state.gathered = repeated((byte % 256) as u8, chunk.size);

@@ -8,7 +8,7 @@ ghost use Rattle.norec_data.specs.View.{phase_of, step_of};
 ghost use Rattle.norec_irrevocable.specs.Phases.{IsSoundHeld};
 ghost use Rattle.norec_data.specs.Turns.{IsWaiting};
 
-use itm_types::{MAX_MEMORY, Step};
+use itm_types::{MAX_BYTES, Step};
 use norec_core::Writing;
 use norec_data::{Data, Pending};
 use word_pieces::{Piece, merge, piece_at};
@@ -38,7 +38,7 @@ pub fn step_of(state: &Data, pending: Pending) -> Step
 
 /// The piece that the access is at.
 fn piece(writing: Writing) -> Piece
-    requires place { writing.at + writing.size ≤ MAX_MEMORY }
+    requires place { writing.at + writing.size ≤ MAX_BYTES }
     requires small { writing.size ≤ 32 }
     requires some { writing.number < count_of writing.at writing.size }
     ensures value { result ≡ placed_piece writing }

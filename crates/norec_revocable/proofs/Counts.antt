@@ -42,7 +42,7 @@ most_for words bytes written writes own buffer (for.Chunk k n) at size f c i = a
 
 -- no call reads more words
 few_for : (words bytes written : ℕ) (writes : Written) (own : List LogRow) (buffer : List ℕ) (what : Purpose) (at size : ℕ) → FitsPurpose words bytes written writes own buffer what at size → words ≤ MAX_WORDS → size ≤ 32
-    → total_for what (count_of at size) ≤ 163840
+    → total_for what (count_of at size) ≤ 5 * 2 ^ 30
 few_for words bytes written writes own buffer (for.Value hint width) at size f w small = omega (arith, few_words at size small)
 few_for words bytes written writes own buffer (for.Chunk k n) at size f w small =
     omega (arith, source_few k, length-chunks_in k, w, source_within words bytes k f.copied.shared f.copied.served.accepted)
@@ -51,7 +51,7 @@ module _ (d : Data) (r : Reading) (may : MayRead d r) where
   most_read : (c : Core) → c.irrevocable ≡ false → most c (Some (call_for r.purpose r.at)) ≡ 2 * total r + c.patience * (c.entry + total r + 4)
   most_read c i = most_for d.words (length d.arena) d.written d.frames.writes d.log.rows d.buffer.items r.purpose r.at r.size may.reading.purpose c i
 
-  few_read : d.words ≤ MAX_WORDS → total r ≤ 163840
+  few_read : d.words ≤ MAX_WORDS → total r ≤ 5 * 2 ^ 30
   few_read w = few_for d.words (length d.arena) d.written d.frames.writes d.log.rows d.buffer.items r.purpose r.at r.size may.reading.purpose w may.reading.small
 
   left : passed r < total r
@@ -118,8 +118,8 @@ pub counts : (d : Data) (phase : Phase) → IsSound d phase → IsWithin (core d
 counts d phase s = λ n. within d phase s (waiting d phase n)
 
 -- a bound that every call's most steps keep
-few : (p k w s : ℕ) → p ≤ MAX_PATIENCE → k ≤ 2 ^ 64 + 163844 → w < 2 ^ 64 → s ≤ p * k + 2 * w + 2 → s < 2 ^ 128
-few p k w s a b c h = omega (arith, h, mul-le p k MAX_PATIENCE (2 ^ 64 + 163844) a b)
+few : (p k w s : ℕ) → p ≤ MAX_PATIENCE → k ≤ 2 ^ 64 + 5368709124 → w < 2 ^ 64 → s ≤ p * k + 2 * w + 2 → s < 2 ^ 128
+few p k w s a b c h = omega (arith, h, mul-le p k MAX_PATIENCE (2 ^ 64 + 5368709124) a b)
 
 read_few : (d : Data) (r : Reading) (c : Core) → c.irrevocable ≡ false → MayRead d r → d.words ≤ MAX_WORDS → c.patience ≤ MAX_PATIENCE → c.entry < 2 ^ 64 → d.spent ≤ most c (Some (call_for r.purpose r.at)) → d.spent < 2 ^ 128
 read_few d r c i may w p e h = few c.patience (c.entry + total r + 4) (total r) d.spent p (omega (arith, e, few_read d r may w)) (omega (arith, few_read d r may w)) (omega (arith, most_read d r may c i, h))

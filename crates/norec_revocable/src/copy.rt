@@ -21,7 +21,7 @@ use crate::copy::refusals::refuse_copy;
 use crate::fill::set_all;
 use crate::range::{put_range, reserve_range};
 use crate::read::{MOST_PIECES, take_known};
-use itm_types::{Call, CopyPair, Copying, MAX_MEMORY, MAX_WORDS, Value};
+use itm_types::{Call, CopyPair, Copying, MAX_BYTES, MAX_WORDS, Value};
 use nest_frames::Frames;
 use norec_core::{Purpose, Reading};
 use norec_data::{CallEnd, Data, Pending, Turn, chunk_reading, chunks, copy_refusal, direction};
@@ -84,7 +84,7 @@ fn reserve(state: &mut Data, copying: Copying) -> Result<(), AllocError>
 
 /// Makes room for the rows that reading the source may log.
 fn reserve_source(log: &mut ValueLog, copying: Copying) -> Result<(), AllocError>
-    requires { copying.size ≤ MAX_MEMORY }
+    requires { copying.size ≤ MAX_BYTES }
     ensures rows { log.new.rows ≡ log.old.rows }
     ensures room { OnOk result (is_out copying.pair ≡ false → source_words copying ≤ log.new.room) }
 {
@@ -99,8 +99,7 @@ fn reserve_source(log: &mut ValueLog, copying: Copying) -> Result<(), AllocError
 /// Makes each word of a shared destination ready to be written.
 fn reserve_target(frames: &mut Frames, copying: Copying) -> Result<(), AllocError>
     requires open { 0 < length frames.old.blocks }
-    requires range { WritesShared copying.pair → copying.to + copying.size ≤ MAX_MEMORY }
-    requires small { copying.size ≤ MAX_MEMORY }
+    requires range { WritesShared copying.pair → copying.to + copying.size ≤ MAX_BYTES }
     ensures rows { OnOk result
         (frames.new.writes.rows ≡ reserved_for copying copying.pair frames.old.writes.rows) }
     ensures may_put { OnOk result (MayPutFor copying copying.pair frames.new.writes) }

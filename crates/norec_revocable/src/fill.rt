@@ -23,11 +23,7 @@ pub(crate) fn fill(state: &mut Data, to: u64, byte: u64, size: u64) -> Result<Tu
     }
     if size > 0 {
         set_all(&mut state.buffer, size as usize, (byte % 256) as u8)?;
-        reserve_range(
-            &mut state.frames,
-            to,
-            Chunks::new(size as u32, Direction::Up),
-        )?;
+        reserve_range(&mut state.frames, to, Chunks::new(size, Direction::Up))?;
         put_range(&mut state.frames, to, Direction::Up, &state.buffer);
     }
     state.start_call();

@@ -7,7 +7,7 @@ ghost use Rattle.write_set.specs.Marks.{MayPut};
 ghost use Rattle.norec_core.specs.Rows.{HaveRows, range_pieces, reserved_all, put_chunks};
 
 use crate::writes::{put_all, reserve_all};
-use itm_types::MAX_MEMORY;
+use itm_types::MAX_BYTES;
 use nest_frames::Frames;
 use std::alloc::AllocError;
 use word_pieces::{Chunks, Direction, pieces};
@@ -15,7 +15,7 @@ use word_pieces::{Chunks, Direction, pieces};
 /// Makes each word of a range ready to be written. Where memory is refused, none is given a row.
 pub(crate) fn reserve_range(frames: &mut Frames, to: u64, chunks: Chunks) -> Result<(), AllocError>
     requires open { 0 < length frames.old.blocks }
-    requires range { to + chunks.size ≤ MAX_MEMORY }
+    requires range { to + chunks.size ≤ MAX_BYTES }
     ensures rows { OnOk result (frames.new.writes.rows
         ≡ reserved_all frames.old.writes.rows (range_pieces to (chunks_of chunks.direction chunks.size))) }
     ensures may_put { OnOk result
@@ -43,7 +43,7 @@ pub(crate) fn reserve_range(frames: &mut Frames, to: u64, chunks: Chunks) -> Res
 
 /// Puts bytes in the write set from a place on, where each word was made ready. Takes no memory.
 pub(crate) fn put_range(frames: &mut Frames, to: u64, direction: Direction, bytes: &[u8])
-    requires range { to + length bytes.now ≤ MAX_MEMORY }
+    requires range { to + length bytes.now ≤ MAX_BYTES }
     requires room { HaveRows frames.old.writes.rows (range_pieces to (chunks_of direction (length bytes.now))) }
     requires may_put { All (λ p. MayPut frames.old.writes p.word) (range_pieces to (chunks_of direction (length bytes.now))) }
     ensures rows { frames.new.writes.rows
@@ -55,7 +55,7 @@ pub(crate) fn put_range(frames: &mut Frames, to: u64, direction: Direction, byte
     ensures room { frames.new.room ≡ frames.old.room }
     ensures bytes { AreBytes bytes.now }
 {
-    let chunks = Chunks::new(bytes.len() as u32, direction);
+    let chunks = Chunks::new(bytes.len() as u64, direction);
     for number in 0..chunks.len() {
         let Some(chunk) = chunks.get(number) else {
             unreachable!();

@@ -21,7 +21,7 @@ ghost use Rattle.norec_revocable.specs.Moves.{GoesTo, StepGoesTo, StepTurns, Cal
 use crate::access::refuse;
 use crate::copy::{keep_chunk, next_chunk};
 use crate::rounds::try_round;
-use itm_types::{Call, LogRow, MAX_MEMORY, MAX_WORDS, ReadHint, Value, Width};
+use itm_types::{Call, LogRow, MAX_BYTES, MAX_WORDS, ReadHint, Value, Width};
 use norec_core::{Purpose, Reading};
 use norec_data::{CallEnd, Cause, Data, Pending, Turn, access_refusal};
 use std::alloc::AllocError;
@@ -145,7 +145,7 @@ fn is_whole(reading: &Reading, piece: Piece) -> bool
 /// The word that is the value of the read, if it is one of a whole word.
 #[inline(always)]
 pub(crate) fn whole_word(reading: &Reading) -> Option<u32>
-    requires place { reading.now.at ≤ MAX_MEMORY }
+    requires place { reading.now.at ≤ MAX_BYTES }
     ensures word { IfSome result (λ word. IsWord reading.now word) }
 {
     match reading.purpose {

@@ -11,7 +11,7 @@ ghost use Rattle.norec_revocable.specs.InPhases.{IsSound};
 ghost use Rattle.norec_revocable.specs.Moves.{CallComes};
 
 use crate::access::refuse;
-use itm_types::{Call, Datum, MAX_MEMORY, WriteHint};
+use itm_types::{Call, Datum, MAX_BYTES, WriteHint};
 use nest_frames::Frames;
 use norec_data::{CallEnd, Data, Turn, access_refusal};
 use std::alloc::AllocError;
@@ -35,7 +35,7 @@ pub fn write(state: &mut Data, hint: WriteHint, at: u64, value: &Datum) -> Resul
 #[inline(always)]
 fn put_value(frames: &mut Frames, at: u64, size: u8, bytes: &[u8]) -> Result<(), AllocError>
     requires open { 0 < length frames.old.blocks }
-    requires range { at + size ≤ MAX_MEMORY }
+    requires range { at + size ≤ MAX_BYTES }
     requires small { size ≤ 32 }
     requires bytes { size ≤ length bytes.now }
     ensures rows { OnOk result (frames.new.writes.rows
@@ -80,7 +80,7 @@ fn put_piece(frames: &mut Frames, piece: Piece, bytes: &[u8]) -> Result<(), Allo
 #[inline(never)]
 fn put_pieces(frames: &mut Frames, at: u64, size: u8, bytes: &[u8]) -> Result<(), AllocError>
     requires open { 0 < length frames.old.blocks }
-    requires range { at + size ≤ MAX_MEMORY }
+    requires range { at + size ≤ MAX_BYTES }
     requires small { size ≤ 32 }
     requires bytes { size ≤ length bytes.now }
     ensures rows { OnOk result (frames.new.writes.rows

@@ -1,5 +1,5 @@
 -- The chunks of a copy, as an irrevocable transaction takes them.
-use Rattle.std.proofs.Common.{◌≡◌, ℕ, suc, ◌+◌, ◌*◌, ◌<◌, ◌≤◌, nat_lt, true, false, List, [], ◌∷◌, length, drop, take, Option, None, Some, slice_get, refl, sym, ap, ◌∙◌, arith, add-one}
+use Rattle.std.proofs.Common.{◌≡◌, ℕ, suc, ◌+◌, ◌*◌, ◌^◌, ◌<◌, ◌≤◌, nat_lt, true, false, List, [], ◌∷◌, length, drop, take, Option, None, Some, slice_get, refl, sym, ap, ◌∙◌, arith, add-one}
 use Rattle.std.specs.Prelude.{option_map}
 use Rattle.std.proofs.lemmas.Bool.{cond-true, lt-ltb}
 use Rattle.itm_types.specs.declared.limits.TheConstants.{MAX_WORDS}
@@ -131,7 +131,7 @@ size_within words bytes (In f) to from size target source = (let l = shared_with
 size_within words bytes (Within f t) to from size target source = (let l = shared_within words to size target in omega (arith, l))
 
 -- so it has few chunks
-pub few_chunks : (d : Data) (k : Copying) (n : ℕ) (c : Chunk) → IsServed d k → d.words ≤ MAX_WORDS → slice_get (chunks_in k) n ≡ Some c → n < 32768
+pub few_chunks : (d : Data) (k : Copying) (n : ℕ) (c : Chunk) → IsServed d k → d.words ≤ MAX_WORDS → slice_get (chunks_in k) n ≡ Some c → n < 2 ^ 30
 few_chunks d k n c ok small is =
     let sides = accepted_sides d.words (length d.arena) k ok in
     let l = size_within d.words (length d.arena) k.pair k.to k.from k.size sides.0 sides.1 in

@@ -1,6 +1,6 @@
 -- What is known of a copy that is not refused, and of one that writes shared memory.
 use Rattle.std.proofs.Common.{◌≡◌, ℕ, ◌+◌, ◌*◌, ◌≤◌, Bool, true, false, List, All, None, refl, arith}
-use Rattle.itm_types.specs.declared.limits.TheConstants.{MAX_ARENA, MAX_MEMORY, MAX_WORDS}
+use Rattle.itm_types.specs.declared.limits.TheConstants.{MAX_ARENA, MAX_BYTES, MAX_WORDS}
 use Rattle.itm_types.specs.declared.call.Copying.{Copying}
 use Rattle.itm_types.specs.declared.copy.CopyPair.{CopyPair}
 use Rattle.itm_types.specs.declared.copy.CopyPair.TheVariants.{Out, In, Within}
@@ -60,11 +60,11 @@ pub accepted_open : (is_open : Bool) (words bytes : ℕ) (k : Copying) → copy_
 accepted_open true words bytes k e = refl
 accepted_open false words bytes k e = absurd (cc)
 
-target_small : (words bytes place size : ℕ) (pair : CopyPair) → words ≤ MAX_WORDS → bytes ≤ MAX_ARENA → target_refusal words bytes pair place size ≡ None → size ≤ MAX_MEMORY
+target_small : (words bytes place size : ℕ) (pair : CopyPair) → words ≤ MAX_WORDS → bytes ≤ MAX_ARENA → target_refusal words bytes pair place size ≡ None → size ≤ MAX_BYTES
 target_small words bytes place size (Out to) w b e = omega (arith, w, shared_within words place size e)
 target_small words bytes place size (In from) w b e = omega (arith, b, arena_within bytes place size e)
 target_small words bytes place size (Within from to) w b e = omega (arith, w, shared_within words place size e)
 
 -- it has no more bytes than a memory may have
-pub accepted_small : (words bytes : ℕ) (k : Copying) → words ≤ MAX_WORDS → bytes ≤ MAX_ARENA → copy_refusal true words bytes k ≡ None → k.size ≤ MAX_MEMORY
+pub accepted_small : (words bytes : ℕ) (k : Copying) → words ≤ MAX_WORDS → bytes ≤ MAX_ARENA → copy_refusal true words bytes k ≡ None → k.size ≤ MAX_BYTES
 accepted_small words bytes k w b e = target_small words bytes k.to k.size k.pair w b (accepted_sides words bytes k e).0
