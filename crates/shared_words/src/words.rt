@@ -1,7 +1,7 @@
 //! The cells.
 
 ghost use Rattle.std.specs.Prelude.{◌≡◌, ◌+◌, ◌*◌, ◌<◌, ◌≤◌, true, false, [], length, Some, IfOk, IfErr};
-ghost use Rattle.itm_types.specs.declared.limits.TheConstants.{MAX_MEMORY};
+ghost use Rattle.itm_types.specs.declared.limits.TheConstants.{MAX_BYTES};
 
 use crate::bytes::words_of;
 use crate::fault::WordsFault;
@@ -9,7 +9,7 @@ use crate::pass::Pass;
 use crate::rule::{Both, Changes, Core, Cut, Exchanges, Loads, Settles, Stores};
 use crate::view::View;
 use atomic_table::Table;
-use itm_types::{MAX_MEMORY, MAX_WORDS, Step, put_word};
+use itm_types::{MAX_BYTES, MAX_MEMORY, MAX_WORDS, Step, put_word};
 use std::alloc::{AllocError, Global};
 
 /// The sequence clock, which is cell 0, and the words of the memory, which follow it in order. Threads share it by `&`.
@@ -21,7 +21,7 @@ pub struct Words {
     ghost clocked: { 0 < table.shared.table_id.words },
     ghost sized: { size + 8 ≡ 8 * table.shared.table_id.words },
     ghost some: { 8 ≤ size },
-    ghost few: { size ≤ MAX_MEMORY },
+    ghost few: { size ≤ MAX_BYTES },
 }
 
 /// What the words were when they were closed.
@@ -87,7 +87,7 @@ impl Words {
     pub fn size(&self) -> usize
         ensures cells { result + 8 ≡ 8 * cells_of self.now }
         ensures some { 8 ≤ result }
-        ensures few { result ≤ MAX_MEMORY }
+        ensures few { result ≤ MAX_BYTES }
     {
         self.size
     }
