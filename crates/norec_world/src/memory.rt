@@ -1,10 +1,10 @@
 //! The shared cells.
 
-ghost use Rattle.std.specs.Prelude.{◌≡◌, ◌/◌, ◌%◌, ◌<◌, ◌≤◌, length, slice_set, slice_index};
+ghost use Rattle.std.specs.Prelude.{◌≡◌, ◌*◌, ◌/◌, ◌%◌, ◌<◌, ◌≤◌, length, slice_set, slice_index};
 ghost use Rattle.itm_types.specs.Memory.{bytes_of, AllFit};
 ghost use Rattle.norec_world.specs.Cells.{IsCell, found, cells_after};
 
-use itm_types::{MAX_WORDS, Step, get_word, put_word};
+use itm_types::{MAX_MEMORY, Step, get_word, put_word};
 use std::marker::Model;
 
 /// The sequence clock and the shared memory, which has whole words of 8 bytes.
@@ -52,7 +52,7 @@ impl Memory {
 
     /// How many words the memory has.
     pub(crate) fn words(&self) -> u32
-        requires { length self.now.words ≤ MAX_WORDS }
+        requires { 8 * length self.now.words ≤ MAX_MEMORY }
         ensures { result ≡ length self.now.words }
     {
         (self.bytes.len() / 8) as u32

@@ -1,6 +1,6 @@
 //! How actors begin.
 
-ghost use Rattle.std.specs.Prelude.{◌≡◌, ℕ, ◌+◌, ◌<◌, ◌≤◌, false, [], length, replicate, slice_get, None, Some, IfOk, All};
+ghost use Rattle.std.specs.Prelude.{◌≡◌, ℕ, ◌+◌, ◌*◌, ◌<◌, ◌≤◌, false, [], length, replicate, slice_get, None, Some, IfOk, All};
 ghost use Rattle.itm_types.specs.Memory.{AllFit, bytes_of};
 ghost use Rattle.itm_types.specs.declared.limits.TheConstants.{MAX_ACTORS, MAX_ARENA, MAX_COMMITS, MAX_PATIENCE, MAX_RETRIES};
 ghost use Rattle.norec_world.specs.Status.{ending_of, is_ready};
@@ -17,7 +17,7 @@ ghost use Rattle.norec_world.specs.declared.actor.Actor.{Actor};
 
 use crate::actor::Actor;
 use crate::memory::Memory;
-use itm_types::{Limits, MAX_ACTORS, MAX_WORDS};
+use itm_types::{Limits, MAX_ACTORS, MAX_MEMORY};
 use norec_engine::Engine;
 use std::alloc::{AllocError, Global};
 use tx_attempts::Attempt;
@@ -49,7 +49,7 @@ pub(crate) fn start_all<P: Player>(
 ) -> Result<Vec<Actor<P>>, AllocError>
     requires few { length players.items ≤ MAX_ACTORS }
     requires outside { All (λ p. P.depth p ≡ 0) players.items }
-    requires size { (0 < length memory.now.words) × (length memory.now.words ≤ MAX_WORDS) }
+    requires size { (0 < length memory.now.words) × (8 * length memory.now.words ≤ MAX_MEMORY) }
     requires fit { AllFit memory.now.words }
     requires empty { ended.old.items ≡ [] }
     requires clock { memory.now.clock ≡ 0 }
@@ -88,7 +88,7 @@ fn start<P: Player>(
     player: P,
 ) -> Result<Actor<P>, AllocError>
     requires outside { P.depth player ≡ 0 }
-    requires size { (0 < length memory.now.words) × (length memory.now.words ≤ MAX_WORDS) }
+    requires size { (0 < length memory.now.words) × (8 * length memory.now.words ≤ MAX_MEMORY) }
     requires fit { AllFit memory.now.words }
     requires clock { memory.now.clock ≡ 0 }
     ensures sound { IfOk result (IsSound P.Player memory.now (rows_in ended.new)) }
