@@ -1,7 +1,7 @@
 //! An engine that is driven by hand, over cells that no other thread has.
 
-use crate::tests::helpers::{BEGIN, DONE, IN, engine, read, word, write};
-use itm_types::{Call, Step};
+use crate::tests::helpers::{BEGIN, BEGIN_IRREVOCABLE, DONE, IN, engine, read, word, write};
+use itm_types::{Call, CopyPair, Copying, MAX_WORDS, Refusal, Reply, SharedSide, Step};
 use norec_core::{Answer, Next};
 use norec_engine::Engine;
 use std::alloc::{AllocError, Global};
@@ -10,10 +10,18 @@ use std::process::Abort;
 /// More steps than any call of the test takes.
 const STEPS: u32 = 100;
 
+/// The cell of the last word of the largest memory.
+const LAST_CELL: u32 = MAX_WORDS as u32;
+
+/// Where the cell stands: the last one of the largest memory behind that of the first word.
+fn place_of(cell: u32) -> usize {
+    if cell == LAST_CELL { 2 } else { cell as usize }
+}
+
 /// Does a step on the clock and the words, which follow it in order; the value that it found.
 pub(super) fn step_on(rt: &impl Abort, cells: &mut [u64], step: Step) -> u64 {
     let (Step::Load(cell) | Step::Store(cell, _) | Step::Cas(cell, _, _)) = step;
-    let cell = cell as usize;
+    let cell = place_of(cell);
     assert!(rt; cell < cells.len());
     let found = cells[cell];
     match step {
@@ -79,4 +87,46 @@ fn by_hand(rt: HostRuntime) {
     let mut cells = [6, 40, 41];
     assert!(rt; add_one(&rt, rt.alloc(), &mut cells).is_ok());
     assert_eq!(rt; cells, [8, 40, 42]);
+}
+
+/// The place of the last word of the largest memory.
+const LAST: u64 = 8 * (MAX_WORDS as u64 - 1);
+
+const PAST_THE_END: Answer = Answer::Reply(Reply::Refused(Refusal::OutOfRange));
+
+/// The last word is copied into the first.
+const COPY: Call = Call::Copy(Copying {
+    moves: false,
+    pair: CopyPair::Within(SharedSide::T, SharedSide::T),
+    to: 0,
+    from: LAST,
+    size: 8,
+});
+
+/// The last word is read, written and copied, in a transaction that may be tried again and in one that is irrevocable.
+fn at_the_end(rt: &impl Abort, alloc: Global, cells: &mut [u64; 3]) -> Result<(), AllocError> {
+    let mut engine = engine(alloc, LAST_CELL, 0, 8, 0)?;
+    let engine = &mut engine;
+    ask(rt, engine, cells, &BEGIN, &IN)?;
+    ask(rt, engine, cells, &read(LAST), &word(41))?;
+    ask(rt, engine, cells, &read(LAST + 1), &PAST_THE_END)?;
+    ask(rt, engine, cells, &write(LAST + 1, 42), &PAST_THE_END)?;
+    ask(rt, engine, cells, &write(LAST, 42), &DONE)?;
+    ask(rt, engine, cells, &COPY, &DONE)?;
+    let ends = Answer::Committed { at: 3, wrote: true };
+    ask(rt, engine, cells, &Call::Commit, &ends)?;
+    assert_eq!(rt; *cells, [8, 42, 42]);
+    ask(rt, engine, cells, &BEGIN_IRREVOCABLE, &IN)?;
+    ask(rt, engine, cells, &write(LAST, 43), &DONE)?;
+    ask(rt, engine, cells, &COPY, &DONE)?;
+    ask(rt, engine, cells, &read(0), &word(43))?;
+    let ends = Answer::Committed { at: 4, wrote: true };
+    ask(rt, engine, cells, &Call::Commit, &ends)
+}
+
+#[test]
+fn largest_memory(rt: HostRuntime) {
+    let mut cells = [6, 40, 41];
+    assert!(rt; at_the_end(&rt, rt.alloc(), &mut cells).is_ok());
+    assert_eq!(rt; cells, [10, 43, 43]);
 }

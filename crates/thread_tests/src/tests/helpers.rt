@@ -5,8 +5,8 @@ ghost use Rattle.shared_words.specs.Passes.{Owns, view_of, cells_of};
 
 use itm_runtime::Thread;
 use itm_types::{
-    Call, Datum, ENTERED, Limits, MAX_COMMITS, Props, ReadHint, Reply, USUAL_DEPTH, Value, Width,
-    WriteHint,
+    Call, Datum, ENTERED, Limits, MAX_COMMITS, MAX_WORDS, Props, ReadHint, Reply, USUAL_DEPTH,
+    Value, Width, WriteHint,
 };
 use norec_core::Answer;
 use norec_engine::Engine;
@@ -99,7 +99,7 @@ pub(super) fn engine(
     patience: u32,
     restarts: u32,
 ) -> Result<Engine, AllocError>
-    requires words { (0 < words) × (words ≤ 16) }
+    requires words { (0 < words) × (words ≤ MAX_WORDS) }
     requires arena { arena ≤ 80 }
     requires patience { (0 < patience) × (patience ≤ 8) }
 {
