@@ -7,3 +7,4 @@ pub mod StepViews
 pub mod ViewsFit
 pub mod TableSteps
 pub mod LaidWords
+pub mod ClockFirst

@@ -1,5 +1,5 @@
 -- The first view, a view that is cut in two, two that are joined, and what the only view knows.
-use Rattle.std.proofs.Common.{◌≡◌, ℕ, eqb, zero, suc, ◌+◌, ◌-◌, ◌*◌, ◌<◌, ◌≤◌, ◌≢◌, ◌⊎◌, Bool, true, false, cond, List, [], ◌∷◌, ◌++◌, length, get_or, set, sym, refl, ap, ◌∙◌, subst, inl, inr, ⊎_elim, arith, ltb, lt_of_not-le}
+use Rattle.std.proofs.Common.{◌≡◌, ℕ, eqb, zero, suc, ◌+◌, ◌-◌, ◌*◌, ◌<◌, ◌≤◌, ◌≢◌, ◌⊎◌, Bool, true, false, cond, List, [], ◌∷◌, ◌++◌, length, set, sym, refl, ap, ◌∙◌, subst, inl, inr, ⊎_elim, arith, ltb, lt_of_not-le}
 use mathlib.Core.Option.{some, some-injective}
 use mathlib.Core.Logic.{dite}
 use native.Mathlib.Decide.{ℕ_discrete, dec_le}
@@ -13,7 +13,7 @@ use Rattle.shared_words.proofs.MetWords.{all_both}
 use Rattle.shared_words.specs.Views.{opening, spent, cut_left, cut_right, both, held, longer, holders, times, placed, shares}
 use Rattle.shared_words.specs.Steps.{Joined}
 use Rattle.shared_words.specs.Good.{Fits, clock_of, Good, Ends}
-use Rattle.shared_words.proofs.ListPlaces.{at_snoc, set_else, weigh_set, weigh_le, weigh_alone, starts_le, starts_whole, comparable, same_from}
+use Rattle.shared_words.proofs.ListPlaces.{at_snoc, set_else, weigh_set, weigh_le, weigh_alone, starts_le, starts_whole, comparable}
 use Rattle.shared_words.proofs.GoodSteps.{each_set, hold, share_of, at_place}
 
 Log : Type 0
@@ -246,18 +246,6 @@ module _ (cells : List ℕ) (views : List View) (g : Good cells views) (id : ℕ
           log_fits = g.log_fits;
           pending_fits = g.pending_fits;
         }
-
-add-one' : (k : ℕ) → suc k ≡ k + 1
-add-one' k = omega arith
-
-read_there : (cells : List ℕ) (clock : ℕ) (words : List ℕ) → get_elem? cells 0 ≡ some clock → ((k : ℕ) → k < length words → get_elem? cells (k + 1) ≡ some (get_or words k 0)) → (k : ℕ) → k < length (clock ∷ words) → get_elem? cells k ≡ some (get_or (clock ∷ words) k 0)
-read_there cells clock words first rest zero l = first
-read_there cells clock words first rest (suc k) l = ap (get_elem? cells) (add-one' k) ∙ rest k (omega arith)
-
--- cells that were read one by one
-pub read_off : (cells : List ℕ) (clock : ℕ) (words : List ℕ) → get_elem? cells 0 ≡ some clock → length words + 1 ≡ length cells → ((k : ℕ) → k < length words → get_elem? cells (k + 1) ≡ some (get_or words k 0)) → clock ∷ words ≡ cells
-read_off cells clock words first long rest =
-    same_from (clock ∷ words) cells (omega arith) (read_there cells clock words first rest)
 
 -- what the only view knows of the clock and the words
 pub ends_of : (cells : List ℕ) (views : List View) → Good cells views → (id : ℕ) (v : View) → get_elem? views id ≡ some v → v.share ≡ 128 → v.holds ≡ false

@@ -51,7 +51,3 @@ stored_fits m (x ∷ xs) f s = stored_fits (set m x.0 x.1) xs (fit-set m x.0 x.1
 pub after_fits : (m : List ℕ) (h : List (List (ℕ × ℕ))) → AllFit m → CommitsFit h → AllFit (after m h)
 after_fits m [] f s = f
 after_fits m (c ∷ cs) f s = after_fits (stored m c) cs (stored_fits m c f s.0) s.1
-
-pub fits_snoc : (xs : List ℕ) (w : ℕ) → AllFit xs → w < 2 ^ 64 → AllFit (xs ++ w ∷ [])
-fits_snoc [] w f l = (l, tt)
-fits_snoc (x ∷ xs) w f l = (f.0, fits_snoc xs w f.1 l)

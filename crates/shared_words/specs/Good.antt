@@ -59,7 +59,13 @@ pub record EndsWith (v : View) (clock : ℕ) (bytes : List ℕ) : Type 0 where
   pub mine : (p : ℕ) → p < length v.seen → times p v.mine ≡ 1
   pub no_other : (p : ℕ) → length v.seen ≤ p → times p v.mine ≡ 0
 
--- the view holds the clock, which is no earlier than any that was seen, and the bytes are what its stores so far have left
+-- the view holds the clock, which is no earlier than any that was seen, and the words are what its stores so far have left
+pub record EndsInHold (v : View) (clock : ℕ) (words : List ℕ) : Type 0 where
+  pub clock_is : clock ≡ 2 * length v.seen + 1
+  pub high : v.high ≤ clock
+  pub words_are : words ≡ held v
+
+-- the same, as bytes
 pub record EndsHeld (v : View) (clock : ℕ) (bytes : List ℕ) : Type 0 where
   pub clock_is : clock ≡ 2 * length v.seen + 1
   pub high : v.high ≤ clock

@@ -5,3 +5,5 @@ pub mod Good
 pub mod Moves
 pub mod Rule
 pub mod Passes
+pub mod ClosedWords
+pub mod InGlobal

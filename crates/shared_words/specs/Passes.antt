@@ -1,5 +1,6 @@
 -- What a clause reads of words and passes.
 use Rattle.std.specs.Prelude.{◌≡◌, ◌≢◌, ◌⊎◌, ℕ, ◌+◌, ◌/◌, ◌%◌, ◌<◌, ◌≤◌, length}
+use Rattle.itm_types.specs.declared.limits.TheConstants.{MAX_WORDS}
 use Rattle.itm_types.specs.Memory.{AllFit}
 use Rattle.shared_words.specs.Commits.{StoresFit, CommitsFit}
 use Rattle.shared_words.specs.declared.view.View.{View}
@@ -13,7 +14,7 @@ view_of p = p.seat.me.0
 abbrev pub commits_known : View → ℕ
 commits_known v = v.high / 2
 
-abbrev pub cells_of : Words → ℕ
+abbrev pub cells_of : {A : Type 0} → Words A → ℕ
 cells_of w = w.table.shared.table_id.words
 
 -- the view is of so many cells, each value in it fits 64 bits, it saw no clock past the latest that it knows of, and as many commits as either of these tells
@@ -27,9 +28,14 @@ pub record IsOver (cells : ℕ) (v : View) : Type 0 where
   pub known : commits_known v ≤ length v.seen
 
 -- the pass is one of these words
-pub record Owns (w : Words) (p : Pass) : Type 0 where
+pub record Owns {A : Type 0} (w : Words A) (p : Pass) : Type 0 where
   pub same : p.seat.table_id ≡ w.table.shared.table_id
   pub over : IsOver (cells_of w) (view_of p)
 
+-- no bytes, no whole number of words, or too many for a memory made of bytes
 abbrev pub IsWrongSize : ℕ → Type 0
 IsWrongSize n = (n ≡ 0) ⊎ (n % 8 ≢ 0) ⊎ (1048576 < n)
+
+-- so many cells are no clock with a word, or too many
+abbrev pub IsWrongCount : ℕ → Type 0
+IsWrongCount n = (n < 2) ⊎ (MAX_WORDS + 1 < n)

@@ -1,21 +1,22 @@
-//! The words of a row of bytes.
+//! The cells of a row of bytes.
 
-ghost use Rattle.std.specs.Prelude.{◌≡◌, ◌%◌, length, IfOk};
-ghost use Rattle.itm_types.specs.Memory.{bytes_of, AllFit};
+ghost use Rattle.std.specs.Prelude.{◌≡◌, ◌%◌, ◌∷◌, length, drop, IfOk};
+ghost use Rattle.itm_types.specs.Memory.{bytes_of};
 
 use itm_types::get_word;
 use std::alloc::{AllocError, Global};
 
-/// The words of these bytes, in order.
-pub(crate) fn words_of(alloc: Global, bytes: &[u8]) -> Result<Vec<u64>, AllocError>
+/// The clock, at 0, and the words of these bytes, in order.
+pub(crate) fn cells_of_bytes(alloc: Global, bytes: &[u8]) -> Result<Vec<u64>, AllocError>
     requires { length bytes.now % 8 ≡ 0 }
-    ensures bytes { IfOk result (λ v. bytes_of v.items ≡ bytes.now) }
-    ensures fit { IfOk result (λ v. AllFit v.items) }
+    ensures clock { IfOk result (λ cells. cells.items ≡ 0 ∷ drop 1 cells.items) }
+    ensures words { IfOk result (λ cells. bytes_of (drop 1 cells.items) ≡ bytes.now) }
 {
-    let mut words = Vec::new(alloc);
     let count = bytes.len() / 8;
+    let mut cells = Vec::with_capacity(alloc, count + 1)?;
+    cells.push(0)?;
     for i in 0..count {
-        words.push(get_word(bytes, 8 * i))?;
+        cells.push(get_word(bytes, 8 * i))?;
     }
-    Ok(words)
+    Ok(cells)
 }

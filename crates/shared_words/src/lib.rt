@@ -3,14 +3,18 @@
 #![tactic(auto)]
 
 mod bytes;
+mod closed_words;
 mod equality;
 mod fault;
+mod initial;
 mod pass;
 mod rule;
 mod view;
 mod words;
 
+pub use closed_words::ClosedWords;
 pub use fault::WordsFault;
+pub use initial::InitialWords;
 pub use pass::Pass;
 pub use rule::Core;
 pub use view::View;

@@ -3,16 +3,17 @@
 ghost use Rattle.shared_words.specs.Rule.{AreGood, first_view, loads, stores, changes, exchanges, settled};
 ghost use Rattle.shared_words.specs.Views.{cut_left, cut_right, both, spent};
 
+use crate::initial::InitialWords;
 use crate::view::View;
 use atomic_table::{Join, Play, Split, TableRule};
 
-/// The rule of a table of cells: one history of commits lies behind them. Its key is the memory at the beginning.
+/// The rule of a table of cells: one history of commits lies behind them. Its key is the words at the beginning.
 pub struct Core;
 
-impl TableRule<u8, View, Vec<u64>> for Core {
+impl TableRule<u8, View, InitialWords> for Core {
     ghost holds = { λ k. AreGood };
 
-    ghost first = { λ k. first_view k.items };
+    ghost first = { λ k. first_view k.words };
 }
 
 /// A load.

@@ -1,21 +1,24 @@
 //! The cells.
 
-ghost use Rattle.std.specs.Prelude.{◌≡◌, ◌+◌, ◌*◌, ◌<◌, ◌≤◌, true, false, [], length, Some, IfOk, IfErr};
+ghost use Rattle.std.specs.Prelude.{◌≡◌, ◌+◌, ◌*◌, ◌<◌, ◌≤◌, true, false, ◌∷◌, length, slice_index, Some, IfOk, IfErr};
 ghost use Rattle.itm_types.specs.declared.limits.TheConstants.{MAX_BYTES};
 
-use crate::bytes::words_of;
+use crate::bytes::cells_of_bytes;
+use crate::closed_words::ClosedWords;
 use crate::fault::WordsFault;
+use crate::initial::InitialWords;
 use crate::pass::Pass;
 use crate::rule::{Both, Changes, Core, Cut, Exchanges, Loads, Settles, Stores};
 use crate::view::View;
 use atomic_table::Table;
 use itm_types::{MAX_BYTES, MAX_MEMORY, MAX_WORDS, Step, put_word};
-use std::alloc::{AllocError, Global};
+use std::alloc::{Allocator, Global};
 
-/// The sequence clock, which is cell 0, and the words of the memory, which follow it in order. Threads share it by `&`.
+/// The sequence clock, which is cell 0, and the words of the memory, which follow it in order, in one block of the
+/// allocator `A`. Threads share it by `&`.
 #[derive(Drop)]
-pub struct Words {
-    table: Table<u8, View, Vec<u64>, Core, Global>,
+pub struct Words<A: Allocator = Global> {
+    table: Table<u8, View, InitialWords, Core, A>,
     size: usize,
     ghost slotless: { table.shared.table_id.slots ≡ 0 },
     ghost clocked: { 0 < table.shared.table_id.words },
@@ -32,33 +35,10 @@ pub struct Closed {
 }
 
 impl Words {
-    ghost use Rattle.itm_types.specs.Memory.{bytes_of, AllFit};
+    ghost use Rattle.itm_types.specs.Memory.{bytes_of};
     ghost use Rattle.shared_words.specs.Passes.{IsWrongSize, Owns, view_of, cells_of};
     ghost use Rattle.shared_words.specs.declared.fault.WordsFault.TheVariants.{Length};
-    ghost use Rattle.shared_words.specs.Views.{opening, cut_left, cut_right};
-    ghost use Rattle.shared_words.specs.Good.{EndsHeld, EndsWith};
-    ghost use Rattle.shared_words.specs.Moves.{Moves};
-    ghost use Rattle.shared_words.specs.Steps.{Lawful, StepTells, WasFound, Joined, cell_of};
-
-    fn of_words(alloc: Global, words: &Vec<u64>) -> Result<(Words, Pass), AllocError>
-        requires fit { AllFit words.now.items }
-        requires some { 0 < length words.now.items }
-        requires few { length words.now.items ≤ MAX_WORDS }
-        ensures { IfOk result (λ r. Owns r.0 r.1 × (cells_of r.0 ≡ length words.now.items + 1) × (view_of r.1 ≡ opening words.now.items)) }
-    {
-        let mut cells = Vec::new(alloc);
-        cells.push(0)?;
-        cells.extend_from_slice(words.as_slice())?;
-        let (table, seat) = Table::of_words(alloc, cells.as_slice(), words)?;
-        let pass = Pass {
-            seat,
-            left: 127,
-            busy: false,
-            high: 0,
-        };
-        let size = 8 * words.len();
-        Ok((Words { table, size }, pass))
-    }
+    ghost use Rattle.shared_words.specs.Views.{opening};
 
     /// The words of these bytes, 8 to `MAX_MEMORY` of them in whole words, with the clock at 0, and the one pass that
     /// there is. `Length` where the bytes are no such number, and `Memory` where memory was refused.
@@ -74,13 +54,53 @@ impl Words {
         if bytes.len() == 0 || bytes.len() % 8 != 0 || bytes.len() > MAX_MEMORY {
             return Err(WordsFault::Length);
         }
-        let Ok(words) = words_of(alloc, bytes) else {
+        let Ok(cells) = cells_of_bytes(alloc, bytes) else {
             return Err(WordsFault::Memory);
         };
-        let Ok(made) = Words::of_words(alloc, &words) else {
+        let Ok(made) = Words::of_cells(alloc, cells.as_slice()) else {
             return Err(WordsFault::Memory);
         };
         Ok(made)
+    }
+}
+
+impl<A: Allocator> Words<A> {
+    ghost use Rattle.shared_words.specs.Passes.{IsWrongCount, Owns, view_of, cells_of};
+    ghost use Rattle.shared_words.specs.declared.fault.WordsFault.TheVariants.{Length};
+    ghost use Rattle.shared_words.specs.Views.{opening, cut_left, cut_right};
+    ghost use Rattle.shared_words.specs.Good.{Ends, EndsHeld, EndsInHold, EndsWith};
+    ghost use Rattle.shared_words.specs.ClosedWords.{clock_in, words_in};
+    ghost use Rattle.shared_words.specs.Moves.{Moves};
+    ghost use Rattle.shared_words.specs.Steps.{Lawful, StepTells, WasFound, Joined, cell_of};
+
+    /// The words that follow the clock in these cells, 1 to `MAX_WORDS` of them, and the one pass that there is. They are
+    /// copied once, into the block that they stay in. `Length` where the words are no such number, and `Memory` where
+    /// memory was refused.
+    pub fn of_cells(alloc: A, cells: &[u64]) -> Result<(Words<A>, Pass), WordsFault>
+        requires clock { slice_index cells.now 0 ≡ 0 }
+        ensures own { IfOk result (λ r. Owns r.0 r.1) }
+        ensures size { IfOk result (λ r. cells_of r.0 ≡ length cells.now) }
+        ensures first { IfOk result (λ r. view_of r.1 ≡ opening (view_of r.1).base) }
+        ensures words { IfOk result (λ r. 0 ∷ (view_of r.1).base ≡ cells.now) }
+        ensures length { IfErr result (λ f. f ≡ Length → IsWrongCount (length cells.now)) }
+        ensures wrong { IfErr result (λ f. IsWrongCount (length cells.now) → f ≡ Length) }
+        ensures right { IfOk result (λ _. ¬ IsWrongCount (length cells.now)) }
+    {
+        if cells.len() < 2 || cells.len() - 1 > MAX_WORDS {
+            return Err(WordsFault::Length);
+        }
+        let initial = InitialWords::of(cells);
+        let Ok((table, seat)) = Table::of_words(alloc, cells, &initial) else {
+            return Err(WordsFault::Memory);
+        };
+        let pass = Pass {
+            seat,
+            left: 127,
+            busy: false,
+            high: 0,
+        };
+        let size = 8 * (cells.len() - 1);
+        Ok((Words { table, size }, pass))
     }
 
     /// The size of the memory, in bytes.
@@ -224,14 +244,24 @@ impl Words {
         ensures held { (view_of pass).holds ≡ true → EndsHeld (view_of pass) result.clock bytes.new }
         ensures whole { (view_of pass).share ≡ 128 → (view_of pass).holds ≡ false → EndsWith (view_of pass) result.clock bytes.new }
     {
-        let Words { table, size: _ } = self;
-        let closed = table.close_with(pass.seat);
-        let clock = closed.word(0);
-        let count = bytes.len() / 8;
-        for i in 0..count {
-            put_word(bytes, 8 * i, closed.word(i + 1));
+        let closed = self.close_in_place(pass);
+        let clock = closed.clock();
+        for i in 0..closed.count() {
+            put_word(bytes, 8 * i, closed.word(i));
         }
-        closed.free();
         Closed { clock }
+    }
+
+    /// The same with no copy of the words: they come back in the block that they were in.
+    pub fn close_in_place(self, pass: Pass) -> ClosedWords<A>
+        requires own { Owns self pass }
+        ensures count { length (words_in result) + 1 ≡ cells_of self }
+        ensures held { (view_of pass).holds ≡ true → EndsInHold (view_of pass) (clock_in result) (words_in result) }
+        ensures whole { (view_of pass).share ≡ 128 → (view_of pass).holds ≡ false → Ends (view_of pass) (clock_in result) (words_in result) }
+    {
+        let Words { table, size: _ } = self;
+        ClosedWords {
+            cells: table.close_with(pass.seat),
+        }
     }
 }

@@ -1,6 +1,7 @@
-use Rattle.std.specs.Slots.{slots_items}
-use Rattle.shared_words.proofs.LaidWords.{Laid}
+use Rattle.std.proofs.Common.{◌≡◌, ◌*◌, take}
+use Rattle.itm_types.specs.Memory.{bytes_of}
+use Rattle.shared_words.specs.ClosedWords.{words_in}
 use Rattle.shared_words.proofs.words.Words.close.Given as goal
 
 abbrev pub invariant-loop-i : goal.invariant-loop-i
-invariant-loop-i l = Laid (slots_items l.closed.words) l.bytes l.i
+invariant-loop-i g l = take (8 * l.i) l.bytes ≡ bytes_of (take l.i (words_in l.closed))

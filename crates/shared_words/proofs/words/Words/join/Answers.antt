@@ -11,14 +11,14 @@ use Rattle.shared_words.proofs.TableSteps.{joins, allows_settle}
 use Rattle.shared_words.proofs.words.Words.join.Goals as goal
 
 pub join_seat-requires : goal.join_seat-requires
-join_seat-requires c =
+join_seat-requires g c =
     (c.requires.own.0.same, c.requires.own.1.same, c.args.other.slotless, c.args.self.now.clocked, joins _ _ _ _ (omega (arith, c.args.pass.now.counted)) c.requires.idle)
 
 pub load-pass-requires : goal.load-pass-requires
-load-pass-requires c = (c.join_seat.ensures.0 ∙ c.requires.own.0.same, c.args.self.now.clocked, allows_settle _ _ _)
+load-pass-requires g c = (c.join_seat.ensures.0 ∙ c.requires.own.0.same, c.args.self.now.clocked, allows_settle _ _ _)
 
 pub returns : goal.returns
-returns c =
+returns g c =
     let v = view_of c.args.pass.now in
     let u = view_of c.args.other in
     let last = c.load-pass.ensures.2 in

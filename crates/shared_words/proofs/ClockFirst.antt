@@ -1,0 +1,34 @@
+-- Cells of which the first is the clock.
+use Rattle.std.proofs.Common.{◌≡◌, ℕ, zero, suc, ◌+◌, ◌<◌, List, [], ◌∷◌, length, drop, get_or, Fits, w64, sym, refl, ap, arith}
+use mathlib.Core.Option.{some, some-injective}
+use lib.ListN.{get_elem?}
+use Rattle.itm_types.specs.Memory.{AllFit}
+
+pub clock_first : (cells : List ℕ) → 0 < length cells → get_or cells 0 0 ≡ 0 → 0 ∷ drop 1 cells ≡ cells
+clock_first [] more is = absurd (omega arith)
+clock_first (x ∷ xs) more is = ap (λ (n : ℕ). n ∷ xs) (sym is)
+
+pub words_behind : (cells : List ℕ) → 0 < length cells → length (drop 1 cells) + 1 ≡ length cells
+words_behind [] more = absurd (omega arith)
+words_behind (x ∷ xs) more = (let e : length xs + 1 ≡ length (x ∷ xs) = omega arith in e)
+
+pub word_behind : (cells : List ℕ) (k : ℕ) → get_or (drop 1 cells) k 0 ≡ get_or cells (k + 1) 0
+word_behind [] k = refl
+word_behind (x ∷ xs) k = ap (λ (n : ℕ). get_or (x ∷ xs) n 0) (let e : suc k ≡ k + 1 = omega arith in e)
+
+pub at_is : (cells : List ℕ) (k w : ℕ) → get_elem? cells k ≡ some w → get_or cells k 0 ≡ w
+at_is [] k w at = absurd (cc)
+at_is (x ∷ xs) zero w at = some-injective x w at
+at_is (x ∷ xs) (suc k) w at = at_is xs k w at
+
+pub all_fit : (ws : List ℕ) → ((i : ℕ) → Fits w64 (get_or ws i 0)) → AllFit ws
+all_fit [] f = tt
+all_fit (w ∷ ws) f = ((f 0).fits, all_fit ws (λ i. f (suc i)))
+
+pub rest_fits : (cells : List ℕ) → ((i : ℕ) → Fits w64 (get_or cells i 0)) → AllFit (drop 1 cells)
+rest_fits [] f = tt
+rest_fits (x ∷ xs) f = all_fit xs (λ i. f (suc i))
+
+pub clock_with_words : (cells : List ℕ) → 0 < length cells → get_or cells 0 0 ∷ drop 1 cells ≡ cells
+clock_with_words [] more = absurd (omega arith)
+clock_with_words (x ∷ xs) more = refl
