@@ -2,7 +2,7 @@
 use Rattle.std.proofs.Common.{Option, None, Some}
 use Rattle.itm_types.specs.declared.call.Call.{Call}
 use Rattle.norec_core.specs.declared.answer.Answer.{Answer}
-use Rattle.shared_words.specs.declared.words.Words.{Words}
+use Rattle.shared_words.specs.InGlobal.{Words}
 use Rattle.shared_words.specs.Passes.{Owns}
 use Rattle.itm_runtime.specs.CallResults.{Tells}
 use Rattle.itm_runtime.specs.Standing.{Standing}

@@ -1,7 +1,7 @@
 -- What tellers begin with, and what they come to.
 use Rattle.std.specs.Prelude.{◌≡◌, ℕ, ◌+◌, ◌*◌, false}
 use Rattle.shared_words.specs.Passes.{Owns, view_of}
-use Rattle.shared_words.specs.declared.words.Words.{Words}
+use Rattle.shared_words.specs.InGlobal.{Words}
 use Rattle.shared_words.specs.declared.pass.Pass.{Pass}
 use Rattle.bank.specs.declared.teller.Tally.{Tally}
 use Rattle.bank.specs.declared.teller.TheConstants.{TRANSFERS}

@@ -42,14 +42,14 @@ pub record IsDriven (cells : ℕ) (s : Start) (a : Answer) (v : View) (e : Core)
   pub leads : LeadsOn cells s.view came first steps v e (Answers a)
 
 -- steps of the call in progress were done, the first of them this one: fewer are left
-pub record StepsOn (words : Words) (v : View) (e : Core) (step : Step) (pass : Pass) (new : Core) (next : Next) : Type 0 where
+pub record StepsOn {A : Type 0} (words : Words A) (v : View) (e : Core) (step : Step) (pass : Pass) (new : Core) (next : Next) : Type 0 where
   pub own : Owns words pass
   pub steps : List (Step × ℕ)
   pub leads : LeadsOn (cells_of words) v e (Asks step) steps (view_of pass) new next
   pub less : left new next < left e (Asks step)
 
 -- all that were left were done, up to this answer
-pub record Finishes (words : Words) (v : View) (e : Core) (next : Next) (a : Answer) (pass : Pass) (new : Core) : Type 0 where
+pub record Finishes {A : Type 0} (words : Words A) (v : View) (e : Core) (next : Next) (a : Answer) (pass : Pass) (new : Core) : Type 0 where
   pub own : Owns words pass
   pub steps : List (Step × ℕ)
   pub leads : LeadsOn (cells_of words) v e next steps (view_of pass) new (Answers a)

@@ -15,11 +15,12 @@ use itm_types::{Reply, Step};
 use norec_core::Answer;
 use norec_engine::{Engine, FastStep};
 use shared_words::{Pass, Words};
+use std::alloc::Allocator;
 
 /// Does the steps of a call, from this one on where it asks for one, up to its answer.
 #[inline(always)]
-pub(crate) fn finish(
-    words: &Words,
+pub(crate) fn finish<A: Allocator>(
+    words: &Words<A>,
     pass: &mut Pass,
     engine: &mut Engine,
     first: Option<Step>,
@@ -37,8 +38,8 @@ pub(crate) fn finish(
 
 /// The same, with the first step on the fast path.
 #[inline(always)]
-pub(crate) fn finish_fast(
-    words: &Words,
+pub(crate) fn finish_fast<A: Allocator>(
+    words: &Words<A>,
     pass: &mut Pass,
     engine: &mut Engine,
     first: Option<Step>,
@@ -60,7 +61,12 @@ pub(crate) fn finish_fast(
 
 /// Does the steps of a read of one whole word that it asks for: loads the word, and the clock to confirm it.
 #[inline(always)]
-pub(crate) fn finish_read(words: &Words, pass: &mut Pass, engine: &mut Engine, word: u32) -> Answer
+pub(crate) fn finish_read<A: Allocator>(
+    words: &Words<A>,
+    pass: &mut Pass,
+    engine: &mut Engine,
+    word: u32,
+) -> Answer
     requires own { Owns words.now pass.old }
     requires loads { LoadsWord engine.old word }
     requires due { (s : Start) × InCall s (view_of pass.old) engine.old (Step.Load (word + 1)) }
@@ -80,7 +86,12 @@ pub(crate) fn finish_read(words: &Words, pass: &mut Pass, engine: &mut Engine, w
 /// The same once another one has committed: the clock was loaded, and is not the snapshot.
 #[cold]
 #[inline(never)]
-fn finish_moved(words: &Words, pass: &mut Pass, engine: &mut Engine, clock: u64) -> Answer
+fn finish_moved<A: Allocator>(
+    words: &Words<A>,
+    pass: &mut Pass,
+    engine: &mut Engine,
+    clock: u64,
+) -> Answer
     requires own { Owns words.now pass.old }
     requires due { (s : Start) × (v : View) × IsOver (cells_of words.now) v × InCall s v engine.old (Step.Load 0) × StepTells v (Step.Load 0) clock (view_of pass.old) }
     ensures { (v : View) → HasStepped v (Step.Load 0) clock (view_of pass.old) → Finishes words.now v engine.old (Asks (Step.Load 0)) result pass.new engine.new }
@@ -93,8 +104,8 @@ fn finish_moved(words: &Words, pass: &mut Pass, engine: &mut Engine, clock: u64)
 
 /// The same of a commit, whose rows are stored on the fast path.
 #[inline(always)]
-pub(crate) fn finish_commit(
-    words: &Words,
+pub(crate) fn finish_commit<A: Allocator>(
+    words: &Words<A>,
     pass: &mut Pass,
     engine: &mut Engine,
     first: Option<Step>,
@@ -112,8 +123,8 @@ pub(crate) fn finish_commit(
 
 /// Takes the clock, and stores the rows.
 #[inline(always)]
-fn take_and_store(
-    words: &Words,
+fn take_and_store<A: Allocator>(
+    words: &Words<A>,
     pass: &mut Pass,
     engine: &mut Engine,
     first: Step,
@@ -131,7 +142,13 @@ fn take_and_store(
 
 /// Does the steps that the call asks for, from this one on, up to its answer.
 #[inline(never)]
-fn drive(words: &Words, pass: &mut Pass, engine: &mut Engine, first: Step, answer: &mut Answer)
+fn drive<A: Allocator>(
+    words: &Words<A>,
+    pass: &mut Pass,
+    engine: &mut Engine,
+    first: Step,
+    answer: &mut Answer,
+)
     requires own { Owns words.now pass.old }
     requires due { (s : Start) × InCall s (view_of pass.old) engine.old first }
     ensures { Finishes words.now (view_of pass.old) engine.old (Asks first) answer.new pass.new engine.new }
@@ -144,7 +161,13 @@ fn drive(words: &Words, pass: &mut Pass, engine: &mut Engine, first: Step, answe
 
 /// The same, with the stores of a commit on the fast path.
 #[inline(always)]
-fn store(words: &Words, pass: &mut Pass, engine: &mut Engine, first: Step, answer: &mut Answer)
+fn store<A: Allocator>(
+    words: &Words<A>,
+    pass: &mut Pass,
+    engine: &mut Engine,
+    first: Step,
+    answer: &mut Answer,
+)
     requires own { Owns words.now pass.old }
     requires due { (s : Start) × InCall s (view_of pass.old) engine.old first }
     ensures { Finishes words.now (view_of pass.old) engine.old (Asks first) answer.new pass.new engine.new }
@@ -156,8 +179,8 @@ fn store(words: &Words, pass: &mut Pass, engine: &mut Engine, first: Step, answe
 }
 
 /// Does one step of a call; tells the next one. A part of a word is stored here alone, for the fast path stores whole words.
-fn go_on(
-    words: &Words,
+fn go_on<A: Allocator>(
+    words: &Words<A>,
     pass: &mut Pass,
     engine: &mut Engine,
     step: Step,
@@ -173,8 +196,8 @@ fn go_on(
 
 /// The same of a step of the fast path, where the call stays on it, else does all that are left.
 #[inline(always)]
-fn advance(
-    words: &Words,
+fn advance<A: Allocator>(
+    words: &Words<A>,
     pass: &mut Pass,
     engine: &mut Engine,
     step: Step,
@@ -197,8 +220,8 @@ fn advance(
 
 /// The same of a store, of a row that is the last one or not.
 #[inline(always)]
-fn advance_store(
-    words: &Words,
+fn advance_store<A: Allocator>(
+    words: &Words<A>,
     pass: &mut Pass,
     engine: &mut Engine,
     step: Step,
@@ -220,7 +243,13 @@ fn advance_store(
 
 /// Hands the value of a step in, that of the last store of a commit on the fast path, and does the steps that are left.
 #[inline(always)]
-fn resume_last(words: &Words, pass: &mut Pass, engine: &mut Engine, seen: u64, answer: &mut Answer)
+fn resume_last<A: Allocator>(
+    words: &Words<A>,
+    pass: &mut Pass,
+    engine: &mut Engine,
+    seen: u64,
+    answer: &mut Answer,
+)
     requires own { Owns words.now pass.old }
     requires done { (s : Start) × IsDone (cells_of words.now) s (view_of pass.old) engine.old seen }
     ensures { (v : View) (step : Step) → HasStepped v step seen (view_of pass.old) → Finishes words.now v engine.old (Asks step) answer.new pass.new engine.new }
@@ -233,7 +262,13 @@ fn resume_last(words: &Words, pass: &mut Pass, engine: &mut Engine, seen: u64, a
 
 /// Hands the value of a step in, and does the steps that are left.
 #[inline(never)]
-fn resume(words: &Words, pass: &mut Pass, engine: &mut Engine, seen: u64, answer: &mut Answer)
+fn resume<A: Allocator>(
+    words: &Words<A>,
+    pass: &mut Pass,
+    engine: &mut Engine,
+    seen: u64,
+    answer: &mut Answer,
+)
     requires own { Owns words.now pass.old }
     requires done { (s : Start) × IsDone (cells_of words.now) s (view_of pass.old) engine.old seen }
     ensures { (v : View) (step : Step) → HasStepped v step seen (view_of pass.old) → Finishes words.now v engine.old (Asks step) answer.new pass.new engine.new }

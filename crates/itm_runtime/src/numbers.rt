@@ -11,6 +11,7 @@ use crate::thread::Thread;
 use itm_types::{Datum, ReadHint, Reply, Width, WriteHint, get_word};
 use norec_core::Answer;
 use shared_words::Words;
+use std::alloc::Allocator;
 
 /// The number of which an answer has the bytes.
 fn number_in(answer: Answer) -> u64
@@ -32,7 +33,7 @@ fn datum_of(value: u64) -> Datum
 
 impl Thread {
     /// Reads the number of 8 bytes, the low one first, as by `read`.
-    pub fn read_u64(&mut self, words: &Words, at: u64) -> Result<u64, Stop>
+    pub fn read_u64<A: Allocator>(&mut self, words: &Words<A>, at: u64) -> Result<u64, Stop>
         requires own { Owns words.now self.old.pass }
         ensures { Tells words.now self.old (Call.Read ReadHint.R Width.U8 at) (answer_to_read result) self.new }
     {
@@ -41,7 +42,12 @@ impl Thread {
     }
 
     /// Writes a number as 8 bytes, the low one first, as by `write`.
-    pub fn write_u64(&mut self, words: &Words, at: u64, value: u64) -> Result<(), Stop>
+    pub fn write_u64<A: Allocator>(
+        &mut self,
+        words: &Words<A>,
+        at: u64,
+        value: u64,
+    ) -> Result<(), Stop>
         requires own { Owns words.now self.old.pass }
         ensures { Tells words.now self.old (Call.Write WriteHint.W at (number value)) (answer_to_write result) self.new }
     {

@@ -13,14 +13,14 @@ use crate::thread::Thread;
 use itm_types::{Call, Props, ReadHint, Reply, Width};
 use norec_core::Answer;
 use shared_words::Words;
-use std::alloc::AllocError;
+use std::alloc::{AllocError, Allocator};
 
 impl Thread {
     /// A begin.
     #[inline(never)]
-    pub(crate) fn begin_slow(
+    pub(crate) fn begin_slow<A: Allocator>(
         &mut self,
-        words: &Words,
+        words: &Words<A>,
         props: Props,
         room: u32,
         again: bool,
@@ -36,9 +36,9 @@ impl Thread {
 
     /// A read.
     #[inline(always)]
-    pub(crate) fn read_slow(
+    pub(crate) fn read_slow<A: Allocator>(
         &mut self,
-        words: &Words,
+        words: &Words<A>,
         hint: ReadHint,
         width: Width,
         at: u64,
@@ -51,7 +51,11 @@ impl Thread {
 
     /// A call.
     #[inline(always)]
-    pub(crate) fn call_slow(&mut self, words: &Words, call: &Call) -> Result<Answer, AllocError>
+    pub(crate) fn call_slow<A: Allocator>(
+        &mut self,
+        words: &Words<A>,
+        call: &Call,
+    ) -> Result<Answer, AllocError>
         requires own { Owns words.now self.old.pass }
         ensures { Returns (λ a. a) words.now self.old call.now false result self.new }
     {
@@ -62,9 +66,9 @@ impl Thread {
 
     /// The same, with the answer where the caller has it.
     #[inline(never)]
-    fn call_told(
+    fn call_told<A: Allocator>(
         &mut self,
-        words: &Words,
+        words: &Words<A>,
         call: &Call,
         answer: &mut Answer,
     ) -> Result<(), AllocError>
@@ -78,7 +82,7 @@ impl Thread {
 
     /// A commit. Takes no memory.
     #[inline(never)]
-    pub(crate) fn commit_slow(&mut self, words: &Words, answer: &mut Answer)
+    pub(crate) fn commit_slow<A: Allocator>(&mut self, words: &Words<A>, answer: &mut Answer)
         requires own { Owns words.now self.old.pass }
         ensures { IsAnswered words.now (start_of self.old Call.Commit false) answer.new self.new.pass self.new.engine }
     {

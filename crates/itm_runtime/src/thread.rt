@@ -20,7 +20,7 @@ use itm_types::{
 use norec_core::{Answer, Undone};
 use norec_engine::{Engine, EngineRefused, FastStep};
 use shared_words::{Pass, Words};
-use std::alloc::{AllocError, Global};
+use std::alloc::{AllocError, Allocator, Global};
 use std::marker::Model;
 use undo_log::Arena;
 
@@ -50,9 +50,9 @@ impl Model for Thread {
 impl Thread {
     /// A thread outside a transaction, with its arena, over the words that own the pass. Takes memory for the begins of open
     /// blocks; where that is refused, the pass and the arena come back.
-    pub fn new(
+    pub fn new<A: Allocator>(
         alloc: Global,
-        words: &Words,
+        words: &Words<A>,
         pass: Pass,
         arena: Arena,
         limits: Limits,
@@ -77,9 +77,9 @@ impl Thread {
 
     /// An outermost block begins, `again` where an earlier try of it got past its begin; inside a transaction this is
     /// `call` (Intel TM ABI 1.1, section 5.7).
-    pub fn begin(
+    pub fn begin<A: Allocator>(
         &mut self,
-        words: &Words,
+        words: &Words<A>,
         props: Props,
         room: u32,
         again: bool,
@@ -108,7 +108,11 @@ impl Thread {
     }
 
     /// Any call of the interface.
-    pub fn call(&mut self, words: &Words, call: &Call) -> Result<Answer, AllocError>
+    pub fn call<A: Allocator>(
+        &mut self,
+        words: &Words<A>,
+        call: &Call,
+    ) -> Result<Answer, AllocError>
         requires own { Owns words.now self.old.pass }
         ensures { Returns (λ a. a) words.now self.old call.now false result self.new }
     {
@@ -121,9 +125,9 @@ impl Thread {
     }
 
     /// A value is read, as by `call` of a `Read` (section 5.12).
-    pub fn read(
+    pub fn read<A: Allocator>(
         &mut self,
-        words: &Words,
+        words: &Words<A>,
         hint: ReadHint,
         width: Width,
         at: u64,
@@ -138,9 +142,9 @@ impl Thread {
     }
 
     /// A value is written, as by `call` of a `Write` (section 5.12).
-    pub fn write(
+    pub fn write<A: Allocator>(
         &mut self,
-        words: &Words,
+        words: &Words<A>,
         hint: WriteHint,
         at: u64,
         value: &Datum,
@@ -163,7 +167,7 @@ impl Thread {
     }
 
     /// The innermost block ends; with the outermost one the transaction commits (section 5.9). Takes no memory.
-    pub fn commit(&mut self, words: &Words) -> Answer
+    pub fn commit<A: Allocator>(&mut self, words: &Words<A>) -> Answer
         requires own { Owns words.now self.old.pass }
         ensures answered { IsAnswered words.now (start_of self.old Call.Commit false) result self.new.pass self.new.engine }
 
@@ -184,7 +188,7 @@ impl Thread {
     }
 
     /// The innermost block is cancelled, or with `outer` all that are open (section 5.8). Takes no memory.
-    pub fn cancel(&mut self, words: &Words, outer: bool) -> Answer
+    pub fn cancel<A: Allocator>(&mut self, words: &Words<A>, outer: bool) -> Answer
         requires own { Owns words.now self.old.pass }
         ensures answered { IsAnswered words.now (start_of self.old (Call.Abort outer) false) result self.new.pass self.new.engine }
         ensures whole { IsRestart result → ⊥ }
@@ -197,7 +201,11 @@ impl Thread {
 
     /// The transaction becomes irrevocable. `room` is the number of calls to come for which memory is taken ahead: of these
     /// commit actions alone want any. It is no limit: a call beyond it is served where there is memory.
-    pub fn irrevocable(&mut self, words: &Words, room: u32) -> Result<Answer, AllocError>
+    pub fn irrevocable<A: Allocator>(
+        &mut self,
+        words: &Words<A>,
+        room: u32,
+    ) -> Result<Answer, AllocError>
         requires own { Owns words.now self.old.pass }
         ensures { Returns (λ a. a) words.now self.old (Call.Mode room) false result self.new }
     {

@@ -5,7 +5,7 @@ use Rattle.norec_core.specs.Core.{Core, in_transaction, rolled_back}
 use Rattle.norec_core.specs.Phases.{Idle}
 use Rattle.norec_core.specs.Undoing.{after_undoing}
 use Rattle.norec_core.proofs.Engines.HeldStores.{shut_revocable}
-use Rattle.shared_words.specs.declared.words.Words.{Words}
+use Rattle.shared_words.specs.InGlobal.{Words}
 use Rattle.shared_words.specs.declared.pass.Pass.{Pass}
 use Rattle.itm_runtime.specs.Standing.{Standing}
 use Rattle.script_laws.specs.Assembled.{HasNestedCode}

@@ -11,7 +11,7 @@ use Rattle.norec_core.specs.declared.answer.Answer.{Answer}
 use Rattle.norec_core.specs.declared.answer.Answer.TheVariants.{Busy, Committed, Conflict, Full, Reply, Restarted}
 use Rattle.norec_core.specs.Core.{Core, in_transaction, irrevocable_room, is_inside, is_within}
 use Rattle.norec_core.proofs.Replies.ReplyCases.{Ways, reply_cases}
-use Rattle.shared_words.specs.declared.words.Words.{Words}
+use Rattle.shared_words.specs.InGlobal.{Words}
 use Rattle.shared_words.specs.Passes.{Owns, cells_of, commits_known, view_of}
 use Rattle.itm_runtime.specs.CallResults.{IsAnswered}
 use Rattle.itm_runtime.specs.Served.{Start}

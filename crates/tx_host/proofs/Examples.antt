@@ -1,7 +1,7 @@
 -- Worked cases: attempts by thread, the lists of two workers, how threads with no call end, after which answers there is no further try, and which version tells of a run.
 use Rattle.std.proofs.Common.{◌≡◌, ℕ, false, List, [], ◌∷◌, Ok, refl, inl, arith}
 use Rattle.norec_core.specs.declared.answer.Answer.TheVariants.{Busy, Full}
-use Rattle.shared_words.specs.declared.words.Words.{Words}
+use Rattle.shared_words.specs.InGlobal.{Words}
 use Rattle.shared_words.specs.Passes.{Owns, view_of}
 use Rattle.script_vm.specs.Threads.{opening}
 use Rattle.itm_runtime.specs.Standing.{Standing}

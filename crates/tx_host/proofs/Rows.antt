@@ -4,7 +4,7 @@ use Rattle.itm_types.specs.declared.call.Call.{Call}
 use Rattle.itm_types.specs.declared.call.Reply.{Reply as Replied}
 use Rattle.norec_core.specs.declared.answer.Answer.{Answer}
 use Rattle.norec_core.specs.declared.answer.Answer.TheVariants.{Busy, Committed, Conflict, Full, Reply, Restarted}
-use Rattle.shared_words.specs.declared.words.Words.{Words}
+use Rattle.shared_words.specs.InGlobal.{Words}
 use Rattle.script_vm.specs.Threads.{Thread, thread_rules}
 use Rattle.itm_runtime.specs.Standing.{Standing}
 use Rattle.tx_attempts.specs.declared.attempt.Attempt.{Attempt}

@@ -1,7 +1,7 @@
 -- What a pass has after it took in those of the workers.
 use Rattle.std.specs.Prelude.{◌≡◌, ℕ, ◌+◌, Bool, false, List, [], ◌∷◌, ◌++◌, length}
 use Rattle.shared_words.specs.declared.view.View.{View}
-use Rattle.shared_words.specs.declared.words.Words.{Words}
+use Rattle.shared_words.specs.InGlobal.{Words}
 use Rattle.script_program.specs.Listing.{Listing, threads_of}
 use Rattle.tx_attempts.specs.declared.attempt.Attempt.{Attempt}
 use Rattle.tx_attempts.specs.Outrun.{AreOutrun}

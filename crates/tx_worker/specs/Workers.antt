@@ -12,7 +12,7 @@ use Rattle.norec_core.specs.Proceeds.{MayStarve}
 use Rattle.norec_engine.specs.RestartingCalls.{arena_ahead}
 use Rattle.user_actions.specs.Actions.{total}
 use Rattle.shared_words.specs.declared.view.View.{View}
-use Rattle.shared_words.specs.declared.words.Words.{Words}
+use Rattle.shared_words.specs.InGlobal.{Words}
 use Rattle.shared_words.specs.Passes.{Owns, view_of}
 use Rattle.itm_runtime.specs.CallResults.{IsAnswered}
 use Rattle.itm_runtime.specs.Standing.{start_of}

@@ -3,7 +3,7 @@
 ghost use Rattle.std.specs.Prelude.{◌≡◌, ◌/◌, ◌<◌, ◌≤◌, Bool, false, Some, unwrap_or, IsOk, OnOk, OnErr, vec_len, vec_capacity};
 ghost use Rattle.norec_core.specs.Core.{irrevocable_room};
 ghost use Rattle.shared_words.specs.Passes.{Owns, commits_known, view_of};
-ghost use Rattle.shared_words.specs.declared.words.Words.{Words as WordsValue};
+ghost use Rattle.shared_words.specs.InGlobal.{Words as WordsValue};
 ghost use Rattle.itm_runtime.specs.CallResults.{Returns};
 ghost use Rattle.tx_runs.specs.OpenAttempts.{Open};
 ghost use Rattle.tx_runs.specs.PlayerRuns.{MayStop, MayTell};

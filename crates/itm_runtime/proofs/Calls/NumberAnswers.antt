@@ -89,5 +89,5 @@ write_done t hint at value (Busy clock) v e served on = absurd (on (stops.Busy c
 write_done t hint at value (Full position) v e served on = absurd (on (stops.Full position) refl)
 
 -- an answer that is told
-pub told_of : (told : Option Answer) (a : Answer) (words : Words) (t : Standing) (call : Call) (new : Standing) → told ≡ Some a → IsAnswered words (start_of t call false) a new.pass new.engine → Tells words t call told new
+pub told_of : {A : Type 0} (told : Option Answer) (a : Answer) (words : Words A) (t : Standing) (call : Call) (new : Standing) → told ≡ Some a → IsAnswered words (start_of t call false) a new.pass new.engine → Tells words t call told new
 told_of told a words t call new is answered = subst (λ (o : Option Answer). Tells words t call o new) (sym is) answered

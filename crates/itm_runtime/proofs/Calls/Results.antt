@@ -23,7 +23,7 @@ pub due : (p : Pass) {e new : Core} {call : Call} {again : Bool} {next : Next} â
 due p {e} {new} {call} {again} {next} stands r = (record { view = view_of p; engine = e; call = call; again = again }, starts (view_of p) e new call again stands next r)
 
 module _ (p : Pass) {e new : Core} {call : Call} {again : Bool} {next : Next} (stands : Stands (view_of p) e) (r : IsCalled e call again next new)
-    {words : Words} {a : Answer} {pass : Pass} {engine : Core} (finish : Finishes words (view_of p) new next a pass engine)
+    {A : Type 0} {words : Words A} {a : Answer} {pass : Pass} {engine : Core} (finish : Finishes words (view_of p) new next a pass engine)
     (old : Standing) (is : (let came_to : Standing = record { pass = p; engine = e } in came_to) â‰¡ old) (own : Owns words old.pass) where
   abbrev came_to : Standing
   came_to = record { pass = p; engine = e }

@@ -4,7 +4,7 @@ use Rattle.itm_types.specs.declared.limits.Limits.{Limits}
 use Rattle.itm_types.specs.declared.limits.TheConstants.{MAX_ACTORS}
 use Rattle.norec_core.specs.Core.{Core, in_transaction, opening}
 use Rattle.shared_words.specs.declared.view.View.{View}
-use Rattle.shared_words.specs.declared.words.Words.{Words}
+use Rattle.shared_words.specs.InGlobal.{Words}
 use Rattle.shared_words.specs.declared.pass.Pass.{Pass}
 use Rattle.shared_words.specs.Passes.{Owns, view_of}
 use Rattle.shared_words.specs.Views.{cut_left, cut_right, opening as unwritten}

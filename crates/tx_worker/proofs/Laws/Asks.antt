@@ -7,7 +7,7 @@ use Rattle.itm_types.specs.declared.call.Props.{Props}
 use Rattle.norec_core.specs.declared.answer.Answer.{Answer}
 use Rattle.norec_core.specs.Core.{in_transaction, irrevocable_room}
 use Rattle.norec_core.specs.Proceeds.{MayStarve}
-use Rattle.shared_words.specs.declared.words.Words.{Words}
+use Rattle.shared_words.specs.InGlobal.{Words}
 use Rattle.shared_words.specs.Passes.{commits_known, view_of}
 use Rattle.itm_runtime.specs.CallResults.{IsAnswered, IsThreadStarved}
 use Rattle.itm_runtime.specs.Standing.{Standing, start_of}

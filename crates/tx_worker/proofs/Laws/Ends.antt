@@ -6,7 +6,7 @@ use Rattle.norec_core.specs.Phases.{Idle}
 use Rattle.norec_core.proofs.Engines.HeldStores.{shut_revocable}
 use Rattle.shared_words.specs.declared.pass.Pass.{Pass}
 use Rattle.shared_words.specs.declared.view.View.{View}
-use Rattle.shared_words.specs.declared.words.Words.{Words}
+use Rattle.shared_words.specs.InGlobal.{Words}
 use Rattle.shared_words.specs.Passes.{Owns, view_of}
 use Rattle.itm_runtime.specs.Standing.{Standing, start_of}
 use Rattle.itm_runtime.specs.Ties.{Stands}

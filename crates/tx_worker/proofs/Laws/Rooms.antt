@@ -12,7 +12,7 @@ use Rattle.norec_core.specs.Core.{Core, in_transaction, irrevocable_room}
 use Rattle.norec_core.specs.Restarts.{IsRestart}
 use Rattle.norec_engine.specs.RestartingCalls.{arena_ahead}
 use Rattle.user_actions.specs.Actions.{total}
-use Rattle.shared_words.specs.declared.words.Words.{Words}
+use Rattle.shared_words.specs.InGlobal.{Words}
 use Rattle.shared_words.specs.Passes.{cells_of, commits_known, view_of}
 use Rattle.itm_runtime.specs.Served.{Served, Start}
 use Rattle.itm_runtime.specs.Standing.{start_of}

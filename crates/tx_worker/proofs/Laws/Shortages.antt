@@ -7,7 +7,7 @@ use Rattle.norec_core.specs.Core.{Core, irrevocable_room}
 use Rattle.norec_core.specs.Proceeds.{MayStarve, MayStarveIn}
 use Rattle.norec_engine.specs.RestartingCalls.{arena_ahead}
 use Rattle.norec_engine.proofs.RestartingCalls.{ahead_revocable}
-use Rattle.shared_words.specs.declared.words.Words.{Words}
+use Rattle.shared_words.specs.InGlobal.{Words}
 use Rattle.tx_attempts.specs.declared.attempt.Attempt.{Attempt}
 use Rattle.tx_player.specs.Rules.{Rules}
 use Rattle.tx_runs.specs.declared.player_run.Current.{Current}

@@ -9,7 +9,7 @@ use Rattle.norec_core.specs.Core.{Core, in_transaction, rolled_back}
 use Rattle.norec_core.specs.Phases.{Idle}
 use Rattle.norec_core.specs.Undoing.{after_undoing, undone_of}
 use Rattle.user_actions.specs.Actions.{total}
-use Rattle.shared_words.specs.declared.words.Words.{Words}
+use Rattle.shared_words.specs.InGlobal.{Words}
 use Rattle.shared_words.specs.Passes.{Owns, view_of}
 use Rattle.itm_runtime.specs.Standing.{Standing, start_of}
 use Rattle.itm_runtime.specs.Ties.{Stands}

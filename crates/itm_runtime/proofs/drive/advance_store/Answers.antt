@@ -8,7 +8,7 @@ use Rattle.itm_runtime.proofs.Steps.StepChains.{lawful_of, cell_within, fits_of,
 use Rattle.itm_runtime.proofs.drive.advance_store.Goals as goal
 
 pub step-stored-requires : goal.step-stored-requires
-step-stored-requires c =
+step-stored-requires g c =
     let i = c.requires.due.1 in
     record {
       own = c.requires.own;
@@ -17,16 +17,16 @@ step-stored-requires c =
     }
 
 pub resume_last-requires-clause-done : goal.resume_last-requires-clause-done
-resume_last-requires-clause-done c =
+resume_last-requires-clause-done g c =
     let i = c.requires.due.1 in
     (c.requires.due.0, subst (λ (e : Core). IsDone (cells_of c.args.words.now) c.requires.due.0 (view_of c.step-stored.new.pass) e c.step-stored.result) (sym c.in-None.ensures.0) (record { before = view_of c.args.pass.now; step = c.args.step; over = c.requires.own.over; in_call = i; turn = c.step-stored.ensures.turn }))
 
 pub resume_fast-requires : goal.resume_fast-requires
-resume_fast-requires c =
+resume_fast-requires g c =
     let i = c.requires.due.1 in record { fits = fits_of c.requires.due.0 _ _ _ _ c.args.step i c.step-stored.ensures.turn }
 
 pub returns-in-Some : goal.returns-in-Some
-returns-in-Some c =
+returns-in-Some g c =
     let words = cells_of c.args.words.now in
     let over = c.requires.own.over in
     let turn = c.step-stored.ensures.turn in
@@ -38,7 +38,7 @@ returns-in-Some c =
     }
 
 pub returns-in-None : goal.returns-in-None
-returns-in-None c =
+returns-in-None g c =
     let f : Finishes c.args.words.now (view_of c.args.pass.now) c.args.engine.now (Asks c.args.step) c.resume_last.new.answer c.resume_last.new.pass c.resume_last.new.engine =
     subst (λ (e : Core). Finishes c.args.words.now (view_of c.args.pass.now) e (Asks c.args.step) c.resume_last.new.answer c.resume_last.new.pass c.resume_last.new.engine) c.in-None.ensures.0
     (c.resume_last.ensures (view_of c.args.pass.now) c.args.step (record { turn = c.step-stored.ensures.turn; moves = c.step-stored.ensures.moves })) in

@@ -8,14 +8,14 @@ use Rattle.itm_runtime.proofs.Steps.StepChains.{at_step}
 use Rattle.itm_runtime.proofs.drive.finish_fast.Goals as goal
 
 pub finish-requires-clause-due : goal.finish-requires-clause-due
-finish-requires-clause-due c =
+finish-requires-clause-due g c =
     let s = c.requires.due.0 in
     let on = c.advance-next.ensures in
     let here = at_step s _ _ _ c.in-Some.step (step_due c.args.first c.args.answer.now c.in-Some.step c.in-Some.is) c.requires.due.1 in
     (s, due_on (cells_of c.args.words.now) s on.steps _ _ _ _ (Asks c.in-Some.step) _ c.requires.own.over here on.leads)
 
 pub returns-in-Some : goal.returns-in-Some
-returns-in-Some c =
+returns-in-Some g c =
     let on = c.advance-next.ensures in
     let f = c.finish.ensures in
     subst (λ (x : Next). Finishes c.args.words.now (view_of c.args.pass.now) c.args.engine.now x c.finish.new.answer c.finish.new.pass c.finish.new.engine) (sym (step_due c.args.first c.args.answer.now c.in-Some.step c.in-Some.is))
@@ -26,6 +26,6 @@ returns-in-Some c =
     })
 
 pub returns-in-None : goal.returns-in-None
-returns-in-None c =
+returns-in-None g c =
     subst (λ (x : Next). Finishes c.args.words.now (view_of c.args.pass.now) c.args.engine.now x c.args.answer.now c.args.pass.now c.args.engine.now) (sym (none_due c.args.first c.args.answer.now c.in-None.is))
     (record { own = c.requires.own; steps = []; leads = (refl, refl, refl) })

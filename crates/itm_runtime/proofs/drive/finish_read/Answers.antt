@@ -7,16 +7,16 @@ use Rattle.itm_runtime.proofs.Steps.WordReads.{may_look}
 use Rattle.itm_runtime.proofs.drive.finish_read.Goals as goal
 
 pub step-clock-requires-clause-lawful : goal.step-clock-requires-clause-lawful
-step-clock-requires-clause-lawful c =
+step-clock-requires-clause-lawful g c =
     may_look (cells_of c.args.words.now) (view_of c.args.pass.now) (view_of c.step-value.new.pass) c.requires.own.over c.step-value.ensures.own.over c.args.engine.now c.args.engine.now c.args.word c.step-value.result c.step-value.ensures.turn c.requires.loads.free c.requires.due.0 c.requires.due.1
 
 pub finish_moved-requires-clause-due : goal.finish_moved-requires-clause-due
-finish_moved-requires-clause-due c =
+finish_moved-requires-clause-due g c =
     let looked = goes (cells_of c.args.words.now) (view_of c.args.pass.now) (view_of c.step-value.new.pass) c.requires.own.over c.step-value.ensures.own.over c.args.engine.now c.load_fast.new.self (Load (c.args.word + 1)) c.step-value.result c.step-value.ensures.turn _ c.load_fast.ensures.resumed c.requires.due.0 c.requires.due.1 in
     (c.requires.due.0, view_of c.step-value.new.pass, c.step-value.ensures.own.over, looked, c.step-clock.ensures.turn)
 
 pub returns-then-clock-snapshot : goal.returns-then-clock-snapshot
-returns-then-clock-snapshot c =
+returns-then-clock-snapshot g c =
     let f = c.finish_moved.ensures (view_of c.step-value.new.pass) (record { turn = c.step-clock.ensures.turn; moves = c.step-clock.ensures.moves }) in
     record {
       own = f.own;
@@ -25,7 +25,7 @@ returns-then-clock-snapshot c =
     }
 
 pub returns : goal.returns
-returns c = record {
+returns g c = record {
   own = c.step-clock.ensures.own;
   steps = (Load (c.args.word + 1), c.step-value.result) ∷ (Load 0, c.step-clock.result) ∷ [];
   leads = (

@@ -4,7 +4,7 @@ use Rattle.itm_runtime.proofs.Steps.StepChains.{lawful_of, cell_within, fits_of,
 use Rattle.itm_runtime.proofs.drive.go_on.Goals as goal
 
 pub step_over-found-requires : goal.step_over-found-requires
-step_over-found-requires c =
+step_over-found-requires g c =
     let i = c.requires.due.1 in
     record {
       own = c.requires.own;
@@ -14,7 +14,7 @@ step_over-found-requires c =
     }
 
 pub resume_into-requires : goal.resume_into-requires
-resume_into-requires c =
+resume_into-requires g c =
     let i = c.requires.due.1 in
     record {
       waits = waits_of c.requires.due.0 _ _ _ i;
@@ -22,7 +22,7 @@ resume_into-requires c =
     }
 
 pub returns : goal.returns
-returns c =
+returns g c =
     let words = cells_of c.args.words.now in
     let over = c.requires.own.over in
     let turn = c.step_over-found.ensures.turn in

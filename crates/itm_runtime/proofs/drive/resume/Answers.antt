@@ -4,7 +4,7 @@ use Rattle.itm_runtime.proofs.Steps.StepChains.{fits_of, waits_of, goes}
 use Rattle.itm_runtime.proofs.drive.resume.Goals as goal
 
 pub resume_into-next-requires : goal.resume_into-next-requires
-resume_into-next-requires c =
+resume_into-next-requires g c =
     let d = c.requires.done.1 in
     record {
       waits = waits_of c.requires.done.0 _ _ _ d.in_call;
@@ -12,13 +12,13 @@ resume_into-next-requires c =
     }
 
 pub finish-requires-clause-due : goal.finish-requires-clause-due
-finish-requires-clause-due c =
+finish-requires-clause-due g c =
     let d = c.requires.done.1 in
     let r = c.resume_into-next.ensures in
     (c.requires.done.0, goes (cells_of c.args.words.now) d.before (view_of c.args.pass.now) d.over c.requires.own.over c.args.engine.now c.resume_into-next.new.self d.step c.args.seen d.turn _ r c.requires.done.0 d.in_call)
 
 pub returns : goal.returns
-returns c v step stepped =
+returns g c v step stepped =
     let f = c.finish.ensures in
     record {
       own = f.own;

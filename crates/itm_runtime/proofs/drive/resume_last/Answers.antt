@@ -8,16 +8,16 @@ use Rattle.itm_runtime.proofs.Steps.StepChains.{fits_of, goes}
 use Rattle.itm_runtime.proofs.drive.resume_last.Goals as goal
 
 pub resume_fast-requires : goal.resume_fast-requires
-resume_fast-requires c =
+resume_fast-requires g c =
     let d = c.requires.done.1 in record { fits = fits_of c.requires.done.0 _ _ _ _ d.step d.in_call d.turn }
 
 pub finish_fast-requires-clause-due : goal.finish_fast-requires-clause-due
-finish_fast-requires-clause-due c =
+finish_fast-requires-clause-due g c =
     let d = c.requires.done.1 in
     (c.requires.done.0, goes (cells_of c.args.words.now) d.before (view_of c.args.pass.now) d.over c.requires.own.over c.args.engine.now c.resume_fast.new.self d.step c.args.seen d.turn _ c.in-Some.ensures c.requires.done.0 d.in_call)
 
 pub returns-in-Some : goal.returns-in-Some
-returns-in-Some c v step stepped =
+returns-in-Some g c v step stepped =
     let f = c.finish_fast.ensures in
     record {
       own = f.own;
@@ -26,9 +26,9 @@ returns-in-Some c v step stepped =
     }
 
 pub resume-requires-clause-done : goal.resume-requires-clause-done
-resume-requires-clause-done c =
+resume-requires-clause-done g c =
     (c.requires.done.0, subst (λ (e : Core). IsDone (cells_of c.args.words.now) c.requires.done.0 (view_of c.args.pass.now) e c.args.seen) (sym c.in-None.ensures.0) c.requires.done.1)
 
 pub returns-in-None : goal.returns-in-None
-returns-in-None c v step stepped =
+returns-in-None g c v step stepped =
     subst (λ (e : Core). Finishes c.args.words.now v e (Asks step) c.resume.new.answer c.resume.new.pass c.resume.new.engine) c.in-None.ensures.0 (c.resume.ensures v step stepped)

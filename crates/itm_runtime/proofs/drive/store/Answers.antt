@@ -10,15 +10,15 @@ use Rattle.itm_runtime.proofs.Steps.StepChains.{at_step}
 use Rattle.itm_runtime.proofs.drive.store.Goals as goal
 
 pub advance_store-next-requires : goal.advance_store-next-requires
-advance_store-next-requires c =
+advance_store-next-requires g c =
     let inv = c.loop-next.invariant in
     record { own = inv.own; due = (inv.due.0, at_step inv.due.0 _ _ _ _ (step_due _ c.loop-next.answer _ c.in-Some.is) inv.due.1) }
 
 pub loop-next-init : goal.loop-next-init
-loop-next-init c = record { own = c.requires.own; due = c.requires.due; steps = []; leads = (refl, refl, refl) }
+loop-next-init g c = record { own = c.requires.own; due = c.requires.due; steps = []; leads = (refl, refl, refl) }
 
 pub loop-next-preserved : goal.loop-next-preserved
-loop-next-preserved c =
+loop-next-preserved g c =
     let inv = c.loop-next.invariant in
     let words = cells_of c.args.words.now in
     let is = step_due c.loop-next.next c.loop-next.answer c.in-Some.step c.in-Some.is in
@@ -31,12 +31,12 @@ loop-next-preserved c =
     }
 
 pub loop-next-smaller : goal.loop-next-smaller
-loop-next-smaller c =
+loop-next-smaller g c =
     let is = step_due c.loop-next.next c.loop-next.answer c.in-Some.step c.in-Some.is in
     subst (λ (x : Next). left c.advance_store-next.new.engine (next_in c.advance_store-next.result c.advance_store-next.new.answer) < left c.loop-next.engine x) (sym is) c.advance_store-next.ensures.less
 
 pub returns : goal.returns
-returns c =
+returns g c =
     let inv = c.loop-next.invariant in
     let is = answer_due c.loop-next.next c.loop-next.answer c.in_default.not-Some in
     record {

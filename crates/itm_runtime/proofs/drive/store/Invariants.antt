@@ -9,7 +9,7 @@ use Rattle.itm_runtime.specs.InCall.{IsDue, left}
 use Rattle.itm_runtime.proofs.drive.store.Given as goal
 
 abbrev pub invariant-loop-next : goal.invariant-loop-next
-invariant-loop-next l = record {
+invariant-loop-next g l = record {
   own : Owns l.words l.pass;
   due : (s : Start) × IsDue s (view_of l.pass) l.engine (next_in l.next l.answer);
   steps : List (Step × ℕ);
@@ -17,4 +17,4 @@ invariant-loop-next l = record {
 }
 
 abbrev pub decreases-loop-next : goal.decreases-loop-next
-decreases-loop-next l = left l.engine (next_in l.next l.answer)
+decreases-loop-next g l = left l.engine (next_in l.next l.answer)

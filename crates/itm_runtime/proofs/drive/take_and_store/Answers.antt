@@ -5,13 +5,13 @@ use Rattle.itm_runtime.proofs.Steps.DrivenCalls.{due_on, leads_further}
 use Rattle.itm_runtime.proofs.drive.take_and_store.Goals as goal
 
 pub store-requires-clause-due : goal.store-requires-clause-due
-store-requires-clause-due c =
+store-requires-clause-due g c =
     let s = c.requires.due.0 in
     let on = c.in-Some.ensures in
     (s, due_on (cells_of c.args.words.now) s on.steps _ _ _ _ (Asks c.args.first) (Asks c.in-Some.step) c.requires.own.over c.requires.due.1 on.leads)
 
 pub returns-in-Some : goal.returns-in-Some
-returns-in-Some c =
+returns-in-Some g c =
     let on = c.in-Some.ensures in
     let f = c.store.ensures in
     record {
@@ -21,4 +21,4 @@ returns-in-Some c =
     }
 
 pub returns-in-None : goal.returns-in-None
-returns-in-None c = let on = c.in-None.ensures in record { own = on.own; steps = on.steps; leads = on.leads }
+returns-in-None g c = let on = c.in-None.ensures in record { own = on.own; steps = on.steps; leads = on.leads }

@@ -2,10 +2,10 @@ use Rattle.itm_runtime.proofs.Calls.Results.{answered, due, left_standing}
 use Rattle.itm_runtime.proofs.thread.Thread.begin_slow.Goals as goal
 
 pub finish-requires-clause-due : goal.finish-requires-clause-due
-finish-requires-clause-due c = due c.self.inside.pass c.self.invariant c.in_ok-first.ensures
+finish-requires-clause-due g c = due c.self.inside.pass c.self.invariant c.in_ok-first.ensures
 
 pub returns : goal.returns
-returns c = answered c.self.inside.pass c.self.invariant c.in_ok-first.ensures c.finish.ensures c.args.self.now c.self.view_is c.requires.own
+returns g c = answered c.self.inside.pass c.self.invariant c.in_ok-first.ensures c.finish.ensures c.args.self.now c.self.view_is c.requires.own
 
 pub invariant_of-self-2 : goal.invariant_of-self-2
-invariant_of-self-2 c = left_standing c.self.inside.pass c.self.invariant c.in_ok-first.ensures c.finish.ensures c.args.self.now c.self.view_is c.requires.own
+invariant_of-self-2 g c = left_standing c.self.inside.pass c.self.invariant c.in_ok-first.ensures c.finish.ensures c.args.self.now c.self.view_is c.requires.own

@@ -12,16 +12,16 @@ abbrev standing : Pass → Core → Standing
 standing p e = record { pass = p; engine = e }
 
 pub finish-requires-clause-due : goal.finish-requires-clause-due
-finish-requires-clause-due c = due c.self.inside.pass c.self.invariant c.in-Some.ensures
+finish-requires-clause-due g c = due c.self.inside.pass c.self.invariant c.in-Some.ensures
 
 pub invariant_of-self : goal.invariant_of-self
-invariant_of-self c = left_standing c.self.inside.pass c.self.invariant c.in-Some.ensures c.finish.ensures c.args.self.now c.self.view_is c.requires.own
+invariant_of-self g c = left_standing c.self.inside.pass c.self.invariant c.in-Some.ensures c.finish.ensures c.args.self.now c.self.view_is c.requires.own
 
 pub returns-in-Some : goal.returns-in-Some
-returns-in-Some c = answered c.self.inside.pass c.self.invariant c.in-Some.ensures c.finish.ensures c.args.self.now c.self.view_is c.requires.own
+returns-in-Some g c = answered c.self.inside.pass c.self.invariant c.in-Some.ensures c.finish.ensures c.args.self.now c.self.view_is c.requires.own
 
 pub returns-in-None : goal.returns-in-None
-returns-in-None c =
+returns-in-None g c =
     let w = c.args.words.now in
     let result = c.call_slow.result in
     let new = c.call_slow.new.self in

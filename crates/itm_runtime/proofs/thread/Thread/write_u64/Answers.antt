@@ -13,7 +13,7 @@ use Rattle.itm_runtime.proofs.Calls.NumberAnswers.{told_of, write_done}
 use Rattle.itm_runtime.proofs.thread.Thread.write_u64.Goals as goal
 
 pub returns : goal.returns
-returns c =
+returns g c =
     let w = c.args.words.now in
     let t = c.args.self.now in
     let new = c.write.new.self in
@@ -25,7 +25,7 @@ returns c =
     (ap Some (sym (write_done t W c.args.at value a (view_of new.pass) new.engine answered.served c.in_ok-_done.ensures.goes_on))) answered
 
 pub returns-in_err-_done : goal.returns-in_err-_done
-returns-in_err-_done c =
+returns-in_err-_done g c =
     let w = c.args.words.now in
     let t = c.args.self.now in
     let new = c.write.new.self in
