@@ -1,6 +1,7 @@
 //! Each helper says of a thread only that its pass is still one of the words.
 
 mod by_hand;
+mod cells;
 mod faults;
 mod gates;
 mod helpers;
