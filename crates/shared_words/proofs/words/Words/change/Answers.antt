@@ -9,14 +9,14 @@ use Rattle.shared_words.proofs.TableSteps.{allows_change, changed, store_high, s
 use Rattle.shared_words.proofs.words.Words.change.Goals as goal
 
 pub fetch_xor-requires : goal.fetch_xor-requires
-fetch_xor-requires c =
+fetch_xor-requires g c =
     let v = view_of c.args.pass.now in
     let is = changed v c.args.cell c.args.found c.args.new c.requires.cell.0 c.requires.found in
     let small : bit_xor (get_or (held_cells v) c.args.cell 0) (bit_xor c.args.found c.args.new) < 2 ^ 64 = omega arith in
     (c.requires.own.same, c.requires.cell.1, allows_change _ _ _ (omega (arith, c.args.pass.now.counted)) c.args.cell (bit_xor c.args.found c.args.new) c.requires.cell.0 c.requires.holds small)
 
 pub invariant_of-pass : goal.invariant_of-pass
-invariant_of-pass c = record {
+invariant_of-pass g c = record {
   counted = c.fetch_xor.ensures.2.1 ∙ c.args.pass.now.counted;
   flagged = store_holds _ _ c.args.cell _ 0 (λ e. (let word = c.requires.cell.0 in omega arith)) c.fetch_xor.ensures.2.0 ∙ c.args.pass.now.flagged;
   latest = store_high _ _ c.args.cell _ 0 (λ e. (let word = c.requires.cell.0 in omega arith)) c.fetch_xor.ensures.2.0 ∙ c.args.pass.now.latest;
@@ -24,7 +24,7 @@ invariant_of-pass c = record {
 }
 
 pub returns : goal.returns
-returns c =
+returns g c =
     let v = view_of c.args.pass.now in
     let w = c.fetch_xor.new.seat.me.0 in
     let is = changed v c.args.cell c.args.found c.args.new c.requires.cell.0 c.requires.found in
