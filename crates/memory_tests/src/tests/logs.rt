@@ -19,7 +19,7 @@ fn add(rt: &impl Abort, log: &mut ValueLog, word: u32, value: u64) -> Result<(),
     Ok(())
 }
 
-const LAST: u32 = 131_071;
+const LAST: u32 = MAX_WORDS as u32 - 1;
 
 /// The words from that one downwards have rows, the first one 0, the next one 1 and so on.
 fn has_rows(rt: &impl Abort, log: &ValueLog, rows: u32)
