@@ -1,6 +1,6 @@
 /* A library before the C library's, with a thread that stores plainly beside what transactions write: it counts in the high
  * half of the first word, from when the program starts a thread until the words are given back, and looks before each store
- * whether the last one is still there. The words are the first block of CELLS bytes: the clock, and then the memory.
+ * whether the last one is still there. The words are the last block of CELLS bytes before that: the clock, and then the memory.
  *
  * At the end the file TOLD gets how many of its stores were lost, whether there were some, and the word's low half. */
 #define _GNU_SOURCE
@@ -17,7 +17,7 @@ extern void __libc_free(void *);
 
 static char *cells;
 static pthread_t counter;
-static atomic_int waits, ends;
+static atomic_int started, ends;
 static long stores, lost;
 
 static void *count(void *none) {
@@ -40,24 +40,23 @@ static void tell(void) {
 
 void *malloc(size_t size) {
     char *block = __libc_malloc(size);
-    if (!cells && size == strtoul(getenv("CELLS"), 0, 10)) {
-        cells = block;
-        atomic_store(&waits, 1);
-    }
+    if (!atomic_load(&started) && size == strtoul(getenv("CELLS"), 0, 10)) cells = block;
     return block;
 }
 
 int pthread_create(pthread_t *thread, const pthread_attr_t *how, void *(*run)(void *), void *with) {
     create *really = (create *)dlsym(RTLD_NEXT, "pthread_create");
-    if (atomic_exchange(&waits, 0)) really(&counter, 0, count, 0);
+    if (cells && !atomic_exchange(&started, 1)) really(&counter, 0, count, 0);
     return really(thread, how, run, with);
 }
 
 void free(void *block) {
     if (block && block == cells) {
-        atomic_store(&ends, 1);
-        pthread_join(counter, 0);
-        tell();
+        if (atomic_load(&started)) {
+            atomic_store(&ends, 1);
+            pthread_join(counter, 0);
+            tell();
+        }
         cells = 0;
     }
     __libc_free(block);
