@@ -1,5 +1,5 @@
 -- Cells of which the first is the clock.
-use Rattle.std.proofs.Common.{◌≡◌, ℕ, zero, suc, ◌+◌, ◌<◌, List, [], ◌∷◌, length, drop, get_or, Fits, w64, sym, refl, ap, arith}
+use Rattle.std.proofs.Common.{◌≡◌, ℕ, zero, suc, ◌+◌, ◌^◌, ◌<◌, List, [], ◌∷◌, length, drop, get_or, sym, refl, ap, arith}
 use mathlib.Core.Option.{some, some-injective}
 use lib.ListN.{get_elem?}
 use Rattle.itm_types.specs.Memory.{AllFit}
@@ -21,13 +21,13 @@ at_is [] k w at = absurd (cc)
 at_is (x ∷ xs) zero w at = some-injective x w at
 at_is (x ∷ xs) (suc k) w at = at_is xs k w at
 
-pub all_fit : (ws : List ℕ) → ((i : ℕ) → Fits w64 (get_or ws i 0)) → AllFit ws
+pub all_fit : (ws : List ℕ) → ((i d : ℕ) → i < length ws → get_or ws i d < 2 ^ 64) → AllFit ws
 all_fit [] f = tt
-all_fit (w ∷ ws) f = ((f 0).fits, all_fit ws (λ i. f (suc i)))
+all_fit (w ∷ ws) f = (f 0 0 (omega arith), all_fit ws (λ i d l. f (suc i) d (omega arith)))
 
-pub rest_fits : (cells : List ℕ) → ((i : ℕ) → Fits w64 (get_or cells i 0)) → AllFit (drop 1 cells)
+pub rest_fits : (cells : List ℕ) → ((i d : ℕ) → i < length cells → get_or cells i d < 2 ^ 64) → AllFit (drop 1 cells)
 rest_fits [] f = tt
-rest_fits (x ∷ xs) f = all_fit xs (λ i. f (suc i))
+rest_fits (x ∷ xs) f = all_fit xs (λ i d l. f (suc i) d (omega arith))
 
 pub clock_with_words : (cells : List ℕ) → 0 < length cells → get_or cells 0 0 ∷ drop 1 cells ≡ cells
 clock_with_words [] more = absurd (omega arith)

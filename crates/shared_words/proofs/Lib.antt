@@ -8,3 +8,6 @@ pub mod ViewsFit
 pub mod TableSteps
 pub mod LaidWords
 pub mod ClockFirst
+pub mod StructSteps
+pub mod HollowVecs
+pub mod RowFields

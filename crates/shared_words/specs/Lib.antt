@@ -7,3 +7,4 @@ pub mod Rule
 pub mod Passes
 pub mod ClosedWords
 pub mod InGlobal
+pub mod InPlace

@@ -1,5 +1,6 @@
 -- What a clause reads of words and passes.
 use Rattle.std.specs.Prelude.{◌≡◌, ◌≢◌, ◌⊎◌, ℕ, ◌+◌, ◌/◌, ◌%◌, ◌<◌, ◌≤◌, length}
+use denote.RawPtr.{Ptr}
 use Rattle.itm_types.specs.declared.limits.TheConstants.{MAX_WORDS}
 use Rattle.itm_types.specs.Memory.{AllFit}
 use Rattle.shared_words.specs.Commits.{StoresFit, CommitsFit}
@@ -15,7 +16,11 @@ abbrev pub commits_known : View → ℕ
 commits_known v = v.high / 2
 
 abbrev pub cells_of : {A : Type 0} → Words A → ℕ
-cells_of w = w.table.shared.table_id.words
+cells_of w = w.shared.table_id.words
+
+-- where cell 0 lies
+abbrev pub place_of : {A : Type 0} → Words A → Ptr
+place_of w = w.shared.words
 
 -- the view is of so many cells, each value in it fits 64 bits, it saw no clock past the latest that it knows of, and as many commits as either of these tells
 pub record IsOver (cells : ℕ) (v : View) : Type 0 where
@@ -29,7 +34,7 @@ pub record IsOver (cells : ℕ) (v : View) : Type 0 where
 
 -- the pass is one of these words
 pub record Owns {A : Type 0} (w : Words A) (p : Pass) : Type 0 where
-  pub same : p.seat.table_id ≡ w.table.shared.table_id
+  pub same : p.seat.table_id ≡ w.shared.table_id
   pub over : IsOver (cells_of w) (view_of p)
 
 -- no bytes, no whole number of words, or too many for a memory made of bytes

@@ -1,34 +1,32 @@
 //! Words that no thread shares any more.
 
 ghost use Rattle.std.specs.Prelude.{◌≡◌, ◌<◌, length, slice_index};
-ghost use Rattle.std.specs.Slots.{slots_len, IsFull};
 
-use atomic_table::Closed;
 use std::alloc::{Allocator, Global};
 
-/// What the words were when they were closed, in the block that they were in. A drop frees it.
+/// What the words were when they were closed, where they were.
+#[derive(Drop)]
 pub struct ClosedWords<A: Allocator = Global> {
-    pub(crate) cells: Closed<u8, A>,
-    ghost full: { IsFull cells.words },
-    ghost slotless: { slots_len cells.slots ≡ 0 },
-    ghost clocked: { 0 < slots_len cells.words },
+    pub(crate) cells: Vec<u64, A>,
+    ghost clocked: { 0 < length cells.items },
 }
 
 impl<A: Allocator> ClosedWords<A> {
-    ghost use Rattle.shared_words.specs.ClosedWords.{clock_in, words_in};
+    ghost use Rattle.std.specs.Prelude.{◌∷◌};
+    ghost use Rattle.shared_words.specs.ClosedWords.{clock_in, words_in, place_in};
 
     /// Twice the number of commits, and one more where the clock is held.
     pub fn clock(&self) -> u64
         ensures { result ≡ clock_in self.now }
     {
-        self.cells.word(0)
+        self.cells[0]
     }
 
     /// How many words there are.
     pub fn count(&self) -> usize
         ensures { result ≡ length (words_in self.now) }
     {
-        self.cells.words.len() - 1
+        self.cells.len() - 1
     }
 
     /// A word.
@@ -36,13 +34,15 @@ impl<A: Allocator> ClosedWords<A> {
         requires { place < length (words_in self.now) }
         ensures { result ≡ slice_index (words_in self.now) place }
     {
-        self.cells.word(place + 1)
+        self.cells[place + 1]
     }
-}
 
-impl<A: Allocator> Drop for ClosedWords<A> {
-    fn drop(self) {
+    /// The cells themselves, the clock first, where they were.
+    pub fn into_cells(self) -> Vec<u64, A>
+        ensures cells { result.items ≡ clock_in self ∷ words_in self }
+        ensures place { result.ptr ≡ place_in self }
+    {
         let ClosedWords { cells } = self;
-        cells.free();
+        cells
     }
 }

@@ -6,6 +6,7 @@ mod bytes;
 mod closed_words;
 mod equality;
 mod fault;
+mod in_place;
 mod initial;
 mod pass;
 mod rule;

@@ -6,23 +6,22 @@ ghost use Rattle.itm_types.specs.declared.limits.TheConstants.{MAX_BYTES};
 use crate::bytes::cells_of_bytes;
 use crate::closed_words::ClosedWords;
 use crate::fault::WordsFault;
-use crate::initial::InitialWords;
+use crate::in_place::{Hollow, SharedCells, attach, deal, detach, gather, gather_with};
 use crate::pass::Pass;
-use crate::rule::{Both, Changes, Core, Cut, Exchanges, Loads, Settles, Stores};
-use crate::view::View;
-use atomic_table::Table;
+use crate::rule::{Both, Changes, Cut, Exchanges, Loads, Settles, Stores};
 use itm_types::{MAX_BYTES, MAX_MEMORY, MAX_WORDS, Step, put_word};
 use std::alloc::{Allocator, Global};
 
-/// The sequence clock, which is cell 0, and the words of the memory, which follow it in order, in one block of the
-/// allocator `A`. Threads share it by `&`.
-#[derive(Drop)]
+/// The sequence clock, which is cell 0, and the words of the memory, which follow it in order, where they lie in a
+/// vector's block of the allocator `A`. Threads share it by `&`.
 pub struct Words<A: Allocator = Global> {
-    table: Table<u8, View, InitialWords, Core, A>,
+    shared: SharedCells,
+    hollow: Hollow<A>,
     size: usize,
-    ghost slotless: { table.shared.table_id.slots ≡ 0 },
-    ghost clocked: { 0 < table.shared.table_id.words },
-    ghost sized: { size + 8 ≡ 8 * table.shared.table_id.words },
+    ghost slotless: { shared.table_id.slots ≡ 0 },
+    ghost clocked: { 0 < shared.table_id.words },
+    ghost placed: { (hollow.ptr ≡ shared.words) × (hollow.len ≡ shared.table_id.words) },
+    ghost sized: { size + 8 ≡ 8 * shared.table_id.words },
     ghost some: { 8 ≤ size },
     ghost few: { size ≤ MAX_BYTES },
 }
@@ -57,50 +56,55 @@ impl Words {
         let Ok(cells) = cells_of_bytes(alloc, bytes) else {
             return Err(WordsFault::Memory);
         };
-        let Ok(made) = Words::of_cells(alloc, cells.as_slice()) else {
-            return Err(WordsFault::Memory);
+        let Ok(made) = Words::of_cells(cells) else {
+            unreachable!()
         };
         Ok(made)
     }
 }
 
 impl<A: Allocator> Words<A> {
-    ghost use Rattle.shared_words.specs.Passes.{IsWrongCount, Owns, view_of, cells_of};
+    ghost use Rattle.shared_words.specs.Passes.{IsWrongCount, Owns, view_of, cells_of, place_of};
     ghost use Rattle.shared_words.specs.declared.fault.WordsFault.TheVariants.{Length};
     ghost use Rattle.shared_words.specs.Views.{opening, cut_left, cut_right};
     ghost use Rattle.shared_words.specs.Good.{Ends, EndsHeld, EndsInHold, EndsWith};
-    ghost use Rattle.shared_words.specs.ClosedWords.{clock_in, words_in};
+    ghost use Rattle.shared_words.specs.ClosedWords.{clock_in, words_in, place_in};
     ghost use Rattle.shared_words.specs.Moves.{Moves};
     ghost use Rattle.shared_words.specs.Steps.{Lawful, StepTells, WasFound, Joined, cell_of};
 
-    /// The words that follow the clock in these cells, 1 to `MAX_WORDS` of them, and the one pass that there is. They are
-    /// copied once, into the block that they stay in. `Length` where the words are no such number, and `Memory` where
-    /// memory was refused.
-    pub fn of_cells(alloc: A, cells: &[u64]) -> Result<(Words<A>, Pass), WordsFault>
-        requires clock { slice_index cells.now 0 ≡ 0 }
+    /// The words that follow the clock in these cells, 1 to `MAX_WORDS` of them, where they lie, and the one pass that there
+    /// is. The cells come back where the words are no such number.
+    pub fn of_cells(mut cells: Vec<u64, A>) -> Result<(Words<A>, Pass), Vec<u64, A>>
+        requires clock { slice_index cells.items 0 ≡ 0 }
         ensures own { IfOk result (λ r. Owns r.0 r.1) }
-        ensures size { IfOk result (λ r. cells_of r.0 ≡ length cells.now) }
+        ensures size { IfOk result (λ r. cells_of r.0 ≡ length cells.items) }
         ensures first { IfOk result (λ r. view_of r.1 ≡ opening (view_of r.1).base) }
-        ensures words { IfOk result (λ r. 0 ∷ (view_of r.1).base ≡ cells.now) }
-        ensures length { IfErr result (λ f. f ≡ Length → IsWrongCount (length cells.now)) }
-        ensures wrong { IfErr result (λ f. IsWrongCount (length cells.now) → f ≡ Length) }
-        ensures right { IfOk result (λ _. ¬ IsWrongCount (length cells.now)) }
+        ensures words { IfOk result (λ r. 0 ∷ (view_of r.1).base ≡ cells.items) }
+        ensures place { IfOk result (λ r. place_of r.0 ≡ cells.ptr) }
+        ensures back { IfErr result (λ back. back.items ≡ cells.items) }
+        ensures wrong { IfErr result (λ _. IsWrongCount (length cells.items)) }
+        ensures right { IfOk result (λ _. ¬ IsWrongCount (length cells.items)) }
     {
-        if cells.len() < 2 || cells.len() - 1 > MAX_WORDS {
-            return Err(WordsFault::Length);
+        let count = cells.len();
+        if count < 2 || count - 1 > MAX_WORDS {
+            return Err(cells);
         }
-        let initial = InitialWords::of(cells);
-        let Ok((table, seat)) = Table::of_words(alloc, cells, &initial) else {
-            return Err(WordsFault::Memory);
-        };
+        let ptr = cells.as_mut_ptr();
+        let (row, hollow) = detach(cells);
+        let (shared, seat) = deal(ptr, row);
         let pass = Pass {
             seat,
             left: 127,
             busy: false,
             high: 0,
         };
-        let size = 8 * (cells.len() - 1);
-        Ok((Words { table, size }, pass))
+        let size = 8 * (count - 1);
+        let words = Words {
+            shared,
+            hollow,
+            size,
+        };
+        Ok((words, pass))
     }
 
     /// The size of the memory, in bytes.
@@ -125,18 +129,14 @@ impl<A: Allocator> Words<A> {
     {
         match step {
             Step::Load(cell) => {
-                let value = self
-                    .table
-                    .shared
-                    .load::<Loads>(&mut pass.seat, cell as usize);
+                let value = self.shared.load::<Loads>(&mut pass.seat, cell as usize);
                 if cell == 0 {
                     pass.high = value;
                 }
                 value
             }
             Step::Store(cell, new) => {
-                self.table
-                    .shared
+                self.shared
                     .store::<Stores>(&mut pass.seat, cell as usize, new);
                 if cell == 0 {
                     pass.busy = false;
@@ -146,7 +146,6 @@ impl<A: Allocator> Words<A> {
             }
             Step::Cas(cell, old, new) => {
                 let found = self
-                    .table
                     .shared
                     .compare_exchange::<Exchanges>(&mut pass.seat, cell as usize, old, new);
                 pass.high = found;
@@ -191,8 +190,7 @@ impl<A: Allocator> Words<A> {
         ensures turn { StepTells (view_of pass.old) (Step.Store cell new) 0 (view_of pass.new) }
         ensures moves { Moves (view_of pass.old) (Step.Store cell new) 0 (view_of pass.new) }
     {
-        self.table
-            .shared
+        self.shared
             .fetch_xor::<Changes>(&mut pass.seat, cell as usize, found ^ new);
     }
 
@@ -205,7 +203,7 @@ impl<A: Allocator> Words<A> {
         ensures first { view_of pass.new ≡ cut_left (view_of pass.old) }
         ensures second { view_of result ≡ cut_right (view_of pass.old) }
     {
-        let seat = self.table.shared.split_seat::<Cut>(&mut pass.seat);
+        let seat = self.shared.split_seat::<Cut>(&mut pass.seat);
         pass.left -= 1;
         Pass {
             seat,
@@ -228,9 +226,9 @@ impl<A: Allocator> Words<A> {
             busy: _,
             high,
         } = other;
-        self.table.shared.join_seat::<Both>(&mut pass.seat, seat);
+        self.shared.join_seat::<Both>(&mut pass.seat, seat);
         // a join tells nothing itself: this load tells how the two views lay to each other
-        self.table.shared.load::<Settles>(&mut pass.seat, 0);
+        self.shared.load::<Settles>(&mut pass.seat, 0);
         pass.left += left + 1;
         pass.high = pass.high.max(high);
     }
@@ -256,12 +254,35 @@ impl<A: Allocator> Words<A> {
     pub fn close_in_place(self, pass: Pass) -> ClosedWords<A>
         requires own { Owns self pass }
         ensures count { length (words_in result) + 1 ≡ cells_of self }
+        ensures place { place_in result ≡ place_of self }
         ensures held { (view_of pass).holds ≡ true → EndsInHold (view_of pass) (clock_in result) (words_in result) }
         ensures whole { (view_of pass).share ≡ 128 → (view_of pass).holds ≡ false → Ends (view_of pass) (clock_in result) (words_in result) }
     {
-        let Words { table, size: _ } = self;
+        let Words {
+            shared,
+            hollow,
+            size: _,
+        } = self;
+        let Pass {
+            mut seat,
+            left: _,
+            busy: _,
+            high: _,
+        } = pass;
+        let row = gather_with(shared, &mut seat);
         ClosedWords {
-            cells: table.close_with(pass.seat),
+            cells: attach(row, hollow),
         }
+    }
+}
+
+impl<A: Allocator> Drop for Words<A> {
+    fn drop(self) {
+        let Words {
+            shared,
+            hollow,
+            size: _,
+        } = self;
+        drop(attach(gather(shared), hollow));
     }
 }

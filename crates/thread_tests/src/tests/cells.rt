@@ -7,7 +7,7 @@ use crate::tests::helpers::{BEGIN, IN};
 use itm_runtime::Thread;
 use itm_types::{Limits, MAX_COMMITS, USUAL_DEPTH};
 use norec_core::Answer;
-use shared_words::{Pass, Words, WordsFault};
+use shared_words::{Pass, Words};
 use std::alloc::{Allocator, Global};
 use std::process::Abort;
 use std::test::Fail;
@@ -43,24 +43,36 @@ fn add<A: Allocator>(rt: &impl Abort, alloc: Global, words: &Words<A>, pass: Pas
     pass
 }
 
+/// A vector of these cells in a block of the allocator.
+fn laid<A: Allocator>(rt: &impl Abort, alloc: A, cells: &[u64]) -> Vec<u64, A>
+    ensures { result.items ≡ cells.now }
+{
+    let mut row = Vec::new(alloc);
+    row.extend_from_slice(cells).expect(rt, "memory");
+    row
+}
+
 #[test]
-fn words_come_back_in_their_block(rt: HostRuntime) -> Result<(), Fail> {
+fn words_come_back_where_they_were(rt: HostRuntime) -> Result<(), Fail> {
     let alloc = rt.alloc();
-    let (words, pass) = Words::of_cells(&alloc, &[0, 7, 9])?;
+    let Ok((words, pass)) = Words::of_cells(laid(&rt, &alloc, &[0, 7, 9])) else {
+        panic!(rt; "words of two words")
+    };
     let pass = add(&rt, alloc, &words, pass);
     let closed = words.close_in_place(pass);
     assert_eq!(rt; closed.clock(), 2);
     assert_eq!(rt; closed.count(), 2);
     assert!(rt; closed.word(0) == 7 && closed.word(1) == 11);
+    assert_eq!(rt; closed.into_cells().as_slice(), &[2, 7, 11]);
     Ok(())
 }
 
 #[test]
 fn a_clock_alone_has_no_words(rt: HostRuntime) -> Result<(), Fail> {
     for cells in [&[0u64][..0], &[0]] {
-        match Words::of_cells(rt.alloc(), cells) {
+        match Words::of_cells(laid(&rt, rt.alloc(), cells)) {
             Ok(_) => panic!(rt; "words of no word"),
-            Err(fault) => assert_eq!(rt; fault, WordsFault::Length),
+            Err(back) => assert_eq!(rt; back.as_slice(), cells),
         }
     }
     Ok(())

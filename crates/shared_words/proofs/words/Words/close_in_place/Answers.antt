@@ -1,5 +1,4 @@
-use Rattle.std.proofs.Common.{List, ℕ, drop, subst, arith}
-use Rattle.std.specs.Slots.{slots_items, slots_counts}
+use Rattle.std.proofs.Common.{◌≡◌, List, ℕ, drop, length, subst, arith, sym, ◌∙◌, ap}
 use Rattle.shared_words.specs.declared.view.View.{View}
 use Rattle.shared_words.specs.Good.{Good}
 use Rattle.shared_words.specs.Passes.{view_of}
@@ -9,19 +8,21 @@ use Rattle.shared_words.proofs.words.Words.close_in_place.Goals as goal
 
 pub returns-clause-held : goal.returns-clause-held
 returns-clause-held g c = λ holds.
-    let final = c.close_with.ensures.values.2 in
+    let final = c.gather_with-row.ensures.values.1 in
     let s = final.0 in
     let v : View = view_of c.args.pass in
-    let cells : List ℕ = slots_items c.close_with.result.words in
-    let good : Good cells s.views = subst (λ (l : List ℕ). Good l s.views) final.2 final.1.0 in
-    let e = held_of cells s.views good _ v final.1.1 holds _ (drop 1 cells) (clock_with_words cells (let n = slots_counts c.close_with.result.words in let m = c.close_with.ensures.counts.0 in omega (arith, c.args.self.clocked))) in
+    let cells : List ℕ = c.attach.result.items in
+    let same : c.gather_with-row.result.items ≡ cells = sym c.attach.ensures.0 in
+    let good : Good cells s.views = subst (λ (l : List ℕ). Good l s.views) (final.2 ∙ same) final.1.0 in
+    let e = held_of cells s.views good _ v final.1.1 holds _ (drop 1 cells) (clock_with_words cells (let n = ap length same in let m = c.gather_with-row.ensures.place.1 in omega (arith, c.args.self.clocked))) in
     record { clock_is = e.0; high = e.2; words_are = e.1 }
 
 pub returns-clause-whole : goal.returns-clause-whole
 returns-clause-whole g c = λ all idle.
-    let final = c.close_with.ensures.values.2 in
+    let final = c.gather_with-row.ensures.values.1 in
     let s = final.0 in
     let v : View = view_of c.args.pass in
-    let cells : List ℕ = slots_items c.close_with.result.words in
-    let good : Good cells s.views = subst (λ (l : List ℕ). Good l s.views) final.2 final.1.0 in
-    ends_of cells s.views good _ v final.1.1 all idle _ (drop 1 cells) (clock_with_words cells (let n = slots_counts c.close_with.result.words in let m = c.close_with.ensures.counts.0 in omega (arith, c.args.self.clocked)))
+    let cells : List ℕ = c.attach.result.items in
+    let same : c.gather_with-row.result.items ≡ cells = sym c.attach.ensures.0 in
+    let good : Good cells s.views = subst (λ (l : List ℕ). Good l s.views) (final.2 ∙ same) final.1.0 in
+    ends_of cells s.views good _ v final.1.1 all idle _ (drop 1 cells) (clock_with_words cells (let n = ap length same in let m = c.gather_with-row.ensures.place.1 in omega (arith, c.args.self.clocked)))
