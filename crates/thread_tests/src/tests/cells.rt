@@ -63,7 +63,9 @@ fn words_come_back_where_they_were(rt: HostRuntime) -> Result<(), Fail> {
     assert_eq!(rt; closed.clock(), 2);
     assert_eq!(rt; closed.count(), 2);
     assert!(rt; closed.word(0) == 7 && closed.word(1) == 11);
-    assert_eq!(rt; closed.into_cells().as_slice(), &[2, 7, 11]);
+    let cells = closed.into_cells();
+    let left: [u64; 3] = [2, 7, 11];
+    assert_eq!(rt; cells.as_slice(), left.as_slice());
     Ok(())
 }
 
