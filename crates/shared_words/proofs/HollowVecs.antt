@@ -1,12 +1,12 @@
 -- A vector is its cells and the way back. Assumes `Logic`.
-use Rattle.std.proofs.Common.{◌≡◌, ℕ, zero, suc, ◌+◌, ◌*◌, ◌^◌, ◌<◌, List, [], ◌∷◌, length, true, refl, sym, arith, Vec}
+use Rattle.std.proofs.Common.{◌≡◌, ℕ, ◌+◌, ◌*◌, ◌^◌, ◌<◌, List, [], ◌∷◌, length, true, refl, sym, arith, Vec}
 use Rattle.std.proofs.lemmas.Bool.{ne_eqb, not_from_false}
 use Rattle.std.proofs.lemmas.List.{with_items_is}
 use seplogic.Ra.Ura.{Ura}
 use mir.Val.{Val}
 use base.Fraction.{full_share}
 use base.Logic.{ent, sep, wand, never, id⊢}
-use base.Fml.{ftrue, fsep, feq, fall, fwand, flt}
+use base.Fml.{ftrue, fsep, feq, fall, fwand}
 use base.Shift.{Keyless}
 use types.Logic.{Logic, sem}
 use types.Kit.{‵, ◌$◌, ◌∵◌, !, qed, by, move, drop, frame, each, assume, show, use1, fsplit, fjoin, fpack, feq_l, feq_i, flt_l, flt_i, rewrite, done}
@@ -19,7 +19,7 @@ use denote.Index.{row, whole_in, whole_out}
 use denote.Memory.{mem, part_at}
 use denote.Steps.{nothing}
 use denote.Param.Send.{IsSend, part_keyless, sendable, Frees, struct_send}
-use denote.RawPtr.{Ptr, block_ptr, block_of, count_of, InBlock, lies_at, in_block, in_a_block}
+use denote.RawPtr.{Ptr, block_ptr, block_of, count_of, lies_at, in_block, in_a_block}
 use denote.Struct.Declared as declared
 use Rattle.std.specs.declared.alloc.Allocator.{Ghosts}
 use Rattle.std.specs.Allocator.{block_with_items}

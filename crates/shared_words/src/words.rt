@@ -65,7 +65,6 @@ impl Words {
 
 impl<A: Allocator> Words<A> {
     ghost use Rattle.shared_words.specs.Passes.{IsWrongCount, Owns, view_of, cells_of, place_of};
-    ghost use Rattle.shared_words.specs.declared.fault.WordsFault.TheVariants.{Length};
     ghost use Rattle.shared_words.specs.Views.{opening, cut_left, cut_right};
     ghost use Rattle.shared_words.specs.Good.{Ends, EndsHeld, EndsInHold, EndsWith};
     ghost use Rattle.shared_words.specs.ClosedWords.{clock_in, words_in, place_in};
@@ -73,7 +72,7 @@ impl<A: Allocator> Words<A> {
     ghost use Rattle.shared_words.specs.Steps.{Lawful, StepTells, WasFound, Joined, cell_of};
 
     /// The words that follow the clock in these cells, 1 to `MAX_WORDS` of them, where they lie, and the one pass that there
-    /// is. The cells come back where the words are no such number.
+    /// is. The cells come back as they are where the words are no such number.
     pub fn of_cells(mut cells: Vec<u64, A>) -> Result<(Words<A>, Pass), Vec<u64, A>>
         requires clock { slice_index cells.items 0 ≡ 0 }
         ensures own { IfOk result (λ r. Owns r.0 r.1) }
@@ -81,7 +80,7 @@ impl<A: Allocator> Words<A> {
         ensures first { IfOk result (λ r. view_of r.1 ≡ opening (view_of r.1).base) }
         ensures words { IfOk result (λ r. 0 ∷ (view_of r.1).base ≡ cells.items) }
         ensures place { IfOk result (λ r. place_of r.0 ≡ cells.ptr) }
-        ensures back { IfErr result (λ back. back.items ≡ cells.items) }
+        ensures back { IfErr result (λ back. back ≡ cells) }
         ensures wrong { IfErr result (λ _. IsWrongCount (length cells.items)) }
         ensures right { IfOk result (λ _. ¬ IsWrongCount (length cells.items)) }
     {

@@ -1,5 +1,5 @@
 -- The cells go under the table's invariant where they lie, and the first seat is made.
-use Rattle.atomic_table.proofs.Names.{◌≡◌, ℕ, ◌*◌, ◌^◌, ◌<◌, List, [], ◌∷◌, ◌++◌, length, refl, lit<, Val, vstruct, SProp, emp, ftrue, fsep, ‵, raw, ◌⊛◌, some, given, later, ◌$◌, ◌∵◌, !, qed, by, move, keep, drop, split, join, fsplit, fjoin, fjoin3, fpack, pick, learn, use0, use1, use2, await, rewrite, feq_i, stop, of_opd, load, addr, no_more, and_then, first, blocks, exec, returns, enter, alloc_all, pass_all, free_all, look_at, get, through, sets, sets_last, agg, tables, yes, RattleType, owns, Valss, types_at, plain, Ptr, ptr_val, nothing, alive, Stays, stay_dropped, walk_of, Goes-dropped, fact, fact_i, heard, u64, RawPtr, of_list, InBlock, mem, env, at_ret}
+use Rattle.atomic_table.proofs.Names.{◌≡◌, ℕ, ◌*◌, ◌^◌, ◌<◌, List, [], ◌∷◌, ◌++◌, length, refl, lit<, Val, vstruct, SProp, emp, ftrue, fsep, ‵, raw, ◌⊛◌, some, given, later, ◌$◌, ◌∵◌, !, qed, by, move, keep, drop, split, join, fsplit, fjoin, fjoin3, fpack, pick, learn, use0, use1, use2, await, rewrite, feq_i, stop, of_opd, load, addr, no_more, and_then, first, blocks, exec, returns, enter, alloc_all, pass_all, free_all, look_at, get, through, sets, sets_last, agg, tables, yes, owns, Valss, types_at, plain, Ptr, ptr_val, nothing, alive, Stays, stay_dropped, walk_of, Goes-dropped, fact, fact_i, heard, u64, RawPtr, of_list, InBlock, mem, env, at_ret}
 use types.Run.{from, look}
 use base.Fml.{fat}
 use base.Fraction.{full_share}

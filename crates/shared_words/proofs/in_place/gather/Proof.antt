@@ -1,5 +1,5 @@
 -- The table's lifetime ends, and the words that it lent come back where they are.
-use Rattle.atomic_table.proofs.Names.{◌≡◌, ℕ, List, [], ◌∷◌, length, refl, lit<, Val, SProp, emp, Fml, ftrue, ‵, raw, ◌⊛◌, some, given, later, ◌$◌, ◌∵◌, !, qed, by, move, keep, drop, split, split3, fsplit, fjoin, pick, learn, use0, use1, await, stop, of_opd, lit, addr, no_more, and_then, first, blocks, exec, returns, enter, alloc_all, pass_all, free_all, look_at, get, through, sets, agg, tables, yes, owns, types_at, plain, Ptr, block_ptr, ptr_val, nothing, alive, Stays, stay_dropped, walk_of, Goes-dropped, fact, fact_i, u64, InBlock, env, at_ret}
+use Rattle.atomic_table.proofs.Names.{◌≡◌, ℕ, List, [], ◌∷◌, length, refl, lit<, Val, SProp, emp, Fml, ftrue, ‵, raw, ◌⊛◌, some, given, later, ◌$◌, ◌∵◌, !, qed, by, move, keep, drop, split, split3, fsplit, fjoin, pick, learn, use0, use1, await, stop, of_opd, lit, addr, no_more, and_then, first, blocks, exec, returns, enter, alloc_all, pass_all, free_all, look_at, get, through, sets, agg, tables, yes, owns, types_at, plain, Ptr, block_ptr, nothing, alive, Stays, stay_dropped, walk_of, Goes-dropped, fact, fact_i, u64, InBlock, env, at_ret}
 use types.Run.{from, store, assigns_last}
 use base.Fml.{fat}
 use base.Fraction.{full_share}

@@ -1,5 +1,5 @@
 -- The table's lifetime ends, and the words that it lent come back where they are, in a state that has the seat's view.
-use Rattle.atomic_table.proofs.Names.{◌≡◌, ℕ, List, [], ◌∷◌, length, sym, refl, lit<, named, Val, vptr, SProp, emp, Fml, ftrue, flft, ‵, raw, ◌⊛◌, some, given, later, ◌$◌, ◌∵◌, !, qed, by, move, keep, drop, split, split3, join, fsplit, fsplit3, fjoin, fjoin3, pick, learn, use0, use1, use2, await, rewrite, feq_i, stop, of_opd, lit, addr, no_more, and_then, first, blocks, exec, returns, enter, alloc_all, pass_all, free_all, look_at, get, through, sets, agg, tables, yes, owns, types_at, plain, Ptr, block_ptr, ptr_val, nothing, Stays, stay_dropped, walk_of, Goes-dropped, fact, fact_i, u64, mut_vals, mut_Tells, opens, closes, stay_ref, Goes-ref, InBlock, env, at_ret}
+use Rattle.atomic_table.proofs.Names.{◌≡◌, ℕ, List, [], ◌∷◌, length, sym, refl, lit<, named, Val, vptr, SProp, emp, Fml, ftrue, flft, ‵, raw, ◌⊛◌, some, given, later, ◌$◌, ◌∵◌, !, qed, by, move, keep, drop, split, split3, join, fsplit, fsplit3, fjoin, fjoin3, pick, learn, use0, use1, use2, await, rewrite, feq_i, stop, of_opd, lit, addr, no_more, and_then, first, blocks, exec, returns, enter, alloc_all, pass_all, free_all, look_at, get, through, sets, agg, tables, yes, owns, types_at, plain, Ptr, block_ptr, nothing, Stays, stay_dropped, walk_of, Goes-dropped, fact, fact_i, u64, mut_vals, mut_Tells, opens, closes, stay_ref, Goes-ref, InBlock, env, at_ret}
 use types.Run.{from, store, assigns_last}
 use base.Fml.{fat}
 use base.Fraction.{full_share}
