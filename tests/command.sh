@@ -334,6 +334,7 @@ check 'a history in which an update is lost' 3
 . "$root/tests/threads.sh"
 . "$root/tests/streams.sh"
 . "$root/tests/launcher.sh"
+. "$root/tests/large_words.sh"
 
 # count NAME WORD..: runs these words, whose last line counts what passed and what failed
 count() {
