@@ -60,6 +60,10 @@ pub record CallStarves (old : Data) (call : Call) (new : Data) : Type 0 where
   pub same : core new Idle ≡ core old Idle
   pub starves : MayStarve (core old Idle) call
 
--- a call's whole answer
+-- a call's whole answer, from which `turn` takes what comes of the call
+abbrev pub ComesTo : {A E : Type 0} → (A → Turn) → Data → Call → Bool → Result A E → Data → Type 0
+ComesTo turn old call again result new = MatchResult result (λ a. CallTurns old call again (turn a) new) (λ e. CallStarves old call new)
+
+-- the same where it is told as it is
 abbrev pub CallComes : {E : Type 0} → Data → Call → Bool → Result Turn E → Data → Type 0
 CallComes old call again result new = MatchResult result (λ turn. CallTurns old call again turn new) (λ e. CallStarves old call new)

@@ -25,9 +25,9 @@ pub fn begin_word(state: &mut Data, hint: ReadHint, width: Width, at: u64) -> Op
     ensures tries { OnSome result (state.new.tries ≡ 0) }
 {
     let word = new_word(state, width, at)?;
-    let Ok(()) = state.log.reserve(1) else {
+    if !state.log.has_room() {
         return None;
-    };
+    }
     state.gathered = Value::new();
     state.written = state.frames.len();
     start(state);

@@ -1,14 +1,17 @@
 //! Writes: a value goes into the write set, piece by piece upwards, and no step is taken.
 
 ghost use Rattle.norec_core.specs.Phases as phases;
-ghost use Rattle.std.specs.Prelude.{◌≡◌, ◌<◌, ◌≤◌, ◌+◌, ◌∷◌, [], false, OnOk, OnErr, All, length, map};
+ghost use Rattle.std.specs.Prelude.{◌≡◌, ◌<◌, ◌≤◌, ◌+◌, ◌∷◌, [], false, OnOk, OnErr, All, length, map, None};
 ghost use Rattle.word_pieces.specs.Pieces.{IsPiece, pieces_of};
+ghost use Rattle.itm_types.specs.Access.{size_of};
 ghost use Rattle.itm_types.specs.Slices.{AreBytes};
 ghost use Rattle.write_set.specs.Marks.{KeepsRoom, MayPut};
 ghost use Rattle.nest_frames.specs.Nest.{rows_of};
 ghost use Rattle.norec_core.specs.Rows.{AreRoomy, HaveRows, reserved_all, put_all};
 ghost use Rattle.norec_revocable.specs.InPhases.{IsSound};
-ghost use Rattle.norec_revocable.specs.Moves.{CallComes};
+ghost use Rattle.norec_core.specs.Accesses.{access_refusal};
+ghost use Rattle.norec_data.specs.View.{in_block};
+ghost use Rattle.norec_revocable.specs.Moves.{CallComes, ComesTo};
 
 use crate::access::refuse;
 use itm_types::{Call, Datum, MAX_BYTES, WriteHint};
@@ -26,9 +29,25 @@ pub fn write(state: &mut Data, hint: WriteHint, at: u64, value: &Datum) -> Resul
     if let Some(why) = access_refusal(state, at, u64::from(value.width.size())) {
         return Ok(refuse(state, why));
     }
+    write_served(state, hint, at, value)?;
+    Ok(Turn::End(CallEnd::Done))
+}
+
+/// The same, where the write is served.
+#[inline(always)]
+pub fn write_served(
+    state: &mut Data,
+    hint: WriteHint,
+    at: u64,
+    value: &Datum,
+) -> Result<(), AllocError>
+    requires sound { IsSound state.old phases.Idle }
+    requires served { access_refusal (in_block state.old) state.old.words at (size_of value.now.width) ≡ None }
+    ensures { ComesTo (λ done. Turn.End CallEnd.Done) state.old (Call.Write hint at value.now) false result state.new }
+{
     put_value(&mut state.frames, at, value.width.size(), &value.bytes)?;
     state.start_call();
-    Ok(Turn::End(CallEnd::Done))
+    Ok(())
 }
 
 /// Puts a value of so many bytes in the write set. Where memory is refused, no word is given a row.

@@ -1,6 +1,6 @@
 //! The value log.
 
-ghost use Rattle.std.specs.Prelude.{◌≡◌, ◌+◌, ◌-◌, ◌^◌, ◌<◌, ◌≤◌, ℕ, List, [], ◌∷◌, ◌++◌, IfSome, IsOk, None, OnOk, OnErr, Some, length, slice_get, take};
+ghost use Rattle.std.specs.Prelude.{◌≡◌, ◌+◌, ◌-◌, ◌^◌, ◌<◌, ◌≤◌, ℕ, List, [], ◌∷◌, ◌++◌, IfSome, IsOk, None, OnOk, OnErr, Some, length, slice_get, take, IsTrue, ◌↔◌};
 ghost use Rattle.itm_types.specs.LogRows.{value_of, AreSingle};
 ghost use Rattle.itm_types.specs.Memory.{Agrees};
 
@@ -64,6 +64,7 @@ impl ValueLog {
     }
 
     /// The value of the word's row, if it has one.
+    #[inline(always)]
     pub fn find(&self, word: u32) -> Option<u64>
         ensures value { result ≡ value_of word self.now.rows }
 
@@ -75,6 +76,14 @@ impl ValueLog {
         } else {
             scan(self.rows.as_slice(), word)
         }
+    }
+
+    /// Whether there is room for one more row.
+    #[inline(always)]
+    pub fn has_room(&self) -> bool
+        ensures { IsTrue result ↔ (0 < self.now.room) }
+    {
+        self.rows.len() < self.rows.capacity()
     }
 
     /// Makes room for so many more rows.
@@ -125,6 +134,7 @@ impl ValueLog {
     }
 
     /// Keeps the first rows, so many of them, and all room. Takes no memory.
+    #[inline(always)]
     pub fn cut(&mut self, len: usize)
         ensures rows { self.new.rows ≡ take len self.old.rows }
         ensures room { self.new.room + length self.new.rows ≡ self.old.room + length self.old.rows }
@@ -136,6 +146,7 @@ impl ValueLog {
     }
 
     /// Forgets all that was read, and keeps its room. Takes no memory.
+    #[inline(always)]
     pub fn clear(&mut self)
         ensures rows { self.new.rows ≡ [] }
         ensures room { self.new.room ≡ self.old.room + length self.old.rows }

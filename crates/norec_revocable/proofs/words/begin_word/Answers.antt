@@ -1,4 +1,4 @@
-use Rattle.std.proofs.Common.{◌≡◌, length, sym, subst, ◌∙◌, rules, arith}
+use Rattle.std.proofs.Common.{◌≡◌, length, refl, sym, subst, ◌∙◌, rules, arith}
 use Rattle.std.proofs.lemmas.Grind.{common_steps}
 use Rattle.value_log.specs.Log.{Log}
 use Rattle.norec_core.specs.Order.{value_reading}
@@ -16,11 +16,11 @@ returns-clause-called c = record {
   sound =
       (let s = c.args.state.now in
       let g = c.new-state.result in
-      let log : Log = c.reserve.new.self in
+      let log : Log = s.log in
       let is : c.start.new.state ≡ ready s g log = c.start.ensures ∙ (λ i. record s { log = log; gathered = g; written = c.len-state.ensures.len i; spent = 0; entry = length log.rows; tries = 0 }) in
       subst (λ (r : Reading). IsSoundTurn (Wait waits.Load) (record c.start.new.state { reading = r })) (sym c.set_value.ensures)
       (subst (λ (d : Data). IsSoundTurn (Wait waits.Load) (record d { reading = value_reading c.args.hint c.args.width c.args.at })) (sym is)
-      (starts s c.args.hint c.args.width c.args.at c.in_ok-word.word c.in_ok-word.ensures c.requires.sound g log c.reserve.ensures.rows c.new-state.ensures c.in-Ok.ensures.ok)));
+      (starts s c.args.hint c.args.width c.args.at c.in_ok-word.word c.in_ok-word.ensures c.requires.sound g log refl c.new-state.ensures (let room = c.has_room.ensures.0 c.if-not-has_room.false in omega (arith, room)))));
   proceeds = grind (arith, common_steps);
   stays = search rules;
   order = search rules;
