@@ -8,7 +8,8 @@
 //! driver then takes the slow path: it hands the same to the general function, in a function of its own that does the whole
 //! rest of the call. What came back onto the fast path would have to be told apart there.
 
-ghost use Rattle.std.specs.Prelude.{◌≡◌, ◌+◌, ℕ, IfNone, IfSome, IsSome, OnSome, MatchOption, None, true, false};
+ghost use Rattle.std.specs.Prelude.{◌≡◌, ◌+◌, ℕ, IfNone, IfSome, IsSome, IsTrue, OnSome, MatchOption, None, length, true, false, ◌<◌, ◌↔◌};
+ghost use Rattle.std.specs.Int.{w64, to_le_bytes};
 ghost use Rattle.norec_core.specs.Proceeds.{Fits};
 ghost use Rattle.norec_core.specs.Moves.{IsCalled, IsResumed};
 ghost use Rattle.norec_core.specs.declared.answer.Next.TheVariants.{Step as Asks, Answer as Answers};
@@ -18,10 +19,12 @@ ghost use Rattle.norec_engine.specs.WholeReads.{LoadsWord, ConfirmsWord};
 
 use crate::engine::Engine;
 use crate::turns::{next_step, take};
-use itm_types::{Call, Datum, MAX_WORDS, Props, ReadHint, Step, Width, WriteHint};
+use itm_types::{Call, Datum, MAX_WORDS, Props, ReadHint, Reply, Step, Width, WriteHint};
 use norec_core::{Answer, Taking};
-use norec_data::{CallEnd, Pending, Turn};
-use norec_revocable::{begin, begin_word, commit, confirmed_word, loaded, resumed, write};
+use norec_data::{CallEnd, Pending, Turn, access_refusal};
+use norec_revocable::{
+    begin, begin_word, commit, confirmed_word, loaded, resumed, write, write_served,
+};
 
 /// A step of the fast path, and what it leads to there.
 #[derive(Clone, Copy)]
@@ -117,6 +120,58 @@ impl Engine {
         let end = CallEnd::Word(confirmed_word(&mut self.state, word, value, clock));
         self.pending = Pending::Idle;
         end.tell(&mut self.state, answer);
+    }
+
+    /// The same, where the word is asked for as a number: the answer has its bytes.
+    #[inline(always)]
+    pub fn confirm_number(&mut self, word: u32, clock: u64) -> u64
+        requires confirms { ConfirmsWord self.old word }
+        requires same { clock ≡ self.old.snapshot }
+        ensures { IsResumed self.old clock (Answers (Answer.Reply (Reply.Bytes (record { items = to_le_bytes w64 result })))) self.new }
+    {
+        let Pending::Confirm(value) = self.pending else {
+            unreachable!();
+        };
+        let number = confirmed_word(&mut self.state, word, value, clock);
+        self.pending = Pending::Idle;
+        number
+    }
+
+    /// Whether a word is written, between two calls.
+    #[inline(always)]
+    pub fn has_writes(&self) -> bool
+        requires idle { self.now.waits ≡ None }
+        ensures { IsTrue result ↔ (0 < length self.now.writes) }
+    {
+        self.state.frames.len() > 0
+    }
+
+    /// `call_into` of a write of one whole word, where there is memory for it: it is done.
+    #[inline(always)]
+    pub fn write_word(&mut self, hint: WriteHint, at: u64, value: &Datum) -> bool
+        requires idle { self.old.waits ≡ None }
+        ensures none { result ≡ false → self.new ≡ self.old }
+        ensures called { result ≡ true → IsCalled self.old (Call.Write hint at value.now) false (Answers (Answer.Reply Reply.Done)) self.new }
+    {
+        let size = u64::from(value.width.size());
+        if self.irrevocable || size != 8 || at % 8 != 0 {
+            return false;
+        }
+        if access_refusal(&self.state, at, size).is_some() {
+            return false;
+        }
+        let Ok(()) = write_served(&mut self.state, hint, at, value) else {
+            return false;
+        };
+        let mut answer = Answer::Reply(Reply::Done);
+        let _none = take(
+            &mut self.state,
+            &mut self.pending,
+            &mut self.irrevocable,
+            Turn::End(CallEnd::Done),
+            &mut answer,
+        );
+        true
     }
 
     /// `call_into` of a write in a revocable transaction, where there is memory for it.
