@@ -1,5 +1,5 @@
 -- A call of a thread as the steps of its engine.
-use Rattle.std.specs.Prelude.{◌≡◌, ℕ, ◌<◌, List, [], ◌∷◌, ◌++◌}
+use Rattle.std.specs.Prelude.{◌≡◌, ℕ, ◌<◌, List, [], ◌∷◌, ◌++◌, Option, Some}
 use Rattle.itm_types.specs.declared.step.Step.{Step}
 use Rattle.norec_core.specs.declared.answer.Answer.{Answer}
 use Rattle.norec_core.specs.declared.answer.Next.{Next}
@@ -53,3 +53,7 @@ pub record Finishes {A : Type 0} (words : Words A) (v : View) (e : Core) (next :
   pub own : Owns words pass
   pub steps : List (Step × ℕ)
   pub leads : LeadsOn (cells_of words) v e next steps (view_of pass) new (Answers a)
+
+-- the same, up to an answer that is told so
+abbrev pub FinishesSo : {A : Type 0} → Words A → View → Core → Next → Option Answer → Pass → Core → Type 0
+FinishesSo words v e next told pass new = (a : Answer) × (told ≡ Some a) × Finishes words v e next a pass new

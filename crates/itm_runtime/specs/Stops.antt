@@ -1,5 +1,5 @@
 -- What a call is answered where a typed result tells of it.
-use Rattle.std.specs.Prelude.{◌≡◌, ℕ, List, length, Option, Result, None, Some, Ok, Err, refl}
+use Rattle.std.specs.Prelude.{◌≡◌, ℕ, Bool, true, false, List, length, Option, Result, None, Some, Ok, Err, refl}
 use Rattle.std.specs.Int.{w64, to_le_bytes}
 use Rattle.itm_types.specs.declared.access.Width.TheVariants.{U8}
 use Rattle.itm_types.specs.declared.datum.Datum.{Datum}
@@ -35,6 +35,16 @@ bytes_of_number n = to_le_bytes w64 n
 -- a number as what is written
 abbrev pub number : ℕ → Datum
 number n = record { width = U8; bytes = record { items = bytes_of_number n }; sized = refl }
+
+-- what a read came to that tells its number, else what stops the transaction beside it
+abbrev pub number_or : Option ℕ → Stop → Result ℕ Stop
+number_or (Some n) stop = Ok n
+number_or None stop = Err stop
+
+-- what a write came to that tells whether it is done, else what stops the transaction beside it
+abbrev pub done_or : Bool → Stop → Result (Unit {0}) Stop
+done_or true stop = Ok tt
+done_or false stop = Err stop
 
 -- the answer to a read that gave a number, or did not
 abbrev pub answer_to_read : Result ℕ Stop → Option Answer

@@ -86,7 +86,7 @@ pub(crate) fn finish_read<A: Allocator>(
 /// The same once another one has committed: the clock was loaded, and is not the snapshot.
 #[cold]
 #[inline(never)]
-fn finish_moved<A: Allocator>(
+pub(crate) fn finish_moved<A: Allocator>(
     words: &Words<A>,
     pass: &mut Pass,
     engine: &mut Engine,

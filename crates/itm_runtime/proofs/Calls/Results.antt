@@ -1,5 +1,5 @@
 -- A call of a thread, once its engine was called.
-use Rattle.std.proofs.Common.{◌≡◌, Bool, subst, sym}
+use Rattle.std.proofs.Common.{◌≡◌, [], Bool, refl, subst, sym}
 use Rattle.itm_types.specs.declared.call.Call.{Call}
 use Rattle.norec_core.specs.declared.answer.Answer.{Answer}
 use Rattle.norec_core.specs.declared.answer.Next.{Next}
@@ -21,6 +21,10 @@ use Rattle.itm_runtime.proofs.Steps.StepChains.{starts}
 -- what comes next is due
 pub due : (p : Pass) {e new : Core} {call : Call} {again : Bool} {next : Next} → Stands (view_of p) e → IsCalled e call again next new → (s : Start) × IsDue s (view_of p) new next
 due p {e} {new} {call} {again} {next} stands r = (record { view = view_of p; engine = e; call = call; again = again }, starts (view_of p) e new call again stands next r)
+
+-- nothing is left to do of a call that the engine answers at once
+pub at_once : {A : Type 0} {words : Words A} (p : Pass) (e : Core) (a : Answer) {old : Standing} → (let came_to : Standing = record { pass = p; engine = e } in came_to) ≡ old → Owns words old.pass → (new : Core) → Finishes words (view_of p) new (Answers a) a p new
+at_once {A} {words} p e a is own new = record { own = subst (λ (t : Standing). Owns words t.pass) (sym is) own; steps = []; leads = (refl, refl, refl) }
 
 module _ (p : Pass) {e new : Core} {call : Call} {again : Bool} {next : Next} (stands : Stands (view_of p) e) (r : IsCalled e call again next new)
     {A : Type 0} {words : Words A} {a : Answer} {pass : Pass} {engine : Core} (finish : Finishes words (view_of p) new next a pass engine)
