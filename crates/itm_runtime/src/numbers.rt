@@ -222,6 +222,25 @@ impl Thread {
         ensures { Tells words.now self.old (Call.Write WriteHint.W at (number value)) (answer_to_write (done_or result stop.new)) self.new }
     {
         let datum = datum_of(value);
+        if self.engine.write_next(WriteHint::W, at, &datum) {
+            return true;
+        }
+        self.write_afar(words, at, value, stop)
+    }
+
+    /// The same, where the word is looked for, or memory is taken. (Apart, as `read_beside_writes`.)
+    #[inline(never)]
+    fn write_afar<A: Allocator>(
+        &mut self,
+        words: &Words<A>,
+        at: u64,
+        value: u64,
+        stop: &mut Stop,
+    ) -> bool
+        requires own { Owns words.now self.old.pass }
+        ensures { Tells words.now self.old (Call.Write WriteHint.W at (number value)) (answer_to_write (done_or result stop.new)) self.new }
+    {
+        let datum = datum_of(value);
         if self.engine.write_word(WriteHint::W, at, &datum) {
             return true;
         }

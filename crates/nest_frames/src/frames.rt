@@ -1,6 +1,6 @@
 //! The open blocks.
 
-ghost use Rattle.std.specs.Prelude.{◌≡◌, ◌+◌, ◌<◌, ◌≤◌, ℕ, List, [], ◌∷◌, IfOk, IsOk, IsSome, OnOk, OnErr, None, Some, length, map, take, drop, option_map, slice_get};
+ghost use Rattle.std.specs.Prelude.{◌≡◌, ◌+◌, ◌<◌, ◌≤◌, ℕ, List, true, false, [], ◌∷◌, IfOk, IsOk, IsSome, OnOk, OnErr, None, Some, length, map, take, drop, option_map, slice_get};
 ghost use Rattle.itm_types.specs.KeptBytes.{also_kept, merged};
 ghost use Rattle.itm_types.specs.Memory.{AllFit};
 ghost use Rattle.word_pieces.specs.Masks.{merged_at};
@@ -324,6 +324,17 @@ impl Frames {
     {
         self.writes.write(word, mask, value)?;
         Ok(())
+    }
+
+    /// The same, where that is done with no memory and no look for the word: it has no row, and is the one that is looked for
+    /// next. Else nothing is done.
+    #[inline(always)]
+    pub fn write_next(&mut self, word: u32, mask: u64, value: u64) -> bool
+        requires { 0 < length self.old.blocks }
+        ensures none { result ≡ false → self.new ≡ self.old }
+        ensures written { result ≡ true → self.new ≡ record self.old { writes = write self.old.writes word mask value } }
+    {
+        self.writes.write_next(word, mask, value)
     }
 
     /// Takes the rows from a place on, which are of empty mask and newer than the innermost block, off the end. Takes

@@ -8,9 +8,12 @@
 //! driver then takes the slow path: it hands the same to the general function, in a function of its own that does the whole
 //! rest of the call. What came back onto the fast path would have to be told apart there.
 
-ghost use Rattle.std.specs.Prelude.{◌≡◌, ◌+◌, ℕ, IfNone, IfSome, IsSome, IsTrue, OnSome, MatchOption, None, length, true, false, ◌<◌, ◌↔◌};
+ghost use Rattle.std.specs.Prelude.{◌≡◌, ◌+◌, ℕ, IfNone, IfSome, IsSome, IsTrue, OnSome, MatchOption, None, length, true, false, ◌<◌, ◌≤◌, ◌↔◌};
 ghost use Rattle.std.specs.Int.{w64, to_le_bytes};
+ghost use Rattle.itm_types.specs.Access.{size_of};
+ghost use Rattle.norec_core.specs.Accesses.{access_refusal};
 ghost use Rattle.norec_core.specs.Proceeds.{Fits};
+ghost use Rattle.norec_data.specs.View.{in_block};
 ghost use Rattle.norec_core.specs.Moves.{IsCalled, IsResumed};
 ghost use Rattle.norec_core.specs.declared.answer.Next.TheVariants.{Step as Asks, Answer as Answers};
 ghost use Rattle.norec_engine.specs.NextSteps.{next_in};
@@ -21,9 +24,9 @@ use crate::engine::Engine;
 use crate::turns::{next_step, take};
 use itm_types::{Call, Datum, MAX_WORDS, Props, ReadHint, Reply, Step, Width, WriteHint};
 use norec_core::{Answer, Taking};
-use norec_data::{CallEnd, Pending, Turn, access_refusal};
+use norec_data::{CallEnd, Data, Pending, Turn, access_refusal};
 use norec_revocable::{
-    begin, begin_word, commit, confirmed_word, loaded, resumed, write, write_served,
+    begin, begin_word, commit, confirmed_word, loaded, resumed, write, write_next, write_served,
 };
 
 /// A step of the fast path, and what it leads to there.
@@ -39,6 +42,17 @@ pub enum FastStep {
     LastStore,
     /// The clock is freed: the transaction has committed.
     Free,
+}
+
+/// Whether a write is one of a whole word, in a revocable transaction, and is served.
+#[inline(always)]
+fn serves_word(state: &Data, irrevocable: bool, at: u64, value: &Datum) -> bool
+    requires { state.now.words ≤ MAX_WORDS }
+    ensures revocable { result ≡ true → irrevocable ≡ false }
+    ensures served { result ≡ true → access_refusal (in_block state.now) state.now.words at (size_of value.now.width) ≡ None }
+{
+    let size = u64::from(value.width.size());
+    !irrevocable && size == 8 && at % 8 == 0 && access_refusal(state, at, size).is_none()
 }
 
 impl Engine {
@@ -153,16 +167,35 @@ impl Engine {
         ensures none { result ≡ false → self.new ≡ self.old }
         ensures called { result ≡ true → IsCalled self.old (Call.Write hint at value.now) false (Answers (Answer.Reply Reply.Done)) self.new }
     {
-        let size = u64::from(value.width.size());
-        if self.irrevocable || size != 8 || at % 8 != 0 {
-            return false;
-        }
-        if access_refusal(&self.state, at, size).is_some() {
+        if !serves_word(&self.state, self.irrevocable, at, value) {
             return false;
         }
         let Ok(()) = write_served(&mut self.state, hint, at, value) else {
             return false;
         };
+        let mut answer = Answer::Reply(Reply::Done);
+        let _none = take(
+            &mut self.state,
+            &mut self.pending,
+            &mut self.irrevocable,
+            Turn::End(CallEnd::Done),
+            &mut answer,
+        );
+        true
+    }
+
+    /// The same, where that takes no memory and no look for the word: it is not written, and is the one that is looked for next.
+    #[inline(always)]
+    pub fn write_next(&mut self, hint: WriteHint, at: u64, value: &Datum) -> bool
+        requires idle { self.old.waits ≡ None }
+        ensures none { result ≡ false → self.new ≡ self.old }
+        ensures called { result ≡ true → IsCalled self.old (Call.Write hint at value.now) false (Answers (Answer.Reply Reply.Done)) self.new }
+    {
+        if !serves_word(&self.state, self.irrevocable, at, value)
+            || !write_next(&mut self.state, hint, at, value)
+        {
+            return false;
+        }
         let mut answer = Answer::Reply(Reply::Done);
         let _none = take(
             &mut self.state,

@@ -27,4 +27,4 @@ pub use mode::irrevocable_room;
 pub use read::{confirmed_word, loaded};
 pub use steps::step_of;
 pub use words::begin_word;
-pub use writes::{write, write_served};
+pub use writes::{write, write_next, write_served};

@@ -1,7 +1,7 @@
 //! Writes: a value goes into the write set, piece by piece upwards, and no step is taken.
 
 ghost use Rattle.norec_core.specs.Phases as phases;
-ghost use Rattle.std.specs.Prelude.{◌≡◌, ◌<◌, ◌≤◌, ◌+◌, ◌∷◌, [], false, OnOk, OnErr, All, length, map, None};
+ghost use Rattle.std.specs.Prelude.{◌≡◌, ◌<◌, ◌≤◌, ◌+◌, ◌∷◌, [], true, false, OnOk, OnErr, All, length, map, None};
 ghost use Rattle.word_pieces.specs.Pieces.{IsPiece, pieces_of};
 ghost use Rattle.itm_types.specs.Access.{size_of};
 ghost use Rattle.itm_types.specs.Slices.{AreBytes};
@@ -11,7 +11,7 @@ ghost use Rattle.norec_core.specs.Rows.{AreRoomy, HaveRows, reserved_all, put_al
 ghost use Rattle.norec_revocable.specs.InPhases.{IsSound};
 ghost use Rattle.norec_core.specs.Accesses.{access_refusal};
 ghost use Rattle.norec_data.specs.View.{in_block};
-ghost use Rattle.norec_revocable.specs.Moves.{CallComes, ComesTo};
+ghost use Rattle.norec_revocable.specs.Moves.{CallComes, CallTurns, ComesTo};
 
 use crate::access::refuse;
 use itm_types::{Call, Datum, MAX_BYTES, WriteHint};
@@ -48,6 +48,47 @@ pub fn write_served(
     put_value(&mut state.frames, at, value.width.size(), &value.bytes)?;
     state.start_call();
     Ok(())
+}
+
+/// The same, where that is done with no memory and no look for the word: the value lies in one, which is not written and is the
+/// one that is looked for next. Else nothing is done.
+#[inline(always)]
+pub fn write_next(state: &mut Data, hint: WriteHint, at: u64, value: &Datum) -> bool
+    requires sound { IsSound state.old phases.Idle }
+    requires served { access_refusal (in_block state.old) state.old.words at (size_of value.now.width) ≡ None }
+    ensures none { result ≡ false → state.new ≡ state.old }
+    ensures written { result ≡ true → CallTurns state.old (Call.Write hint at value.now) false (Turn.End CallEnd.Done) state.new }
+{
+    if !put_next(&mut state.frames, at, value.width.size(), &value.bytes) {
+        return false;
+    }
+    state.start_call();
+    true
+}
+
+/// Puts a value of so many bytes in the write set, where `write_next` does it.
+#[inline(always)]
+fn put_next(frames: &mut Frames, at: u64, size: u8, bytes: &[u8]) -> bool
+    requires open { 0 < length frames.old.blocks }
+    requires range { at + size ≤ MAX_BYTES }
+    requires small { size ≤ 32 }
+    requires bytes { size ≤ length bytes.now }
+    ensures none { result ≡ false → frames.new ≡ frames.old }
+    ensures rows { result ≡ true → frames.new.writes.rows
+        ≡ put_all (reserved_all frames.old.writes.rows (pieces_of at size)) (pieces_of at size) bytes.now }
+    ensures blocks { frames.new.blocks ≡ frames.old.blocks }
+    ensures size { frames.new.size ≡ frames.old.size }
+    ensures depth { frames.new.depth ≡ frames.old.depth }
+    ensures actions { frames.new.actions ≡ frames.old.actions }
+    ensures room { frames.new.room ≡ frames.old.room }
+    ensures bytes { AreBytes bytes.now }
+{
+    match piece_at(at, size, 0) {
+        Some(piece) if piece.count == size => {
+            frames.write_next(piece.word, piece.mask(), piece.scatter(bytes))
+        }
+        _ => false,
+    }
 }
 
 /// Puts a value of so many bytes in the write set. Where memory is refused, no word is given a row.

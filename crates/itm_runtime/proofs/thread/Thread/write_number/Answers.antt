@@ -17,21 +17,21 @@ use Rattle.itm_runtime.proofs.thread.Thread.write_number.Goals as goal
 abbrev standing : Pass → Core → Standing
 standing p e = record { pass = p; engine = e }
 
-pub returns-then-write_word : goal.returns-then-write_word
-returns-then-write_word g c =
+pub returns-then-write_next : goal.returns-then-write_next
+returns-then-write_next g c =
     let p = c.self.inside.pass in
-    let called = subst (λ (d : Datum). IsCalled c.self.inside.engine (Write W c.args.at d) false (Answers (Reply Done)) c.write_word.new.self) c.datum_of-datum.ensures (c.write_word.ensures.called c.if-write_word.true) in
-    answered p c.self.invariant called (at_once p c.self.inside.engine (Reply Done) c.self.view_is c.requires.own c.write_word.new.self) c.args.self.now c.self.view_is c.requires.own
+    let called = subst (λ (d : Datum). IsCalled c.self.inside.engine (Write W c.args.at d) false (Answers (Reply Done)) c.write_next.new.self) c.datum_of-datum.ensures (c.write_next.ensures.called c.if-write_next.true) in
+    answered p c.self.invariant called (at_once p c.self.inside.engine (Reply Done) c.self.view_is c.requires.own c.write_next.new.self) c.args.self.now c.self.view_is c.requires.own
 
 pub invariant_of-self : goal.invariant_of-self
 invariant_of-self g c =
     let p = c.self.inside.pass in
-    let called = subst (λ (d : Datum). IsCalled c.self.inside.engine (Write W c.args.at d) false (Answers (Reply Done)) c.write_word.new.self) c.datum_of-datum.ensures (c.write_word.ensures.called c.if-write_word.true) in
-    left_standing p c.self.invariant called (at_once p c.self.inside.engine (Reply Done) c.self.view_is c.requires.own c.write_word.new.self) c.args.self.now c.self.view_is c.requires.own
+    let called = subst (λ (d : Datum). IsCalled c.self.inside.engine (Write W c.args.at d) false (Answers (Reply Done)) c.write_next.new.self) c.datum_of-datum.ensures (c.write_next.ensures.called c.if-write_next.true) in
+    left_standing p c.self.invariant called (at_once p c.self.inside.engine (Reply Done) c.self.view_is c.requires.own c.write_next.new.self) c.args.self.now c.self.view_is c.requires.own
 
 pub returns : goal.returns
 returns g c =
-    let slow = c.write_number_slow in
-    let here : Standing = standing c.self.inside.pass c.write_word.new.self in
-    let is : here ≡ c.args.self.now = ap (standing c.self.inside.pass) (c.write_word.ensures.none c.if-write_word.false) ∙ c.self.view_is in
+    let slow = c.write_afar in
+    let here : Standing = standing c.self.inside.pass c.write_next.new.self in
+    let is : here ≡ c.args.self.now = ap (standing c.self.inside.pass) (c.write_next.ensures.none c.if-write_next.false) ∙ c.self.view_is in
     subst (λ (t : Standing). Tells c.args.words.now t (Write W c.args.at (number c.args.value)) (answer_to_write (done_or slow.result slow.new.stop)) slow.new.self) is slow.ensures

@@ -13,4 +13,4 @@ returns-clause-called c done =
     let call = Write c.args.hint c.args.at c.args.value.now in
     subst (λ (n : Next). IsCalled c.args.self.now call false n (engine_in c.take-none.new.irrevocable c.take-none.new.state (phase_of c.take-none.new.state c.take-none.new.pending))) c.take-none.ensures.next
     (called_in s.state s.pending s.irrevocable c.args.self.now c.self.view_is _ _ _ _ _ _ c.take-none.ensures c.self.invariant c.requires.idle call false
-    (revocable_call s.irrevocable s.state call false _ _ c.if-self.false c.in-Ok.ensures))
+    (revocable_call s.irrevocable s.state call false _ _ (c.serves_word.ensures.revocable c.if-not-serves_word.false) c.in-Ok.ensures))
