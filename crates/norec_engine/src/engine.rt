@@ -135,11 +135,13 @@ impl Engine {
         requires idle { self.old.waits ≡ None }
         ensures { ComesInto self.old (Call.Begin props room) again result answer.new self.new }
     {
-        let turn = turns::begin(&mut self.state, self.irrevocable, props, room, again)?;
+        let was = self.irrevocable;
+        let turn = turns::begin(&mut self.state, was, props, room, again)?;
         Ok(take(
             &mut self.state,
             &mut self.pending,
             &mut self.irrevocable,
+            was,
             turn,
             answer,
         ))
@@ -155,11 +157,13 @@ impl Engine {
         requires idle { self.old.waits ≡ None }
         ensures { ComesInto self.old call.now false result answer.new self.new }
     {
-        let turn = turns::call(&mut self.state, self.irrevocable, call)?;
+        let was = self.irrevocable;
+        let turn = turns::call(&mut self.state, was, call)?;
         Ok(take(
             &mut self.state,
             &mut self.pending,
             &mut self.irrevocable,
+            was,
             turn,
             answer,
         ))
@@ -173,11 +177,13 @@ impl Engine {
         requires fits { Fits self.old seen }
         ensures { IsResumed self.old seen (next_in result answer.new) self.new }
     {
-        let turn = turns::resume(&mut self.state, self.irrevocable, self.pending, seen);
+        let was = self.irrevocable;
+        let turn = turns::resume(&mut self.state, was, self.pending, seen);
         take(
             &mut self.state,
             &mut self.pending,
             &mut self.irrevocable,
+            was,
             turn,
             answer,
         )

@@ -79,6 +79,7 @@ impl Engine {
             &mut self.state,
             &mut self.pending,
             &mut self.irrevocable,
+            false,
             turn,
             answer,
         ))
@@ -229,6 +230,7 @@ impl Engine {
             &mut self.state,
             &mut self.pending,
             &mut self.irrevocable,
+            false,
             turn,
             answer,
         ))
@@ -248,6 +250,7 @@ impl Engine {
             &mut self.state,
             &mut self.pending,
             &mut self.irrevocable,
+            false,
             turn,
             answer,
         ))
@@ -272,6 +275,7 @@ impl Engine {
             &mut self.state,
             &mut self.pending,
             &mut self.irrevocable,
+            false,
             turn,
             answer,
         ))
@@ -288,7 +292,8 @@ impl Engine {
         let rows = frames.len();
         match (step, self.pending) {
             (FastStep::Begin, Pending::Begin) => {
-                seen % 2 == 0 && !self.state.opening.props.goes_irrevocable
+                let opening = self.state.opening;
+                seen % 2 == 0 && !opening.props.goes_irrevocable
             }
             (FastStep::Exchange, Pending::Exchange) => {
                 seen == self.state.snapshot && rows > 0 && frames.row(0).mask == u64::MAX

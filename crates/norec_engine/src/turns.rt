@@ -60,22 +60,25 @@ pub(crate) fn resume(state: &mut Data, irrevocable: bool, pending: Pending, seen
     }
 }
 
-/// Takes a turn: the call goes on, by this step, which is counted, or is over, and `answer` tells how.
+/// Takes a turn: the call goes on, by this step, which is counted, or is over, and `answer` tells how. The mode `was` so: who
+/// knows it says it, so that it is not loaded and tested again.
 #[inline(always)]
 pub(crate) fn take(
     state: &mut Data,
     pending: &mut Pending,
     irrevocable: &mut bool,
+    was: bool,
     turn: Turn,
     answer: &mut Answer,
 ) -> Option<Step>
+    requires mode { was ≡ irrevocable.old }
     requires sound { IsSoundWith irrevocable.old turn state.old }
     requires asked { Asked turn }
     ensures { IsTaken irrevocable.old turn state.old (next_in result answer.new) state.new pending.new irrevocable.new }
 {
     match turn {
         Turn::Wait(next) => {
-            let step = next_step(state, *irrevocable, next);
+            let step = next_step(state, was, next);
             state.spent += 1;
             *pending = next;
             Some(step)

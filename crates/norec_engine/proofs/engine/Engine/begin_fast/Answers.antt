@@ -5,6 +5,11 @@ use Rattle.norec_engine.proofs.EitherTurns.{called_in, revocable_call}
 use Rattle.norec_engine.proofs.FastSteps.{outside_revocable}
 use Rattle.norec_engine.proofs.engine.Engine.begin_fast.Goals as goal
 
+pub take-requires-clause-mode : goal.take-requires-clause-mode
+take-requires-clause-mode c =
+    let s = c.self.inside in
+    sym (outside_revocable s.irrevocable s.state (phase_of s.state s.pending) c.self.invariant (sym c.is_open.ensures ∙ c.if-is_open.false))
+
 pub returns : goal.returns
 returns c =
     let s = c.self.inside in

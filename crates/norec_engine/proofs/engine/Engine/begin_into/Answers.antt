@@ -1,3 +1,4 @@
+use Rattle.std.proofs.Common.{refl}
 use Rattle.std.proofs.lemmas.Result.{err_from_is_err_and}
 use Rattle.itm_types.specs.declared.call.Call.TheVariants.{Begin}
 use Rattle.norec_engine.proofs.EitherTurns.{called_in, idle_sound, left_sound, sound_call, starved_in}
@@ -11,7 +12,7 @@ begin-requires c =
 pub take-requires : goal.take-requires
 take-requires c =
     let s = c.self.inside in
-    let sound = sound_call s.irrevocable s.state (Begin c.args.props c.args.room) c.args.again _ _ c.in_ok-turn.ensures in record { sound = sound.0; asked = sound.1 }
+    let sound = sound_call s.irrevocable s.state (Begin c.args.props c.args.room) c.args.again _ _ c.in_ok-turn.ensures in record { mode = refl; sound = sound.0; asked = sound.1 }
 
 pub invariant_of-self-2 : goal.invariant_of-self-2
 invariant_of-self-2 c =

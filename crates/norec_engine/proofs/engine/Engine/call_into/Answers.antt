@@ -1,5 +1,5 @@
 use Rattle.std.proofs.lemmas.Result.{err_from_is_err_and}
-use Rattle.std.proofs.Common.{false}
+use Rattle.std.proofs.Common.{false, refl}
 use Rattle.norec_engine.proofs.EitherTurns.{called_in, idle_sound, left_sound, sound_call, starved_in}
 use Rattle.norec_engine.proofs.engine.Engine.call_into.Goals as goal
 
@@ -11,7 +11,7 @@ call-requires c =
 pub take-requires : goal.take-requires
 take-requires c =
     let s = c.self.inside in
-    let sound = sound_call s.irrevocable s.state c.args.call.now false _ _ c.in_ok-turn.ensures in record { sound = sound.0; asked = sound.1 }
+    let sound = sound_call s.irrevocable s.state c.args.call.now false _ _ c.in_ok-turn.ensures in record { mode = refl; sound = sound.0; asked = sound.1 }
 
 pub invariant_of-self-2 : goal.invariant_of-self-2
 invariant_of-self-2 c =

@@ -1,7 +1,10 @@
-use Rattle.std.proofs.Common.{false}
+use Rattle.std.proofs.Common.{false, sym}
 use Rattle.itm_types.specs.declared.call.Call.TheVariants.{Commit}
 use Rattle.norec_engine.proofs.EitherTurns.{called_in, revocable_call}
 use Rattle.norec_engine.proofs.engine.Engine.commit_fast.Goals as goal
+
+pub take-requires-clause-mode : goal.take-requires-clause-mode
+take-requires-clause-mode c = sym c.if-self.false
 
 pub returns : goal.returns
 returns c =
