@@ -77,6 +77,7 @@ impl Thread {
 
     /// An outermost block begins, `again` where an earlier try of it got past its begin; inside a transaction this is
     /// `call` (Intel TM ABI 1.1, section 5.7).
+    #[inline(always)]
     pub fn begin<A: Allocator>(
         &mut self,
         words: &Words<A>,
@@ -88,7 +89,23 @@ impl Thread {
         ensures { Returns (λ a. a) words.now self.old (Call.Begin props room) again result self.new }
     {
         let mut answer = Answer::Reply(Reply::Done);
-        match self.engine.begin_fast(props, room, again, &mut answer) {
+        self.begin_told(words, props, room, again, &mut answer)?;
+        Ok(answer)
+    }
+
+    /// The same, with the answer where the caller has it. Not put in line where a program calls it from more places than one.
+    fn begin_told<A: Allocator>(
+        &mut self,
+        words: &Words<A>,
+        props: Props,
+        room: u32,
+        again: bool,
+        answer: &mut Answer,
+    ) -> Result<(), AllocError>
+        requires own { Owns words.now self.old.pass }
+        ensures { Returns (λ done. answer.new) words.now self.old (Call.Begin props room) again result self.new }
+    {
+        match self.engine.begin_fast(props, room, again, answer) {
             Some(first) => {
                 finish_fast(
                     words,
@@ -96,14 +113,11 @@ impl Thread {
                     &mut self.engine,
                     first,
                     FastStep::Begin,
-                    &mut answer,
+                    answer,
                 );
-                Ok(answer)
+                Ok(())
             }
-            None => {
-                self.begin_slow(words, props, room, again, &mut answer)?;
-                Ok(answer)
-            }
+            None => self.begin_slow(words, props, room, again, answer),
         }
     }
 
@@ -167,6 +181,7 @@ impl Thread {
     }
 
     /// The innermost block ends; with the outermost one the transaction commits (section 5.9). Takes no memory.
+    #[inline(always)]
     pub fn commit<A: Allocator>(&mut self, words: &Words<A>) -> Answer
         requires own { Owns words.now self.old.pass }
         ensures answered { IsAnswered words.now (start_of self.old Call.Commit false) result self.new.pass self.new.engine }
@@ -175,15 +190,20 @@ impl Thread {
         ensures whole { IsRestart result → ⊥ }
     {
         let mut answer = Answer::Reply(Reply::Done);
-        match self.engine.commit_fast(&mut answer) {
+        self.commit_told(words, &mut answer);
+        answer
+    }
+
+    /// The same, with the answer where the caller has it. Not put in line where a program calls it from more places than one.
+    fn commit_told<A: Allocator>(&mut self, words: &Words<A>, answer: &mut Answer)
+        requires own { Owns words.now self.old.pass }
+        ensures { IsAnswered words.now (start_of self.old Call.Commit false) answer.new self.new.pass self.new.engine }
+    {
+        match self.engine.commit_fast(answer) {
             Some(first) => {
-                finish_commit(words, &mut self.pass, &mut self.engine, first, &mut answer);
-                answer
+                finish_commit(words, &mut self.pass, &mut self.engine, first, answer);
             }
-            None => {
-                self.commit_slow(words, &mut answer);
-                answer
-            }
+            None => self.commit_slow(words, answer),
         }
     }
 

@@ -1,5 +1,5 @@
 use Rattle.itm_runtime.proofs.Calls.Results.{answered, due, left_standing}
-use Rattle.itm_runtime.proofs.thread.Thread.begin.Goals as goal
+use Rattle.itm_runtime.proofs.thread.Thread.begin_told.Goals as goal
 
 pub finish_fast-requires-clause-due : goal.finish_fast-requires-clause-due
 finish_fast-requires-clause-due g c = due c.self.inside.pass c.self.invariant c.in-Some.ensures
