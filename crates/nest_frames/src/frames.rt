@@ -181,6 +181,7 @@ impl Frames {
     }
 
     /// A block begins within those that are open, with so many words read. Takes no memory.
+    #[inline(always)]
     pub fn enter(&mut self, props: Props, reads: u32)
         requires { length self.old.blocks < self.old.depth }
         ensures blocks { self.new.blocks ≡ begun props self.old.writes.rows self.old.actions reads ∷ self.old.blocks }
@@ -212,6 +213,7 @@ impl Frames {
     /// The innermost block closes: what was logged and registered in it goes to the one around it, and what was written
     /// stays. With the outermost one all of it is forgotten, and the commit actions run, in the order in which they
     /// were registered. Takes no memory.
+    #[inline(always)]
     pub fn leave(&mut self)
         requires { 0 < length self.old.blocks }
         ensures blocks { self.new.blocks ≡ closed self.old.blocks }
