@@ -11,6 +11,7 @@ use Rattle.norec_world.specs.declared.actor.Actor.{Actor}
 use Rattle.norec_world.specs.Cells.{Cells, found}
 use Rattle.norec_world.specs.Events.{IsEvent}
 use Rattle.norec_world.specs.Sound.{HasLess}
+use Rattle.norec_world.specs.Stages.{calls_of}
 use Rattle.norec_world.specs.Status.{waiting_step}
 use Rattle.norec_world.specs.World.{World}
 
@@ -35,6 +36,15 @@ module _ {P : Type 0} (rules : Rules P) where
   pub record TellsCall (actor : ℕ) (goes_on : Bool) (old new : World P) : Type 0 where
     pub before : goes_on ≡ goes_on_at old actor
     pub event : (a a' : Actor P) → slice_get old.actors actor ≡ Some a → (event : IsEvent rules old.cells old.attempts a new.cells new.attempts a') → goes_on ≡ is_step event.takes.what
+
+  -- What is told of the calls of its open attempt: how many of them had a reply as the event's step was done, before its local work.
+  pub record TellsCalls (actor calls : ℕ) (old new : World P) : Type 0 where
+    pub was : Actor P
+    pub now : Actor P
+    pub there : slice_get old.actors actor ≡ Some was
+    pub here : slice_get new.actors actor ≡ Some now
+    pub event : IsEvent rules old.cells old.attempts was new.cells new.attempts now
+    pub told : calls ≡ calls_of event.stepped
 
   -- ## How much is left
 

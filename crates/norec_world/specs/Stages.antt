@@ -1,5 +1,6 @@
 -- The attempt of an actor that is under way, and the places that are kept for it.
-use Rattle.std.specs.Prelude.{◌≡◌, ℕ, ◌+◌, ◌<◌, ◌≤◌, List, [], ◌∷◌, ◌++◌, Option, None, Some}
+use Rattle.std.specs.Prelude.{◌≡◌, ℕ, ◌+◌, ◌<◌, ◌≤◌, List, [], ◌∷◌, ◌++◌, length, Option, None, Some}
+use Rattle.std.specs.Option.{option_map_or}
 use Rattle.itm_types.specs.declared.limits.TheConstants.{MAX_ACTORS}
 use Rattle.tx_attempts.specs.declared.attempt.Attempt.{Attempt}
 use Rattle.tx_runs.specs.declared.player_run.Current.{Current}
@@ -36,6 +37,10 @@ active_of a = open_in (stage_of a.run.current)
 
 abbrev pub pending_of : {P : Type 0} → Actor P → Option Attempt
 pending_of a = begun_in (stage_of a.run.current)
+
+-- how many calls of its open one have a reply
+abbrev pub calls_of : {P : Type 0} → Actor P → ℕ
+calls_of a = option_map_or (λ row. length row.calls.list) (active_of a) 0
 
 -- its open one is at this position, if it has one
 abbrev pub moved_to : ℕ → Current → Current

@@ -1,6 +1,6 @@
 -- What contracts see of a world.
 use Rattle.std.specs.Prelude.{◌≡◌, ℕ, ◌+◌, ◌-◌, ◌^◌, min, Bool, true, false, List, ◌++◌, Option, None, Some, Result, Ok, Err, slice_get}
-use Rattle.std.specs.Option.{option_and_then}
+use Rattle.std.specs.Option.{option_and_then, option_map}
 use Rattle.itm_types.specs.declared.step.Step.{Step}
 use Rattle.itm_types.specs.Memory.{bytes_of}
 use Rattle.tx_attempts.specs.declared.attempt.Attempt.{Attempt}
@@ -10,9 +10,10 @@ use Rattle.norec_world.specs.declared.fault.WorldFault.{WorldFault}
 use Rattle.norec_world.specs.declared.fault.WorldFault.TheVariants as faults
 use Rattle.norec_world.specs.declared.setup.Setup.{Setup}
 use Rattle.norec_world.specs.Rows.{Rows}
-use Rattle.norec_world.specs.Stages.{opens}
+use Rattle.norec_world.specs.Stages.{active_of, opens}
 use Rattle.norec_world.specs.declared.actor.Actor.{Actor}
-use Rattle.norec_world.specs.Cells.{Cells}
+use Rattle.norec_world.specs.declared.operation.Operation.{Operation}
+use Rattle.norec_world.specs.Cells.{Cells, found}
 use Rattle.norec_world.specs.Status.{ending_of, waiting_step}
 use Rattle.norec_world.specs.Headline.{Observed}
 
@@ -92,3 +93,11 @@ is_event (Err faults.NoMemory) = true
 -- the operation that comes next from the actor
 abbrev pub waits_at : {P : Type 0} → World P → ℕ → Option Step
 waits_at w actor = option_and_then (λ a. waiting_step a.status) (slice_get w.actors actor)
+
+-- with what it finds
+abbrev pub operation_at : {P : Type 0} → World P → ℕ → Option Operation
+operation_at w actor = option_map (λ step. record { step = step; found = found w.cells step }) (waits_at w actor)
+
+-- the open attempt of the actor
+abbrev pub attempt_at : {P : Type 0} → World P → ℕ → Option Attempt
+attempt_at w actor = option_and_then active_of (slice_get w.actors actor)

@@ -35,8 +35,8 @@ pub(crate) struct Actor<P> {
 
 impl<P: Player> Actor<P> {
     ghost use Rattle.std.specs.Prelude.{◌≡◌, ◌≤◌, true, false, Some, None, MatchOption};
-    ghost use Rattle.norec_world.specs.Stages.{active_of, count_of};
-    ghost use Rattle.norec_world.specs.Status.{ending_of, is_waiting, InProgress};
+    ghost use Rattle.norec_world.specs.Stages.{active_of, calls_of, count_of};
+    ghost use Rattle.norec_world.specs.Status.{ending_of, is_waiting, waiting_step, InProgress};
     ghost use Rattle.norec_world.specs.Records.{ReadsAt, told};
     ghost use Rattle.norec_world.specs.Moments.{HasStepped};
     ghost use Rattle.norec_world.specs.ActionRoom.{MayRun, MayRunOn, IsActing};
@@ -76,6 +76,16 @@ impl<P: Player> Actor<P> {
         }
     }
 
+    /// The operation that it waits for.
+    pub(crate) fn next_step(&self) -> Option<Step>
+        ensures { result ≡ waiting_step self.now.status }
+    {
+        match self.status {
+            Status::Waits { step, .. } => Some(step),
+            _ => None,
+        }
+    }
+
     /// Its open attempt.
     pub(crate) fn attempt(&self) -> Option<&Attempt>
         ensures { MatchOption result (active_of self.now ≡ None) (λ row. active_of self.now ≡ Some row.now) }
@@ -83,6 +93,16 @@ impl<P: Player> Actor<P> {
         match &self.run.current {
             Current::Within(open) => Some(open.row()),
             _ => None,
+        }
+    }
+
+    /// How many calls of its open attempt have a reply.
+    pub(crate) fn calls(&self) -> usize
+        ensures { result ≡ calls_of self.now }
+    {
+        match self.attempt() {
+            Some(row) => row.calls.as_slice().len(),
+            None => 0,
         }
     }
 

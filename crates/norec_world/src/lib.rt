@@ -6,6 +6,7 @@ mod equality;
 mod fault;
 mod listed;
 mod memory;
+mod operation;
 mod places;
 mod schedule;
 mod setup;
@@ -15,6 +16,7 @@ mod world;
 
 pub use fault::WorldFault;
 pub use listed::Attempts;
+pub use operation::{Operation, Told};
 pub use schedule::Passes;
 pub use setup::Setup;
 pub use tx_attempts::{Again, Attempt, Bytes, CallRecord, Calls, Outcome, RanActions, Restarts};

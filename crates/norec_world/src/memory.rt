@@ -91,6 +91,18 @@ impl Memory {
         }
     }
 
+    /// What the operation would find now, as `apply` says.
+    pub(crate) fn found(&self, step: Step) -> u64
+        requires { IsCell (length self.now.words) step }
+        ensures { result ≡ found self.now step }
+    {
+        match step {
+            Step::Load(cell) if cell > 0 => self.word(cell - 1),
+            Step::Load(_) | Step::Cas(..) => self.clock,
+            Step::Store(..) => 0,
+        }
+    }
+
     /// The word, from its bytes, the low one first.
     fn word(&self, word: u32) -> u64
         requires { word < length self.now.words }

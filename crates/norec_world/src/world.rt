@@ -1,12 +1,13 @@
 //! Actors over one memory.
 
-ghost use Rattle.std.specs.Prelude.{◌≡◌, ℕ, ◌%◌, ◌<◌, ◌≤◌, true, false, [], length, IfOk, Some, IsSome, All};
+ghost use Rattle.std.specs.Prelude.{◌≡◌, ℕ, ◌%◌, ◌<◌, ◌≤◌, true, false, [], length, IfOk, None, Some, IsSome, MatchOption, All};
 ghost use Rattle.norec_world.specs.World.{event_result};
 
 use crate::actor::Actor;
 use crate::fault::WorldFault;
 use crate::listed::Attempts;
 use crate::memory::Memory;
+use crate::operation::{Operation, Told};
 use crate::setup::Setup;
 use crate::start::{Terms, start_all};
 use itm_types::{MAX_ACTORS, MAX_ARENA, MAX_COMMITS, MAX_MEMORY, MAX_PATIENCE, MAX_RETRIES, Step};
@@ -44,7 +45,7 @@ impl<P: Player> Model for World<P> {
 }
 
 impl<P: Player> World<P> {
-    ghost use Rattle.norec_world.specs.World.{observed, counted, ending_at, waits_at, memory_of, attempts_of, IsSetUp, SameOpening};
+    ghost use Rattle.norec_world.specs.World.{observed, counted, ending_at, waits_at, operation_at, attempt_at, memory_of, attempts_of, IsSetUp, SameOpening};
     ghost use Rattle.std.specs.Prelude.{slice_get, take, drop};
     ghost use Rattle.std.specs.Option.{option_map};
     ghost use Rattle.norec_world.specs.Status.{is_waiting};
@@ -57,7 +58,7 @@ impl<P: Player> World<P> {
     ghost use Rattle.norec_world.specs.Headline.{AreOpaque};
     ghost use Rattle.norec_world.specs.Tied.{AreTied};
     ghost use Rattle.norec_world.specs.WorldEvents.{Goes, Takes};
-    ghost use Rattle.norec_world.specs.Progress.{LeavesLess, TellsCall};
+    ghost use Rattle.norec_world.specs.Progress.{LeavesLess, TellsCall, TellsCalls};
 
     /// A world over this memory, with the clock at 0. Each actor's local work up to its first operation is done.
     pub fn new(alloc: Global, setup: Setup, players: Vec<P>) -> Result<Self, AllocError>
@@ -140,6 +141,23 @@ impl<P: Player> World<P> {
         }
     }
 
+    /// The operation that comes next from the actor, and what it finds; none where the actor has ended, and where there is no
+    /// such one.
+    pub fn next_operation(&self, actor: u8) -> Option<Operation>
+        ensures { result ≡ operation_at self.now actor }
+    {
+        let step = self.actors.get(actor as usize)?.next_step()?;
+        let found = self.memory.found(step);
+        Some(Operation { step, found })
+    }
+
+    /// The open attempt of the actor.
+    pub fn open_attempt(&self, actor: u8) -> Option<&Attempt>
+        ensures { MatchOption result (attempt_at self.now actor ≡ None) (λ row. attempt_at self.now actor ≡ Some row.now) }
+    {
+        self.actors.get(actor as usize)?.attempt()
+    }
+
     /// One event of an actor that waits, as `go`. True just where its call in progress goes on, with fewer steps left; false
     /// where that call is over, whether or not the next one waits by then, and less is left of the whole run. So a loop of
     /// such events ends.
@@ -156,6 +174,23 @@ impl<P: Player> World<P> {
         a.work(alloc, &self.memory, &mut self.ended);
         self.events = self.events.saturating_add(1);
         goes_on
+    }
+
+    /// One event, as `event`, of which more is told.
+    pub fn event_told(&mut self, alloc: Global, actor: u8) -> Told
+        requires { IsSome (waits_at self.old actor) }
+        ensures goes { Goes P.Player actor self.old (event_result (ending_at self.new actor)) self.new }
+        ensures tells { TellsCall P.Player actor result.goes_on self.old self.new }
+        ensures calls { TellsCalls P.Player actor result.calls self.old self.new }
+        ensures less { LeavesLess P.Player actor result.goes_on self.old self.new }
+    {
+        let acting = &mut self.actors[actor as usize];
+        acting.step(&mut self.memory, &mut self.ended);
+        let goes_on = acting.waits();
+        let calls = acting.calls();
+        acting.work(alloc, &self.memory, &mut self.ended);
+        self.events = self.events.saturating_add(1);
+        Told { goes_on, calls }
     }
 
     /// Takes events until the actor has ended, and tells how many, up to 2^64 - 1; 0 for no such actor.

@@ -6,6 +6,8 @@ use Rattle.norec_world.proofs.Events.FurtherSteps.{asks_as, waits_on}
 use Rattle.norec_world.proofs.Events.WorldEvents.{no_fault, told_event, waits_not_ended}
 use Rattle.norec_world.proofs.Runs.Others.{has_read, running_after, world_opaque, world_tied}
 use Rattle.std.specs.Option.{option_map_or}
+use Rattle.norec_world.specs.Progress.{TellsCalls}
+use Rattle.norec_world.specs.Stages.{calls_of}
 use Rattle.norec_world.proofs.{Commits.CommitCounts.commits_after, Engines.ClockHolders.clocks_still, Engines.ClockHolders.clocks_twice, Engines.Intakes.ready_of, Engines.SoundSteps.rests, Events.SoundOthers.actors_after, Events.Measures.event_less, Events.Worlds.going_in, Events.Worlds.lawful_at, Tries.Dates.dated_after, Tries.Stages.others_twice, Tries.TryChains.tries_then}
 
 -- ## A step and its local work are one event
@@ -102,4 +104,17 @@ module _ {P : Type 0} {rules : Rules P} (laws : Obeys rules) {w v : World P} (is
       subst (λ (z : World P). TellsCall rules i on z (led w i cells' r2 a2 events)) is (record {
         before = asked ∙ sym (ap (λ (o : Option (Actor P)). option_map_or (λ a. asks_further w.cells a.engine (waiting_step a.status)) o false) here);
         event = λ a a' there e. asked ∙ (ap (λ (z : Actor P). asks_further w.cells z.engine (waiting_step z.status)) (same_Some _ _ (sym here ∙ there)) ∙ asks_as e.takes);
+      })
+
+  -- the calls of its open attempt are those that had a reply once its step was done
+  pub calls_after : (calls : ℕ) → calls ≡ calls_of a1 → (events : ℕ) → TellsCalls rules i calls v (led w i cells' r2 a2 events)
+  unfolding event event_then
+  calls_after calls told events =
+      subst (λ (z : World P). TellsCalls rules i calls z (led w i cells' r2 a2 events)) is (record {
+        was = got;
+        now = a2;
+        there = here;
+        here = slice_get-set_same w.actors i a2 (slice_get_within w.actors i got here);
+        event = (event events).0;
+        told = told;
       })

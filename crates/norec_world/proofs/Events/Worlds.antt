@@ -1,6 +1,10 @@
 -- The actors of a world, over one event.
-use Rattle.std.proofs.Common.{◌≡◌, ℕ, zero, suc, ◌<◌, true, false, List, [], ◌∷◌, length, Option, None, Some, IsSome, slice_get, refl, sym, ap, subst, arith}
+use Rattle.std.proofs.Common.{◌≡◌, ℕ, zero, suc, ◌<◌, true, false, List, [], ◌∷◌, length, Option, None, Some, IsSome, slice_get, refl, sym, ap, ◌∙◌, subst, arith}
 use Rattle.norec_world.proofs.Common.{Actor, AreActors, Ended, IsLawful, Rows, Rules, Status, StatusIs, Step, Waits, World, ending_of, is_ready, is_waiting, option_and_then, slice_index_or, waiting_step, waits_at}
+use Rattle.std.specs.Option.{option_map}
+use Rattle.norec_world.proofs.Common.{Cas, Core, Load, Store, found}
+use Rattle.norec_world.specs.Cells.{IsCell}
+use Rattle.norec_world.specs.World.{operation_at}
 use Rattle.tx_runs.proofs.RunLists.{there_is}
 use Rattle.std.proofs.lemmas.Option.{slice_get_read}
 
@@ -50,3 +54,24 @@ pub waits_there : {P : Type 0} (w : World P) (actor : ℕ) → IsSome (waits_at 
 waits_there {P} w actor some =
     let here = there_is w.actors actor (within_some (λ (a : Actor P). waiting_step a.status) w.actors actor some) in
     (here.0, here.1, waiting_there w actor here.0 here.1 some)
+
+-- ## The operation that comes next
+
+lawful_cell : (e : Core) (words : ℕ) (step : Step) → e.words ≡ words → IsLawful e step → IsCell words step
+lawful_cell e words (Load cell) is l = (let le = l.0 in omega arith)
+lawful_cell e words (Store cell value) is l = (let le = l.0 in omega arith)
+lawful_cell e words (Cas cell from to) is l = l.0
+
+-- who is read at a place is there
+pub read_there : {A : Type 0} (items xs : List A) (i : ℕ) (a : A) → items ≡ xs → i < length items → a ≡ slice_index_or items i a → slice_get xs i ≡ Some a
+read_there items xs i a same within is = subst (λ l. slice_get l i ≡ Some a) same (slice_get_read items (length items) i a refl within is)
+
+module _ {P : Type 0} (w : World P) (i : ℕ) (a : Actor P) (step : Step) (here : slice_get w.actors i ≡ Some a) (waits : Some step ≡ waiting_step a.status) where
+  -- it is on a cell that there is
+  pub next_cell : (rules : Rules P) → AreActors rules w.cells w.attempts w.actors → IsCell (length w.cells.words) step
+  next_cell rules sound = lawful_cell a.engine (length w.cells.words) step (sound.each i a here).sound.tied.words (lawful_at rules w w.attempts sound i a step here (sym waits))
+
+  pub next_here : (value : ℕ) → value ≡ found w.cells step → Some (record { step = step; found = value }) ≡ operation_at w i
+  next_here value is =
+      let as_waits : waits_at w i ≡ Some step = ap (option_and_then (λ (x : Actor P). waiting_step x.status)) here ∙ sym waits in
+      ap (λ (n : ℕ). Some (record { step = step; found = n })) is ∙ sym (ap (option_map (λ (s : Step). record { step = s; found = found w.cells s })) as_waits)
