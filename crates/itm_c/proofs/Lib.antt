@@ -1,0 +1,4 @@
+pub mod Steps
+pub mod KeptBoxes
+pub mod Comings
+pub mod Numbers
