@@ -179,6 +179,7 @@ impl Engine {
             &mut self.state,
             &mut self.pending,
             &mut self.irrevocable,
+            false,
             Turn::End(CallEnd::Done),
             &mut answer,
         );
@@ -202,6 +203,7 @@ impl Engine {
             &mut self.state,
             &mut self.pending,
             &mut self.irrevocable,
+            false,
             Turn::End(CallEnd::Done),
             &mut answer,
         );

@@ -1,4 +1,4 @@
-use Rattle.std.proofs.Common.{false, subst}
+use Rattle.std.proofs.Common.{false, subst, sym}
 use Rattle.itm_types.specs.declared.call.Call.TheVariants.{Write}
 use Rattle.norec_core.specs.declared.answer.Next.{Next}
 use Rattle.norec_core.specs.Moves.{IsCalled}
@@ -6,6 +6,9 @@ use Rattle.norec_data.specs.View.{phase_of}
 use Rattle.norec_engine.specs.Modes.{engine_in}
 use Rattle.norec_engine.proofs.EitherTurns.{called_in, revocable_call}
 use Rattle.norec_engine.proofs.engine.Engine.write_next.Goals as goal
+
+pub take-none-requires-clause-mode : goal.take-none-requires-clause-mode
+take-none-requires-clause-mode c = sym (c.serves_word.ensures.revocable c.if-not-serves_word.false)
 
 pub returns-clause-called : goal.returns-clause-called
 returns-clause-called c done =
