@@ -103,25 +103,62 @@ const COPY: Call = Call::Copy(Copying {
     size: 8,
 });
 
-/// The last word is read, written and copied, in a transaction that may be tried again and in one that is irrevocable.
+/// The calls are answered so, one after the other.
+fn ask_all(
+    rt: &impl Abort,
+    engine: &mut Engine,
+    cells: &mut [u64],
+    rows: &[(Call, Answer)],
+) -> Result<(), AllocError> {
+    for (call, answer) in rows {
+        ask(rt, engine, cells, call, answer)?;
+    }
+    Ok(())
+}
+
+/// The last word is read, written and copied in a transaction that may be tried again.
+fn revocable_at_the_end(
+    rt: &impl Abort,
+    engine: &mut Engine,
+    cells: &mut [u64],
+) -> Result<(), AllocError> {
+    let ends = Answer::Committed { at: 3, wrote: true };
+    let rows = [
+        (BEGIN, IN),
+        (read(LAST), word(41)),
+        (read(LAST + 1), PAST_THE_END),
+        (write(LAST + 1, 42), PAST_THE_END),
+        (write(LAST, 42), DONE),
+        (COPY, DONE),
+        (Call::Commit, ends),
+    ];
+    ask_all(rt, engine, cells, &rows)
+}
+
+/// The last word is written and copied in one that is irrevocable.
+fn irrevocable_at_the_end(
+    rt: &impl Abort,
+    engine: &mut Engine,
+    cells: &mut [u64],
+) -> Result<(), AllocError> {
+    let ends = Answer::Committed { at: 4, wrote: true };
+    let rows = [
+        (BEGIN_IRREVOCABLE, IN),
+        (write(LAST, 43), DONE),
+        (COPY, DONE),
+        (read(0), word(43)),
+        (Call::Commit, ends),
+    ];
+    ask_all(rt, engine, cells, &rows)
+}
+
+/// One of each kind, over the largest memory.
 fn at_the_end(rt: &impl Abort, alloc: Global, cells: &mut [u64; 3]) -> Result<(), AllocError> {
     let mut engine = engine(alloc, LAST_CELL, 0, 8, 0)?;
     let engine = &mut engine;
-    ask(rt, engine, cells, &BEGIN, &IN)?;
-    ask(rt, engine, cells, &read(LAST), &word(41))?;
-    ask(rt, engine, cells, &read(LAST + 1), &PAST_THE_END)?;
-    ask(rt, engine, cells, &write(LAST + 1, 42), &PAST_THE_END)?;
-    ask(rt, engine, cells, &write(LAST, 42), &DONE)?;
-    ask(rt, engine, cells, &COPY, &DONE)?;
-    let ends = Answer::Committed { at: 3, wrote: true };
-    ask(rt, engine, cells, &Call::Commit, &ends)?;
+    revocable_at_the_end(rt, engine, cells)?;
     assert_eq!(rt; *cells, [8, 42, 42]);
-    ask(rt, engine, cells, &BEGIN_IRREVOCABLE, &IN)?;
-    ask(rt, engine, cells, &write(LAST, 43), &DONE)?;
-    ask(rt, engine, cells, &COPY, &DONE)?;
-    ask(rt, engine, cells, &read(0), &word(43))?;
-    let ends = Answer::Committed { at: 4, wrote: true };
-    ask(rt, engine, cells, &Call::Commit, &ends)
+    irrevocable_at_the_end(rt, engine, cells)
 }
 
 #[test]
