@@ -1,0 +1,5 @@
+pub mod Came
+pub mod Said
+pub mod Rows
+pub mod Table
+pub mod Shown

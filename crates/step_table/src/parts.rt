@@ -1,0 +1,23 @@
+//! Texts in parts.
+
+ghost use Rattle.std.specs.Prelude.{◌≡◌, ◌++◌, flat_map};
+ghost use Rattle.tx_history.specs.Spelling.{Puts, spelled};
+
+use std::io;
+use std::io::Write;
+use tx_history::{Piece, put_pieces};
+
+/// Writes three texts, one after the other. Where a write fails, what the writer took is a beginning of them.
+pub(crate) fn put_three<W: Write>(
+    writer: &mut W,
+    first: &[Piece<'_>],
+    second: &[Piece<'_>],
+    third: &[Piece<'_>],
+) -> io::Result<()>
+    ensures { Puts (W.contents writer.old) (W.contents writer.new) result
+        (flat_map spelled first.now ++ flat_map spelled second.now ++ flat_map spelled third.now) }
+{
+    put_pieces(writer, first)?;
+    put_pieces(writer, second)?;
+    put_pieces(writer, third)
+}
