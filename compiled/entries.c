@@ -1,0 +1,45 @@
+/* Questions, actions, and what is refused. */
+#include "library.h"
+
+enum { NO_TRANSACTION = 1 }; /* as an id */
+
+ENTRY int _ITM_inTransaction(void) {
+    return !tx.nesting ? 0 : tx.fixed ? 2 : 1;
+}
+
+ENTRY uint64_t _ITM_getTransactionId(void) {
+    return tx.nesting ? (uintptr_t)&tx : NO_TRANSACTION;
+}
+
+ENTRY void _ITM_addUserCommitAction(void (*run)(void *), uint64_t id, void *argument) {
+    if (id != NO_TRANSACTION) fail("a commit action that another transaction resumes is not served");
+    if (!tx.nesting) fail("a commit action outside of a transaction");
+    add_action(&tx.commits, run, argument);
+}
+
+ENTRY void _ITM_addUserUndoAction(void (*run)(void *), void *argument) {
+    if (tx.depth > tx.fixed) add_action(&tx.undos, run, argument);
+}
+
+ENTRY int _ITM_versionCompatible(int version) {
+    return version == 90;
+}
+
+ENTRY const char *_ITM_libraryVersion(void) {
+    return "Sofjundel, ABI 0.90";
+}
+
+ENTRY void _ITM_error(const void *where, int code) {
+    (void)where;
+    fail("the program reports error %d", code);
+}
+
+#define REFUSED(NAME, WHY) \
+    ENTRY void NAME(void) { fail(#NAME " is not served: " WHY); }
+REFUSED(_ITM_dropReferences, "a transaction keeps what it has read")
+REFUSED(_ITM_commitTransactionEH, "no exception may leave a transaction")
+REFUSED(_ITM_cxa_allocate_exception, "nothing may be thrown in a transaction")
+REFUSED(_ITM_cxa_free_exception, "nothing may be thrown in a transaction")
+REFUSED(_ITM_cxa_throw, "nothing may be thrown in a transaction")
+REFUSED(_ITM_cxa_begin_catch, "nothing may be caught in a transaction")
+REFUSED(_ITM_cxa_end_catch, "nothing may be caught in a transaction")

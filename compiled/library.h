@@ -1,0 +1,167 @@
+/* What the files of the library share. Compiled code calls it for each begin, end, load and store of an atomic block; it
+ * hands what is shared to the engine, and serves the rest itself. Memory is told apart by its address:
+ *
+ *   shared    the region: the program's writable data and the heap behind it. Its words are the engine's cells.
+ *   constant  what the program has in front of its writable data: read as it is.
+ *   own       the thread's stack and thread-local storage, and what the open transaction has allocated: read and
+ *             written at once, with an undo log.
+ *   foreign   all else, such as another thread's stack or another library's data: read and written at once too, in a
+ *             serial transaction, as long as which no other one commits. */
+#ifndef LIBRARY_H
+#define LIBRARY_H
+#define _GNU_SOURCE
+#include "engine.h"
+#include <string.h>
+
+#define ENTRY __attribute__((visibility("default")))
+#define SLOW __attribute__((noinline, cold))
+#define LIKELY(x) __builtin_expect(!!(x), 1)
+#define UNLIKELY(x) __builtin_expect(!!(x), 0)
+
+/* of the ABI: properties of a begin, its answers, and reasons of an abort */
+enum { INSTRUMENTED = 1, UNINSTRUMENTED = 2, HAS_NO_ABORT = 8, GOES_IRREVOCABLE = 64 };
+enum { RUN_INSTRUMENTED = 1, RUN_UNINSTRUMENTED = 2, SAVE_LIVE = 4, RESTORE_LIVE = 8, ABORTED = 16 };
+enum { USER_ABORT = 1, OUTER_ABORT = 16 };
+
+_Noreturn void fail(const char *form, ...);
+
+/* -- begin.S -- */
+
+/* What a call keeps, and where the begin returns to: `sp` is the stack pointer by then. */
+struct registers {
+    void *rbx, *rbp, *r12, *r13, *r14, *r15, *sp, *pc;
+};
+
+_Noreturn void return_again(uint32_t code, const struct registers *);
+
+/* -- lists.c -- */
+
+struct list {
+    char *at;
+    size_t used, room;
+};
+
+void *list_add(struct list *, size_t size);
+void list_drop(struct list *);
+
+struct action {
+    void (*run)(void *);
+    void *argument;
+};
+
+void add_action(struct list *, void (*run)(void *), void *argument);
+
+/* -- blocks.c -- */
+
+struct memory {
+    uintptr_t at;
+    size_t size;
+};
+
+static inline bool is_within(uintptr_t at, const struct memory *m) {
+    return at - m->at < m->size;
+}
+
+/* A block that may be gone back to: how all stood as it began. */
+struct block {
+    struct registers registers;
+    uint32_t props;
+    int nesting; /* open blocks, this one and those that have no entry among them */
+    size_t undo, commits, undos, fresh;
+};
+
+/* A thread's transactions. In a serial one the engine's is irrevocable, so no other one commits; what it writes is in
+ * its place at once, and the undo log has it all, so blocks that are not `fixed` can be cancelled. */
+struct tx {
+    uintptr_t quick; /* so many bytes of the region need no further question: all or none */
+    struct itm_c_thread engine;
+    struct block *block; /* `depth` of them are open, of which the engine has `engine_blocks` */
+    int nesting, depth, engine_blocks, block_room;
+    int fixed;           /* so many blocks, from the outermost on, can't be cancelled any more */
+    bool serial, serial_next;
+    unsigned tries;
+    struct list undo, commits, undos;
+    struct list fresh, fresh_sorted; /* struct memory: in the order of allocation, and by address */
+    /* of threads.c */
+    int seat; /* whose handle `engine` is */
+    struct memory stack, tls;
+    uint64_t turn;       /* odd while a transaction is open */
+    bool is_shared;      /* others use its stack or its thread-local storage */
+    uintptr_t met_page;  /* of foreign memory, in this transaction */
+    struct tx *next;
+    uint64_t done, restarts, serials;
+};
+
+extern __thread struct tx tx __attribute__((tls_model("initial-exec")));
+
+_Noreturn void call_failed(uint32_t code);
+void become_serial(void);
+void become_irrevocable(void);
+void find_quick(void);
+
+/* A block is open that may yet be cancelled, in a transaction whose shared writes are in their place. */
+static inline bool logs_shared(void) {
+    return tx.serial && tx.depth > tx.fixed;
+}
+
+/* -- threads.c -- */
+
+enum { NO_SEAT, OWN_SEAT, LENT_SEAT };
+
+extern bool needs_fences;
+
+void take_seat(void);
+void give_seat(void);
+void meet_owner(const void *p, size_t size);
+
+/* (a thread that looks at the turns of others makes up for the fence: see threads.c) */
+static inline void turn_begins(void) {
+    __atomic_store_n(&tx.turn, tx.turn + 1, __ATOMIC_RELEASE);
+    __atomic_signal_fence(__ATOMIC_SEQ_CST);
+    if (UNLIKELY(needs_fences)) __atomic_thread_fence(__ATOMIC_SEQ_CST);
+}
+
+static inline void turn_ends(void) {
+    __atomic_store_n(&tx.turn, tx.turn + 1, __ATOMIC_RELEASE);
+}
+
+/* -- region.c -- */
+
+extern struct memory region, constants, heap;
+extern size_t tls_size;
+extern bool is_verbose;
+
+void find_region(void);
+
+static inline bool in_region(const void *p, size_t size) {
+    uintptr_t at = (uintptr_t)p - region.at;
+    return at < region.size && region.size - at >= size;
+}
+
+/* -- memory.c -- */
+
+enum kind { SHARED, CONSTANT, OWN, FOREIGN };
+enum kind kind_of(const void *p, size_t size);
+void log_bytes(const void *p, size_t size);
+void put_back(const struct block *);
+void add_fresh(void *p, size_t size);
+void drop_fresh(size_t left);
+
+/* -- barriers.c -- */
+
+void read_bytes(void *to, const void *from, size_t size);
+void write_bytes(void *to, const void *from, size_t size);
+void write_shared(uint64_t place, const char *from, size_t size);
+
+/* -- heap.c -- */
+
+void lock_heap(void);
+void unlock_heap(void);
+
+/* -- the C library's own memory, which is no transaction's -- */
+
+extern void *__libc_malloc(size_t), *__libc_calloc(size_t, size_t), *__libc_realloc(void *, size_t);
+extern void *__libc_memalign(size_t, size_t);
+extern void __libc_free(void *);
+
+#endif
