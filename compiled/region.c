@@ -42,7 +42,7 @@ void rattle_dealloc(void *at) {
 /* -- the program's data -- */
 
 struct image {
-    uintptr_t first, data, end, sealed, slots;
+    uintptr_t first, data, filled, end, sealed, slots;
     size_t slot_count;
 };
 
@@ -57,7 +57,8 @@ static void find_slots(const ElfW(Dyn) *d, struct image *image) {
 static void look_at(const ElfW(Phdr) *part, uintptr_t base, struct image *image) {
     uintptr_t at = base + part->p_vaddr, end = at + part->p_memsz;
     if (part->p_type == PT_LOAD && !image->first) image->first = at;
-    if (part->p_type == PT_LOAD && part->p_flags & PF_W) image->data = at, image->end = end;
+    if (part->p_type == PT_LOAD && part->p_flags & PF_W)
+        image->data = at, image->filled = at + part->p_filesz, image->end = end;
     if (part->p_type == PT_GNU_RELRO) image->sealed = end & -PAGE;
     if (part->p_type == PT_DYNAMIC) find_slots((void *)at, image);
     if (part->p_type == PT_TLS) tls_size = (part->p_memsz + part->p_align - 1) & -part->p_align;
@@ -75,13 +76,13 @@ static struct image find_image(void) {
 }
 
 /* The word before the region is the clock: the first of .data, where the start files put a zero that nobody uses. What
- * is sealed once the program is loaded lies in front of it, and then there may be the slots. */
+ * is sealed once the program is loaded lies in front of it, and then the slots, where a linker has not put them behind
+ * .data. */
 static uintptr_t clock_of(const struct image *image) {
-    enum { NEAR = 64 };
     uintptr_t at = image->data > image->sealed ? image->data : image->sealed;
     uintptr_t slots_end = image->slots + 8 * image->slot_count;
-    bool follow = image->slots + NEAR >= at && (image->slots < at + NEAR || !image->sealed);
-    if (image->slot_count && follow && slots_end > at && slots_end < image->end) at = slots_end;
+    bool follow = !image->sealed || image->slots <= at;
+    if (follow && slots_end > at && slots_end + 16 <= image->filled) at = slots_end;
     return (at + 7) & -8;
 }
 
