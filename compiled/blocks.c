@@ -8,12 +8,16 @@ __thread struct tx tx __attribute__((tls_model("initial-exec")));
 /* After so many tries a transaction is serial, and so the next one is its last. */
 enum { MOST_TRIES = 100 };
 
-void find_quick(void) {
+static inline void set_quick(void) {
     bool is_plain = !tx.fresh.used && !logs_shared() && !in_region(tx.block[0].registers.sp, 1);
     tx.quick = is_plain ? region.size : 0;
 }
 
-static void forget(void) {
+void find_quick(void) {
+    set_quick();
+}
+
+static inline void forget(void) {
     tx.nesting = tx.depth = tx.engine_blocks = tx.fixed = 0;
     tx.undo.used = tx.commits.used = tx.undos.used = tx.fresh.used = tx.fresh_sorted.used = 0;
     tx.quick = tx.met_page = 0;
@@ -49,43 +53,42 @@ static uint32_t code_to_run(uint32_t props) {
     return props & INSTRUMENTED ? RUN_INSTRUMENTED : RUN_UNINSTRUMENTED;
 }
 
-/* While it waits, no transaction is open: who holds the clock may be waiting for that. */
-static void enter_engine(bool serial, bool again) {
-    for (unsigned times = 0;; times++) {
-        turn_begins();
-        uint32_t code = itm_c_begin(&tx.engine, false, false, serial, again);
-        if (LIKELY(code == ITM_C_ENTERED || code == ITM_C_ENTERED_AGAIN)) return;
-        turn_ends();
-        if (code != ITM_C_BUSY && code != ITM_C_CONFLICT) fail("a transaction could not begin: %u", code);
-        wait_a_little(times);
-    }
+static inline bool has_entered(bool serial, bool again) {
+    turn_begins();
+    uint32_t code = itm_c_begin(&tx.engine, false, false, serial, again);
+    if (LIKELY(code == ITM_C_ENTERED || code == ITM_C_ENTERED_AGAIN)) return true;
+    turn_ends();
+    if (code != ITM_C_BUSY && code != ITM_C_CONFLICT) fail("a transaction could not begin: %u", code);
+    return false;
 }
 
-static uint32_t open_try(bool again) {
+/* No transaction is open meanwhile: who holds the clock may be waiting for that. */
+static SLOW void wait_to_enter(bool serial, bool again) {
+    for (unsigned times = 0; !has_entered(serial, again); times++) wait_a_little(times);
+}
+
+static inline uint32_t open_try(bool again) {
     uint32_t props = tx.block[0].props;
     bool is_fixed = is_irrevocable(props);
     tx.serial = is_fixed || tx.serial_next;
-    enter_engine(tx.serial, again);
+    if (UNLIKELY(!has_entered(tx.serial, again))) wait_to_enter(tx.serial, again);
     tx.nesting = tx.depth = tx.engine_blocks = 1;
     tx.fixed = is_fixed;
     tx.serials += tx.serial;
-    find_quick();
+    set_quick();
     return code_to_run(props);
 }
 
-static struct block *room_for_block(void) {
-    if (UNLIKELY(tx.depth == tx.block_room)) {
-        int room = 2 * tx.block_room + 8;
-        struct block *at = __libc_realloc(tx.block, room * sizeof *at);
-        if (!at) fail("no memory for a block");
-        tx.block = at;
-        tx.block_room = room;
-    }
-    return &tx.block[tx.depth];
+SLOW void grow_blocks(void) {
+    int room = 2 * tx.block_room + 4;
+    struct block *at = __libc_realloc(tx.block, room * sizeof *at);
+    if (!at) fail("no memory for a block");
+    tx.block = at;
+    tx.block_room = room;
 }
 
-static void fill_block(uint32_t props, const struct registers *r) {
-    struct block *b = room_for_block();
+static inline void fill_block(uint32_t props, const struct registers *r) {
+    struct block *b = &tx.block[tx.depth];
     b->registers = *r;
     b->props = props;
     b->nesting = tx.nesting + 1;
@@ -97,6 +100,7 @@ static void fill_block(uint32_t props, const struct registers *r) {
 
 /* In a serial transaction the undo log alone takes an inner block back. */
 static void open_inner(uint32_t props, const struct registers *r) {
+    if (tx.depth == tx.block_room) grow_blocks();
     fill_block(props, r);
     if (!tx.serial) {
         uint32_t code = itm_c_begin(&tx.engine, false, false, false, false);
@@ -108,7 +112,7 @@ static void open_inner(uint32_t props, const struct registers *r) {
 }
 
 /* A block that is not cancelled by its own code begins and ends with the one around it. */
-static uint32_t begin_inner(uint32_t props, const struct registers *r) {
+static SLOW uint32_t begin_inner(uint32_t props, const struct registers *r) {
     uint32_t kept = 0;
     if (!(props & HAS_NO_ABORT)) {
         open_inner(props, r);
@@ -120,7 +124,7 @@ static uint32_t begin_inner(uint32_t props, const struct registers *r) {
 }
 
 uint32_t begin_called(uint32_t props, const struct registers *r) {
-    if (tx.nesting) return begin_inner(props, r);
+    if (UNLIKELY(tx.nesting)) return begin_inner(props, r);
     if (UNLIKELY(tx.seat == NO_SEAT)) take_seat();
     tx.tries = 0;
     tx.serial_next = false;
@@ -207,7 +211,7 @@ static void commit_inner(void) {
 
 ENTRY void _ITM_commitTransaction(void) {
     if (UNLIKELY(!tx.nesting)) fail("a commit outside of a transaction");
-    if (tx.nesting > tx.block[tx.depth - 1].nesting) {
+    if (UNLIKELY(tx.nesting > tx.block[tx.depth - 1].nesting)) {
         tx.nesting--;
         return;
     }

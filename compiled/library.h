@@ -10,8 +10,9 @@
 #ifndef LIBRARY_H
 #define LIBRARY_H
 #define _GNU_SOURCE
-#include "engine.h"
 #include <string.h>
+#pragma GCC visibility push(hidden)
+#include "engine.h"
 
 #define ENTRY __attribute__((visibility("default")))
 #define SLOW __attribute__((noinline, cold))
@@ -75,9 +76,10 @@ struct block {
 struct tx {
     uintptr_t quick; /* so many bytes of the region need no further question: all or none */
     struct itm_c_thread engine;
-    struct block *block; /* `depth` of them are open, of which the engine has `engine_blocks` */
-    int nesting, depth, engine_blocks, block_room;
-    int fixed;           /* so many blocks, from the outermost on, can't be cancelled any more */
+    struct block *block; /* there is room for one; `depth` of them are open, of which the engine has `engine_blocks` */
+    int nesting, depth, engine_blocks;
+    int fixed; /* so many blocks, from the outermost on, can't be cancelled any more */
+    int block_room;
     bool serial, serial_next;
     unsigned tries;
     struct list undo, commits, undos;
@@ -98,6 +100,7 @@ _Noreturn void call_failed(uint32_t code);
 void become_serial(void);
 void become_irrevocable(void);
 void find_quick(void);
+void grow_blocks(void);
 
 /* A block is open that may yet be cancelled, in a transaction whose shared writes are in their place. */
 static inline bool logs_shared(void) {
@@ -157,6 +160,8 @@ void write_shared(uint64_t place, const char *from, size_t size);
 
 void lock_heap(void);
 void unlock_heap(void);
+
+#pragma GCC visibility pop
 
 /* -- the C library's own memory, which is no transaction's -- */
 

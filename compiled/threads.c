@@ -149,6 +149,7 @@ static void introduce(void) {
     pthread_attr_destroy(&attributes);
     tx.stack = (struct memory){(uintptr_t)at, size};
     tx.tls = (struct memory){(uintptr_t)__builtin_thread_pointer() - tls_size, tls_size};
+    grow_blocks();
     pthread_setspecific(leaving, &tx);
 }
 
@@ -222,12 +223,14 @@ static void before_fork(void) {
 static void after_fork(void) {
     unlock_heap();
     pthread_mutex_unlock(&people);
-    if (holds_clock && itm_c_commit(&tx.engine) >= ITM_C_CONFLICT) fail("the clock could not be freed after a fork");
+    if (!holds_clock) return;
+    if (itm_c_commit(&tx.engine) >= ITM_C_CONFLICT) fail("the clock could not be freed after a fork");
     if (tx.seat >= LENT_SEAT) give_seat();
 }
 
 /* The other threads are gone, with their seats. */
 static void in_child(void) {
+    seat_is_free = (pthread_cond_t)PTHREAD_COND_INITIALIZER;
     first_thread = tx.stack.size ? &tx : 0;
     tx.next = 0;
     after_fork();
