@@ -39,7 +39,7 @@ void rattle_dealloc(void *at) {
     __libc_free(at);
 }
 
-/* -- the program's data -- */
+/* -- the data of the program: .data and .bss, side by side in one part of its image -- */
 
 struct image {
     uintptr_t first, data, filled, end, sealed, slots;

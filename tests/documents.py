@@ -3,7 +3,8 @@ The last line is "N passed, M failed"; the exit status is 0 where none failed.
 
 - A path names a file or a folder, from the top or within one; words in capitals stand for any name.
 - `Type::item` names an item of a type, a trait, an enum or a module that are declared.
-- An `_ITM_` name is an entry point or the beginning of one, and what docs/ABI.md lists as left out is none.
+- An `_ITM_` name is an entry point or the beginning of one, and what docs/ABI.md lists as left out is none; on the page of
+  compiled programs it stands in their library.
 - Of every other span each word stands in the code, the definitions, the proofs, the tests or the examples.
 - A block of Rattle is a part of a source file; a plain block of README.md or CALLING.md is a file of examples/, what a
   program prints, or a line of crates.txt. README.md counts the must-fail edits right.
@@ -20,6 +21,7 @@ ROOT = pathlib.Path(__file__).resolve().parent.parent
 PAGES = [ROOT / "README.md", *sorted(ROOT.glob("docs/*.md"))]
 SOURCES = [
     "crates.txt", "HANDLES", "itmrun", "crates/*/stdout", "*.sh", ".ci/run", "tests/**/*", "bench/*", "examples/*", "judge/**/*",
+    "compiled/**/*",
     *(f"crates/*/{part}/**/*" for part in ("src", "specs", "proofs", "must-fail", "wrong-bodies")),
 ]
 
@@ -118,7 +120,7 @@ class Documents:
         for owner, name in ITEM.findall(text):
             self.expect(owner in ("std", "str") or self.is_item(owner, name), page, "there is no", f"{owner}::{name}")
         words = [it for it in WORD.findall(PATH.sub(" ", text)) if not CAPITALS.fullmatch(it)]
-        lacking = [it for it in words if not self.is_word(it)]
+        lacking = [it for it in words if not (self.is_word(it) or page.name == "COMPILED.md" and it in self.words)]
         self.expect(not lacking, page, "nothing is named", ", ".join(lacking), "in", text)
 
     def left_out(self, page, text):
