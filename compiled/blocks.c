@@ -69,11 +69,10 @@ static SLOW void wait_to_enter(bool serial, bool again) {
 
 static inline uint32_t open_try(bool again) {
     uint32_t props = tx.block[0].props;
-    bool is_fixed = is_irrevocable(props);
-    tx.serial = is_fixed || tx.serial_next;
+    tx.serial = is_irrevocable(props) || tx.serial_next;
     if (UNLIKELY(!has_entered(tx.serial, again))) wait_to_enter(tx.serial, again);
     tx.nesting = tx.depth = tx.engine_blocks = 1;
-    tx.fixed = is_fixed;
+    tx.fixed = is_irrevocable(props) || (tx.serial && props & HAS_NO_ABORT);
     tx.serials += tx.serial;
     set_quick();
     return code_to_run(props);
@@ -98,8 +97,11 @@ static inline void fill_block(uint32_t props, const struct registers *r) {
     b->fresh = tx.fresh.used;
 }
 
-/* In a serial transaction the undo log alone takes an inner block back. */
+/* GCC 12 may make a plain load of one that follows an inner block, so by the end of that block what the transaction has
+ * written has to be in its place: it is serial from then on, and where the block around may be cancelled too, from its
+ * begin on. There the undo log alone takes an inner block back. */
 static void open_inner(uint32_t props, const struct registers *r) {
+    if (tx.depth > 1 || !(tx.block[0].props & HAS_NO_ABORT)) become_serial();
     if (tx.depth == tx.block_room) grow_blocks();
     fill_block(props, r);
     if (!tx.serial) {
@@ -155,8 +157,7 @@ void become_serial(void) {
 
 void call_failed(uint32_t code) {
     if (code == ITM_C_CONFLICT) start_again();
-    /* a serial transaction takes no memory of the engine, and has one block there */
-    if (code == ITM_C_MEMORY || code == ITM_C_TOO_DEEP) become_serial();
+    if (code == ITM_C_MEMORY) become_serial(); /* such a one takes no memory of the engine */
     if (code == ITM_C_MEMORY) fail("no memory for a transaction");
     if (code == ITM_C_FULL) fail("2^62 - 1 transactions have committed");
     fail("the engine refused a call: %u", code);
@@ -205,8 +206,9 @@ static void commit_inner(void) {
     tx.nesting--;
     tx.depth--;
     if (tx.fixed > tx.depth) tx.fixed = tx.depth;
-    if (tx.serial && tx.fixed == tx.depth) tx.undo.used = tx.undos.used = 0;
-    find_quick();
+    if (tx.fixed == tx.depth) tx.undo.used = tx.undos.used = 0;
+    if (tx.serial) find_quick();
+    else become_irrevocable();
 }
 
 ENTRY void _ITM_commitTransaction(void) {
