@@ -1,4 +1,5 @@
-/* Allocation within transactions: what is allocated goes back with its block, and what is freed goes with the commit. */
+/* Allocation within transactions: what is allocated goes back with its block, and what is freed goes with the commit. Both
+ * are by the program's malloc and free, whoever's they are. */
 #include "library.h"
 #include <errno.h>
 #include <stdlib.h>
@@ -6,6 +7,12 @@
 static void *noted(void *p, size_t size) {
     if (p && tx.depth > tx.fixed) add_fresh(p, size);
     return p;
+}
+
+static void release(void *p) {
+    if (!p) return;
+    if (tx.nesting) add_action(&tx.commits, free, p);
+    else free(p);
 }
 
 ENTRY void *_ITM_malloc(size_t size) {
@@ -17,25 +24,27 @@ ENTRY void *_ITM_calloc(size_t count, size_t each) {
 }
 
 ENTRY void _ITM_free(void *p) {
-    if (!p) return;
-    if (tx.nesting) add_action(&tx.commits, free, p);
-    else free(p);
+    release(p);
 }
 
 /* -- C++: new and delete -- */
 
 static void *made(size_t size) {
-    void *p = _ITM_malloc(size ? size : 1);
+    return noted(malloc(size ? size : 1), size);
+}
+
+static void *surely_made(size_t size) {
+    void *p = made(size);
     if (!p) fail("no memory for a new, and no exception may leave a transaction");
     return p;
 }
 
 #define MAKES(NAME) \
-    ENTRY void *NAME(size_t size) { return made(size); }
+    ENTRY void *NAME(size_t size) { return surely_made(size); }
 #define MAKES_IF_CAN(NAME) \
-    ENTRY void *NAME(size_t size, const void *tag) { return (void)tag, _ITM_malloc(size ? size : 1); }
+    ENTRY void *NAME(size_t size, const void *tag) { return (void)tag, made(size); }
 #define FREES(NAME, ...) \
-    ENTRY void NAME(void *p __VA_ARGS__) { _ITM_free(p); }
+    ENTRY void NAME(void *p __VA_ARGS__) { release(p); }
 #define UNUSED __attribute__((unused))
 
 MAKES(_ZGTtnwm)
