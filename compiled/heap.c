@@ -144,14 +144,6 @@ ENTRY int posix_memalign(void **to, size_t align, size_t size) {
     return 0;
 }
 
-ENTRY void *valloc(size_t size) {
-    return memalign(4096, size);
-}
-
-ENTRY void *pvalloc(size_t size) {
-    return memalign(4096, (size + 4095) & -4096);
-}
-
 ENTRY size_t malloc_usable_size(void *p) {
     return p && is_ours(p) ? room_at(p) : 0;
 }
