@@ -60,7 +60,7 @@ enum kind kind_of(const void *p, size_t size) {
     if (is_frame(at, tx.block[0].registers.sp)) return OWN;
     if (tx.fresh.used && is_fresh(at)) return OWN;
     if (in_region(p, size)) return SHARED;
-    if (is_within(at, &tx.stack) || is_within(at, &tx.tls)) return tx.is_shared ? FOREIGN : OWN;
+    if (is_within(at, &tx.stack) || is_within(at, &tx.tls)) return __atomic_load_n(&tx.is_shared, __ATOMIC_RELAXED) ? FOREIGN : OWN;
     if (is_within(at, &constants)) return CONSTANT;
     return FOREIGN;
 }
