@@ -8,26 +8,26 @@ __thread struct tx tx __attribute__((tls_model("initial-exec")));
 /* After so many tries a transaction is serial, and so the next one is its last. */
 enum { MOST_TRIES = 100 };
 
-static inline void set_quick(void) {
+static inline void set_fast(void) {
     bool is_plain = !tx.fresh.used && !logs_shared() && !in_region(tx.block[0].registers.sp, 1);
-    tx.quick = is_plain ? region.size : 0;
+    tx.fast = is_plain ? region.size : 0;
 }
 
-void find_quick(void) {
-    set_quick();
+void find_fast(void) {
+    set_fast();
 }
 
-static inline void forget(void) {
+static inline void reset(void) {
     tx.nesting = tx.depth = tx.engine_blocks = tx.fixed = 0;
     tx.undo.used = tx.commits.used = tx.undos.used = tx.fresh.used = tx.fresh_sorted.used = 0;
-    tx.quick = tx.met_page = 0;
+    tx.fast = tx.foreign_page = 0;
     tx.serial = false;
-    turn_ends();
+    mark_closed();
 }
 
 /* The thread's own part of going back to where a block began. */
-static void go_back(const struct block *to) {
-    put_back(to);
+static void roll_back(const struct block *to) {
+    undo_to(to);
     tx.commits.used = to->commits;
     while (tx.undos.used > to->undos) {
         tx.undos.used -= sizeof(struct action);
@@ -54,10 +54,10 @@ static uint32_t code_to_run(uint32_t props) {
 }
 
 static inline bool has_entered(bool serial, bool again) {
-    turn_begins();
+    mark_open();
     uint32_t code = itm_c_begin(&tx.engine, false, false, serial, again);
     if (LIKELY(code == ITM_C_ENTERED || code == ITM_C_ENTERED_AGAIN)) return true;
-    turn_ends();
+    mark_closed();
     if (code != ITM_C_BUSY && code != ITM_C_CONFLICT) fail("a transaction could not begin: %u", code);
     return false;
 }
@@ -74,7 +74,7 @@ static inline uint32_t open_try(bool again) {
     tx.nesting = tx.depth = tx.engine_blocks = 1;
     tx.fixed = is_irrevocable(props) || (tx.serial && props & HAS_NO_ABORT);
     tx.serials += tx.serial;
-    set_quick();
+    set_fast();
     return code_to_run(props);
 }
 
@@ -110,7 +110,7 @@ static void open_inner(uint32_t props, const struct registers *r) {
         tx.engine_blocks++;
     }
     tx.depth++;
-    find_quick();
+    find_fast();
 }
 
 /* A block that is not cancelled by its own code begins and ends with the one around it. */
@@ -127,7 +127,7 @@ static SLOW uint32_t begin_inner(uint32_t props, const struct registers *r) {
 
 uint32_t begin_called(uint32_t props, const struct registers *r) {
     if (UNLIKELY(tx.nesting)) return begin_inner(props, r);
-    if (UNLIKELY(tx.seat == NO_SEAT)) take_seat();
+    if (UNLIKELY(tx.handle == NO_HANDLE)) take_handle();
     tx.tries = 0;
     tx.serial_next = false;
     fill_block(props, r);
@@ -137,9 +137,9 @@ uint32_t begin_called(uint32_t props, const struct registers *r) {
 /* -- tries that have failed -- */
 
 /* The engine has rolled the transaction back. */
-static _Noreturn void start_again(void) {
-    go_back(&tx.block[0]);
-    forget();
+static _Noreturn void restart(void) {
+    roll_back(&tx.block[0]);
+    reset();
     tx.restarts++;
     if (++tx.tries > MOST_TRIES) tx.serial_next = true;
     wait_a_little(tx.tries);
@@ -152,11 +152,11 @@ void become_serial(void) {
     uint32_t code = itm_c_cancel(&tx.engine, true);
     if (code != ITM_C_CANCELLED) fail("a transaction could not go back: %u", code);
     tx.serial_next = true;
-    start_again();
+    restart();
 }
 
 void call_failed(uint32_t code) {
-    if (code == ITM_C_CONFLICT) start_again();
+    if (code == ITM_C_CONFLICT) restart();
     if (code == ITM_C_MEMORY) become_serial(); /* such a one takes no memory of the engine */
     if (code == ITM_C_MEMORY) fail("no memory for a transaction");
     if (code == ITM_C_FULL) fail("2^62 - 1 transactions have committed");
@@ -174,7 +174,7 @@ void become_irrevocable(void) {
     }
     tx.fixed = tx.depth;
     tx.undo.used = tx.undos.used = 0;
-    find_quick();
+    find_fast();
 }
 
 ENTRY void _ITM_changeTransactionMode(int mode) {
@@ -207,7 +207,7 @@ static void commit_inner(void) {
     tx.depth--;
     if (tx.fixed > tx.depth) tx.fixed = tx.depth;
     if (tx.fixed == tx.depth) tx.undo.used = tx.undos.used = 0;
-    if (tx.serial) find_quick();
+    if (tx.serial) find_fast();
     else become_irrevocable();
 }
 
@@ -224,9 +224,9 @@ ENTRY void _ITM_commitTransaction(void) {
     uint32_t code = itm_c_commit(&tx.engine);
     if (UNLIKELY(code >= ITM_C_CONFLICT)) call_failed(code);
     struct list due = tx.commits;
-    forget();
+    reset();
     tx.done++;
-    if (UNLIKELY(tx.seat >= LENT_SEAT)) give_seat();
+    if (UNLIKELY(tx.handle >= LENT_HANDLE)) give_handle();
     if (UNLIKELY(due.used)) run_commits(due);
 }
 
@@ -244,15 +244,15 @@ ENTRY _Noreturn void _ITM_abortTransaction(int reason) {
     if ((reason & ~OUTER_ABORT) != USER_ABORT) fail("an abort for reason %d is not served", reason);
     if (target < tx.fixed) fail("a block can't be cancelled once unsafe code has run in it");
     struct block *b = &tx.block[target];
-    go_back(b);
+    roll_back(b);
     cancel_in_engine(target);
     tx.depth = target;
     tx.nesting = b->nesting - 1;
     if (target) {
-        find_quick();
+        find_fast();
     } else {
-        forget();
-        if (tx.seat >= LENT_SEAT) give_seat();
+        reset();
+        if (tx.handle >= LENT_HANDLE) give_handle();
     }
     return_again(ABORTED | RESTORE_LIVE, &b->registers);
 }

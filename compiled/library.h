@@ -74,7 +74,7 @@ struct block {
 /* A thread's transactions. In a serial one the engine's is irrevocable, so no other one commits; what it writes is in
  * its place at once, and the undo log has it all, so blocks that are not `fixed` can be cancelled. */
 struct tx {
-    uintptr_t quick; /* so many bytes of the region need no further question: all or none */
+    uintptr_t fast; /* so many bytes of the region need no further question: all or none */
     struct itm_c_thread engine;
     struct block *block; /* there is room for one; `depth` of them are open, of which the engine has `engine_blocks` */
     int nesting, depth, engine_blocks;
@@ -85,11 +85,11 @@ struct tx {
     struct list undo, commits, undos;
     struct list fresh, fresh_sorted; /* struct memory: in the order of allocation, and by address */
     /* of threads.c */
-    int seat; /* whose handle `engine` is */
+    int handle; /* whose `engine` is */
     struct memory stack, tls;
-    uint64_t turn;       /* odd while a transaction is open */
-    bool is_shared;      /* others use its stack or its thread-local storage */
-    uintptr_t met_page;  /* of foreign memory, in this transaction */
+    uint64_t epoch;         /* odd while a transaction is open */
+    bool is_shared;         /* others use its stack or its thread-local storage */
+    uintptr_t foreign_page; /* that was used last, in this transaction */
     struct tx *next;
     uint64_t done, restarts, serials;
 };
@@ -99,7 +99,7 @@ extern __thread struct tx tx __attribute__((tls_model("initial-exec")));
 _Noreturn void call_failed(uint32_t code);
 void become_serial(void);
 void become_irrevocable(void);
-void find_quick(void);
+void find_fast(void);
 void grow_blocks(void);
 
 /* A block is open that may yet be cancelled, in a transaction whose shared writes are in their place. */
@@ -109,23 +109,23 @@ static inline bool logs_shared(void) {
 
 /* -- threads.c -- */
 
-enum { NO_SEAT, OWN_SEAT, LENT_SEAT };
+enum { NO_HANDLE, OWN_HANDLE, LENT_HANDLE };
 
 extern bool needs_fences;
 
-void take_seat(void);
-void give_seat(void);
-void meet_owner(const void *p, size_t size);
+void take_handle(void);
+void give_handle(void);
+void wait_for_owner(const void *p, size_t size);
 
-/* (a thread that looks at the turns of others makes up for the fence: see threads.c) */
-static inline void turn_begins(void) {
-    __atomic_store_n(&tx.turn, tx.turn + 1, __ATOMIC_RELEASE);
+/* (No fence: a thread that looks at another's epoch orders them all, see threads.c.) */
+static inline void mark_open(void) {
+    __atomic_store_n(&tx.epoch, tx.epoch + 1, __ATOMIC_RELEASE);
     __atomic_signal_fence(__ATOMIC_SEQ_CST);
     if (UNLIKELY(needs_fences)) __atomic_thread_fence(__ATOMIC_SEQ_CST);
 }
 
-static inline void turn_ends(void) {
-    __atomic_store_n(&tx.turn, tx.turn + 1, __ATOMIC_RELEASE);
+static inline void mark_closed(void) {
+    __atomic_store_n(&tx.epoch, tx.epoch + 1, __ATOMIC_RELEASE);
 }
 
 /* -- region.c -- */
@@ -146,7 +146,7 @@ static inline bool in_region(const void *p, size_t size) {
 enum kind { SHARED, CONSTANT, OWN, FOREIGN };
 enum kind kind_of(const void *p, size_t size);
 void log_bytes(const void *p, size_t size);
-void put_back(const struct block *);
+void undo_to(const struct block *);
 void add_fresh(void *p, size_t size);
 void drop_fresh(size_t left);
 

@@ -39,7 +39,7 @@ void add_fresh(void *p, size_t size) {
     struct memory new = {(uintptr_t)p, size ? size : 1};
     *(struct memory *)list_add(&tx.fresh, sizeof new) = new;
     sort_in(new);
-    find_quick();
+    find_fast();
 }
 
 void drop_fresh(size_t left) {
@@ -60,7 +60,8 @@ enum kind kind_of(const void *p, size_t size) {
     if (is_frame(at, tx.block[0].registers.sp)) return OWN;
     if (tx.fresh.used && is_fresh(at)) return OWN;
     if (in_region(p, size)) return SHARED;
-    if (is_within(at, &tx.stack) || is_within(at, &tx.tls)) return __atomic_load_n(&tx.is_shared, __ATOMIC_RELAXED) ? FOREIGN : OWN;
+    if (is_within(at, &tx.stack) || is_within(at, &tx.tls))
+        return __atomic_load_n(&tx.is_shared, __ATOMIC_RELAXED) ? FOREIGN : OWN;
     if (is_within(at, &constants)) return CONSTANT;
     return FOREIGN;
 }
@@ -79,17 +80,17 @@ void log_bytes(const void *p, size_t size) {
     *(struct memory *)(to + padded(size)) = (struct memory){(uintptr_t)p, size};
 }
 
-static void put_back_one(const struct memory *m, const char *bytes, const struct block *to) {
+static void undo_one(const struct memory *m, const char *bytes, const struct block *to) {
     if (is_frame(m->at, to->registers.sp)) return;
     if (tx.serial && in_region((void *)m->at, m->size)) write_shared(m->at - region.at, bytes, m->size);
     else memcpy((void *)m->at, bytes, m->size);
 }
 
-void put_back(const struct block *to) {
+void undo_to(const struct block *to) {
     while (tx.undo.used > to->undo) {
         struct memory *m = (void *)(tx.undo.at + tx.undo.used - sizeof *m);
         char *bytes = (char *)m - padded(m->size);
-        put_back_one(m, bytes, to);
+        undo_one(m, bytes, to);
         tx.undo.used = bytes - tx.undo.at;
     }
 }

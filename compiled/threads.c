@@ -8,19 +8,19 @@
 #include <sys/syscall.h>
 #include <unistd.h>
 
-/* The engine has 127 seats. A thread has one for itself, and who comes once these are taken is lent one for each
+/* The engine has 127 handles. A thread has one for itself, and who comes once these are taken is lent one for each
  * transaction. */
-enum { OWN_SEATS = 119, LENT_SEATS = 8 };
+enum { OWN_HANDLES = 119, LENT_HANDLES = 8 };
 
 static struct itm_c_words words;
-static int own_seats;
+static int own_handles;
 static struct {
     struct itm_c_thread engine;
     bool is_out;
-} lent[LENT_SEATS];
+} lent[LENT_HANDLES];
 
-static pthread_mutex_t people = PTHREAD_MUTEX_INITIALIZER;
-static pthread_cond_t seat_is_free = PTHREAD_COND_INITIALIZER;
+static pthread_mutex_t threads_lock = PTHREAD_MUTEX_INITIALIZER;
+static pthread_cond_t handle_is_free = PTHREAD_COND_INITIALIZER;
 static struct tx *first_thread;
 static uint64_t all_done, all_restarts, all_serials;
 static pthread_key_t leaving;
@@ -36,10 +36,10 @@ static void add_counts(void) {
 
 /* Threads that are there still are not counted. */
 static void tell_counts(void) {
-    pthread_mutex_lock(&people);
+    pthread_mutex_lock(&threads_lock);
     add_counts();
     fprintf(stderr, "libitm (Sofjundel): %lu committed, %lu restarts, %lu serial\n", all_done, all_restarts, all_serials);
-    pthread_mutex_unlock(&people);
+    pthread_mutex_unlock(&threads_lock);
 }
 
 /* -- the process -- */
@@ -65,22 +65,22 @@ static void open_engine(void) {
 /* -- memory of a thread that others use. From the first such use on it is foreign to its own thread too. -- */
 
 /* Where that was while nobody had it: a thread that comes later may. */
-enum { STRANGERS = 256, GRAIN = 1 << 16 };
-static uintptr_t strangers[STRANGERS];
-static int stranger_count;
+enum { MOST_UNOWNED = 256, GRAIN = 1 << 16 };
+static uintptr_t unowned[MOST_UNOWNED];
+static int unowned_count;
 
-static void note_stranger(uintptr_t at) {
+static void note_unowned(uintptr_t at) {
     at &= -(uintptr_t)GRAIN;
-    for (int i = 0; i < stranger_count && i < STRANGERS; i++)
-        if (strangers[i] == at) return;
-    if (stranger_count < STRANGERS) strangers[stranger_count] = at;
-    if (stranger_count <= STRANGERS) stranger_count++;
+    for (int i = 0; i < unowned_count && i < MOST_UNOWNED; i++)
+        if (unowned[i] == at) return;
+    if (unowned_count < MOST_UNOWNED) unowned[unowned_count] = at;
+    if (unowned_count <= MOST_UNOWNED) unowned_count++;
 }
 
-static bool was_met(const struct memory *m) {
-    for (int i = 0; i < stranger_count && i < STRANGERS; i++)
-        if (strangers[i] + GRAIN > m->at && strangers[i] < m->at + m->size) return true;
-    return stranger_count > STRANGERS;
+static bool was_used(const struct memory *m) {
+    for (int i = 0; i < unowned_count && i < MOST_UNOWNED; i++)
+        if (unowned[i] + GRAIN > m->at && unowned[i] < m->at + m->size) return true;
+    return unowned_count > MOST_UNOWNED;
 }
 
 static struct tx *owner_of(uintptr_t at) {
@@ -91,30 +91,30 @@ static struct tx *owner_of(uintptr_t at) {
 
 /* The owner's transaction that is open just now may have used it unguarded: it has to end. It does, since the clock is
  * held by this one: what it can't do without the clock it gives up, and is not open while it waits. */
-static void share(struct tx *owner) {
+static void mark_shared(struct tx *owner) {
     __atomic_store_n(&owner->is_shared, true, __ATOMIC_SEQ_CST);
     if (!needs_fences && !orders_all_threads()) fail("memory of another thread can't be used");
-    uint64_t turn = __atomic_load_n(&owner->turn, __ATOMIC_SEQ_CST);
-    while (turn & 1 && __atomic_load_n(&owner->turn, __ATOMIC_ACQUIRE) == turn) sched_yield();
+    uint64_t epoch = __atomic_load_n(&owner->epoch, __ATOMIC_SEQ_CST);
+    while (epoch & 1 && __atomic_load_n(&owner->epoch, __ATOMIC_ACQUIRE) == epoch) sched_yield();
 }
 
-static void meet(uintptr_t at) {
-    if (at / 4096 == tx.met_page) return;
-    pthread_mutex_lock(&people);
+static void use_foreign_at(uintptr_t at) {
+    if (at / 4096 == tx.foreign_page) return;
+    pthread_mutex_lock(&threads_lock);
     struct tx *owner = owner_of(at);
-    if (!owner) note_stranger(at);
-    else if (owner != &tx && !owner->is_shared) share(owner);
-    pthread_mutex_unlock(&people);
-    tx.met_page = at / 4096;
+    if (!owner) note_unowned(at);
+    else if (owner != &tx && !owner->is_shared) mark_shared(owner);
+    pthread_mutex_unlock(&threads_lock);
+    tx.foreign_page = at / 4096;
 }
 
 /* Foreign memory is used, in a serial transaction. */
-void meet_owner(const void *p, size_t size) {
-    meet((uintptr_t)p);
-    meet((uintptr_t)p + size - 1);
+void wait_for_owner(const void *p, size_t size) {
+    use_foreign_at((uintptr_t)p);
+    use_foreign_at((uintptr_t)p + size - 1);
 }
 
-/* -- seats, under the lock -- */
+/* -- handles, under the lock -- */
 
 static bool has_entered(struct itm_c_thread *engine) {
     uint32_t code = itm_c_enter(&words, engine);
@@ -123,24 +123,27 @@ static bool has_entered(struct itm_c_thread *engine) {
 }
 
 static bool is_lent(void) {
-    for (int i = 0; i < LENT_SEATS; i++) {
+    bool is_any_out = false;
+    for (int i = 0; i < LENT_HANDLES; i++) {
+        is_any_out |= lent[i].is_out;
         if (lent[i].is_out || (!lent[i].engine.at && !has_entered(&lent[i].engine))) continue;
         lent[i].is_out = true;
         tx.engine = lent[i].engine;
-        tx.seat = LENT_SEAT + i;
+        tx.handle = LENT_HANDLE + i;
         return true;
     }
+    if (!is_any_out) fail("no memory for a thread");
     return false;
 }
 
-static bool found_seat(void) {
-    if (own_seats == OWN_SEATS || !has_entered(&tx.engine)) return is_lent();
-    own_seats++;
-    tx.seat = OWN_SEAT;
+static bool found_handle(void) {
+    if (own_handles == OWN_HANDLES || !has_entered(&tx.engine)) return is_lent();
+    own_handles++;
+    tx.handle = OWN_HANDLE;
     return true;
 }
 
-static void introduce(void) {
+static void find_own_memory(void) {
     pthread_attr_t attributes;
     void *at;
     size_t size;
@@ -154,32 +157,32 @@ static void introduce(void) {
 }
 
 static void add_thread(void) {
-    tx.is_shared = was_met(&tx.stack) || was_met(&tx.tls);
+    tx.is_shared = was_used(&tx.stack) || was_used(&tx.tls);
     tx.next = first_thread;
     first_thread = &tx;
 }
 
-void take_seat(void) {
+void take_handle(void) {
     static pthread_once_t once = PTHREAD_ONCE_INIT;
     bool is_new = !tx.stack.size;
     pthread_once(&once, open_engine);
-    if (is_new) introduce();
-    pthread_mutex_lock(&people);
+    if (is_new) find_own_memory();
+    pthread_mutex_lock(&threads_lock);
     if (is_new) add_thread();
-    while (!found_seat()) pthread_cond_wait(&seat_is_free, &people);
-    pthread_mutex_unlock(&people);
+    while (!found_handle()) pthread_cond_wait(&handle_is_free, &threads_lock);
+    pthread_mutex_unlock(&threads_lock);
 }
 
 /* A lent one. */
-void give_seat(void) {
-    int i = tx.seat - LENT_SEAT;
-    pthread_mutex_lock(&people);
+void give_handle(void) {
+    int i = tx.handle - LENT_HANDLE;
+    pthread_mutex_lock(&threads_lock);
     lent[i].engine = tx.engine;
     lent[i].is_out = false;
     tx.engine.at = 0;
-    tx.seat = NO_SEAT;
-    pthread_cond_signal(&seat_is_free);
-    pthread_mutex_unlock(&people);
+    tx.handle = NO_HANDLE;
+    pthread_cond_signal(&handle_is_free);
+    pthread_mutex_unlock(&threads_lock);
 }
 
 /* -- a thread ends -- */
@@ -194,15 +197,15 @@ static void leave(void *none) {
     struct list *lists[] = {&tx.undo, &tx.commits, &tx.undos, &tx.fresh, &tx.fresh_sorted};
     (void)none;
     if (tx.nesting) fail("a thread ends within a transaction");
-    pthread_mutex_lock(&people);
-    if (tx.seat == OWN_SEAT) {
+    pthread_mutex_lock(&threads_lock);
+    if (tx.handle == OWN_HANDLE) {
         if (itm_c_leave(&words, &tx.engine)) fail("a thread could not leave");
-        own_seats--;
-        pthread_cond_signal(&seat_is_free);
+        own_handles--;
+        pthread_cond_signal(&handle_is_free);
     }
     remove_thread();
     add_counts();
-    pthread_mutex_unlock(&people);
+    pthread_mutex_unlock(&threads_lock);
     for (int i = 0; i < 5; i++) list_drop(lists[i]);
     __libc_free(tx.block);
     tx = (struct tx){0};
@@ -214,23 +217,23 @@ static bool holds_clock;
 
 static void before_fork(void) {
     holds_clock = words.at && !tx.nesting;
-    if (holds_clock && tx.seat == NO_SEAT) take_seat();
+    if (holds_clock && tx.handle == NO_HANDLE) take_handle();
     while (holds_clock && itm_c_begin(&tx.engine, false, false, true, false) != ITM_C_ENTERED) sched_yield();
-    pthread_mutex_lock(&people);
+    pthread_mutex_lock(&threads_lock);
     lock_heap();
 }
 
 static void after_fork(void) {
     unlock_heap();
-    pthread_mutex_unlock(&people);
+    pthread_mutex_unlock(&threads_lock);
     if (!holds_clock) return;
     if (itm_c_commit(&tx.engine) >= ITM_C_CONFLICT) fail("the clock could not be freed after a fork");
-    if (tx.seat >= LENT_SEAT) give_seat();
+    if (tx.handle >= LENT_HANDLE) give_handle();
 }
 
-/* The other threads are gone, with their seats. */
+/* The other threads are gone, with their handles. */
 static void in_child(void) {
-    seat_is_free = (pthread_cond_t)PTHREAD_COND_INITIALIZER;
+    handle_is_free = (pthread_cond_t)PTHREAD_COND_INITIALIZER;
     first_thread = tx.stack.size ? &tx : 0;
     tx.next = 0;
     after_fork();
