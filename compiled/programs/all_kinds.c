@@ -10,7 +10,7 @@
 #include <string.h>
 #include <sys/mman.h>
 
-enum { WORDS = 16, KINDS = 5, ROUNDS = 400, MOST_THREADS = 64, DEEPEST = 5 };
+enum { WORDS = 16, KINDS = 5, MOST_THREADS = 64, DEEPEST = 5 };
 #define SAFE __attribute__((transaction_safe, noinline))
 
 struct rows {
@@ -23,7 +23,7 @@ struct model {
 
 static long data[MOST_THREADS][WORDS], counter;
 static __thread long local[WORDS];
-static int threads = 1;
+static int threads = 1, rounds = 400;
 static bool is_wrong;
 
 SAFE static uint32_t draw(uint64_t *seed, uint32_t below) {
@@ -113,7 +113,7 @@ static void *work(void *p) {
     struct rows rows = {{data[number], calloc(WORDS, sizeof(long)), pages, stack, local}, false};
     struct model m = {0};
     struct rows modelled = {{m.row[0], m.row[1], m.row[2], m.row[3], m.row[4]}, false};
-    for (int i = 0; i < ROUNDS; i++) {
+    for (int i = 0; i < rounds; i++) {
         uint64_t seed = number * 1000003 + i, again = seed;
         rows.has_foreign = modelled.has_foreign = i % 4 == 0;
         __transaction_atomic {
@@ -134,9 +134,10 @@ static void *work(void *p) {
 int main(int count, char **words) {
     pthread_t t[MOST_THREADS];
     if (count > 1) threads = atoi(words[1]);
+    if (count > 2) rounds = atoi(words[2]);
     for (long i = 0; i < threads; i++) pthread_create(&t[i], 0, work, (void *)i);
     for (int i = 0; i < threads; i++) pthread_join(t[i], 0);
-    is_wrong |= counter != (long)threads * ROUNDS;
+    is_wrong |= counter != (long)threads * rounds;
     printf("%s\n", is_wrong ? "blocks and plain code do not agree" : "right");
     return is_wrong;
 }
