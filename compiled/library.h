@@ -5,8 +5,8 @@
  *   constant  what the program has in front of its writable data: read as it is.
  *   own       the thread's stack and thread-local storage, and what the open transaction has allocated: read and
  *             written at once, with an undo log.
- *   foreign   all else, such as another thread's stack or another library's data: read and written at once too, in a
- *             serial transaction, as long as which no other one commits. */
+ *   foreign   all else, such as another thread's stack or another library's data: read and written at once too, by a
+ *             serial transaction, which all others wait for. */
 #ifndef LIBRARY_H
 #define LIBRARY_H
 #define _GNU_SOURCE
