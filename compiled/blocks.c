@@ -97,9 +97,9 @@ static inline void fill_block(uint32_t props, const struct registers *r) {
     b->fresh = tx.fresh.used;
 }
 
-/* GCC 12 may make a plain load of one that follows an inner block, so by the end of that block what the transaction has
- * written has to be in its place: it is serial from then on, and where the block around may be cancelled too, from its
- * begin on. There the undo log alone takes an inner block back. */
+/* GCC 12 may leave code that follows an inner block without barriers, so by the end of that block what the transaction
+ * has written has to be in its place: it is serial from then on, and where the block around may be cancelled too, from
+ * its begin on. There the undo log alone takes an inner block back. */
 static void open_inner(uint32_t props, const struct registers *r) {
     if (tx.depth > 1 || !(tx.block[0].props & HAS_NO_ABORT)) become_serial();
     if (tx.depth == tx.block_room) grow_blocks();
