@@ -8,15 +8,6 @@ __thread struct tx tx __attribute__((tls_model("initial-exec")));
 /* After so many tries a transaction is serial, and so the next one is its last. */
 enum { MOST_TRIES = 100 };
 
-static inline void set_fast(void) {
-    bool is_plain = !tx.fresh.used && !logs_shared() && !in_region(tx.block[0].registers.sp, 1);
-    tx.fast = is_plain ? region.size : 0;
-}
-
-void find_fast(void) {
-    set_fast();
-}
-
 static inline void reset(void) {
     tx.nesting = tx.depth = tx.engine_blocks = tx.fixed = 0;
     tx.undo.used = tx.commits.used = tx.undos.used = tx.fresh.used = tx.fresh_sorted.used = 0;
@@ -110,7 +101,7 @@ static void open_inner(uint32_t props, const struct registers *r) {
         tx.engine_blocks++;
     }
     tx.depth++;
-    find_fast();
+    set_fast();
 }
 
 /* A block that is not cancelled by its own code begins and ends with the one around it. */
@@ -174,7 +165,7 @@ void become_irrevocable(void) {
     }
     tx.fixed = tx.depth;
     tx.undo.used = tx.undos.used = 0;
-    find_fast();
+    set_fast();
 }
 
 ENTRY void _ITM_changeTransactionMode(int mode) {
@@ -207,7 +198,7 @@ static void commit_inner(void) {
     tx.depth--;
     if (tx.fixed > tx.depth) tx.fixed = tx.depth;
     if (tx.fixed == tx.depth) tx.undo.used = tx.undos.used = 0;
-    if (tx.serial) find_fast();
+    if (tx.serial) set_fast();
     else become_irrevocable();
 }
 
@@ -249,7 +240,7 @@ ENTRY _Noreturn void _ITM_abortTransaction(int reason) {
     tx.depth = target;
     tx.nesting = b->nesting - 1;
     if (target) {
-        find_fast();
+        set_fast();
     } else {
         reset();
         if (tx.handle >= LENT_HANDLE) give_handle();

@@ -99,7 +99,6 @@ extern __thread struct tx tx __attribute__((tls_model("initial-exec")));
 _Noreturn void call_failed(uint32_t code);
 void become_serial(void);
 void become_irrevocable(void);
-void find_fast(void);
 void grow_blocks(void);
 
 /* A block is open that may yet be cancelled, in a transaction whose shared writes are in their place. */
@@ -139,6 +138,11 @@ void find_region(void);
 static inline bool in_region(const void *p, size_t size) {
     uintptr_t at = (uintptr_t)p - region.at;
     return at < region.size && region.size - at >= size;
+}
+
+static inline void set_fast(void) {
+    bool is_plain = !tx.fresh.used && !logs_shared() && !in_region(tx.block[0].registers.sp, 1);
+    tx.fast = is_plain ? region.size : 0;
 }
 
 /* -- memory.c -- */

@@ -39,7 +39,7 @@ void add_fresh(void *p, size_t size) {
     struct memory new = {(uintptr_t)p, size ? size : 1};
     *(struct memory *)list_add(&tx.fresh, sizeof new) = new;
     sort_in(new);
-    find_fast();
+    set_fast();
 }
 
 void drop_fresh(size_t left) {
