@@ -42,7 +42,7 @@ void rattle_dealloc(void *at) {
 /* -- the data of the program: .data and .bss, side by side in one part of its image -- */
 
 struct image {
-    uintptr_t first, data, filled, end, sealed, slots;
+    uintptr_t base, first, data, filled, end, sealed, slots;
     size_t slot_count;
 };
 
@@ -54,8 +54,8 @@ static void find_slots(const ElfW(Dyn) *d, struct image *image) {
     }
 }
 
-static void look_at(const ElfW(Phdr) *part, uintptr_t base, struct image *image) {
-    uintptr_t at = base + part->p_vaddr, end = at + part->p_memsz;
+static void look_at(const ElfW(Phdr) *part, struct image *image) {
+    uintptr_t at = image->base + part->p_vaddr, end = at + part->p_memsz;
     if (part->p_type == PT_LOAD && !image->first) image->first = at;
     if (part->p_type == PT_LOAD && part->p_flags & PF_W)
         image->data = at, image->filled = at + part->p_filesz, image->end = end;
@@ -67,23 +67,31 @@ static void look_at(const ElfW(Phdr) *part, uintptr_t base, struct image *image)
 static struct image find_image(void) {
     const ElfW(Phdr) *parts = (void *)getauxval(AT_PHDR);
     size_t count = getauxval(AT_PHNUM);
-    uintptr_t base = 0;
     struct image image = {0};
     for (size_t i = 0; i < count; i++)
-        if (parts[i].p_type == PT_PHDR) base = (uintptr_t)parts - parts[i].p_vaddr;
-    for (size_t i = 0; i < count; i++) look_at(&parts[i], base, &image);
+        if (parts[i].p_type == PT_PHDR) image.base = (uintptr_t)parts - parts[i].p_vaddr;
+    for (size_t i = 0; i < count; i++) look_at(&parts[i], &image);
     return image;
 }
 
-/* The word before the region is the clock: the first of .data, where the start files put a zero that nobody uses. What
- * is sealed once the program is loaded lies in front of it, and then the slots, where a linker has not put them behind
- * .data. */
-static uintptr_t clock_of(const struct image *image) {
+/* What is sealed once the program is loaded lies in front of .data, and then the slots, where a linker has not put them
+ * behind. */
+static uintptr_t data_of(const struct image *image) {
     uintptr_t at = image->data > image->sealed ? image->data : image->sealed;
     uintptr_t slots_end = image->slots + 8 * image->slot_count;
     bool follow = !image->sealed || image->slots <= at;
     if (follow && slots_end > at && slots_end + 16 <= image->filled) at = slots_end;
     return (at + 7) & -8;
+}
+
+/* The word before the region is the clock: the first of .data, where the start files put a zero that nobody uses. Behind
+ * it they have a pointer to itself, or another zero in a program that lies at a fixed place. 0 where they have not, since
+ * a linker has taken that zero out. */
+static uintptr_t clock_of(const struct image *image) {
+    uint64_t *word = (void *)data_of(image), *last = (void *)(image->filled - 16);
+    if (!image->base) return word[0] || word[1] ? 0 : (uintptr_t)word;
+    while (word <= last && !word[0] && word[1] != (uintptr_t)&word[1]) word++;
+    return word <= last && !word[0] ? (uintptr_t)word : 0;
 }
 
 /* -- the heap, right behind -- */
@@ -111,15 +119,14 @@ static void place_region(void) {
     struct image image = find_image();
     uintptr_t clock = clock_of(&image), behind = (image.end + PAGE - 1) & -PAGE;
     size_t data = behind - clock, most = wanted_size();
-    map_heap(behind, most > data ? most - data : 0);
-    if (*(uint64_t *)clock || data > most) {
-        /* the data are laid out in another way: they are foreign, and the heap alone is shared */
-        constants = (struct memory){image.first, image.data - image.first};
+    bool has_data = clock && data <= most;
+    map_heap(behind, has_data ? most - data : most);
+    constants = (struct memory){image.first, (has_data ? clock : image.data) - image.first};
+    if (!has_data) {
+        /* the data are foreign, and the heap alone is shared */
         clock = heap.size ? heap.at : (uintptr_t)least;
-        data = heap.size ? 0 : sizeof least;
-        if (heap.size) heap.at += PAGE, heap.size -= PAGE, data = PAGE;
-    } else {
-        constants = (struct memory){image.first, clock - image.first};
+        data = heap.size ? PAGE : sizeof least;
+        if (heap.size) heap.at += PAGE, heap.size -= PAGE;
     }
     region = (struct memory){clock + 8, data - 8 + heap.size};
 }
