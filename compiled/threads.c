@@ -213,7 +213,7 @@ static void leave(void *none) {
 
 /* -- fork: while the clock is held no commit of another thread is under way, so the child's memory is whole -- */
 
-static bool holds_clock;
+static __thread bool holds_clock __attribute__((tls_model("initial-exec")));
 
 static void before_fork(void) {
     holds_clock = words.at && !tx.nesting;
