@@ -12,6 +12,8 @@
 #   CFLAGS    for both, -O2 where it is not set
 #   LIBS      for the linker, such as -lm
 #   RUNTIME   another library with the same entry points, instead of GCC's libitm: METHOD is handed to it unchecked
+#   WRITES    `buffered` where RUNTIME keeps what a try writes elsewhere up to its commit, as this repository's own does;
+#             `in_place`, which is the default, where it is written to memory at once
 #   ORDER     how the order of the commits becomes known: `outside` (the default) or `inside`
 #   PAUSES    one call in about so many sleeps first, so that tries meet: 60 where it is not set, 0 for none
 #   LIMIT     seconds after which the program is ended: 60 where it is not set
@@ -70,6 +72,11 @@ order=${ORDER:-outside}
 case $order in
 outside | inside) ;;
 *) stop "ORDER is outside or inside, and not $order" ;;
+esac
+writes=${WRITES:-in_place}
+case $writes in
+in_place | buffered) ;;
+*) stop "WRITES is in_place or buffered, and not $writes" ;;
 esac
 calls=${CALLS:-2000000}
 is_number "$calls" || stop "CALLS is a number from 1 on, and not $calls"
@@ -155,7 +162,7 @@ run() (
     [ "$1" = default ] || export ITM_DEFAULT_METHOD="$1"
     set -f
     timeout -k 60 "${LIMIT:-60}" env RECORD_TO="$2.recording" RECORD_ORDER="$order" RECORD_CALLS="$calls" \
-        RECORD_PAUSES="${PAUSES:-60}" LD_PRELOAD="$preload" "$work/$name" "$threads" ${ARGS:-}
+        RECORD_PAUSES="${PAUSES:-60}" RECORD_WRITES="$writes" LD_PRELOAD="$preload" "$work/$name" "$threads" ${ARGS:-}
 )
 
 # tell_end STATUS FILE: how the program ended, and what the recorder has to say

@@ -293,6 +293,19 @@ for library in ${libraries:+"$libraries"/*.so}; do
 done
 unset RUNTIME
 
+# this repository's own runtime, where it is built; it buffers writes
+own=$here/../compiled/out/libitm.so.1
+if [ -f "$own" ]; then
+    export RUNTIME="$own" WRITES=buffered
+    for name in bank cancel copies counters heap list mixed relaxed words; do ARGS=100 legal $name 4 default; done
+    ARGS=100 legal undo 2 default
+    export BELOW="$WORK/wrapper.so" ONE_IN=100
+    FAULT=stale told stale bank default
+    FAULT=drop told drop counters default
+    FAULT=naked told naked bank default
+    unset RUNTIME WRITES BELOW ONE_IN
+fi
+
 # changed copies of a legal run
 ARGS=100 legal counters 4 gl_wt
 for kind in recording history; do cp "$WORK/counters.4.gl_wt.$kind" "$WORK/run.$kind"; done

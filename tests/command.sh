@@ -362,6 +362,7 @@ count 'threads that stop' sh "$root/tests/sweeps.sh" stops
 count 'plain data beside parts of words' sh "$root/tests/neighbours.sh"
 count 'what is refused or cut off' env SCRIPTS=few sh "$root/tests/sweeps.sh" sched asm check threads cuts files engines
 count 'bodies that only tests refuse' sh "$root/tests/planted.sh"
+count 'compiled programs' sh "$root/compiled/test.sh" few
 
 echo "$passed passed, $failed failed"
 [ "$failed" = 0 ]

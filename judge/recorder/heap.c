@@ -3,6 +3,7 @@
  * filled with 0xdb: a transaction that still reads it, since the runtime freed it too early or let its owner free it
  * while others could see it, reads what no commit wrote. */
 #include "recorder.h"
+#include <dlfcn.h>
 #include <errno.h>
 #include <malloc.h>
 #include <stdio.h>
@@ -11,14 +12,30 @@
 enum { POISON = 0xdb, SMALLEST = 16, PAGE = 4096 };
 enum { KEPT = 1 << 20 }; /* bytes for what is written at the end, where the program has used up all others */
 
-const size_t heap_size = (size_t)4 << 30;
+size_t heap_size = (size_t)4 << 30;
 
 static byte *heap;
 static atomic_size_t used;
 static __thread const void *asker; /* the program's call that the runtime serves by the next malloc */
 
+static const void *library_of(const void *entry) {
+    Dl_info library;
+    return entry && dladdr(entry, &library) ? library.dli_fbase : 0;
+}
+
+/* A runtime that has a malloc of its own serves that memory otherwise than all other: then this heap is one block of
+ * it. */
+static byte *block_of_runtime(void) {
+    void *(*serve)(size_t) = dlsym(RTLD_NEXT, "malloc");
+    if (library_of(serve) != library_of(dlsym(RTLD_NEXT, "_ITM_beginTransaction"))) return 0;
+    byte *block = serve(heap_size / 4);
+    if (block) heap_size /= 4;
+    return block;
+}
+
 /* The first call comes as the program is loaded, before it has threads. */
 byte *heap_memory(void) {
+    if (!heap) heap = block_of_runtime();
     if (!heap) heap = reserve(heap_size);
     return heap;
 }
@@ -72,7 +89,7 @@ ENTRY void *calloc(size_t number, size_t size) {
 }
 
 ENTRY void free(void *p) {
-    if ((uintptr_t)p - (uintptr_t)heap >= heap_size) return; /* none, or the loader's own */
+    if (!p || (uintptr_t)p - (uintptr_t)heap >= heap_size) return; /* none, or the loader's own */
     struct block *block = block_of(p);
     if (atomic_exchange(&block->freed, 1)) {
         fprintf(stderr, "recorder: memory is freed twice: %p\n", p);

@@ -6,7 +6,8 @@
  * RECORD_TO      the file of the recording; nothing is written where it is not set
  * RECORD_CALLS   so many calls are noted at most, then the program is ended; all are where it is not set
  * RECORD_ORDER   how the order of the commits becomes known, `outside` or `inside` (order.c)
- * RECORD_PAUSES  N: one call in about N sleeps first, up to 64 us, so that short tries of several threads meet */
+ * RECORD_PAUSES  N: one call in about N sleeps first, up to 64 us, so that short tries of several threads meet
+ * RECORD_WRITES  where what a try wrote is found up to its commit: `in_place`, or `buffered` by the runtime */
 #ifndef RECORDER_H
 #define RECORDER_H
 #define _GNU_SOURCE
@@ -107,7 +108,7 @@ struct block {
     size_t back; /* from the memory to here; it stands right before the memory */
 };
 
-extern const size_t heap_size;
+extern size_t heap_size;
 byte *heap_memory(void);
 const struct block *first_block(void);
 const struct block *block_after(const struct block *);
@@ -183,6 +184,7 @@ void note_own(struct thread *, enum kind, const byte *stack);
 /* -- start.c, begin.c, tell.c -- */
 
 extern unsigned pauses;
+extern bool is_buffered;
 extern atomic_bool stopping;
 extern void *runtime_begin;
 void set_up(void);

@@ -11,6 +11,7 @@
 enum { CANNOT_RECORD = 99 };
 
 unsigned pauses;
+bool is_buffered;
 atomic_bool stopping;
 
 _Noreturn void fail(const char *form, ...) {
@@ -75,8 +76,9 @@ void set_up(void) {
     static const int stops[] = {SIGSEGV, SIGBUS, SIGFPE, SIGILL, SIGABRT, SIGTERM};
     for (size_t i = 0; i < sizeof stops / sizeof *stops; i++) signal(stops[i], stop_here);
     const char *calls = getenv("RECORD_PAUSES");
-    const char *most = getenv("RECORD_CALLS");
+    const char *most = getenv("RECORD_CALLS"), *writes = getenv("RECORD_WRITES");
     pauses = calls ? atoi(calls) : 0;
+    is_buffered = writes && !strcmp(writes, "buffered");
     most_calls = most ? strtoull(most, 0, 10) : UINT64_MAX;
     runtime_begin = next("_ITM_beginTransaction");
     open_order();
