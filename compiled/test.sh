@@ -183,6 +183,29 @@ if [ "$mode" = all ] && is_wanted neighbours && [ -f "$work/$(key_of "$here/prog
     done
 fi
 
+# layout FLAG..: a program with its data where a linker puts them by these flags
+layout() {
+    for name in bank heap_list; do
+        program=$work/layout told=
+        if $cc -O2 -fgnu-tm -pthread "$@" -o "$program" "$here/programs/$name.c" 2>"$program.err"; then
+            run "$program" 4
+            told=$(answer "$here/programs/$name.c" "$program" $?)
+        else
+            : >"$program.out"
+            told='NOT BUILT'
+        fi
+        result "$name, linked with $*" "$told" "$program"
+    done
+}
+if [ "$mode" = all ] && [ -z "${ONLY:-}" ]; then
+    layout -no-pie
+    layout -Wl,-z,lazy
+    layout -Wl,-z,now
+    layout -Wl,-z,norelro
+    layout -no-pie -Wl,-z,norelro,-z,lazy
+    layout -fdata-sections -Wl,--gc-sections
+fi
+
 # libitm_tests: GCC's own test programs of its runtime, which are not copied here
 libitm_tests() {
     source=${LIBITM:-}
