@@ -127,11 +127,13 @@ is_refused() {
     grep -q 'end the program with a message' "$1" && [ -s "$2.err" ] && [ "$3" != 124 ] && [ "$3" != 137 ] && [ "$3" != 139 ]
 }
 
-# one SOURCE LEVEL THREADS [ROUNDS]: sets `cell`
+# one SOURCE LEVEL THREADS [ROUNDS]: sets `cell`. A long run may take five times as long.
 one() {
     program=$work/$(key_of "$1").$2
+    [ -z "${4:-}" ] || limit=$((5 * limit))
     run "$program" "$3" ${4:-}
     status=$?
+    [ -z "${4:-}" ] || limit=$((limit / 5))
     told=$(answer "$1" "$program" "$status")
     cell=$3
     if [ -n "$told" ] && is_refused "$1" "$program" "$status"; then
@@ -215,6 +217,7 @@ libitm_tests() {
         source=$(ls -d "$work"/gcc-*/libitm)
     fi
     [ -f "$source/libitm.h" ] || { echo 'left out: the test programs of libitm, as the source of GCC 12 is not here' && return; }
+    limit=$((5 * limit)) # one of them has three threads that spin
     for file in "$source"/testsuite/libitm.c/*.c; do
         name=$(basename "$file" .c) program=$work/libitm-$(basename "$file" .c)
         $cc -O2 -w -fgnu-tm -pthread -I"$source" -o "$program" "$file" 2>"$program.err" ||
