@@ -1,0 +1,70 @@
+-- What a call of a body keeps.
+use Rattle.std.proofs.Common.{◌≡◌, ℕ, false, Option, None, Some, Result, Ok, Err, ap, refl, subst, sym}
+use Rattle.itm_types.specs.declared.call.Action.{Action}
+use Rattle.itm_types.specs.declared.call.Call.{Call}
+use Rattle.itm_types.specs.declared.call.Call.TheVariants.{Commit, CommitAction}
+use Rattle.itm_types.specs.declared.call.Refusal.{Refusal}
+use Rattle.itm_types.specs.declared.call.Reply.{Reply as Replied}
+use Rattle.itm_types.specs.declared.call.Reply.TheVariants.{Done}
+use Rattle.itm_model.specs.Machine.{refusal, reply_unless}
+use Rattle.norec_core.specs.declared.answer.Answer.{Answer}
+use Rattle.norec_core.specs.declared.answer.Answer.TheVariants.{Reply, Committed}
+use Rattle.norec_core.specs.declared.answer.Answer.TheVariants as answers
+use Rattle.norec_core.specs.Core.{Core}
+use Rattle.norec_core.specs.Stands.{stands_for}
+use Rattle.shared_words.specs.declared.view.View.{View}
+use Rattle.shared_words.specs.InGlobal.{Words}
+use Rattle.shared_words.specs.Passes.{Owns, view_of}
+use Rattle.itm_runtime.specs.CallResults.{Tells}
+use Rattle.itm_runtime.specs.Standing.{Standing, start_of}
+use Rattle.itm_runtime.specs.Served.{Served, came_over}
+use Rattle.itm_runtime.specs.Stops.{GoesOn, answer_to_read, answer_to_write}
+use Rattle.itm_runtime.specs.declared.stop.Stop.{Stop}
+use Rattle.itm_runtime.specs.declared.stop.Stop.TheVariants.{Refused, Conflict, Restarted, Busy, Full, Memory}
+use Rattle.transactions.proofs.Modes.{KeepsMode, stays_revocable}
+
+module _ (words : Words) (old : Standing) (call : Call) (new : Standing) where
+  pub owned : (told : Option Answer) → Tells words old call told new → Owns words new.pass
+  owned (Some a) t = t.own
+  owned None t = t.own
+
+  pub revocable : (told : Option Answer) → Tells words old call told new → KeepsMode call → old.engine.irrevocable ≡ false → new.engine.irrevocable ≡ false
+  revocable (Some a) t keeps is = stays_revocable (start_of old call false) a (view_of new.pass) new.engine t.served t.stands keeps is
+  revocable None t keeps is = subst (λ (s : Standing). s.engine.irrevocable ≡ false) (sym t.err) is
+
+  abbrev IsMine : Type 0
+  IsMine = (view_of new.pass).mine ≡ (view_of old.pass).mine
+
+  mine_at : (stop : Stop) → Tells words old call (answer_to_write (Err stop)) new → IsMine
+  mine_at (Refused refusal) t = t.served.mine
+  mine_at (Conflict clock word) t = t.served.mine
+  mine_at (Restarted clock word) t = t.served.mine
+  mine_at (Busy clock) t = t.served.mine
+  mine_at (Full at) t = t.served.mine
+  mine_at Memory t = ap (λ (s : Standing). (view_of s.pass).mine) t.err
+
+  pub mine_of_read : (r : Result ℕ Stop) → Tells words old call (answer_to_read r) new → IsMine
+  mine_of_read (Ok n) t = t.served.mine
+  mine_of_read (Err stop) t = mine_at stop t
+
+  pub mine_of_write : (r : Result (Unit {0}) Stop) → Tells words old call (answer_to_write r) new → IsMine
+  mine_of_write (Ok done) t = t.served.mine
+  mine_of_write (Err stop) t = mine_at stop t
+
+-- an action that was registered, where the transaction goes on
+registered : (r : Replied) (why : Option Refusal) → r ≡ reply_unless why Done → GoesOn (Reply r) → Reply r ≡ Reply Done
+registered r (Some why) e on = absurd (on (Refused why) (ap (λ (x : Replied). Some (Reply x)) (sym e)))
+registered r None e on = ap Reply e
+
+abbrev no_commit : Call → Type 0
+no_commit Commit = ⊥
+no_commit call = Unit {0}
+
+pub action_done : (t : Standing) (action : Action) (a : Answer) (v : View) (e : Core) → Served (start_of t (CommitAction action) false) a v e → GoesOn a → a ≡ Reply Done
+action_done t action (Reply r) v e served on =
+    registered r (refusal t.engine.depth (stands_for t.engine (came_over (start_of t (CommitAction action) false) v e)) (CommitAction action)) served.tells.here.reply_is on
+action_done t action (Committed position wrote) v e served on = absurd (subst no_commit served.tells.call tt)
+action_done t action (answers.Conflict clock word) v e served on = absurd (on (Conflict clock word) refl)
+action_done t action (answers.Restarted clock word) v e served on = absurd (on (Restarted clock word) refl)
+action_done t action (answers.Busy clock) v e served on = absurd (on (Busy clock) refl)
+action_done t action (answers.Full position) v e served on = absurd (on (Full position) refl)

@@ -1,0 +1,3 @@
+mod Modes
+mod Kept
+mod Tries

@@ -1,0 +1,81 @@
+-- No call of a body takes the clock for good.
+use Rattle.std.proofs.Common.{◌≡◌, ◌∙◌, if◌then◌else◌, ℕ, Bool, true, false, List, [], ◌∷◌, Option, None, Some, ap, refl, sym, true≢false}
+use Rattle.itm_types.specs.declared.call.Call.{Call}
+use Rattle.itm_types.specs.declared.call.Call.TheVariants.{Begin, Commit}
+use Rattle.itm_types.specs.declared.call.Refusal.{Refusal}
+use Rattle.itm_model.specs.Machine.{after, after_unless, closed_irrevocable, effect, entered, is_open, opened, refusal}
+use Rattle.itm_model.specs.State.{Block, State}
+use Rattle.norec_core.specs.declared.answer.Answer.{Answer}
+use Rattle.norec_core.specs.declared.answer.Answer.TheVariants.{Reply, Committed, Conflict, Restarted, Busy, Full}
+use Rattle.norec_core.specs.Core.{Core, in_transaction}
+use Rattle.norec_core.specs.Stands.{stands_for, state_in}
+use Rattle.shared_words.specs.declared.view.View.{View}
+use Rattle.itm_runtime.specs.Served.{Start, Served, came_over, left_over, mine_after}
+use Rattle.itm_runtime.specs.Ties.{Stands}
+use Rattle.transactions.specs.Runs.{usual}
+
+-- the call's effect leaves a revocable transaction so
+abbrev pub KeepsMode : Call → Type 0
+KeepsMode call = (s : State) → s.irrevocable ≡ false → (effect s call).irrevocable ≡ false
+
+mode_after : (deepest : ℕ) (s : State) (call : Call) → KeepsMode call → s.irrevocable ≡ false → (after deepest s call).irrevocable ≡ false
+mode_after deepest s call keeps is = by_refusal (refusal deepest s call)
+  where
+    by_refusal : (o : Option Refusal) → (after_unless o s (effect s call)).irrevocable ≡ false
+    by_refusal None = keeps s is
+    by_refusal (Some refusal) = is
+
+stands_mode : (c : Core) (m : List ℕ) → (stands_for c m).irrevocable ≡ c.irrevocable
+stands_mode c m = by_mode c.irrevocable
+  where
+    by_mode : (b : Bool) → (state_in b c.writes c.blocks c.arena c.actions m).irrevocable ≡ b
+    by_mode true = refl
+    by_mode false = refl
+
+pub shut_revocable : {v : View} {e : Core} → Stands v e → in_transaction e ≡ false → e.irrevocable ≡ false
+shut_revocable {e = e} stands shut = by_mode e.irrevocable refl
+  where
+    by_mode : (b : Bool) → e.irrevocable ≡ b → b ≡ false
+    by_mode true is = absurd (true≢false (sym (stands.settled.holder (stands.settled.irrevocable is).0).0 ∙ shut))
+    by_mode false is = refl
+
+pub stays_revocable : (s : Start) (a : Answer) (v : View) (e : Core) → Served s a v e → Stands v e → KeepsMode s.call → s.engine.irrevocable ≡ false → e.irrevocable ≡ false
+stays_revocable s (Reply r) v e served stands keeps is =
+    sym (stands_mode e (left_over v e)) ∙ ap (λ (t : State). t.irrevocable) served.tells.here.state ∙ mode_after s.engine.depth (stands_for s.engine (came_over s v e)) s.call keeps (stands_mode s.engine (came_over s v e) ∙ is)
+stays_revocable s (Committed at wrote) v e served stands keeps is = shut_revocable stands served.tells.closes.closed
+stays_revocable s (Conflict clock word) v e served stands keeps is = shut_revocable stands served.tells.closes.closed
+stays_revocable s (Restarted clock word) v e served stands keeps is = served.tells.revocable.1
+stays_revocable s (Busy clock) v e served stands keeps is = shut_revocable stands served.tells.closes.closed
+stays_revocable s (Full at) v e served stands keeps is = shut_revocable stands served.tells.closes.closed
+
+pub keeps_commit : KeepsMode Commit
+keeps_commit s is = by_blocks s.blocks
+  where
+    by_blocks : (blocks : List Block) → closed_irrevocable blocks s.irrevocable ≡ false
+    by_blocks [] = is
+    by_blocks (b ∷ []) = refl
+    by_blocks (b ∷ p ∷ bs) = is
+
+pub keeps_begin : KeepsMode (Begin usual 0)
+keeps_begin s is = by_open (is_open s)
+  where
+    by_open : (b : Bool) → (if b then entered s usual else opened s.memory s.arena usual).irrevocable ≡ false
+    by_open true = is
+    by_open false = refl
+
+-- no call but a commit adds to the pass's own positions
+pub mine_kept : (s : Start) (a : Answer) (v : View) (e : Core) → Served s a v e → (s.call ≡ Commit → ⊥) → v.mine ≡ s.view.mine
+mine_kept s (Reply r) v e served other = served.mine
+mine_kept s (Committed at wrote) v e served other = absurd (other served.tells.call)
+mine_kept s (Conflict clock word) v e served other = served.mine
+mine_kept s (Restarted clock word) v e served other = served.mine
+mine_kept s (Busy clock) v e served other = served.mine
+mine_kept s (Full at) v e served other = served.mine
+
+pub mine_stays : (a : Answer) (mine : List ℕ) → ((at : ℕ) (wrote : Bool) → a ≡ Committed at wrote → ⊥) → mine_after mine a ≡ mine
+mine_stays (Reply r) mine other = refl
+mine_stays (Committed at wrote) mine other = absurd (other at wrote refl)
+mine_stays (Conflict clock word) mine other = refl
+mine_stays (Restarted clock word) mine other = refl
+mine_stays (Busy clock) mine other = refl
+mine_stays (Full at) mine other = refl

@@ -1,0 +1,61 @@
+use Rattle.std.proofs.Common.{◌∙◌, inl, inr, ap, Result, Ok, Err, refl, subst, sym}
+use Rattle.std.specs.Fn.{CalledAtMut}
+use Rattle.shared_words.specs.Passes.{view_of}
+use Rattle.shared_words.specs.declared.pass.Pass.{Pass}
+use Rattle.transactions.specs.declared.stopped.Stopped.{Stopped}
+use Rattle.transactions.specs.declared.stopped.Stopped.TheVariants.{Engine, Cancelled}
+use Rattle.transactions.specs.Runs.{mine_then}
+use Rattle.transactions.proofs.Tries.{cancelled_mine, stopped_mine}
+use Rattle.transactions.proofs.transaction.Transaction.attempt.Goals as goal
+
+pub returns-in-Ok-body-clause-tells : goal.returns-in-Ok-body-clause-tells
+returns-in-Ok-body-clause-tells g c =
+    let run : CalledAtMut g.F.FnMut c.args.body.now c.begun.new.self c.body.result c.body.new.self c.body.new.arg2 = record { shown = _; shows = refl; left = _; called = c.body.ensures; leaves = refl } in
+    let begun = c.in-Ok.ensures.begun in
+    inl (record { before = c.args.self.now.thread; again = c.args.again; answer = begun.0; began = c.begun.new.self; begins = begun.1; here = λ keeps. c.begun.ensures.kept.words; body = c.args.body.now; body' = c.body.new.self; gives = Ok c.in-Ok-body.value; last = c.body.new.arg2; runs = subst (λ (r : Result g.row.R.Denot (Stopped g.row.E.Denot)). CalledAtMut g.F.FnMut c.args.body.now c.begun.new.self r c.body.new.self c.body.new.arg2) c.in-Ok-body.is run; ends = c.ended.ensures.ends })
+
+pub returns-in-Ok-body-clause-left : goal.returns-in-Ok-body-clause-left
+returns-in-Ok-body-clause-left g c keeps =
+    let kept = keeps _ _ _ _ _ (record { shown = _; shows = refl; left = _; called = c.body.ensures; leaves = refl }) in
+    record {
+      words = c.ended.ensures.left.words ∙ kept.words ∙ c.begun.ensures.kept.words;
+      mine_is = c.ended.ensures.left.mine_is ∙ ap (λ m. mine_then m c.ended.result) (kept.mine_is ∙ c.begun.ensures.kept.mine_is);
+    }
+
+pub returns-in-Err-Engine-clause-tells : goal.returns-in-Err-Engine-clause-tells
+returns-in-Err-Engine-clause-tells g c =
+    let run : CalledAtMut g.F.FnMut c.args.body.now c.begun.new.self c.body.result c.body.new.self c.body.new.arg2 = record { shown = _; shows = refl; left = _; called = c.body.ensures; leaves = refl } in
+    let begun = c.in-Ok.ensures.begun in
+    inl (record { before = c.args.self.now.thread; again = c.args.again; answer = begun.0; began = c.begun.new.self; begins = begun.1; here = λ keeps. c.begun.ensures.kept.words; body = c.args.body.now; body' = c.body.new.self; gives = Err (Engine c.in-Err-Engine.why); last = c.body.new.arg2; runs = subst (λ (r : Result g.row.R.Denot (Stopped g.row.E.Denot)). CalledAtMut g.F.FnMut c.args.body.now c.begun.new.self r c.body.new.self c.body.new.arg2) (c.in-Err-Engine.is ∙ ap Err c.in-Err-Engine.field-0-is) run; ends = (c.stopped.ensures.given_up, c.stopped.ensures.told) })
+
+pub returns-in-Err-Engine-clause-left : goal.returns-in-Err-Engine-clause-left
+returns-in-Err-Engine-clause-left g c keeps =
+    let kept = keeps _ _ _ _ _ (record { shown = _; shows = refl; left = _; called = c.body.ensures; leaves = refl }) in
+    record {
+      words = c.stopped.ensures.words ∙ kept.words ∙ c.begun.ensures.kept.words;
+      mine_is = ap (λ (p : Pass). (view_of p).mine) c.stopped.ensures.given_up.pass ∙ kept.mine_is ∙ c.begun.ensures.kept.mine_is ∙ sym (stopped_mine _ c.stopped.result c.in-Err-Engine.why _ c.stopped.ensures.told);
+    }
+
+pub returns-in-Err-Cancelled-clause-tells : goal.returns-in-Err-Cancelled-clause-tells
+returns-in-Err-Cancelled-clause-tells g c =
+    let run : CalledAtMut g.F.FnMut c.args.body.now c.begun.new.self c.body.result c.body.new.self c.body.new.arg2 = record { shown = _; shows = refl; left = _; called = c.body.ensures; leaves = refl } in
+    let begun = c.in-Ok.ensures.begun in
+    inl (record { before = c.args.self.now.thread; again = c.args.again; answer = begun.0; began = c.begun.new.self; begins = begun.1; here = λ keeps. c.begun.ensures.kept.words; body = c.args.body.now; body' = c.body.new.self; gives = Err (Cancelled c.in-Err-Cancelled.why); last = c.body.new.arg2; runs = subst (λ (r : Result g.row.R.Denot (Stopped g.row.E.Denot)). CalledAtMut g.F.FnMut c.args.body.now c.begun.new.self r c.body.new.self c.body.new.arg2) (c.in-Err-Cancelled.is ∙ ap Err c.in-Err-Cancelled.field-0-is) run; ends = (c.cancelled.ensures.given_up, c.cancelled.ensures.told) })
+
+pub returns-in-Err-Cancelled-clause-left : goal.returns-in-Err-Cancelled-clause-left
+returns-in-Err-Cancelled-clause-left g c keeps =
+    let kept = keeps _ _ _ _ _ (record { shown = _; shows = refl; left = _; called = c.body.ensures; leaves = refl }) in
+    record {
+      words = c.cancelled.ensures.words ∙ kept.words ∙ c.begun.ensures.kept.words;
+      mine_is = ap (λ (p : Pass). (view_of p).mine) c.cancelled.ensures.given_up.pass ∙ kept.mine_is ∙ c.begun.ensures.kept.mine_is ∙ sym (cancelled_mine _ c.cancelled.result c.in-Err-Cancelled.why _ c.cancelled.ensures.told);
+    }
+
+pub returns-in-Err-clause-tells : goal.returns-in-Err-clause-tells
+returns-in-Err-clause-tells g c =
+    inr (record { before = c.args.self.now.thread; again = c.args.again; stop = _; then = c.begun.new.self; begins = c.in-Err.ensures.stopped; here = λ keeps. c.begun.ensures.kept.words; given_up = c.stopped-in-Err.ensures.given_up; told_is = c.stopped-in-Err.ensures.told })
+
+pub returns-in-Err-clause-left : goal.returns-in-Err-clause-left
+returns-in-Err-clause-left g c keeps = record {
+  words = c.stopped-in-Err.ensures.words ∙ c.begun.ensures.kept.words;
+  mine_is = ap (λ (p : Pass). (view_of p).mine) c.stopped-in-Err.ensures.given_up.pass ∙ c.begun.ensures.kept.mine_is ∙ sym (stopped_mine _ c.stopped-in-Err.result _ _ c.stopped-in-Err.ensures.told);
+}

@@ -1,0 +1,137 @@
+-- The runs of a body as transactions.
+use Rattle.std.specs.Prelude.{◌≡◌, ◌⊎◌, ℕ, Bool, true, false, List, Option, None, Some, Result, Ok, Err}
+use Rattle.std.specs.Borrow.{MutBor}
+use Rattle.std.specs.Fn.{CalledAtMut, Mut}
+use Rattle.itm_types.specs.declared.call.Call.TheVariants.{Begin, Commit}
+use Rattle.itm_types.specs.declared.call.Props.{Props}
+use Rattle.norec_core.specs.declared.answer.Answer.{Answer}
+use Rattle.norec_core.specs.declared.answer.Answer.TheVariants as answers
+use Rattle.norec_core.specs.Core.{in_transaction}
+use Rattle.norec_core.specs.Undoing.{after_undoing}
+use Rattle.shared_words.specs.InGlobal.{Words}
+use Rattle.itm_runtime.specs.CallResults.{IsAnswered, IsThreadStarved}
+use Rattle.itm_runtime.specs.Served.{mine_if}
+use Rattle.itm_runtime.specs.Standing.{Standing, start_of}
+use Rattle.itm_runtime.specs.Stops.{GoesOn, answer_of}
+use Rattle.itm_runtime.specs.declared.stop.Stop.{Stop}
+use Rattle.itm_runtime.specs.declared.stop.Stop.TheVariants as stops
+use Rattle.transactions.specs.declared.failed.Failed.{Failed}
+use Rattle.transactions.specs.declared.failed.Failed.TheVariants as failures
+use Rattle.transactions.specs.declared.tried.Done.{Done as Value}
+use Rattle.transactions.specs.declared.tried.Tried.{Tried}
+use Rattle.transactions.specs.declared.tried.Tried.TheVariants.{Done, Failed as Fails, Conflict, Busy}
+use Rattle.transactions.specs.declared.stopped.Stopped.{Stopped}
+use Rattle.transactions.specs.declared.stopped.Stopped.TheVariants.{Engine, Cancelled}
+use Rattle.transactions.specs.Lent.{Lent, IsKept}
+
+-- a block that may be cancelled, and that does not go irrevocable
+abbrev pub usual : Props
+usual = record { no_abort = false; no_irrevocable = false; goes_irrevocable = false }
+
+-- ## What a try is told as
+
+-- a commit, where the body gave this value
+abbrev pub commit_told : {R E : Type 0} → R → Answer → Tried R E
+commit_told value (answers.Committed at wrote) = Done (record { value = value; at = at; wrote = wrote })
+commit_told value (answers.Full at) = Fails failures.Full
+commit_told value (answers.Reply reply) = Conflict
+commit_told value (answers.Conflict clock word) = Conflict
+commit_told value (answers.Restarted clock word) = Conflict
+commit_told value (answers.Busy clock) = Conflict
+
+-- a body that takes its transaction back, where that was open still
+abbrev pub cancel_told : {R E : Type 0} → E → Bool → Tried R E
+cancel_told why true = Fails (failures.Cancelled why)
+cancel_told why false = Conflict
+
+-- a transaction that does not go on, where it was open still
+abbrev pub stop_told : {R E : Type 0} → Stop → Bool → Tried R E
+stop_told (stops.Refused refusal) true = Fails (failures.Refused refusal)
+stop_told (stops.Refused refusal) false = Conflict
+stop_told (stops.Conflict clock word) was_open = Conflict
+stop_told (stops.Restarted clock word) was_open = Conflict
+stop_told (stops.Busy clock) was_open = Busy
+stop_told (stops.Full at) was_open = Fails failures.Full
+stop_told stops.Memory was_open = Fails failures.Memory
+
+-- the pass's own commits after a try
+abbrev pub mine_then : {R E : Type 0} → List ℕ → Tried R E → List ℕ
+mine_then mine (Done done) = mine_if done.wrote mine done.at
+mine_then mine _ = mine
+
+-- and after all tries
+abbrev pub mine_left : {R E : Type 0} → List ℕ → Result (Value R) (Failed E) → List ℕ
+mine_left mine (Ok done) = mine_if done.wrote mine done.at
+mine_left mine (Err why) = mine
+
+-- ## One try
+
+-- the thread's transaction, where one is open, is rolled back
+pub record IsGivenUp (old : Lent) (new : Standing) : Type 0 where
+  pub pass : new.pass ≡ old.thread.pass
+  pub engine : new.engine ≡ after_undoing old.thread.engine
+
+-- a begin was answered so that the transaction goes on
+pub record HasBegun (before : Standing) (again : Bool) (answer : Answer) (began : Lent) : Type 0 where
+  pub answered : IsAnswered began.words (start_of before (Begin usual 0) again) answer began.thread.pass began.thread.engine
+  pub goes_on : GoesOn answer
+
+-- or so that it does not, or memory was refused to it
+abbrev pub BeginTold : Standing → Bool → Option Answer → Lent → Type 0
+BeginTold before again (Some answer) new = IsAnswered new.words (start_of before (Begin usual 0) again) answer new.thread.pass new.thread.engine
+BeginTold before again None new = IsThreadStarved new.words before (Begin usual 0) new.thread
+
+-- the commit of a body's transaction, where it gave this value: what has not committed is rolled back
+pub record HasEnded {R E : Type 0} (last : Lent) (value : R) (told : Tried R E) (new : Standing) : Type 0 where
+  pub answer : Answer
+  pub then : Lent
+  pub answered : IsAnswered last.words (start_of last.thread Commit false) answer then.thread.pass then.thread.engine
+  pub told_is : told ≡ commit_told value answer
+  pub left : (new ≡ then.thread) ⊎ IsGivenUp then new
+
+-- how a try ends whose body gave this
+abbrev pub EndsBy : {R E : Type 0} → Result R (Stopped E) → Lent → Tried R E → Standing → Type 0
+EndsBy (Ok value) last told new = HasEnded last value told new
+EndsBy (Err (Engine why)) last told new = IsGivenUp last new × (told ≡ stop_told why (in_transaction last.thread.engine))
+EndsBy (Err (Cancelled why)) last told new = IsGivenUp last new × (told ≡ cancel_told why (in_transaction last.thread.engine))
+
+module _ {F R E : Type 0} (fn : Mut F (MutBor Lent × Unit {0}) (Result R (Stopped E) × (MutBor Lent × Unit {0}))) where
+  -- a body hands back what it is lent
+  abbrev pub KeepsLent : Type 0
+  KeepsLent = (f : F) (x : Lent) (r : Result R (Stopped E)) (f' : F) (x' : Lent) → CalledAtMut fn f x r f' x' → IsKept x x'
+
+  -- a transaction began, on these words where bodies hand back what they are lent; the body was run in it, and it ended by what that gave
+  pub record HasRun (words : Words) (told : Tried R E) (new : Standing) : Type 0 where
+    pub before : Standing
+    pub again : Bool
+    pub answer : Answer
+    pub began : Lent
+    pub begins : HasBegun before again answer began
+    pub here : KeepsLent → began.words ≡ words
+    pub body : F
+    pub body' : F
+    pub gives : Result R (Stopped E)
+    pub last : Lent
+    pub runs : CalledAtMut fn body began gives body' last
+    pub ends : EndsBy gives last told new
+
+  -- none began
+  pub record HasNotBegun (words : Words) (told : Tried R E) (new : Standing) : Type 0 where
+    pub before : Standing
+    pub again : Bool
+    pub stop : Stop
+    pub then : Lent
+    pub begins : BeginTold before again (answer_of stop) then
+    pub here : KeepsLent → then.words ≡ words
+    pub given_up : IsGivenUp then new
+    pub told_is : told ≡ stop_told stop (in_transaction then.thread.engine)
+
+  -- what a try on these words is told as
+  abbrev pub Tells : Words → Tried R E → Standing → Type 0
+  Tells words told new = HasRun words told new ⊎ HasNotBegun words told new
+
+  -- what all tries come to: what is told of the last one
+  abbrev pub ComesTo : Words → Result (Value R) (Failed E) → Standing → Type 0
+  ComesTo words (Ok done) new = Tells words (Done done) new
+  ComesTo words (Err failures.Tries) new = Unit {0}
+  ComesTo words (Err why) new = Tells words (Fails why) new

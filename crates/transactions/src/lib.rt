@@ -1,0 +1,16 @@
+//! Transactions as closures: a body is run as one transaction, and tried again until it ends.
+#![tactic(auto)]
+
+mod client;
+mod failed;
+mod stopped;
+#[cfg(test)]
+mod tests;
+mod transaction;
+mod tried;
+
+pub use client::Client;
+pub use failed::Failed;
+pub use stopped::Stopped;
+pub use transaction::Transaction;
+pub use tried::Done;

@@ -1,0 +1,153 @@
+//! Clients of one thread.
+
+ghost use Rattle.std.specs.Prelude.{◌≡◌, false};
+ghost use Rattle.shared_words.specs.Passes.{Owns, view_of};
+
+use crate::client::Client;
+use crate::failed::Failed;
+use crate::stopped::Stopped;
+use crate::tried::Done;
+use itm_runtime::Thread;
+use itm_types::{Action, Limits, MAX_COMMITS, Refusal, USUAL_DEPTH};
+use shared_words::{Pass, Words};
+use std::alloc::{AllocError, Global};
+use std::process::Abort;
+use std::sync::Arc;
+use undo_log::Arena;
+
+const LIMITS: Limits = Limits {
+    patience: 8,
+    retries: 0,
+    max_commits: MAX_COMMITS,
+    depth: USUAL_DEPTH,
+    restarts: 0,
+};
+
+/// A client over words, which are shared, with a pass of them.
+fn client(alloc: Global, words: Arc<Words>, pass: Pass, tries: u64) -> Result<Client, AllocError>
+    requires own { Owns words.value pass }
+    requires idle { (view_of pass).holds ≡ false }
+{
+    let arena = Arena::new(alloc, 0)?;
+    let thread = Thread::new(alloc, &*words, pass, arena, LIMITS)?;
+    Ok(Client::new(words, thread, tries))
+}
+
+/// Adds to the number at a place, and gives what stood there.
+fn add(client: &mut Client, at: u64, more: u64) -> Result<Done<u64>, Failed<()>> {
+    client.atomically(|tx| -> Result<u64, Stopped<()>> {
+        let found = tx.read_u64(at)?;
+        tx.write_u64(at, found.wrapping_add(more))?;
+        Ok(found)
+    })
+}
+
+/// Two clients over two words, of which the first one tries so often.
+fn two(alloc: Global, tries: u64) -> Result<(Client, Client), AllocError> {
+    let Ok((words, pass)) = Words::new(alloc, &[0; 16]) else {
+        return Err(AllocError);
+    };
+    let mut first = pass;
+    let second = words.split(&mut first);
+    let words = Arc::new(alloc, words)?;
+    let other = client(alloc, Arc::try_clone(&words)?, second, 1)?;
+    Ok((client(alloc, words, first, tries)?, other))
+}
+
+#[test]
+fn commits_in_turn(rt: HostRuntime) -> Result<(), AllocError> {
+    let (mut one, mut other) = two(rt.alloc(), 1)?;
+    let done = |value, at| Ok(Done {
+        value,
+        at,
+        wrote: true,
+    });
+    assert_eq!(&rt; add(&mut one, 8, 3), done(0, 0));
+    assert_eq!(&rt; add(&mut other, 8, 4), done(3, 1));
+    assert_eq!(&rt; add(&mut one, 8, 5), done(7, 2));
+    Ok(())
+}
+
+#[test]
+fn takes_back(rt: HostRuntime) -> Result<(), AllocError> {
+    let (mut one, _other) = two(rt.alloc(), 1)?;
+    let why = one.atomically(|tx| -> Result<(), Stopped<u64>> {
+        tx.write_u64(0, 7)?;
+        let found = tx.read_u64(0)?;
+        Err(Stopped::Cancelled(found))
+    });
+    assert_eq!(&rt; why, Err(Failed::Cancelled(7)));
+    assert_eq!(&rt;
+        add(&mut one, 0, 1),
+        Ok(Done {
+            value: 0,
+            at: 0,
+            wrote: true
+        })
+    );
+    Ok(())
+}
+
+/// What another thread commits between two reads is met by a conflict, and the body is run again.
+#[test]
+fn runs_again(rt: HostRuntime) -> Result<(), AllocError> {
+    let (mut one, mut other) = two(rt.alloc(), 2)?;
+    let mut runs = 0u8;
+    let sum = one.atomically(|tx| -> Result<u64, Stopped<()>> {
+        let low = tx.read_u64(0)?;
+        if runs == 0 {
+            runs = 1;
+            let _ = add(&mut other, 0, 5);
+            let _ = add(&mut other, 8, 6);
+        }
+        let high = tx.read_u64(8)?;
+        tx.write_u64(0, 1)?;
+        Ok(low.wrapping_add(high))
+    });
+    assert_eq!(&rt;
+        sum,
+        Ok(Done {
+            value: 11,
+            at: 2,
+            wrote: true
+        })
+    );
+    Ok(())
+}
+
+#[test]
+fn gives_up(rt: HostRuntime) -> Result<(), AllocError> {
+    let (mut one, _other) = two(rt.alloc(), 0)?;
+    assert_eq!(&rt; add(&mut one, 0, 1), Err(Failed::Tries));
+    Ok(())
+}
+
+#[test]
+fn refuses_a_place(rt: HostRuntime) -> Result<(), AllocError> {
+    let (mut one, _other) = two(rt.alloc(), 1)?;
+    assert_eq!(&rt;
+        add(&mut one, 9, 1),
+        Err(Failed::Refused(Refusal::OutOfRange))
+    );
+    Ok(())
+}
+
+#[test]
+fn actions_are_due(rt: HostRuntime) -> Result<(), AllocError> {
+    let (mut one, _other) = two(rt.alloc(), 1)?;
+    let told = one.atomically(|tx| -> Result<(), Stopped<()>> {
+        tx.on_commit(Action { fun: 3, arg: 4 })?;
+        Ok(())
+    });
+    assert_eq!(&rt;
+        told,
+        Ok(Done {
+            value: (),
+            at: 0,
+            wrote: false
+        })
+    );
+    assert!(&rt; one.due().len() == 1);
+    assert!(&rt; one.due()[0].action == Action { fun: 3, arg: 4 });
+    Ok(())
+}
