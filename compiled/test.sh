@@ -83,7 +83,7 @@ build() {
     $cc -O"$2" -fgnu-tm -fPIC -shared -o "$program.so" "$here/programs/plug.c" 2>"$program.told"
 }
 
-# run PROGRAM WORD..: status and what it told
+# run PROGRAM WORD..: what it tells goes to PROGRAM.out and PROGRAM.err
 run() {
     program=$1
     shift
@@ -99,8 +99,7 @@ due() {
     esac
 }
 
-# answer SOURCE PROGRAM STATUS: nothing where all is right, else what was wrong in a word. A program that a runtime may
-# refuse says so at its head, and then has to be ended with a message.
+# answer SOURCE PROGRAM STATUS: nothing where all is right, else what was wrong in a word
 answer() {
     case $3 in
     0) [ "$(tail -n 1 "$2.out")" = "$(due "$1")" ] || echo WRONG ;;
@@ -122,7 +121,8 @@ result() {
     head -n 3 "$3.out" "$3.err" | sed 's/^/    /'
 } >&2
 
-# may_be_refused SOURCE PROGRAM STATUS
+# is_refused SOURCE PROGRAM STATUS: a program that a runtime may refuse says so at its head. Then it has to be ended with a
+# message.
 is_refused() {
     grep -q 'end the program with a message' "$1" && [ -s "$2.err" ] && [ "$3" != 124 ] && [ "$3" != 137 ] && [ "$3" != 139 ]
 }

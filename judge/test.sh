@@ -223,6 +223,7 @@ done
 CALLS=1k gives 'a misspelled number of calls' 1 'CALLS is a number' printed bank 4 ml_wt
 gives 'a misspelled method' 1 'no method mlwt' printed bank 4 mlwt
 ORDER=insde gives 'a misspelled order' 1 'outside or inside' printed bank 4 ml_wt
+WRITES=bufered gives 'misspelled writes' 1 'in_place or buffered' printed bank 4 ml_wt
 python3 "$here/tests/undecided.py" 20 >"$WORK/undecided.recording"
 gives 'twenty commits in any order' 4 undecided python3 "$here/settle/settle.py" "$WORK/undecided.recording" \
     "$WORK/undecided.history" "$WORK/empty"
