@@ -4,9 +4,7 @@ ghost use Rattle.std.specs.Prelude.{◌≡◌};
 ghost use Rattle.shared_words.specs.Passes.{Owns};
 
 use crate::nested::read_nested;
-use itm_runtime::Thread;
-use itm_types::{Datum, ReadHint, Reply, Width, WriteHint};
-use norec_core::Answer;
+use itm_runtime::{Stop, Thread};
 use shared_words::Words;
 use std::alloc::AllocError;
 
@@ -92,9 +90,10 @@ fn get(words: &Words, thread: &mut Thread, word: u64) -> Result<Option<u64>, All
     requires own { Owns words.now thread.old.pass }
     ensures own { Owns words.now thread.new.pass }
 {
-    match thread.read(words, ReadHint::R, Width::U8, place_of(word))? {
-        Answer::Reply(Reply::Bytes(bytes)) => Ok(Some(word_of(bytes.as_slice()))),
-        _ => Ok(None),
+    match thread.read_u64(words, place_of(word)) {
+        Ok(value) => Ok(Some(value)),
+        Err(Stop::Memory) => Err(AllocError),
+        Err(_) => Ok(None),
     }
 }
 
@@ -103,10 +102,10 @@ fn put(words: &Words, thread: &mut Thread, word: u64, value: u64) -> Result<bool
     requires own { Owns words.now thread.old.pass }
     ensures own { Owns words.now thread.new.pass }
 {
-    let value = Datum::new(Width::U8, &value.to_le_bytes());
-    match thread.write(words, WriteHint::W, place_of(word), &value)? {
-        Answer::Reply(_) => Ok(true),
-        _ => Ok(false),
+    match thread.write_u64(words, place_of(word), value) {
+        Ok(()) => Ok(true),
+        Err(Stop::Memory) => Err(AllocError),
+        Err(_) => Ok(false),
     }
 }
 
