@@ -1,3 +1,4 @@
 mod Modes
 mod Kept
+mod Looks
 mod Tries

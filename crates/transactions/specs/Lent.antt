@@ -1,5 +1,5 @@
 -- What a body is lent, and leaves.
-use Rattle.std.specs.Prelude.{◌≡◌, ℕ, false, List}
+use Rattle.std.specs.Prelude.{◌≡◌, ◌≤◌, ℕ, false, List}
 use Rattle.shared_words.specs.InGlobal.{Words}
 use Rattle.shared_words.specs.Passes.{Owns, view_of}
 use Rattle.itm_runtime.specs.Standing.{Standing}
@@ -18,10 +18,15 @@ pub record IsLent (words : Words) (thread : Standing) : Type 0 where
 abbrev pub mine_of : Lent → List ℕ
 mine_of l = (view_of l.thread.pass).mine
 
--- the same words, and the pass's own commits are these
+-- how often the pass has looked at the clock
+abbrev pub looks_of : Lent → ℕ
+looks_of l = (view_of l.thread.pass).looks
+
+-- the same words; the pass's own commits are these, and it has looked at the clock no fewer times
 pub record IsLeft (mine : List ℕ) (old new : Lent) : Type 0 where
   pub words : new.words ≡ old.words
   pub mine_is : mine_of new ≡ mine
+  pub looks : looks_of old ≤ looks_of new
 
 -- the same words, and the pass has made no commit
 abbrev pub IsKept : Lent → Lent → Type 0

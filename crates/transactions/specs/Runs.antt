@@ -44,7 +44,7 @@ abbrev pub cancel_told : {R E : Type 0} → E → Bool → Tried R E
 cancel_told why true = Fails (failures.Cancelled why)
 cancel_told why false = Conflict
 
--- a transaction that does not go on, where it was open still
+-- a transaction that does not go on, where it was open still, or did not begin
 abbrev pub stop_told : {R E : Type 0} → Stop → Bool → Tried R E
 stop_told (stops.Refused refusal) true = Fails (failures.Refused refusal)
 stop_told (stops.Refused refusal) false = Conflict
@@ -53,6 +53,13 @@ stop_told (stops.Restarted clock word) was_open = Conflict
 stop_told (stops.Busy clock) was_open = Busy
 stop_told (stops.Full at) was_open = Fails failures.Full
 stop_told stops.Memory was_open = Fails failures.Memory
+
+-- after such a try comes another one
+abbrev pub GoesAgain : {R E : Type 0} → Tried R E → Type 0
+GoesAgain (Done done) = ⊥
+GoesAgain (Fails why) = ⊥
+GoesAgain Conflict = Unit {0}
+GoesAgain Busy = Unit {0}
 
 -- the pass's own commits after a try
 abbrev pub mine_then : {R E : Type 0} → List ℕ → Tried R E → List ℕ
@@ -124,7 +131,7 @@ module _ {F R E : Type 0} (fn : Mut F (MutBor Lent × Unit {0}) (Result R (Stopp
     pub begins : BeginTold before again (answer_of stop) then
     pub here : KeepsLent → then.words ≡ words
     pub given_up : IsGivenUp then new
-    pub told_is : told ≡ stop_told stop (in_transaction then.thread.engine)
+    pub told_is : told ≡ stop_told stop true
 
   -- what a try on these words is told as
   abbrev pub Tells : Words → Tried R E → Standing → Type 0

@@ -1,6 +1,6 @@
 //! A thread of a program, and the transactions that it makes.
 
-ghost use Rattle.std.specs.Prelude.{◌≡◌, false};
+ghost use Rattle.std.specs.Prelude.{◌≡◌, ◌+◌, ◌≤◌, false, IfErr};
 ghost use Rattle.norec_core.specs.Core.{in_transaction};
 ghost use Rattle.shared_words.specs.Passes.{Owns};
 
@@ -23,7 +23,8 @@ pub struct Client {
 }
 
 impl Client {
-    ghost use Rattle.transactions.specs.Lent.{IsLeft, mine_of};
+    ghost use Rattle.transactions.specs.Lent.{IsLeft, looks_of, mine_of};
+    ghost use Rattle.transactions.specs.declared.failed.Failed.TheVariants.{Tries};
     ghost use Rattle.transactions.specs.Runs.{ComesTo, KeepsLent, mine_left};
 
     /// A thread outside a transaction, over the words that own its pass. Each body is tried as often as `tries` says.
@@ -66,6 +67,9 @@ impl Client {
 
         // The body hands back what it was lent: the words are the same, and the pass's own commits are those told.
         ensures left { KeepsLent F.FnMut → IsLeft (mine_left (mine_of self.old.transaction) result) self.old.transaction self.new.transaction }
+
+        // It gives up for want of tries after so many looks at the clock, one for each.
+        ensures tried { KeepsLent F.FnMut → IfErr result (λ why. why ≡ Tries → looks_of self.old.transaction + self.old.tries ≤ looks_of self.new.transaction) }
     {
         let mut again = false;
         for _ in 0..self.tries {

@@ -1,6 +1,6 @@
 //! One try of a body as a transaction.
 
-ghost use Rattle.std.specs.Prelude.{◌≡◌, false, IfErr, IfOk};
+ghost use Rattle.std.specs.Prelude.{◌≡◌, ◌<◌, ◌||◌, false, IfErr, IfOk};
 ghost use Rattle.norec_core.specs.declared.answer.Answer.{Answer};
 ghost use Rattle.norec_core.specs.Core.{in_transaction};
 ghost use Rattle.itm_runtime.specs.Stops.{answer_of};
@@ -34,8 +34,8 @@ pub(crate) enum Tried<R, E> {
 }
 
 impl Transaction {
-    ghost use Rattle.transactions.specs.Lent.{IsKept, IsLeft, mine_of};
-    ghost use Rattle.transactions.specs.Runs.{BeginTold, HasBegun, HasEnded, IsGivenUp, KeepsLent, Tells, cancel_told, mine_then, stop_told};
+    ghost use Rattle.transactions.specs.Lent.{IsKept, IsLeft, looks_of, mine_of};
+    ghost use Rattle.transactions.specs.Runs.{BeginTold, GoesAgain, HasBegun, HasEnded, IsGivenUp, KeepsLent, Tells, cancel_told, mine_then, stop_told};
 
     /// Begins, runs the body, and ends.
     pub(crate) fn attempt<R: Drop, E: Drop, F: FnMut(&mut Transaction) -> Result<R, Stopped<E>>>(
@@ -49,22 +49,25 @@ impl Transaction {
         ensures closed { in_transaction self.new.thread.engine ≡ false }
         ensures tells { Tells F.FnMut self.old.words result self.new.thread }
         ensures left { KeepsLent F.FnMut → IsLeft (mine_then (mine_of self.old) result) self.old self.new }
+        ensures looks { KeepsLent F.FnMut → GoesAgain result → looks_of self.old < looks_of self.new }
     {
         match self.begun(again) {
             Ok(()) => match body(self) {
                 Ok(value) => self.ended(value),
-                Err(Stopped::Engine(why)) => self.stopped(why),
+                Err(Stopped::Engine(why)) => self.stopped(why, false),
                 Err(Stopped::Cancelled(why)) => self.cancelled(why),
             },
-            Err(why) => self.stopped(why),
+            Err(why) => self.stopped(why, true),
         }
     }
 
     /// Begins.
     fn begun(&mut self, again: bool) -> Result<(), Stop>
+        requires closed { in_transaction self.old.thread.engine ≡ false }
         ensures kept { IsKept self.old self.new }
         ensures begun { IfOk result (λ _. (answer : Answer) × HasBegun self.old.thread again answer self.new) }
         ensures stopped { IfErr result (λ stop. BeginTold self.old.thread again (answer_of stop) self.new) }
+        ensures looks { IfOk result (λ _. looks_of self.old < looks_of self.new) }
     {
         let answer = self.thread.begin(&*self.words, Props::default(), 0, again)?;
         Stop::check(answer)?;
@@ -101,16 +104,17 @@ impl Transaction {
         }
     }
 
-    /// Tells why it does not go on. One that a conflict has closed before may be tried again, whatever its body says.
-    fn stopped<R, E>(&mut self, why: Stop) -> Tried<R, E>
+    /// Tells why it does not go on, or did not begin. One that a conflict has closed before may be tried again, whatever its
+    /// body says.
+    fn stopped<R, E>(&mut self, why: Stop, is_new: bool) -> Tried<R, E>
         ensures closed { in_transaction self.new.thread.engine ≡ false }
         ensures words { self.new.words ≡ self.old.words }
         ensures given_up { IsGivenUp self.old self.new.thread }
-        ensures told { result ≡ stop_told why (in_transaction self.old.thread.engine) }
+        ensures told { result ≡ stop_told why (in_transaction self.old.thread.engine || is_new) }
     {
         let was_open = self.give_up();
         match why {
-            Stop::Refused(refusal) if was_open => Tried::Failed(Failed::Refused(refusal)),
+            Stop::Refused(refusal) if was_open || is_new => Tried::Failed(Failed::Refused(refusal)),
             Stop::Memory => Tried::Failed(Failed::Memory),
             Stop::Full { .. } => Tried::Failed(Failed::Full),
             Stop::Busy { .. } => Tried::Busy,

@@ -2,7 +2,7 @@ use Rattle.transactions.proofs.Tries.{came_failed, rebased}
 use Rattle.transactions.proofs.client.Client.atomically.Goals as goal
 
 pub returns-in-Done-clause-comes : goal.returns-in-Done-clause-comes
-returns-in-Done-clause-comes g c = rebased g.F.FnMut c.loop.self.transaction.words c.args.self.now.transaction.words (λ keeps. (c.loop.invariant.1 keeps).words) _ c.attempt.new.self.thread c.in-Done.ensures.tells
+returns-in-Done-clause-comes g c = rebased g.F.FnMut c.loop.self.transaction.words c.args.self.now.transaction.words (λ keeps. (c.loop.invariant.1 keeps).0.words) _ c.attempt.new.self.thread c.in-Done.ensures.tells
 
 pub returns-in-Failed-clause-comes : goal.returns-in-Failed-clause-comes
-returns-in-Failed-clause-comes g c = came_failed g.F.FnMut c.loop.self.transaction.words c.args.self.now.transaction.words (λ keeps. (c.loop.invariant.1 keeps).words) c.in-Failed.why c.attempt.new.self.thread c.in-Failed.ensures.tells
+returns-in-Failed-clause-comes g c = came_failed g.F.FnMut c.loop.self.transaction.words c.args.self.now.transaction.words (λ keeps. (c.loop.invariant.1 keeps).0.words) c.in-Failed.why c.attempt.new.self.thread c.in-Failed.ensures.tells

@@ -1,10 +1,11 @@
-use Rattle.std.proofs.Common.{◌∙◌, inl, inr, ap, Result, Ok, Err, refl, subst, sym}
+use Rattle.std.proofs.Common.{◌∙◌, inl, inr, ap, Result, Ok, Err, refl, subst, sym, arith}
 use Rattle.std.specs.Fn.{CalledAtMut}
 use Rattle.shared_words.specs.Passes.{view_of}
 use Rattle.shared_words.specs.declared.pass.Pass.{Pass}
 use Rattle.transactions.specs.declared.stopped.Stopped.{Stopped}
 use Rattle.transactions.specs.declared.stopped.Stopped.TheVariants.{Engine, Cancelled}
-use Rattle.transactions.specs.Runs.{mine_then}
+use Rattle.transactions.specs.Runs.{mine_then, stop_told}
+use Rattle.transactions.proofs.Looks.{or_not, or_so, stopped_looks}
 use Rattle.transactions.proofs.Tries.{cancelled_mine, stopped_mine}
 use Rattle.transactions.proofs.transaction.Transaction.attempt.Goals as goal
 
@@ -20,13 +21,14 @@ returns-in-Ok-body-clause-left g c keeps =
     record {
       words = c.ended.ensures.left.words ∙ kept.words ∙ c.begun.ensures.kept.words;
       mine_is = c.ended.ensures.left.mine_is ∙ ap (λ m. mine_then m c.ended.result) (kept.mine_is ∙ c.begun.ensures.kept.mine_is);
+      looks = omega (arith, c.begun.ensures.kept.looks, kept.looks, c.ended.ensures.left.looks);
     }
 
 pub returns-in-Err-Engine-clause-tells : goal.returns-in-Err-Engine-clause-tells
 returns-in-Err-Engine-clause-tells g c =
     let run : CalledAtMut g.F.FnMut c.args.body.now c.begun.new.self c.body.result c.body.new.self c.body.new.arg2 = record { shown = _; shows = refl; left = _; called = c.body.ensures; leaves = refl } in
     let begun = c.in-Ok.ensures.begun in
-    inl (record { before = c.args.self.now.thread; again = c.args.again; answer = begun.0; began = c.begun.new.self; begins = begun.1; here = λ keeps. c.begun.ensures.kept.words; body = c.args.body.now; body' = c.body.new.self; gives = Err (Engine c.in-Err-Engine.why); last = c.body.new.arg2; runs = subst (λ (r : Result g.row.R.Denot (Stopped g.row.E.Denot)). CalledAtMut g.F.FnMut c.args.body.now c.begun.new.self r c.body.new.self c.body.new.arg2) (c.in-Err-Engine.is ∙ ap Err c.in-Err-Engine.field-0-is) run; ends = (c.stopped.ensures.given_up, c.stopped.ensures.told) })
+    inl (record { before = c.args.self.now.thread; again = c.args.again; answer = begun.0; began = c.begun.new.self; begins = begun.1; here = λ keeps. c.begun.ensures.kept.words; body = c.args.body.now; body' = c.body.new.self; gives = Err (Engine c.in-Err-Engine.why); last = c.body.new.arg2; runs = subst (λ (r : Result g.row.R.Denot (Stopped g.row.E.Denot)). CalledAtMut g.F.FnMut c.args.body.now c.begun.new.self r c.body.new.self c.body.new.arg2) (c.in-Err-Engine.is ∙ ap Err c.in-Err-Engine.field-0-is) run; ends = (c.stopped.ensures.given_up, c.stopped.ensures.told ∙ ap (stop_told c.in-Err-Engine.why) (or_not _)) })
 
 pub returns-in-Err-Engine-clause-left : goal.returns-in-Err-Engine-clause-left
 returns-in-Err-Engine-clause-left g c keeps =
@@ -34,6 +36,7 @@ returns-in-Err-Engine-clause-left g c keeps =
     record {
       words = c.stopped.ensures.words ∙ kept.words ∙ c.begun.ensures.kept.words;
       mine_is = ap (λ (p : Pass). (view_of p).mine) c.stopped.ensures.given_up.pass ∙ kept.mine_is ∙ c.begun.ensures.kept.mine_is ∙ sym (stopped_mine _ c.stopped.result c.in-Err-Engine.why _ c.stopped.ensures.told);
+      looks = omega (arith, c.begun.ensures.kept.looks, kept.looks, ap (λ (p : Pass). (view_of p).looks) c.stopped.ensures.given_up.pass);
     }
 
 pub returns-in-Err-Cancelled-clause-tells : goal.returns-in-Err-Cancelled-clause-tells
@@ -48,14 +51,36 @@ returns-in-Err-Cancelled-clause-left g c keeps =
     record {
       words = c.cancelled.ensures.words ∙ kept.words ∙ c.begun.ensures.kept.words;
       mine_is = ap (λ (p : Pass). (view_of p).mine) c.cancelled.ensures.given_up.pass ∙ kept.mine_is ∙ c.begun.ensures.kept.mine_is ∙ sym (cancelled_mine _ c.cancelled.result c.in-Err-Cancelled.why _ c.cancelled.ensures.told);
+      looks = omega (arith, c.begun.ensures.kept.looks, kept.looks, ap (λ (p : Pass). (view_of p).looks) c.cancelled.ensures.given_up.pass);
     }
 
 pub returns-in-Err-clause-tells : goal.returns-in-Err-clause-tells
 returns-in-Err-clause-tells g c =
-    inr (record { before = c.args.self.now.thread; again = c.args.again; stop = _; then = c.begun.new.self; begins = c.in-Err.ensures.stopped; here = λ keeps. c.begun.ensures.kept.words; given_up = c.stopped-in-Err.ensures.given_up; told_is = c.stopped-in-Err.ensures.told })
+    inr (record { before = c.args.self.now.thread; again = c.args.again; stop = _; then = c.begun.new.self; begins = c.in-Err.ensures.stopped; here = λ keeps. c.begun.ensures.kept.words; given_up = c.stopped-in-Err.ensures.given_up; told_is = c.stopped-in-Err.ensures.told ∙ ap (stop_told c.in-Err.why) (or_so _) })
 
 pub returns-in-Err-clause-left : goal.returns-in-Err-clause-left
 returns-in-Err-clause-left g c keeps = record {
   words = c.stopped-in-Err.ensures.words ∙ c.begun.ensures.kept.words;
   mine_is = ap (λ (p : Pass). (view_of p).mine) c.stopped-in-Err.ensures.given_up.pass ∙ c.begun.ensures.kept.mine_is ∙ sym (stopped_mine _ c.stopped-in-Err.result _ _ c.stopped-in-Err.ensures.told);
+  looks = omega (arith, c.begun.ensures.kept.looks, ap (λ (p : Pass). (view_of p).looks) c.stopped-in-Err.ensures.given_up.pass);
 }
+
+pub returns-in-Ok-body-clause-looks : goal.returns-in-Ok-body-clause-looks
+returns-in-Ok-body-clause-looks g c keeps goes =
+    let kept = keeps _ _ _ _ _ (record { shown = _; shows = refl; left = _; called = c.body.ensures; leaves = refl }) in
+    omega (arith, c.in-Ok.ensures.looks, kept.looks, c.ended.ensures.left.looks)
+
+pub returns-in-Err-Engine-clause-looks : goal.returns-in-Err-Engine-clause-looks
+returns-in-Err-Engine-clause-looks g c keeps goes =
+    let kept = keeps _ _ _ _ _ (record { shown = _; shows = refl; left = _; called = c.body.ensures; leaves = refl }) in
+    omega (arith, c.in-Ok.ensures.looks, kept.looks, ap (λ (p : Pass). (view_of p).looks) c.stopped.ensures.given_up.pass)
+
+pub returns-in-Err-Cancelled-clause-looks : goal.returns-in-Err-Cancelled-clause-looks
+returns-in-Err-Cancelled-clause-looks g c keeps goes =
+    let kept = keeps _ _ _ _ _ (record { shown = _; shows = refl; left = _; called = c.body.ensures; leaves = refl }) in
+    omega (arith, c.in-Ok.ensures.looks, kept.looks, ap (λ (p : Pass). (view_of p).looks) c.cancelled.ensures.given_up.pass)
+
+pub returns-in-Err-clause-looks : goal.returns-in-Err-clause-looks
+returns-in-Err-clause-looks g c keeps goes =
+    let told = c.stopped-in-Err.ensures.told ∙ ap (stop_told c.in-Err.why) (or_so _) in
+    omega (arith, stopped_looks c.args.self.now.thread c.args.again c.begun.new.self c.stopped-in-Err.result c.in-Err.why c.in-Err.ensures.stopped told goes, ap (λ (p : Pass). (view_of p).looks) c.stopped-in-Err.ensures.given_up.pass)
