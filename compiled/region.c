@@ -42,7 +42,7 @@ void rattle_dealloc(void *at) {
 /* -- the data of the program: .data and .bss, side by side in one part of its image -- */
 
 struct image {
-    uintptr_t base, first, data, filled, end, sealed, slots;
+    uintptr_t base, first, writable, before, data, filled, end, sealed, slots;
     size_t slot_count;
 };
 
@@ -57,8 +57,11 @@ static void find_slots(const ElfW(Dyn) *d, struct image *image) {
 static void look_at(const ElfW(Phdr) *part, struct image *image) {
     uintptr_t at = image->base + part->p_vaddr, end = at + part->p_memsz;
     if (part->p_type == PT_LOAD && !image->first) image->first = at;
-    if (part->p_type == PT_LOAD && part->p_flags & PF_W)
+    if (part->p_type == PT_LOAD && part->p_flags & PF_W) {
+        if (!image->writable) image->writable = at;
+        image->before = image->end;
         image->data = at, image->filled = at + part->p_filesz, image->end = end;
+    }
     if (part->p_type == PT_GNU_RELRO) image->sealed = end & -PAGE;
     if (part->p_type == PT_DYNAMIC) find_slots((void *)at, image);
     if (part->p_type == PT_TLS) tls_size = (part->p_memsz + part->p_align - 1) & -part->p_align;
@@ -88,6 +91,8 @@ static uintptr_t data_of(const struct image *image) {
  * it they have a pointer to itself, or another zero in a program that lies at a fixed place. 0 where they have not, since
  * a linker has taken that zero out. */
 static uintptr_t clock_of(const struct image *image) {
+    /* (other data lie in a part in front of it, as the small ones of the medium model) */
+    if (image->before > image->sealed) return 0;
     uint64_t *word = (void *)data_of(image), *last = (void *)(image->filled - 16);
     if (!image->base) return word[0] || word[1] ? 0 : (uintptr_t)word;
     while (word <= last && !word[0] && word[1] != (uintptr_t)&word[1]) word++;
@@ -121,7 +126,7 @@ static void place_region(void) {
     size_t data = behind - clock, most = wanted_size();
     bool has_data = clock && data <= most;
     map_heap(behind, has_data ? most - data : most);
-    constants = (struct memory){image.first, (has_data ? clock : image.data) - image.first};
+    constants = (struct memory){image.first, (has_data ? clock : image.writable) - image.first};
     if (!has_data) {
         /* the data are foreign, and the heap alone is shared */
         clock = heap.size ? heap.at : (uintptr_t)least;

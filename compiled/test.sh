@@ -187,7 +187,7 @@ fi
 
 # layout FLAG..: a program with its data where a linker puts them by these flags
 layout() {
-    for name in bank heap_list; do
+    for name in bank heap_list two_parts; do
         program=$work/layout told=
         if $cc -O2 -fgnu-tm -pthread "$@" -o "$program" "$here/programs/$name.c" 2>"$program.err"; then
             run "$program" 4
@@ -206,6 +206,8 @@ if [ "$mode" = all ] && [ -z "${ONLY:-}" ]; then
     layout -Wl,-z,norelro
     layout -no-pie -Wl,-z,norelro,-z,lazy
     layout -fdata-sections -Wl,--gc-sections
+    layout -mcmodel=medium
+    layout -no-pie -mcmodel=medium
 fi
 
 # libitm_tests: GCC's own test programs of its runtime, which are not copied here
