@@ -1,6 +1,7 @@
 /* The program's malloc: blocks of the region. What does not fit comes from the C library, and is foreign. Memory is never
  * given back to the system, since a transaction that will not commit may still read what has been freed. */
 #include "library.h"
+#include <dlfcn.h>
 #include <errno.h>
 #include <sched.h>
 #include <stdlib.h>
@@ -145,5 +146,9 @@ ENTRY int posix_memalign(void **to, size_t align, size_t size) {
 }
 
 ENTRY size_t malloc_usable_size(void *p) {
-    return p && is_ours(p) ? room_at(p) : 0;
+    static size_t (*of_libc)(void *);
+    if (!p) return 0;
+    if (is_ours(p)) return room_at(p);
+    if (!of_libc) of_libc = (size_t (*)(void *))dlsym(RTLD_NEXT, "malloc_usable_size");
+    return of_libc(p);
 }
