@@ -2,3 +2,4 @@ pub mod Steps
 pub mod KeptBoxes
 pub mod Comings
 pub mod Numbers
+pub mod Rejoined

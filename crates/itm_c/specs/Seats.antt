@@ -5,6 +5,7 @@ use Rattle.itm_types.specs.declared.limits.TheConstants.{MAX_COMMITS, MAX_DEPTH}
 use Rattle.norec_core.specs.Core.{opening as fresh}
 use Rattle.shared_words.specs.Passes.{view_of, cells_of, place_of}
 use Rattle.shared_words.specs.Views.{opening, cut_left, cut_right}
+use Rattle.shared_words.specs.declared.view.View.{View}
 use Rattle.shared_words.specs.Steps.{Joined}
 use Rattle.itm_c.specs.Kept.{IsSeated, IsTied}
 use Rattle.itm_c.specs.declared.cells.Cells.{Cells}
@@ -34,7 +35,11 @@ pub record Leaves (old : Root) (c : Client) (new : Root) : Type 0 where
   pub words : arc_value new.words ≡ arc_value old.words
   pub joined : Joined (view_of old.pass) (view_of c.thread.pass) (view_of new.pass)
 
--- no thread has entered, and no seat is lost
+-- no step was made with a pass, and it has all its seats: where one was cut from it and joined again, `shorter` alone tells of that
+abbrev pub IsUnused : View → View → Type 0
+IsUnused old new = new ≡ record old { shorter = new.shorter }
+
+-- no thread has entered, no seat is lost, and no step was made
 abbrev pub IsRefused : Root → Root → Option Kept → Type 0
 IsRefused old new (Some k) = Unit {0}
-IsRefused old new None = (arc_value new.words ≡ arc_value old.words) × ((view_of new.pass).share ≡ (view_of old.pass).share)
+IsRefused old new None = (arc_value new.words ≡ arc_value old.words) × IsUnused (view_of old.pass) (view_of new.pass)

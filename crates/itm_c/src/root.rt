@@ -38,7 +38,7 @@ pub struct Root {
 
 impl Root {
     ghost use Rattle.itm_c.specs.Kept.{IsSeated, IsTied, KeepsClient};
-    ghost use Rattle.itm_c.specs.Seats.{Enters, IsOpened, Leaves};
+    ghost use Rattle.itm_c.specs.Seats.{Enters, IsOpened, IsUnused, Leaves};
 
     /// The words in these cells, where they lie.
     pub fn open(alloc: Global, cells: Cells) -> Result<Root, u32>
@@ -57,12 +57,13 @@ impl Root {
     }
 
     /// A thread over the words, with a pass that is cut from this one.
+    #[tactic(auto, using(crate::proofs::Rejoined::rejoined))]
     pub fn enter(&mut self, alloc: Global) -> Result<Client, u32>
         requires seated { IsSeated self.old }
         ensures seated { IsSeated self.new }
         ensures words { arc_value self.new.words ≡ arc_value self.old.words }
         ensures ok { IfOk result (Enters self.old self.new) }
-        ensures err { OnErr result ((view_of self.new.pass).share ≡ (view_of self.old.pass).share) }
+        ensures err { OnErr result (IsUnused (view_of self.old.pass) (view_of self.new.pass)) }
         ensures seats { OnOk result ((view_of self.old.pass).share ≢ 1) }
         ensures code { IfErr result (λ code. ((code ≡ no_memory) × ((view_of self.old.pass).share ≢ 1)) ⊎ ((code ≡ no_seat) × ((view_of self.old.pass).share ≡ 1))) }
     {

@@ -37,6 +37,7 @@ pub extern "C" fn itm_c_open(alloc: Global, cells: Cells, out: &mut Handle) -> u
 }
 
 /// A thread over the words.
+#[tactic(auto, using(crate::proofs::Rejoined::left_again))]
 #[unsafe(no_mangle)]
 pub extern "C" fn itm_c_enter(alloc: Global, words: &mut Handle, out: &mut Handle) -> u32
     requires words { IsWords words.old.kept }
