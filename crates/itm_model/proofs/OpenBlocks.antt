@@ -1,5 +1,5 @@
 -- Laws of the open blocks, as calls change what they stand on.
-use Rattle.std.proofs.Common.{◌≡◌, ℕ, suc, Bool, true, false, true≢false, ◌||◌, ◌+◌, ◌-◌, ◌≤◌, ◌<◌, List, [], ◌∷◌, ◌++◌, length, take, drop, reverse, subst, refl, ap, sym, ◌∙◌, arith, length-append, Option, None, Some, option_map, map}
+use Rattle.std.proofs.Common.{◌≡◌, ℕ, suc, Bool, true, false, true≢false, ◌||◌, ◌+◌, ◌-◌, ◌≤◌, ◌<◌, List, [], ◌∷◌, ◌++◌, length, take, drop, reverse, subst, refl, ap, sym, ◌∙◌, arith, length-append, Option, None, option_map, map}
 use Rattle.std.specs.List.{list_any}
 use Rattle.std.proofs.lemmas.List.{drop-append-le, take-append-drop, reverse-append, length-take-le, length-reverse}
 use Rattle.std.proofs.lemmas.List.Sorted.{list_any-IsPermutation, IsPermutation-reverse}
@@ -7,7 +7,7 @@ use Rattle.itm_types.specs.declared.call.Props.{Props}
 use Rattle.itm_types.specs.KeptBytes.{also_kept, merged, restored}
 use Rattle.user_actions.specs.Actions.{Actions, committed, cut_back}
 use Rattle.itm_model.specs.State.{Saved, State, Block}
-use Rattle.itm_model.specs.Machine.{back, back_from, closed, handed, logged_in, irrevocable_from, rolled_back, undone, undone_from}
+use Rattle.itm_model.specs.Machine.{back, back_from, closed, handed, logged_in, irrevocable_from, undone, undone_from}
 use Rattle.itm_model.specs.declared.journal.Old.{Old}
 use Rattle.itm_model.specs.declared.journal.Mark.{Mark}
 use Rattle.itm_model.specs.Undoing.{put_back, saved_in, saved_of, block_of, blocks_from, blocks_of, kept_of, AreWithin, AreUnder, Restores, Logged}
@@ -107,30 +107,6 @@ pub made_irrevocable_is : (irr : Bool) (j : List Old) (m a : List ℕ) (os : Lis
 made_irrevocable_is true j m a os marks acts wrote h = absurd (true≢false h)
 made_irrevocable_is false j m a os marks acts wrote h =
     ap (λ bs. record { memory = m; arena = a; blocks = bs; actions = record acts { undos = [] }; wrote = true; irrevocable = true }) (dropped_from j m a os (reverse marks))
-
--- a rollback of a block is the first part of the rollback of all
-undone_rolled : (s : State) (b : Block) (bs : List Block) → s.blocks ≡ b ∷ bs → (saved : Option Saved) → b.saved ≡ saved → undone (rolled_back s bs saved) ≡ undone_from (rolled_back s bs saved) bs
-undone_rolled s b bs e (Some saved) f = refl
-undone_rolled s b bs e None f = ap (undone_from s) e ∙ ap (λ t. undone_from (rolled_back s bs t) bs) f
-
-undone_back_from : (s : State) (bs : List Block) → s.blocks ≡ bs → undone (back_from s bs) ≡ undone_from s bs
-undone_back_from s [] e = ap (undone_from s) e
-undone_back_from s (b ∷ bs) e = undone_rolled s b bs e b.saved refl
-
-pub undone_back : (s : State) → undone (back s) ≡ undone s
-undone_back s = undone_back_from s s.blocks refl
-
--- and leaves it revocable
-rolled_revocable : (s : State) (bs : List Block) (saved : Option Saved) → (rolled_back s bs saved).irrevocable ≡ s.irrevocable
-rolled_revocable s bs None = refl
-rolled_revocable s bs (Some saved) = refl
-
-back_mode_from : (s : State) (bs : List Block) → (back_from s bs).irrevocable ≡ s.irrevocable
-back_mode_from s [] = refl
-back_mode_from s (b ∷ bs) = rolled_revocable s bs b.saved
-
-pub back_mode : (s : State) → (back s).irrevocable ≡ s.irrevocable
-back_mode s = back_mode_from s s.blocks
 
 -- ## The innermost block closed
 

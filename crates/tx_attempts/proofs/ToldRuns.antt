@@ -25,10 +25,6 @@ use Rattle.tx_attempts.specs.Restarts.{again_at, arena_set, breaks_in, breaks_of
 abbrev pub telling : State → List Ran → State
 telling s ran = record s { actions = record s.actions { ran = ran } }
 
--- two states that are alike but for that
-abbrev pub IsTold : State → State → Type 0
-IsTold s t = t ≡ telling s t.actions.ran
-
 -- ## One call
 
 -- with this told as run before it, what it leaves is the same, and the actions that it runs come behind

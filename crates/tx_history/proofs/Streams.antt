@@ -1,19 +1,18 @@
 -- Texts that a stream writes, one after another.
-use Rattle.std.proofs.Common.{◌≡◌, false, true≢false, refl, ℕ, ◌+◌, ◌<◌, ◌≤◌, List, [], ◌∷◌, ◌++◌, length, take, drop, Option, None, Some, Result, Ok, Err, sym, ap, ◌∙◌, subst, append-nil, append_assoc, arith}
+use Rattle.std.proofs.Common.{◌≡◌, false, true≢false, refl, ℕ, ◌+◌, ◌<◌, List, [], ◌∷◌, ◌++◌, length, take, Option, None, Some, Result, Ok, Err, sym, ap, ◌∙◌, subst, append-nil, arith}
 use Rattle.std.proofs.KnownBytes.{Appends-nil, Appends-trans, Appends-kept, Keeps-refl, Keeps-trans}
-use Rattle.std.proofs.lemmas.Grind.{common_steps, flat_map-append}
-use Rattle.std.proofs.lemmas.List.{length-append, take-append-drop, take-append-le}
+use Rattle.std.proofs.lemmas.Grind.{common_steps}
+use Rattle.std.proofs.lemmas.List.{length-append, take-append-le}
 use Rattle.std.specs.Prelude.{IsErr, OnOk, get_or, flat_map, is_some}
 use Rattle.std.specs.Result.{result_err}
 use Rattle.std.specs.declared.io.Error.{Error}
 use Rattle.std.specs.Io.KnownBytes.{Appends}
 use Rattle.tx_attempts.specs.declared.attempt.Attempt.{Attempt}
-use Rattle.tx_history.specs.declared.history.Version.{Version}
-use Rattle.tx_history.specs.Histories.{attempt_lines, first_lines, last_line, history_text}
+use Rattle.tx_history.specs.Histories.{attempt_lines}
 use Rattle.tx_history.specs.Pages.{Grows, Spells}
 use Rattle.tx_history.specs.declared.page.Page.{Page}
 use Rattle.tx_history.specs.Spelling.{IsCut, Puts}
-use Rattle.tx_history.specs.Streams.{Adds, Leaves, Sends, Standing, lines_so_far, standing}
+use Rattle.tx_history.specs.Streams.{Adds, Leaves, Sends, Standing, standing}
 use Rattle.tx_history.proofs.TextPieces.{cut_short}
 
 leaves_nothing : (f : Option Error) (u : Option (List ℕ)) → Leaves f f u u []
@@ -128,10 +127,6 @@ cut_through w v a b r e x p fresh failed last told =
 
 -- ## The lines of attempts, after what stands before them
 
--- there is no attempt yet
-pub adds_first : (a b : Standing) (before : List ℕ) (all : List Attempt) → Adds a b before → Adds a b (before ++ flat_map attempt_lines (take 0 all))
-adds_first a b before all p = subst (Adds a b) (sym (append-nil before)) p
-
 more_lines : (before : List ℕ) (xs : List Attempt) (x : Attempt) → before ++ flat_map attempt_lines (xs ++ x ∷ []) ≡ (before ++ flat_map attempt_lines xs) ++ attempt_lines x
 more_lines before xs x = grind (arith, common_steps)
 
@@ -152,36 +147,3 @@ adds_after a b c before all i d h p q =
 pub adds_attempt : (a b c : Standing) (all : List Attempt) (i : ℕ) (d : Attempt)
     → i < length all → Adds a b (flat_map attempt_lines (take i all)) → Adds b c (attempt_lines (get_or all i d)) → Adds a c (flat_map attempt_lines (take (i + 1) all))
 adds_attempt a b c all i d h p q = adds_after a b c [] all i d h p q
-
--- ## A whole history
-
-all_taken : (i : ℕ) (xs : List Attempt) → length xs ≤ i → take i xs ≡ xs
-all_taken i xs h = grind (arith, common_steps)
-
-lines_split : (version : Version) (memory : List ℕ) (all : List Attempt) (i : ℕ) → lines_so_far version memory all ≡ lines_so_far version memory (take i all) ++ flat_map attempt_lines (drop i all)
-lines_split version memory all i =
-    ap (lines_so_far version memory) (sym (take-append-drop i all))
-    ∙ ap (λ (l : List ℕ). first_lines version memory ++ l) (flat_map-append attempt_lines (take i all) (drop i all))
-    ∙ sym (append_assoc (first_lines version memory) (flat_map attempt_lines (take i all)) (flat_map attempt_lines (drop i all)))
-
-whole_text : (version : Version) (memory : List ℕ) (all : List Attempt) (clock : ℕ) (bytes : List ℕ)
-    → history_text (record { version = version; memory = memory; attempts = all; clock = clock; bytes = bytes }) ≡ lines_so_far version memory all ++ last_line clock bytes
-unfolding history_text
-whole_text version memory all clock bytes = refl
-
--- its last line is written after the others
-pub adds_whole : (a b c : Standing) (version : Version) (memory : List ℕ) (all : List Attempt) (clock : ℕ) (bytes : List ℕ)
-    → Adds a b (lines_so_far version memory all) → Adds b c (last_line clock bytes) → Adds a c (history_text (record { version = version; memory = memory; attempts = all; clock = clock; bytes = bytes }))
-adds_whole a b c version memory all clock bytes p q = adds_as a c _ _ (adds_then a b c _ _ p q) (sym (whole_text version memory all clock bytes))
-
-pub adds_last : (a b c : Standing) (version : Version) (memory : List ℕ) (all : List Attempt) (i clock : ℕ) (bytes : List ℕ)
-    → length all ≤ i → Adds a b (lines_so_far version memory (take i all)) → Adds b c (last_line clock bytes) → Adds a c (history_text (record { version = version; memory = memory; attempts = all; clock = clock; bytes = bytes }))
-adds_last a b c version memory all i clock bytes h p q =
-    adds_whole a b c version memory all clock bytes (subst (λ (l : List Attempt). Adds a b (lines_so_far version memory l)) (all_taken i all h) p) q
-
--- a write failed before all of it was written
-pub adds_stopped : (a b : Standing) (version : Version) (memory : List ℕ) (all : List Attempt) (i clock : ℕ) (bytes : List ℕ) (e : Error)
-    → Adds a b (lines_so_far version memory (take i all)) → b.fault ≡ Some e → Adds a b (history_text (record { version = version; memory = memory; attempts = all; clock = clock; bytes = bytes }))
-adds_stopped a b version memory all i clock bytes e p failed =
-    adds_as a b _ _ (adds_failed a b e _ _ (adds_failed a b e _ _ p failed) failed)
-    (ap (λ (l : List ℕ). l ++ last_line clock bytes) (sym (lines_split version memory all i)) ∙ sym (whole_text version memory all clock bytes))

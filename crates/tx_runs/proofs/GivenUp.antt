@@ -3,11 +3,14 @@ use Rattle.std.proofs.Common.{◌≡◌, ◌≤◌, ℕ, length, Bool, true, fal
 use Rattle.itm_types.specs.declared.call.Ran.{Ran}
 use Rattle.itm_model.specs.Machine.{undone}
 use Rattle.user_actions.specs.Actions.{total}
-use Rattle.norec_core.specs.Core.{Core}
+use Rattle.norec_core.specs.Core.{Core, rolled_back}
 use Rattle.norec_core.specs.Stands.{stands_for, state_in, state_over}
 use Rattle.norec_core.specs.Undoing.{after_undoing}
 use Rattle.norec_core.specs.declared.answer.Undone.TheVariants.{Done, Held, Nothing}
-use Rattle.norec_core.proofs.Replies.ActionCounts.{given_up_actions, given_up_on, undone_actions}
+use Rattle.norec_core.proofs.Replies.ActionCounts.{RunsOn, all_run, given_up_actions, undone_actions}
+
+given_up_on : (c : Core) → RunsOn 0 c.actions (rolled_back c).actions
+given_up_on c = all_run c.blocks c.actions
 
 -- they are those of the plain machine
 pub given_up_as : (old new : Core) (m : List ℕ) → old.holds ≡ false → old.irrevocable ≡ false → new ≡ after_undoing old → new.actions.ran ≡ (undone (stands_for old m)).actions.ran

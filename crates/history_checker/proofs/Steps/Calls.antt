@@ -1,6 +1,6 @@
 -- One call after the other.
-use Rattle.std.proofs.Common.{◌≡◌, ℕ, zero, suc, ◌+◌, ◌-◌, ◌<◌, Bool, true, false, List, [], ◌∷◌, length, get_or, take, drop, map, refl, ap, subst, ◌∙◌, arith, drop-cons, Option, None, Some}
-use Rattle.std.proofs.lemmas.Bool.{cond-true, cond-false}
+use Rattle.std.proofs.Common.{◌≡◌, ℕ, zero, suc, ◌+◌, ◌-◌, ◌<◌, Bool, true, List, [], ◌∷◌, length, get_or, take, drop, map, refl, ap, subst, ◌∙◌, arith, drop-cons, Option, None, Some}
+use Rattle.std.proofs.lemmas.Bool.{cond-true}
 use Rattle.itm_types.specs.declared.call.Refusal.{Refusal}
 use Rattle.itm_types.specs.declared.call.Call.{Call}
 use Rattle.itm_types.specs.declared.call.Call.TheVariants.{Begin, Commit, Abort, Mode, InTransaction, Read, Write, Log, LogBytes, Copy, Fill, CommitAction, UndoAction, Load, Save}
@@ -14,7 +14,7 @@ use Rattle.tx_attempts.specs.Restarts.{arena_set}
 use Rattle.history_checker.specs.declared.verdict.BadKind.TheVariants as kind
 use Rattle.history_checker.specs.declared.verdict.Fault.{Fault}
 use Rattle.history_checker.specs.Matches.{same_reply}
-use Rattle.history_checker.specs.Replays.{again_fault, calls_fault, at_head, at_call, last_is}
+use Rattle.history_checker.specs.Replays.{again_fault, calls_fault, last_is}
 
 -- the last of some calls
 pub last_item : (test : CallRecord → Bool) (es : List CallRecord) (d : CallRecord) → 0 < length es → last_is test es ≡ test (get_or es (length es - 1) d)
@@ -29,14 +29,6 @@ module _ (deepest : ℕ) (again : ℕ → Option Again) (s : State) (i : ℕ) (e
   -- behind i calls
   abbrev pub fault_from : Option Fault
   fault_from = calls_fault deepest (λ n. again (i + n)) s i (drop i es)
-
-  pub calls_closed : is_open s ≡ false → fault_from ≡ Some (at_head kind.Shape)
-  calls_closed o = ap (calls_fault deepest (λ n. again (i + n)) s i) (drop-cons es i d h) ∙ cond-false (is_open s) _ _ o
-
-  pub calls_wrong : is_open s ≡ true → same_reply (get_or es i d).reply (reply deepest s (get_or es i d).call) ≡ false → fault_from ≡ Some (at_call i kind.Reply)
-  calls_wrong o r =
-      let e = get_or es i d in
-      ap (calls_fault deepest (λ n. again (i + n)) s i) (drop-cons es i d h) ∙ (cond-true (is_open s) _ _ o ∙ cond-false (same_reply e.reply (reply deepest s e.call)) _ _ r)
 
   pub calls_next : is_open s ≡ true → same_reply (get_or es i d).reply (reply deepest s (get_or es i d).call) ≡ true
       → fault_from ≡ again_fault (again (i + 1)) (after deepest s (get_or es i d).call) (calls_fault deepest (λ n. again (i + 1 + n)) (arena_set (again (i + 1)) (after deepest s (get_or es i d).call)) (i + 1) (drop (i + 1) es))

@@ -1,5 +1,5 @@
 -- What a history's end says, one attempt after the other.
-use Rattle.std.proofs.Common.{◌≡◌, ℕ, zero, suc, ◌+◌, ◌<◌, ◌≤◌, Bool, true, false, not, ◌&&◌, ◌||◌, ◌==◌, if◌then◌else◌, is_some, List, [], ◌∷◌, length, get_or, take, drop, map, sum_by, refl, ap, sym, ◌∙◌, arith, add-one, drop-cons, inl, inr, Option, None, Some}
+use Rattle.std.proofs.Common.{◌≡◌, ℕ, zero, suc, ◌+◌, ◌<◌, ◌≤◌, Bool, true, false, not, ◌&&◌, ◌||◌, ◌==◌, if◌then◌else◌, is_some, List, [], ◌∷◌, length, get_or, take, map, sum_by, refl, ap, sym, ◌∙◌, arith, inl, inr, Option, None, Some}
 use Rattle.std.proofs.lemmas.Grind.{common_steps}
 use Rattle.std.proofs.lemmas.Bool.{cases_lt}
 use Rattle.tx_attempts.specs.declared.attempt.Attempt.{Attempt}
@@ -15,7 +15,7 @@ use Rattle.history_checker.specs.declared.verdict.Fault.{Fault}
 use Rattle.history_checker.specs.declared.verdict.Spot.{Spot}
 use Rattle.history_checker.specs.declared.replays.Told.{Told}
 use Rattle.history_checker.specs.Replays.{first_of, fault_in}
-use Rattle.history_checker.specs.Verdicts.{at_fault, at_place, committed_fault, fault_at, is_beyond, first_row, head_row, is_away, is_waiting, line_count, others_fault, told_row}
+use Rattle.history_checker.specs.Verdicts.{at_fault, at_place, committed_fault, fault_at, is_beyond, first_row, head_row, is_away, line_count, others_fault, told_row}
 use Rattle.history_checker.specs.Tables.{AreTold, IsTold, nothing_told, told_away, told_fault, told_holding, told_of, told_on, unless_fault}
 use Rattle.history_checker.proofs.Steps.Tables.{none_beyond, seen_within}
 use Rattle.history_checker.proofs.Steps.Walks.{place_none}
@@ -48,27 +48,6 @@ pub row_last : (v : Version) (ts : List Attempt) (i place : ℕ) → length ts �
 row_last v ts i place h l =
     let whole : take i ts ≡ take place ts = grind (arith, common_steps) in
     ap (λ (xs : List Attempt). first_row v + sum_by line_count xs) whole
-
--- ## What is told
-
-pub told_next : (told : List Told) (i : ℕ) (d : Told) → i < length told → (get_or told i d).fault ≡ None → told_fault i (drop i told) ≡ told_fault (i + 1) (drop (i + 1) told)
-told_next told i d h e = rw (add-one) (ap (told_fault i) (drop-cons told i d h) ∙ ap (λ (f : Option Fault). first_of (at_place i f) (told_fault (suc i) (drop (suc i) told))) e)
-
-pub told_first : (told : List Told) (i : ℕ) (d : Told) (f : Fault) → i < length told → (get_or told i d).fault ≡ Some f → told_fault i (drop i told) ≡ Some (record { attempt = i; fault = f })
-told_first told i d f h e = ap (told_fault i) (drop-cons told i d h) ∙ ap (λ (g : Option Fault). first_of (at_place i g) (told_fault (suc i) (drop (suc i) told))) e
-
-pub waiting_next : (n : ℕ) (ts : List Attempt) (i : ℕ) (d : Attempt) (b : Bool) → i < length ts → (is_unfinished (get_or ts i d).outcome && ((get_or ts i d).at == n)) ≡ b → is_waiting n (drop i ts) ≡ (b || is_waiting n (drop (i + 1) ts))
-waiting_next n ts i d b h e = rw (add-one) (ap (is_waiting n) (drop-cons ts i d h) ∙ ap (λ (c : Bool). c || is_waiting n (drop (suc i) ts)) e)
-
-pub holding_next : (told : List Told) (i : ℕ) (d : Told) → i < length told → told_holding (drop i told) ≡ one_where (get_or told i d).holds + told_holding (drop (i + 1) told)
-holding_next told i d h = rw (add-one) (ap told_holding (drop-cons told i d h))
-
-pub away_next : (n : ℕ) (ts : List Attempt) (told : List Told) (i : ℕ) (d : Attempt) (e : Told) (b : Bool) → i < length ts → i < length told → ((get_or told i e).holds && not ((get_or ts i d).at == n)) ≡ b
-    → told_away n (drop i ts) (drop i told) ≡ (b || told_away n (drop (i + 1) ts) (drop (i + 1) told))
-away_next n ts told i d e b h h' is =
-    rw (add-one) (ap (λ (xs : List Attempt). told_away n xs (drop i told)) (drop-cons ts i d h)
-    ∙ (ap (told_away n (get_or ts i d ∷ drop (suc i) ts)) (drop-cons told i e h')
-    ∙ ap (λ (c : Bool). c || told_away n (drop (suc i) ts) (drop (suc i) told)) is))
 
 -- ## All that is told
 

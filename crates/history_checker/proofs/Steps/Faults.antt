@@ -6,7 +6,7 @@ use Rattle.itm_model.specs.Machine.{opened}
 use Rattle.tx_attempts.specs.declared.attempt.Attempt.{Attempt}
 use Rattle.tx_attempts.specs.declared.attempt.Outcome.{Outcome}
 use Rattle.tx_attempts.specs.declared.attempt.Outcome.TheVariants.{Committed, ReadOnly, Cancelled, Conflict, Full, NoMemory, Unfinished}
-use Rattle.tx_attempts.specs.Attempts.{alone, is_committed}
+use Rattle.tx_attempts.specs.Attempts.{alone}
 use Rattle.tx_attempts.specs.Restarts.{again_at}
 use Rattle.tx_history.specs.Legal.{is_unfinished}
 use Rattle.history_checker.specs.declared.verdict.BadKind.TheVariants as kind
@@ -68,13 +68,3 @@ told_is deepest m a f t holds e s h =
     let s1 = alone deepest m a in
     let held : holds ≡ unless_fault (fault_in deepest m a) (is_unfinished a.outcome && s1.irrevocable) = h ∙ (held_unless f a.outcome s1 t s ∙ ap (λ g. unless_fault g (is_unfinished a.outcome && s1.irrevocable)) e) in
     (λ i. record { fault = e i; holds = held i })
-
--- a committed attempt gives nothing up
-pub ended_committed : (o : Outcome) (s : State) → is_committed o ≡ true → ended o s ≡ s
-ended_committed Committed s h = refl
-ended_committed ReadOnly s h = refl
-ended_committed Cancelled s h = refl
-ended_committed Conflict s h = cc
-ended_committed Full s h = cc
-ended_committed NoMemory s h = cc
-ended_committed Unfinished s h = refl

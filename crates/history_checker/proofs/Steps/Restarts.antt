@@ -90,16 +90,6 @@ pub record IsReplayed (deepest : ℕ) (start : State) (calls : List CallRecord) 
   pub long : length s.arena ≡ length start.arena
 
 module _ (deepest : ℕ) (start : State) (calls : List CallRecord) (restarts : List Again) where
-  -- none is at first
-  pub none_replayed : are_again (length start.arena) 0 calls restarts ≡ true → IsReplayed deepest start calls restarts 0 0 start
-  none_replayed e = record {
-    state = refl;
-    fault = (let at : (n : ℕ) → n ≡ 0 + n = λ n. omega arith in λ j. calls_fault deepest (λ n. again_at restarts (at n j)) start 0 calls);
-    ahead = e;
-    later = λ n l. refl;
-    long = refl;
-  }
-
   module _ (i next : ℕ) (s : State) (r : IsReplayed deepest start calls restarts i next s) (d : CallRecord) (h : i < length calls) (inside : is_open s ≡ true)
       (same : same_reply (get_or calls i d).reply (reply deepest s (get_or calls i d).call) ≡ true) where
     -- the state after the next call

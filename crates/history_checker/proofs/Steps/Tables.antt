@@ -69,12 +69,6 @@ position_here n ts i d h e =
 
 -- ## Snapshots
 
-pub at_next : (n : ℕ) (ts : List Attempt) (i : ℕ) (d : Attempt) → i < length ts → is_beyond n (get_or ts i d) ≡ false → at_fault n i (drop i ts) ≡ at_fault n (i + 1) (drop (i + 1) ts)
-at_next n ts i d h e = rw (add-one) (ap (at_fault n i) (drop-cons ts i d h) ∙ cond-false (is_beyond n (get_or ts i d)) _ _ e)
-
-pub at_here : (n : ℕ) (ts : List Attempt) (i : ℕ) (d : Attempt) → i < length ts → is_beyond n (get_or ts i d) ≡ true → at_fault n i (drop i ts) ≡ at_place i (Some (at_head kind.At))
-at_here n ts i d h e = ap (at_fault n i) (drop-cons ts i d h) ∙ cond-true (is_beyond n (get_or ts i d)) _ _ e
-
 pub last_snoc : (i : ℕ) (xs : List Attempt) (a : Attempt) (k : ℕ) → last_other i (xs ++ a ∷ []) k ≡ (if is_other k a then Some (i + length xs) else last_other i xs k)
 last_snoc i [] a k =
     let e : i ≡ i + 0 = omega arith in ap (λ (n : ℕ). if is_other k a then Some n else None) e

@@ -180,9 +180,6 @@ pub record IsNext (h : History) (k : ℕ) (told : List Told) (next : Option ℕ)
   pub there : next ≡ last_other 0 (take from h.attempts) k
   pub told_behind : AreTold h k from told
 
-pub next_first : (h : History) (k : ℕ) (told : List Told) (next : Option ℕ) → next ≡ last_other 0 (take (length h.attempts) h.attempts) k → AreTold h k (length h.attempts) told → IsNext h k told next
-next_first h k told next e t = record { from = length h.attempts; within = omega arith; there = e; told_behind = t }
-
 -- what is known of it
 pub next_is : (h : History) (k : ℕ) (told : List Told) (i : ℕ) (d : Attempt) → IsNext h k told (Some i) → (i < length h.attempts) × (is_committed (get_or h.attempts i d).outcome ≡ false) × ((get_or h.attempts i d).at ≡ k)
 next_is h k told i d n =

@@ -17,7 +17,7 @@ use Rattle.word_pieces.specs.Chunks.{chunk_of, chunk_count, chunks_of, chunks_wr
 use Rattle.word_pieces.specs.Masks.{mask_of}
 use Rattle.word_pieces.specs.Pieces.{pieces_of, IsPiece}
 use Rattle.word_pieces.proofs.ChunkBytes.{all-written}
-use Rattle.word_pieces.proofs.Covers.{AllByRecursion-pieces_of, words_of-pieces_of, bytes_of-written}
+use Rattle.word_pieces.proofs.Covers.{words_of-pieces_of, bytes_of-written}
 use Rattle.word_pieces.proofs.Lists.{length-slice}
 use Rattle.word_pieces.proofs.MaskBytes.{mask_of-some}
 use Rattle.word_pieces.proofs.Parts.{AreBytes-slice}
@@ -64,20 +64,11 @@ both : (P : Piece → Type 0) (ps qs : List Piece) → AllByRecursion P ps → A
 both P [] qs h k = k
 both P (p ∷ ps) qs h k = (h.0, both P ps qs h.1 k)
 
-pub pieces-of_chunks : (place size : ℕ) (cs : List Chunk) → AllByRecursion (IsPart size) cs → AllByRecursion IsPiece (range_pieces place cs)
-pieces-of_chunks place size [] h = tt
-pieces-of_chunks place size (c ∷ cs) h =
-    both IsPiece (pieces_of (place + c.at) c.size) (range_pieces place cs) (AllByRecursion-pieces_of (place + c.at) c.size h.0.small) (pieces-of_chunks place size cs h.1)
-
 pub words-of_chunks : (words place size : ℕ) (cs : List Chunk) → AllByRecursion (IsPart size) cs → place + size ≤ 8 * words → AllByRecursion (λ (p : Piece). p.word < words) (range_pieces place cs)
 words-of_chunks words place size [] h l = tt
 words-of_chunks words place size (c ∷ cs) h l =
     let within = h.0.within in
     both (λ (p : Piece). p.word < words) (pieces_of (place + c.at) c.size) (range_pieces place cs) (words_of-pieces_of (place + c.at) c.size words (omega arith)) (words-of_chunks words place size cs h.1 l)
-
--- each piece of a range has bytes, within its word
-pub pieces-of_range : (place : ℕ) (direction : Direction) (size : ℕ) → AllByRecursion IsPiece (range_pieces place (chunks_of direction size))
-pieces-of_range place direction size = pieces-of_chunks place size (chunks_of direction size) (parts-chunks_of direction size)
 
 -- and its word lies in every memory in which the range lies
 pub words-of_range : (words place : ℕ) (direction : Direction) (size : ℕ) → place + size ≤ 8 * words → AllByRecursion (λ (p : Piece). p.word < words) (range_pieces place (chunks_of direction size))

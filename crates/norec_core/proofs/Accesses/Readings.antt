@@ -13,7 +13,7 @@ use Rattle.norec_core.specs.Accesses.{part, parts, count, passed_for, total_for}
 use Rattle.norec_core.specs.Phases.{Load}
 use Rattle.norec_core.specs.declared.call_parts.Reading.{Reading}
 use Rattle.norec_core.specs.Rows.{is_had}
-use Rattle.norec_core.specs.Order.{load_among, load_past, load_chunks, load_stage, chunk_reading, tries_after, tries_at}
+use Rattle.norec_core.specs.Order.{load_among, load_chunks, chunk_reading, tries_after, tries_at}
 use Rattle.norec_core.specs.OwnAccesses.{word_of}
 use Rattle.norec_core.specs.Copies.{chunks_in, words_in, source_words}
 use Rattle.norec_core.specs.declared.call_parts.Purpose.{Purpose}
@@ -27,12 +27,6 @@ none_drop [] zero e = refl
 none_drop [] (suc n) e = refl
 none_drop (x ∷ xs) zero e = absurd (cc)
 none_drop (x ∷ xs) (suc n) e = none_drop xs n e
-
-pub none_take : {X : Type 0} (xs : List X) (n : ℕ) → slice_get xs n ≡ None → take n xs ≡ xs
-none_take [] zero e = refl
-none_take [] (suc n) e = refl
-none_take (x ∷ xs) zero e = absurd (cc)
-none_take (x ∷ xs) (suc n) e = ap (λ (l : List _). x ∷ l) (none_take xs n e)
 
 pub some_drop : {X : Type 0} (xs : List X) (n : ℕ) (x : X) → slice_get xs n ≡ Some x → drop n xs ≡ x ∷ drop (suc n) xs
 some_drop [] n x e = absurd (cc)
@@ -124,13 +118,6 @@ starts_among writes log past r (p ∷ ps) e =
 pub starts_chunks : (writes : List Row) (log : List LogRow) (k : Copying) (n : ℕ) (cs : List Chunk) → StartsNone (load_chunks writes log k n cs)
 starts_chunks writes log k n [] = refl
 starts_chunks writes log k n (c ∷ cs) = starts_among writes log (load_chunks writes log k (suc n) cs) (chunk_reading k n c) (pieces_of (k.from + c.at) c.size) (starts_chunks writes log k (suc n) cs)
-
-starts_past : (writes : List Row) (log : List LogRow) (what : Purpose) → StartsNone (load_past writes log what)
-starts_past writes log (for.Value hint width) = refl
-starts_past writes log (for.Chunk k n) = starts_chunks writes log k (suc n) (drop (suc n) (chunks_in k))
-
-pub tries_loading : (writes : List Row) (log : List LogRow) (r : Reading) → tries_after (load_stage writes log r) 0 ≡ tries_at (load_stage writes log r)
-tries_loading writes log r = starts_among writes log (load_past writes log r.purpose) r (drop r.number (parts r)) (starts_past writes log r.purpose)
 
 -- one piece further on
 pub passed_next : (what : Purpose) (n : ℕ) → passed_for what (n + 1) ≡ passed_for what n + 1

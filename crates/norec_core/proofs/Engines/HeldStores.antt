@@ -45,12 +45,6 @@ IsLoaded _ seen m = Unit {0}
 
 -- what is stored next of a word that was loaded is that word
 module _ (e new : Core) (word value seen : ℕ) (writes : new.writes ≡ e.writes) where
-  -- no store follows a load of a round
-  no_store : (b c : Bool) (aim : Aim) (row : ℕ) → asked_from new (if b then (if c then at.RoundRow aim row else at.RoundEnd aim) else at.Idle) ≡ Some (Store (suc word) value) → ⊥
-  no_store true true aim row q = cc
-  no_store true false aim row q = cc
-  no_store false c aim row q = cc
-
   no_round : (b c d : Bool) (aim : Aim) (row next : ℕ) → asked_from new (if b then (if c then at.RoundRow aim next else at.RoundEnd aim) else (if d then at.RoundBack aim row else at.Idle)) ≡ Some (Store (suc word) value) → ⊥
   no_round true true d aim row next q = cc
   no_round true false d aim row next q = cc

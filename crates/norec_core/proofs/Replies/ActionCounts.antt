@@ -114,10 +114,6 @@ replied_on c (UndoAction action) Done o = undo_on c action c.irrevocable
 replied_on c (UndoAction action) r o = still 1 c.actions
 replied_on c call r o = still (registers call) c.actions
 
--- a transaction that is given up
-pub given_up_on : (c : Core) → RunsOn 0 c.actions (rolled_back c).actions
-given_up_on c = all_run c.blocks c.actions
-
 -- ## Replies that run nothing
 
 inner_closes : (blocks : List Frame) (a : Actions) → is_outermost blocks ≡ false → (actions_closed blocks a).ran ≡ a.ran
