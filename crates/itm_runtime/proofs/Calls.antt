@@ -7,3 +7,4 @@ pub mod Results
 pub mod Rollbacks
 pub mod Restarts
 pub mod NumberAnswers
+pub mod Underway

@@ -13,7 +13,7 @@ ghost use Rattle.norec_engine.specs.WholeReads.{LoadsWord};
 
 use itm_types::{Reply, Step};
 use norec_core::Answer;
-use norec_engine::{Engine, FastStep};
+use norec_engine::Engine;
 use shared_words::{Pass, Words};
 use std::alloc::Allocator;
 
@@ -32,29 +32,6 @@ pub(crate) fn finish<A: Allocator>(
 {
     match first {
         Some(step) => drive(words, pass, engine, step, answer),
-        None => {}
-    }
-}
-
-/// The same, with the first step on the fast path.
-#[inline(always)]
-pub(crate) fn finish_fast<A: Allocator>(
-    words: &Words<A>,
-    pass: &mut Pass,
-    engine: &mut Engine,
-    first: Option<Step>,
-    fast: FastStep,
-    answer: &mut Answer,
-)
-    requires own { Owns words.now pass.old }
-    requires due { (s : Start) × IsDue s (view_of pass.old) engine.old (next_in first answer.old) }
-    ensures { Finishes words.now (view_of pass.old) engine.old (next_in first answer.old) answer.new pass.new engine.new }
-{
-    match first {
-        Some(step) => {
-            let next = advance(words, pass, engine, step, fast, answer);
-            finish(words, pass, engine, next, answer);
-        }
         None => {}
     }
 }
@@ -102,44 +79,6 @@ pub(crate) fn finish_moved<A: Allocator>(
     answer
 }
 
-/// The same of a commit, whose rows are stored on the fast path.
-#[inline(always)]
-pub(crate) fn finish_commit<A: Allocator>(
-    words: &Words<A>,
-    pass: &mut Pass,
-    engine: &mut Engine,
-    first: Option<Step>,
-    answer: &mut Answer,
-)
-    requires own { Owns words.now pass.old }
-    requires due { (s : Start) × IsDue s (view_of pass.old) engine.old (next_in first answer.old) }
-    ensures { Finishes words.now (view_of pass.old) engine.old (next_in first answer.old) answer.new pass.new engine.new }
-{
-    match first {
-        Some(step) => take_and_store(words, pass, engine, step, answer),
-        None => {}
-    }
-}
-
-/// Takes the clock, and stores the rows.
-#[inline(always)]
-fn take_and_store<A: Allocator>(
-    words: &Words<A>,
-    pass: &mut Pass,
-    engine: &mut Engine,
-    first: Step,
-    answer: &mut Answer,
-)
-    requires own { Owns words.now pass.old }
-    requires due { (s : Start) × InCall s (view_of pass.old) engine.old first }
-    ensures { Finishes words.now (view_of pass.old) engine.old (Asks first) answer.new pass.new engine.new }
-{
-    match advance(words, pass, engine, first, FastStep::Exchange, answer) {
-        Some(step) => store(words, pass, engine, step, answer),
-        None => {}
-    }
-}
-
 /// Does the steps that the call asks for, from this one on, up to its answer.
 #[inline(never)]
 fn drive<A: Allocator>(
@@ -159,25 +98,6 @@ fn drive<A: Allocator>(
     }
 }
 
-/// The same, with the stores of a commit on the fast path.
-#[inline(always)]
-fn store<A: Allocator>(
-    words: &Words<A>,
-    pass: &mut Pass,
-    engine: &mut Engine,
-    first: Step,
-    answer: &mut Answer,
-)
-    requires own { Owns words.now pass.old }
-    requires due { (s : Start) × InCall s (view_of pass.old) engine.old first }
-    ensures { Finishes words.now (view_of pass.old) engine.old (Asks first) answer.new pass.new engine.new }
-{
-    let mut next = Some(first);
-    while let Some(step) = next {
-        next = advance_store(words, pass, engine, step, answer);
-    }
-}
-
 /// Does one step of a call; tells the next one. A part of a word is stored here alone, for the fast path stores whole words.
 fn go_on<A: Allocator>(
     words: &Words<A>,
@@ -194,75 +114,9 @@ fn go_on<A: Allocator>(
     engine.resume_into(found, answer)
 }
 
-/// The same of a step of the fast path, where the call stays on it, else does all that are left.
-#[inline(always)]
-fn advance<A: Allocator>(
-    words: &Words<A>,
-    pass: &mut Pass,
-    engine: &mut Engine,
-    step: Step,
-    fast: FastStep,
-    answer: &mut Answer,
-) -> Option<Step>
-    requires own { Owns words.now pass.old }
-    requires due { (s : Start) × InCall s (view_of pass.old) engine.old step }
-    ensures { StepsOn words.now (view_of pass.old) engine.old step pass.new engine.new (next_in result answer.new) }
-{
-    let seen = words.step(pass, step);
-    match engine.resume_fast(fast, seen, answer) {
-        Some(next) => next,
-        None => {
-            resume(words, pass, engine, seen, answer);
-            None
-        }
-    }
-}
-
-/// The same of a store, of a row that is the last one or not.
-#[inline(always)]
-fn advance_store<A: Allocator>(
-    words: &Words<A>,
-    pass: &mut Pass,
-    engine: &mut Engine,
-    step: Step,
-    answer: &mut Answer,
-) -> Option<Step>
-    requires own { Owns words.now pass.old }
-    requires due { (s : Start) × InCall s (view_of pass.old) engine.old step }
-    ensures { StepsOn words.now (view_of pass.old) engine.old step pass.new engine.new (next_in result answer.new) }
-{
-    let stored = words.step(pass, step);
-    match engine.resume_fast(FastStep::Store, stored, answer) {
-        Some(next) => next,
-        None => {
-            resume_last(words, pass, engine, stored, answer);
-            None
-        }
-    }
-}
-
-/// Hands the value of a step in, that of the last store of a commit on the fast path, and does the steps that are left.
-#[inline(always)]
-fn resume_last<A: Allocator>(
-    words: &Words<A>,
-    pass: &mut Pass,
-    engine: &mut Engine,
-    seen: u64,
-    answer: &mut Answer,
-)
-    requires own { Owns words.now pass.old }
-    requires done { (s : Start) × IsDone (cells_of words.now) s (view_of pass.old) engine.old seen }
-    ensures { (v : View) (step : Step) → HasStepped v step seen (view_of pass.old) → Finishes words.now v engine.old (Asks step) answer.new pass.new engine.new }
-{
-    match engine.resume_fast(FastStep::LastStore, seen, answer) {
-        Some(next) => finish_fast(words, pass, engine, next, FastStep::Free, answer),
-        None => resume(words, pass, engine, seen, answer),
-    }
-}
-
 /// Hands the value of a step in, and does the steps that are left.
 #[inline(never)]
-fn resume<A: Allocator>(
+pub(crate) fn resume<A: Allocator>(
     words: &Words<A>,
     pass: &mut Pass,
     engine: &mut Engine,

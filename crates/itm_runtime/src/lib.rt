@@ -1,6 +1,7 @@
 //! A thread's transactions over shared words.
 #![tactic(auto)]
 
+mod blocks;
 mod drive;
 mod equality;
 mod numbers;

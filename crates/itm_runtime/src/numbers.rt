@@ -165,6 +165,23 @@ impl Thread {
     {
         match self.engine.read_fast(ReadHint::R, Width::U8, at) {
             Some(word) => finish_number(words, &mut self.pass, &mut self.engine, word, stop),
+            None => self.read_known(words, at, stop),
+        }
+    }
+
+    /// The same, where the word is to be had with no step.
+    #[inline(never)]
+    fn read_known<A: Allocator>(
+        &mut self,
+        words: &Words<A>,
+        at: u64,
+        stop: &mut Stop,
+    ) -> Option<u64>
+        requires own { Owns words.now self.old.pass }
+        ensures { Tells words.now self.old (Call.Read ReadHint.R Width.U8 at) (answer_to_read (number_or result stop.new)) self.new }
+    {
+        match self.engine.read_known(ReadHint::R, Width::U8, at) {
+            Some(number) => Some(number),
             None => self.read_number_slow(words, at, stop),
         }
     }
@@ -223,6 +240,25 @@ impl Thread {
     {
         let datum = datum_of(value);
         if self.engine.write_next(WriteHint::W, at, &datum) {
+            return true;
+        }
+        self.write_found(words, at, value, stop)
+    }
+
+    /// The same, where the word is looked for.
+    #[inline(never)]
+    fn write_found<A: Allocator>(
+        &mut self,
+        words: &Words<A>,
+        at: u64,
+        value: u64,
+        stop: &mut Stop,
+    ) -> bool
+        requires own { Owns words.now self.old.pass }
+        ensures { Tells words.now self.old (Call.Write WriteHint.W at (number value)) (answer_to_write (done_or result stop.new)) self.new }
+    {
+        let datum = datum_of(value);
+        if self.engine.write_found(WriteHint::W, at, &datum) {
             return true;
         }
         self.write_afar(words, at, value, stop)

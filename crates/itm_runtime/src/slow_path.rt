@@ -24,14 +24,14 @@ impl Thread {
         props: Props,
         room: u32,
         again: bool,
-        answer: &mut Answer,
-    ) -> Result<(), AllocError>
+    ) -> Result<Answer, AllocError>
         requires own { Owns words.now self.old.pass }
-        ensures { Returns (λ done. answer.new) words.now self.old (Call.Begin props room) again result self.new }
+        ensures { Returns (λ a. a) words.now self.old (Call.Begin props room) again result self.new }
     {
-        let first = self.engine.begin_into(props, room, again, answer)?;
-        finish(words, &mut self.pass, &mut self.engine, first, answer);
-        Ok(())
+        let mut answer = Answer::Reply(Reply::Done);
+        let first = self.engine.begin_into(props, room, again, &mut answer)?;
+        finish(words, &mut self.pass, &mut self.engine, first, &mut answer);
+        Ok(answer)
     }
 
     /// A read.
@@ -82,12 +82,12 @@ impl Thread {
 
     /// A commit. Takes no memory.
     #[inline(never)]
-    pub(crate) fn commit_slow<A: Allocator>(&mut self, words: &Words<A>, answer: &mut Answer)
+    pub(crate) fn commit_slow<A: Allocator>(&mut self, words: &Words<A>) -> Answer
         requires own { Owns words.now self.old.pass }
-        ensures { IsAnswered words.now (start_of self.old Call.Commit false) answer.new self.new.pass self.new.engine }
+        ensures { IsAnswered words.now (start_of self.old Call.Commit false) result self.new.pass self.new.engine }
     {
-        match self.call_told(words, &Call::Commit, answer) {
-            Ok(()) => {}
+        match self.call_slow(words, &Call::Commit) {
+            Ok(answer) => answer,
             Err(_) => unreachable!(),
         }
     }

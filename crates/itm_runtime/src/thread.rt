@@ -12,13 +12,14 @@ ghost use Rattle.itm_runtime.specs.Ties.{Stands};
 ghost use Rattle.itm_runtime.specs.CallResults.{IsAnswered, Returns};
 ghost use Rattle.itm_runtime.specs.Standing.{start_of};
 
-use crate::drive::{finish, finish_commit, finish_fast, finish_read};
+use crate::blocks::{Begun, Ended, begin_block, commit_block, go_on_from};
+use crate::drive::{finish, finish_read};
 use crate::refused::ThreadRefused;
 use itm_types::{
     Call, Datum, Limits, MAX_COMMITS, MAX_PATIENCE, Props, Ran, ReadHint, Reply, Width, WriteHint,
 };
 use norec_core::{Answer, Undone};
-use norec_engine::{Engine, EngineRefused, FastStep};
+use norec_engine::{Engine, EngineRefused};
 use shared_words::{Pass, Words};
 use std::alloc::{AllocError, Allocator, Global};
 use std::marker::Model;
@@ -88,36 +89,10 @@ impl Thread {
         requires own { Owns words.now self.old.pass }
         ensures { Returns (λ a. a) words.now self.old (Call.Begin props room) again result self.new }
     {
-        let mut answer = Answer::Reply(Reply::Done);
-        self.begin_told(words, props, room, again, &mut answer)?;
-        Ok(answer)
-    }
-
-    /// The same, with the answer where the caller has it. Not put in line where a program calls it from more places than one.
-    fn begin_told<A: Allocator>(
-        &mut self,
-        words: &Words<A>,
-        props: Props,
-        room: u32,
-        again: bool,
-        answer: &mut Answer,
-    ) -> Result<(), AllocError>
-        requires own { Owns words.now self.old.pass }
-        ensures { Returns (λ done. answer.new) words.now self.old (Call.Begin props room) again result self.new }
-    {
-        match self.engine.begin_fast(props, room, again, answer) {
-            Some(first) => {
-                finish_fast(
-                    words,
-                    &mut self.pass,
-                    &mut self.engine,
-                    first,
-                    FastStep::Begin,
-                    answer,
-                );
-                Ok(())
-            }
-            None => self.begin_slow(words, props, room, again, answer),
+        match begin_block(words, &mut self.pass, &mut self.engine, props, room, again) {
+            Begun::Code(code) => Ok(Answer::Reply(Reply::Code(code))),
+            Begun::Odd(clock) => Ok(go_on_from(words, &mut self.pass, &mut self.engine, clock)),
+            Begun::Nothing => self.begin_slow(words, props, room, again),
         }
     }
 
@@ -189,21 +164,11 @@ impl Thread {
         // No block goes back alone.
         ensures whole { IsRestart result → ⊥ }
     {
-        let mut answer = Answer::Reply(Reply::Done);
-        self.commit_told(words, &mut answer);
-        answer
-    }
-
-    /// The same, with the answer where the caller has it. Not put in line where a program calls it from more places than one.
-    fn commit_told<A: Allocator>(&mut self, words: &Words<A>, answer: &mut Answer)
-        requires own { Owns words.now self.old.pass }
-        ensures { IsAnswered words.now (start_of self.old Call.Commit false) answer.new self.new.pass self.new.engine }
-    {
-        match self.engine.commit_fast(answer) {
-            Some(first) => {
-                finish_commit(words, &mut self.pass, &mut self.engine, first, answer);
-            }
-            None => self.commit_slow(words, answer),
+        match commit_block(words, &mut self.pass, &mut self.engine) {
+            Ended::Wrote(at) => Answer::Committed { at, wrote: true },
+            Ended::Read(at) => Answer::Committed { at, wrote: false },
+            Ended::Found(found) => go_on_from(words, &mut self.pass, &mut self.engine, found),
+            Ended::Nothing => self.commit_slow(words),
         }
     }
 

@@ -339,6 +339,17 @@ impl Frames {
         self.writes.write_next(word, mask, value)
     }
 
+    /// The same, where the word was written before, in this transaction or an earlier one, it had no row as the innermost block
+    /// began, and a row that joins has room. Else nothing is done.
+    #[inline(always)]
+    pub fn write_found(&mut self, word: u32, mask: u64, value: u64) -> bool
+        requires { 0 < length self.old.blocks }
+        ensures none { result ≡ false → self.new ≡ self.old }
+        ensures written { result ≡ true → self.new ≡ record self.old { writes = write self.old.writes word mask value } }
+    {
+        self.writes.write_found(word, mask, value)
+    }
+
     /// Takes the rows from a place on, which are of empty mask and newer than the innermost block, off the end. Takes
     /// no memory.
     pub fn cut(&mut self, len: usize)

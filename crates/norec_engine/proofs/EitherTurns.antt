@@ -95,7 +95,7 @@ revocable_step b s phase seen turn d e t = subst (λ (x : Bool). StepTurnsIn x s
 
 -- an engine of these fields, as its callers see it
 module _ (s : Data) (p : Pending) (b : Bool) (old : Core) (view : engine_in b s (phase_of s p) ≡ old) where
-  is_idle : old.waits ≡ None → phase_of s p ≡ Idle
+  pub is_idle : old.waits ≡ None → phase_of s p ≡ Idle
   is_idle none = idle_of b s p (ap (λ (e : Core). e.waits) view ∙ none)
 
   -- between two calls

@@ -7,3 +7,4 @@ pub mod EitherTurns
 pub mod WholeReads
 pub mod FastSteps
 pub mod RestartingCalls
+pub mod BlockSteps

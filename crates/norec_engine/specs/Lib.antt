@@ -3,3 +3,4 @@ pub mod NextSteps
 pub mod FastCalls
 pub mod WholeReads
 pub mod RestartingCalls
+pub mod BlockSteps

@@ -1,6 +1,7 @@
 -- The steps of a read of one whole word that is neither written nor logged.
-use Rattle.std.specs.Prelude.{◌≡◌, ℕ, ◌<◌, false}
+use Rattle.std.specs.Prelude.{◌≡◌, ℕ, ◌<◌, false, None}
 use Rattle.itm_types.specs.declared.limits.TheConstants.{MAX_WORDS}
+use Rattle.write_set.specs.Rows.{lookup}
 use Rattle.norec_core.specs.Core.{Core}
 use Rattle.norec_core.specs.Phases.{Load, Confirm}
 use Rattle.norec_core.specs.declared.call_parts.Reading.{Reading}
@@ -14,6 +15,7 @@ pub record LoadsWord (e : Core) (word : ℕ) : Type 0 where
   pub reading : Reading
   pub stage : e.stage ≡ Load reading
   pub is_word : IsWord reading word
+  pub unwritten : lookup word e.writes ≡ None
 
 -- and then for the clock, to confirm what it found
 pub record ConfirmsWord (e : Core) (word : ℕ) : Type 0 where
@@ -22,3 +24,4 @@ pub record ConfirmsWord (e : Core) (word : ℕ) : Type 0 where
   pub value : ℕ
   pub stage : e.stage ≡ Confirm reading value
   pub is_word : IsWord reading word
+  pub unwritten : lookup word e.writes ≡ None

@@ -26,7 +26,8 @@ use itm_types::{Call, Datum, MAX_WORDS, Props, ReadHint, Reply, Step, Width, Wri
 use norec_core::{Answer, Taking};
 use norec_data::{CallEnd, Data, Pending, Turn, access_refusal};
 use norec_revocable::{
-    begin, begin_word, commit, confirmed_word, loaded, resumed, write, write_next, write_served,
+    begin, begin_word, commit, confirmed_new, known_number, loaded, resumed, write, write_found,
+    write_next, write_served,
 };
 
 /// A step of the fast path, and what it leads to there.
@@ -104,6 +105,21 @@ impl Engine {
         Some(word)
     }
 
+    /// `call_into` of a read of one whole word that is to be had with no step: the answer has the bytes of this number.
+    #[inline(always)]
+    pub fn read_known(&mut self, hint: ReadHint, width: Width, at: u64) -> Option<u64>
+        requires idle { self.old.waits ≡ None }
+        ensures none { IfNone result (self.new ≡ self.old) }
+        ensures called { IfSome result (λ number. IsCalled self.old (Call.Read hint width at) false (Answers (Answer.Reply (Reply.Bytes (record { items = to_le_bytes w64 number })))) self.new) }
+    {
+        if self.irrevocable {
+            return None;
+        }
+        let number = known_number(&mut self.state, hint, width, at)?;
+        self.pending = Pending::Idle;
+        Some(number)
+    }
+
     /// `resume_into` of such a read with the word's value: the clock is to be loaded.
     #[inline(always)]
     pub fn load_fast(&mut self, value: u64)
@@ -132,9 +148,9 @@ impl Engine {
         let Pending::Confirm(value) = self.pending else {
             unreachable!();
         };
-        let end = CallEnd::Word(confirmed_word(&mut self.state, word, value, clock));
+        confirmed_new(&mut self.state, word, value, clock);
         self.pending = Pending::Idle;
-        end.tell(&mut self.state, answer);
+        CallEnd::Word(value).tell(&mut self.state, answer);
     }
 
     /// The same, where the word is asked for as a number: the answer has its bytes.
@@ -144,10 +160,10 @@ impl Engine {
         requires same { clock ≡ self.old.snapshot }
         ensures { IsResumed self.old clock (Answers (Answer.Reply (Reply.Bytes (record { items = to_le_bytes w64 result })))) self.new }
     {
-        let Pending::Confirm(value) = self.pending else {
+        let Pending::Confirm(number) = self.pending else {
             unreachable!();
         };
-        let number = confirmed_word(&mut self.state, word, value, clock);
+        confirmed_new(&mut self.state, word, number, clock);
         self.pending = Pending::Idle;
         number
     }
@@ -195,6 +211,30 @@ impl Engine {
     {
         if !serves_word(&self.state, self.irrevocable, at, value)
             || !write_next(&mut self.state, hint, at, value)
+        {
+            return false;
+        }
+        let mut answer = Answer::Reply(Reply::Done);
+        let _none = take(
+            &mut self.state,
+            &mut self.pending,
+            &mut self.irrevocable,
+            false,
+            Turn::End(CallEnd::Done),
+            &mut answer,
+        );
+        true
+    }
+
+    /// The same, where that takes no memory: the word was written before, in this transaction or an earlier one.
+    #[inline(always)]
+    pub fn write_found(&mut self, hint: WriteHint, at: u64, value: &Datum) -> bool
+        requires idle { self.old.waits ≡ None }
+        ensures none { result ≡ false → self.new ≡ self.old }
+        ensures called { result ≡ true → IsCalled self.old (Call.Write hint at value.now) false (Answers (Answer.Reply Reply.Done)) self.new }
+    {
+        if !serves_word(&self.state, self.irrevocable, at, value)
+            || !write_found(&mut self.state, hint, at, value)
         {
             return false;
         }

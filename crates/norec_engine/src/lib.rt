@@ -2,6 +2,7 @@
 //! "NOrec: Streamlining STM by Abolishing Ownership Records" (Dalessandro, Spear, Scott, PPoPP 2010).
 #![tactic(auto)]
 
+mod blocks;
 mod engine;
 mod fast_path;
 mod next;

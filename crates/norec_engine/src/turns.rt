@@ -77,12 +77,7 @@ pub(crate) fn take(
     ensures { IsTaken irrevocable.old turn state.old (next_in result answer.new) state.new pending.new irrevocable.new }
 {
     match turn {
-        Turn::Wait(next) => {
-            let step = next_step(state, was, next);
-            state.spent += 1;
-            *pending = next;
-            Some(step)
-        }
+        Turn::Wait(next) => Some(wait(state, pending, was, next)),
         Turn::End(end) => {
             *pending = Pending::Idle;
             *irrevocable = false;
@@ -96,6 +91,26 @@ pub(crate) fn take(
             None
         }
     }
+}
+
+/// The call goes on by this step, which is counted.
+#[inline(always)]
+pub(crate) fn wait(
+    state: &mut Data,
+    pending: &mut Pending,
+    irrevocable: bool,
+    next: Pending,
+) -> Step
+    requires sound { IsSoundIn irrevocable (counted state.old) (phase_of state.old next) }
+    requires waits { IsWaiting next }
+    ensures step { result ≡ asked_step state.old (phase_of state.old next) }
+    ensures state { state.new ≡ counted state.old }
+    ensures pending { pending.new ≡ next }
+{
+    let step = next_step(state, irrevocable, next);
+    state.spent += 1;
+    *pending = next;
+    step
 }
 
 /// The step that is waited for. There are fewer in all than a count can tell.

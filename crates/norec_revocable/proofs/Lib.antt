@@ -4,3 +4,4 @@ pub mod Phases
 pub mod Copies
 pub mod ReadCalls
 pub mod Counts
+pub mod Holding

@@ -6,3 +6,4 @@ pub mod JoinedRows
 pub mod WholeWords
 pub mod ReadyReads
 pub mod WholeReads
+pub mod KnownReads

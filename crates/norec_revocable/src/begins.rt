@@ -1,14 +1,16 @@
 //! Begins of blocks.
 
 ghost use Rattle.norec_core.specs.Phases as phases;
-ghost use Rattle.std.specs.Prelude.{◌≡◌, ◌<◌, ◌≤◌, ◌∷◌, [], true, if◌then◌else◌, OnOk, OnErr};
+ghost use Rattle.std.specs.Prelude.{◌≡◌, ◌%◌, ◌<◌, ◌≤◌, ◌∷◌, [], true, false, if◌then◌else◌, OnOk, OnErr, length};
 ghost use Rattle.user_actions.specs.Actions.{no_actions};
 ghost use Rattle.nest_frames.specs.Nest.{begun};
 ghost use Rattle.norec_revocable.specs.InPhases.{IsSound};
 ghost use Rattle.norec_data.specs.Bounds.{IsOutside};
 ghost use Rattle.norec_data.specs.Ends.{answer_of};
 ghost use Rattle.norec_data.specs.declared.data.Data.{Data};
-ghost use Rattle.norec_revocable.specs.Moves.{StepTurns, CallComes};
+ghost use Rattle.norec_revocable.specs.Moves.{StepTurns, CallComes, CallTurns};
+ghost use Rattle.norec_core.specs.Core.{may_go};
+ghost use Rattle.norec_data.specs.View.{in_block};
 
 use crate::commits::exchange;
 use itm_types::{Call, Props, Reply};
@@ -44,6 +46,22 @@ pub fn begin(state: &mut Data, props: Props, room: u32, again: bool) -> Result<T
     }
 }
 
+/// An outermost block begins that stays revocable, and is not refused: the clock is loaded next.
+#[inline(always)]
+pub fn begin_outer(state: &mut Data, props: Props, room: u32, again: bool)
+    requires sound { IsSound state.old phases.Idle }
+    requires outside { in_block state.old ≡ false }
+    requires stays { props.goes_irrevocable ≡ false }
+    requires served { (may_go state.old.frames.blocks props ≡ true) × (length state.old.frames.blocks < state.old.frames.depth) }
+    ensures turns { CallTurns state.old (Call.Begin props room) again (Turn.Wait Pending.Begin) state.new }
+    ensures opening { state.new.opening ≡ record { props = props; room = room; again = again } }
+{
+    state.start_call();
+    state.tries = 1;
+    state.restarted = 0;
+    state.opening = Opening { props, room, again };
+}
+
 /// Makes room for the actions of a begin, where it goes irrevocable.
 fn reserve_room(frames: &mut Frames, props: Props, room: u32) -> Result<(), AllocError>
     ensures ok { OnOk result
@@ -57,6 +75,24 @@ fn reserve_room(frames: &mut Frames, props: Props, room: u32) -> Result<(), Allo
     Ok(())
 }
 
+/// The clock was loaded for a begin that stays revocable, and is even: the block begins. It is one of these properties, begun
+/// before or not, as the call that is in progress has them.
+#[inline(always)]
+pub fn begin_even(state: &mut Data, props: Props, again: bool, seen: u64) -> CallEnd
+    requires sound { IsSound state.old (phases.Begin state.old.opening) }
+    requires props { props ≡ state.old.opening.props }
+    requires again { again ≡ state.old.opening.again }
+    requires stays { props.goes_irrevocable ≡ false }
+    requires fits { state.old.clock ≤ seen }
+    requires even { seen % 2 ≡ 0 }
+    ensures turns { StepTurns state.old (phases.Begin state.old.opening) seen (Turn.End result) state.new }
+    ensures end { result ≡ if again then CallEnd.EnteredAgain else CallEnd.Entered }
+{
+    state.clock = seen;
+    state.snapshot = seen;
+    open(state, props, again)
+}
+
 /// The clock was loaded for a begin.
 #[inline(always)]
 pub(crate) fn begin_seen(state: &mut Data, seen: u64) -> Turn
@@ -65,12 +101,12 @@ pub(crate) fn begin_seen(state: &mut Data, seen: u64) -> Turn
     ensures { StepTurns state.old (phases.Begin state.old.opening) seen result state.new }
 {
     let opening = state.opening;
+    if seen % 2 == 0 && !opening.props.goes_irrevocable {
+        return Turn::End(begin_even(state, opening.props, opening.again, seen));
+    }
     state.clock = seen;
     if seen % 2 == 0 {
         state.snapshot = seen;
-        if !opening.props.goes_irrevocable {
-            return Turn::End(open(state, opening));
-        }
         let at = seen / 2;
         if at < state.limits.max_commits {
             Turn::Wait(Pending::Take)
@@ -94,7 +130,7 @@ pub(crate) fn begin_taken(state: &mut Data, seen: u64) -> Turn
     let opening = state.opening;
     state.clock = seen;
     if seen == state.snapshot {
-        Turn::EndIrrevocable(open(state, opening))
+        Turn::EndIrrevocable(open(state, opening.props, opening.again))
     } else if state.tries < state.limits.patience {
         state.tries += 1;
         Turn::Wait(Pending::Begin)
@@ -106,11 +142,12 @@ pub(crate) fn begin_taken(state: &mut Data, seen: u64) -> Turn
 
 /// The outermost block begins.
 #[inline(always)]
-fn open(state: &mut Data, opening: Opening) -> CallEnd
+fn open(state: &mut Data, props: Props, again: bool) -> CallEnd
     requires outside { IsOutside state.old }
     requires deep { 0 < state.old.frames.depth }
-    ensures reply { (d : Data) → answer_of d result ≡ Answer.Reply (Reply.Code (if opening.again then 9 else 5)) }
-    ensures blocks { state.new.frames.blocks ≡ begun opening.props [] no_actions 0 ∷ [] }
+    ensures reply { (d : Data) → answer_of d result ≡ Answer.Reply (Reply.Code (if again then 9 else 5)) }
+    ensures end { result ≡ if again then CallEnd.EnteredAgain else CallEnd.Entered }
+    ensures blocks { state.new.frames.blocks ≡ begun props [] no_actions 0 ∷ [] }
     ensures actions { state.new.frames.actions ≡ no_actions }
     ensures rows { state.new.frames.writes.rows ≡ [] }
     ensures frames { (state.new.frames.size ≡ state.old.frames.size) × (state.new.frames.room ≡ state.old.frames.room) }
@@ -118,8 +155,8 @@ fn open(state: &mut Data, opening: Opening) -> CallEnd
     ensures others { state.new ≡ record state.old { frames = state.new.frames } }
 {
     state.frames.clear_due();
-    state.frames.enter(opening.props, 0);
-    if opening.again {
+    state.frames.enter(props, 0);
+    if again {
         CallEnd::EnteredAgain
     } else {
         CallEnd::Entered

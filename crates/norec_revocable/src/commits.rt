@@ -2,7 +2,9 @@
 
 ghost use Rattle.norec_core.specs.Phases as phases;
 ghost use Rattle.norec_core.specs.Aims as aims;
-ghost use Rattle.std.specs.Prelude.{◌≤◌, ◌/◌, ℕ, false, None, Some};
+ghost use Rattle.std.specs.Prelude.{◌≡◌, ◌<◌, ◌≤◌, ◌+◌, ◌/◌, ℕ, false, true, None, Some, length, slice_get};
+ghost use Rattle.word_pieces.specs.Masks.{whole};
+ghost use Rattle.norec_core.specs.Core.{is_outermost};
 ghost use Rattle.norec_revocable.specs.InPhases.{IsSound};
 ghost use Rattle.norec_revocable.specs.Between.{between, moved, in_stores, left_by, MayExchange, InStores};
 ghost use Rattle.norec_data.specs.Turns.{Turns};
@@ -14,6 +16,7 @@ use crate::rounds::try_round;
 use itm_types::{Call, Refusal};
 use norec_core::{Answer, Taking};
 use norec_data::{CallEnd, Cause, Data, Pending, Turn, finish, roll_back};
+use write_set::Row;
 
 /// A commit comes.
 #[inline(always)]
@@ -50,12 +53,55 @@ pub(crate) fn exchange(state: &mut Data, taking: Taking) -> Turn
 {
     let at = state.snapshot / 2;
     if at < state.limits.max_commits {
-        state.taking = taking;
+        ask_exchange(state, taking);
         Turn::Wait(Pending::Exchange)
     } else {
         roll_back(state);
         Turn::End(CallEnd::Full)
     }
+}
+
+/// Fewer have committed than may: the clock is to be taken.
+#[inline(always)]
+fn ask_exchange(state: &mut Data, taking: Taking)
+    requires may { MayExchange state.old taking }
+    requires free { state.old.snapshot / 2 < state.old.limits.max_commits }
+    ensures goes { GoesTo (between state.old (aims.Take taking)) (exchange_stage state.old.limits.max_commits state.old.snapshot taking)
+        (Some (Answer.Full (state.old.snapshot / 2))) state.old (Turn.Wait Pending.Exchange) state.new }
+    // whatever the snapshot was before a round moved it
+    ensures proceeds { (was : ℕ) → Turns (moved (between state.old (aims.Take taking)) was) (Turn.Wait Pending.Exchange) state.new }
+    ensures same { state.new ≡ record state.old { taking = taking } }
+{
+    state.taking = taking;
+}
+
+/// A commit comes to a transaction that only read: it has committed.
+#[inline(always)]
+pub fn commit_reads(state: &mut Data)
+    requires sound { IsSound state.old phases.Idle }
+    requires outermost { is_outermost state.old.frames.blocks ≡ true }
+    requires empty { length state.old.frames.writes.rows ≡ 0 }
+    ensures turns { CallTurns state.old Call.Commit false (Turn.End CallEnd.ReadOnly) state.new }
+{
+    state.start_call();
+    state.tries = 0;
+    finish(state);
+}
+
+/// A commit comes to a transaction that wrote, and fewer have committed than may: the clock is to be taken.
+#[inline(always)]
+pub fn commit_writes(state: &mut Data)
+    requires sound { IsSound state.old phases.Idle }
+    requires outermost { is_outermost state.old.frames.blocks ≡ true }
+    requires some { 0 < length state.old.frames.writes.rows }
+    requires free { state.old.snapshot / 2 < state.old.limits.max_commits }
+    ensures turns { CallTurns state.old Call.Commit false (Turn.Wait Pending.Exchange) state.new }
+    ensures frames { state.new.frames ≡ state.old.frames }
+    ensures taking { state.new.taking ≡ Taking.Commit }
+{
+    state.start_call();
+    state.tries = 0;
+    ask_exchange(state, Taking::Commit);
 }
 
 /// The clock was taken, or another value was found in it.
@@ -82,19 +128,86 @@ fn next_store(state: &mut Data, row: usize) -> Turn
     if row < state.frames.len() {
         let written = state.frames.row(row);
         if written.mask == u64::MAX {
-            state.got = None;
+            ask_store(state, written, row);
             Turn::Wait(Pending::Store(row))
         } else {
             Turn::Wait(Pending::BackLoad(row))
         }
     } else {
         match state.taking {
-            Taking::Commit => Turn::Wait(Pending::Free),
+            Taking::Commit => {
+                end_stores(state, row);
+                Turn::Wait(Pending::Free)
+            }
             Taking::Mode { .. } => Turn::EndIrrevocable(go_irrevocable(state, None)),
             Taking::Begin { props, .. } => Turn::EndIrrevocable(go_irrevocable(state, Some(props))),
         }
     }
 }
+
+/// A row of a whole word is stored next.
+#[inline(always)]
+fn ask_store(state: &mut Data, written: Row, row: usize)
+    requires may { InStores state.old state.old.taking row }
+    requires within { row < length state.old.frames.writes.rows }
+    requires written { slice_get state.old.frames.writes.rows row ≡ Some written }
+    requires mask { written.mask ≡ whole }
+    ensures goes { GoesTo (in_stores state.old state.old.taking row) (store_stage state.old.taking state.old.frames.writes.rows row) None state.old (Turn.Wait (Pending.Store row)) state.new }
+    ensures same { state.new ≡ record state.old { got = None } }
+{
+    state.got = None;
+}
+
+/// The clock was taken, and the first row, which is this one, is of a whole word: it is stored next.
+#[inline(always)]
+pub fn ask_first_store(state: &mut Data, written: Row, seen: u64)
+    requires sound { IsSound state.old (phases.Exchange state.old.taking) }
+    requires same { seen ≡ state.old.snapshot }
+    requires within { 0 < length state.old.frames.writes.rows }
+    requires written { slice_get state.old.frames.writes.rows 0 ≡ Some written }
+    requires mask { written.mask ≡ whole }
+    ensures turns { StepTurns state.old (phases.Exchange state.old.taking) seen (Turn.Wait (Pending.Store 0)) state.new }
+    ensures same { state.new ≡ record state.old { got = None } }
+{
+    ask_store(state, written, 0);
+}
+
+/// A row was stored, and the one after it, which is this one, is of a whole word: it is stored next.
+#[inline(always)]
+pub fn ask_next_store(state: &mut Data, written: Row, row: usize)
+    requires sound { IsSound state.old (phases.Store state.old.taking row state.old.got) }
+    requires within { row + 1 < length state.old.frames.writes.rows }
+    requires written { slice_get state.old.frames.writes.rows (row + 1) ≡ Some written }
+    requires mask { written.mask ≡ whole }
+    ensures turns { StepTurns state.old (phases.Store state.old.taking row state.old.got) 0 (Turn.Wait (Pending.Store (row + 1))) state.new }
+    ensures same { state.new ≡ record state.old { got = None } }
+{
+    let _rows = state.frames.len();
+    ask_store(state, written, row + 1);
+}
+
+/// The last row of a commit was stored: the clock is freed next.
+#[inline(always)]
+pub fn ask_free(state: &mut Data, row: usize)
+    requires sound { IsSound state.old (phases.Store state.old.taking row state.old.got) }
+    requires last { row + 1 ≡ length state.old.frames.writes.rows }
+    requires commit { state.old.taking ≡ Taking.Commit }
+    ensures turns { StepTurns state.old (phases.Store state.old.taking row state.old.got) 0 (Turn.Wait Pending.Free) state.new }
+    ensures same { state.new ≡ state.old }
+{
+    let _rows = state.frames.len();
+    end_stores(state, row + 1);
+}
+
+/// Each row of a commit is stored: the clock is freed next.
+#[inline(always)]
+fn end_stores(state: &mut Data, row: usize)
+    requires may { InStores state.old state.old.taking row }
+    requires last { row ≡ length state.old.frames.writes.rows }
+    requires commit { state.old.taking ≡ Taking.Commit }
+    ensures goes { GoesTo (in_stores state.old state.old.taking row) (store_stage state.old.taking state.old.frames.writes.rows row) None state.old (Turn.Wait Pending.Free) state.new }
+    ensures same { state.new ≡ state.old }
+{}
 
 /// The word of a row was loaded, to be stored with the row's part of it.
 pub(crate) fn back_loaded(state: &mut Data, row: usize, seen: u64) -> Turn
@@ -117,9 +230,10 @@ pub(crate) fn stored(state: &mut Data, row: usize) -> Turn
 
 /// The clock was freed.
 #[inline(always)]
-pub(crate) fn freed(state: &mut Data) -> Turn
+pub fn freed(state: &mut Data) -> Turn
     requires sound { IsSound state.old phases.Free }
-    ensures { StepGoesTo state.old phases.Free 0 result state.new }
+    ensures goes { StepGoesTo state.old phases.Free 0 result state.new }
+    ensures end { result ≡ Turn.End CallEnd.Committed }
 {
     state.clock = state.snapshot + 2;
     finish(state);

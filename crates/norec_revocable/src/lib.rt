@@ -10,6 +10,7 @@ mod calls;
 mod commits;
 mod copy;
 mod fill;
+mod known;
 mod local;
 mod mode;
 mod range;
@@ -20,11 +21,14 @@ mod steps;
 mod words;
 mod writes;
 
-pub use begins::begin;
+pub use begins::{begin, begin_even, begin_outer};
 pub use calls::{called, resumed};
-pub use commits::commit;
+pub use commits::{
+    ask_first_store, ask_free, ask_next_store, commit, commit_reads, commit_writes, freed,
+};
+pub use known::known_number;
 pub use mode::irrevocable_room;
-pub use read::{confirmed_word, loaded};
+pub use read::{confirmed_new, loaded};
 pub use steps::step_of;
 pub use words::begin_word;
-pub use writes::{write, write_next, write_served};
+pub use writes::{write, write_found, write_next, write_served};

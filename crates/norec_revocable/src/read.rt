@@ -7,7 +7,7 @@ ghost use Rattle.norec_core.specs.Phases.{Phase};
 ghost use Rattle.std.specs.Prelude.{◌≡◌, ◌<◌, ◌≤◌, ◌+◌, ◌*◌, ℕ, false, true, IfSome, List, IfNone, None, Some, drop, is_some, length, slice_get, slice_index};
 ghost use Rattle.itm_types.specs.Memory.{AllFit, Agrees};
 ghost use Rattle.word_pieces.specs.Pieces.{IsPiece, part_of};
-ghost use Rattle.write_set.specs.Rows.{overlay, AreRows};
+ghost use Rattle.write_set.specs.Rows.{lookup, overlay, AreRows};
 ghost use Rattle.norec_core.specs.Rows.{is_covered, is_had, is_logged};
 ghost use Rattle.itm_types.specs.Access.{size_of};
 ghost use Rattle.norec_core.specs.Accesses.{part, parts, count};
@@ -216,7 +216,7 @@ fn take_more(state: &mut Data, reading: Reading) -> Option<u8>
 
 /// A piece's word, where the piece is to be had with no step: the write set has all of it, or the word is logged.
 #[inline(always)]
-fn known_word(state: &Data, piece: Piece) -> Option<u64>
+pub(crate) fn known_word(state: &Data, piece: Piece) -> Option<u64>
     requires piece { IsPiece piece }
     requires rows { AreRows state.now.frames.writes.rows }
     ensures had { is_some result ≡ is_had state.now.frames.writes.rows state.now.log.rows piece }
@@ -304,7 +304,7 @@ pub(crate) fn confirmed(state: &mut Data, value: u64, seen: u64) -> Turn
 
 /// The clock was loaded to confirm a whole word, and is still the snapshot: what the word is under the write set.
 #[inline(always)]
-pub fn confirmed_word(state: &mut Data, word: u32, value: u64, seen: u64) -> u64
+fn confirmed_word(state: &mut Data, word: u32, value: u64, seen: u64) -> u64
     requires sound { IsSound state.old (phases.Confirm state.old.reading value) }
     requires word { IsWord state.old.reading word }
     requires same { seen ≡ state.old.snapshot }
@@ -313,4 +313,18 @@ pub fn confirmed_word(state: &mut Data, word: u32, value: u64, seen: u64) -> u64
     state.clock = seen;
     state.log.add(LogRow { word, value });
     overlaid(state, word, value)
+}
+
+/// The same, where the word is not written: it is what was loaded, with no look at the write set.
+#[inline(always)]
+pub fn confirmed_new(state: &mut Data, word: u32, value: u64, seen: u64)
+    requires sound { IsSound state.old (phases.Confirm state.old.reading value) }
+    requires word { IsWord state.old.reading word }
+    requires same { seen ≡ state.old.snapshot }
+    requires unwritten { lookup word (rows_before state.old) ≡ None }
+    ensures { StepTurns state.old (phases.Confirm state.old.reading value) seen (Turn.End (CallEnd.Word value)) state.new }
+{
+    state.clock = seen;
+    let row = LogRow { word, value };
+    state.log.add(row);
 }

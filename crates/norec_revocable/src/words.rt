@@ -1,7 +1,9 @@
 //! Reads of one whole word that is neither written nor logged: the call asks for this word, with no look at its pieces.
 
 ghost use Rattle.norec_core.specs.Phases as phases;
-ghost use Rattle.std.specs.Prelude.{◌≡◌, ◌<◌, ◌≤◌, IfSome, IfNone, OnSome, false};
+ghost use Rattle.std.specs.Prelude.{◌≡◌, ◌<◌, ◌≤◌, IfSome, IfNone, OnSome, None, false};
+ghost use Rattle.write_set.specs.Rows.{lookup};
+ghost use Rattle.norec_data.specs.View.{rows_before};
 ghost use Rattle.norec_revocable.specs.InPhases.{IsSound};
 ghost use Rattle.norec_revocable.specs.Between.{IsWord};
 ghost use Rattle.norec_revocable.specs.WholeReads.{IsNewWord};
@@ -20,6 +22,7 @@ pub fn begin_word(state: &mut Data, hint: ReadHint, width: Width, at: u64) -> Op
     ensures called { OnSome result (CallTurns state.old (Call.Read hint width at) false (Turn.Wait Pending.Load) state.new) }
     ensures word { IfSome result (IsWord state.new.reading) }
     ensures within { IfSome result (λ word. word < state.new.words) }
+    ensures unwritten { IfSome result (λ word. lookup word (rows_before state.new) ≡ None) }
     ensures first { OnSome result (state.new.reading.number ≡ 0) }
     ensures spent { OnSome result (state.new.spent ≡ 0) }
     ensures tries { OnSome result (state.new.tries ≡ 0) }

@@ -91,6 +91,47 @@ fn put_next(frames: &mut Frames, at: u64, size: u8, bytes: &[u8]) -> bool
     }
 }
 
+/// The same, where that takes no memory: the value lies in one word, which was written before, in this transaction or an earlier
+/// one. Else nothing is done.
+#[inline(always)]
+pub fn write_found(state: &mut Data, hint: WriteHint, at: u64, value: &Datum) -> bool
+    requires sound { IsSound state.old phases.Idle }
+    requires served { access_refusal (in_block state.old) state.old.words at (size_of value.now.width) ≡ None }
+    ensures none { result ≡ false → state.new ≡ state.old }
+    ensures written { result ≡ true → CallTurns state.old (Call.Write hint at value.now) false (Turn.End CallEnd.Done) state.new }
+{
+    if !put_found(&mut state.frames, at, value.width.size(), &value.bytes) {
+        return false;
+    }
+    state.start_call();
+    true
+}
+
+/// Puts a value of so many bytes in the write set, where `write_found` does it.
+#[inline(always)]
+fn put_found(frames: &mut Frames, at: u64, size: u8, bytes: &[u8]) -> bool
+    requires open { 0 < length frames.old.blocks }
+    requires range { at + size ≤ MAX_BYTES }
+    requires small { size ≤ 32 }
+    requires bytes { size ≤ length bytes.now }
+    ensures none { result ≡ false → frames.new ≡ frames.old }
+    ensures rows { result ≡ true → frames.new.writes.rows
+        ≡ put_all (reserved_all frames.old.writes.rows (pieces_of at size)) (pieces_of at size) bytes.now }
+    ensures blocks { frames.new.blocks ≡ frames.old.blocks }
+    ensures size { frames.new.size ≡ frames.old.size }
+    ensures depth { frames.new.depth ≡ frames.old.depth }
+    ensures actions { frames.new.actions ≡ frames.old.actions }
+    ensures room { frames.new.room ≡ frames.old.room }
+    ensures bytes { AreBytes bytes.now }
+{
+    match piece_at(at, size, 0) {
+        Some(piece) if piece.count == size => {
+            frames.write_found(piece.word, piece.mask(), piece.scatter(bytes))
+        }
+        _ => false,
+    }
+}
+
 /// Puts a value of so many bytes in the write set. Where memory is refused, no word is given a row.
 #[inline(always)]
 fn put_value(frames: &mut Frames, at: u64, size: u8, bytes: &[u8]) -> Result<(), AllocError>

@@ -1,2 +1,3 @@
+pub mod FilledRows
 pub mod IndexedRows
 pub mod Examples

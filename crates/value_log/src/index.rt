@@ -157,8 +157,9 @@ impl Index {
         ensures before { length self.new.before.items ≡ length self.old.before.items }
     {
         let slot = self.slot(word);
-        self.before[place] = self.last[slot];
+        let before = self.last[slot];
         self.last[slot] = place as u32;
+        self.before[place] = before;
     }
 
     /// The value of the word's row, if it has one.

@@ -3,5 +3,6 @@
 
 mod index;
 mod log;
+mod rows;
 
 pub use log::ValueLog;

@@ -5,19 +5,19 @@ ghost use Rattle.itm_types.specs.LogRows.{value_of, AreSingle};
 ghost use Rattle.itm_types.specs.Memory.{Agrees};
 
 use crate::index::Index;
+use crate::rows::Rows;
 use itm_types::LogRow;
-use smallvec::SmallVec;
 use std::alloc::{AllocError, Global};
 use std::marker::Model;
 
 /// So many rows stand in the log itself, and are looked through; a log with more has an index.
-pub const INLINE_ROWS: usize = 16;
+pub const INLINE_ROWS: usize = 8;
 
 /// The words that a transaction has read from the memory, each with the value that it found, in the order of first
 /// reading. No word has two rows.
 #[derive(Debug, Drop)]
 pub struct ValueLog {
-    rows: SmallVec<LogRow, INLINE_ROWS>,
+    rows: Rows,
     index: Index,
 }
 
@@ -39,7 +39,7 @@ impl ValueLog {
         ensures { result ≡ record { rows = []; room = INLINE_ROWS } }
     {
         ValueLog {
-            rows: SmallVec::new(alloc),
+            rows: Rows::new(alloc),
             index: Index::none(alloc),
         }
     }
@@ -60,7 +60,7 @@ impl ValueLog {
         requires { place < length self.now.rows }
         ensures { slice_get self.now.rows place ≡ Some result }
     {
-        self.rows.as_slice()[place]
+        self.rows.row(place)
     }
 
     /// The value of the word's row, if it has one.

@@ -1,8 +1,9 @@
 -- Rows that are slots of a map: what they become where a slot or their order changes.
-use Rattle.std.proofs.Common.{◌≡◌, ◌<◌, ℕ, zero, suc, ◌^◌, List, [], ◌∷◌, ◌++◌, length, take, ◌==◌, false, get_or, nat_eq, position, Option, Some, None, slice_get, refl, sym, ap, ◌∙◌, ◌⊎◌, inl, inr, arith, subst}
+use Rattle.std.proofs.Common.{add-one, ◌≡◌, ◌<◌, ◌≤◌, ◌+◌, ℕ, zero, suc, ◌^◌, List, [], ◌∷◌, ◌++◌, length, take, ◌==◌, false, get_or, length-take-le, nat_eq, position, Option, Some, None, slice_get, refl, sym, ap, ◌∙◌, ◌⊎◌, inl, inr, arith, subst}
 use Rattle.std.specs.List.{AllByRecursion, IsDistinct}
 use Rattle.std.specs.Map.{keys_of, values_of}
 use Rattle.std.proofs.lemmas.Bool.{eqb-true, eqb-false, cases_Bool}
+use Rattle.std.proofs.lemmas.List.{length_push, take_all}
 use Rattle.std.proofs.lemmas.List.Quantifiers.{position-Some}
 use Rattle.std.proofs.lemmas.Map.Keys.{apart_from_distinct}
 use Rattle.std.proofs.lemmas.Option.{get_or_from_slice_get, slice_get_within, slice_get-get_or, same_Some}
@@ -10,7 +11,7 @@ use Rattle.indexmap.specs.IndexMap.{insert_entry, set_value_at}
 use Rattle.indexmap.proofs.MapLemmas.{insert_entry-absent, Missing-position}
 use Rattle.write_set.specs.declared.keyed_rows.Slot.{Slot}
 use Rattle.write_set.specs.declared.row.Row.{Row}
-use Rattle.write_set.specs.Slots.{Slots, row_of, rows_of, ArePlaced, AreKept}
+use Rattle.write_set.specs.Slots.{Slots, row_of, rows_of, ArePlaced, AreHeld, AreKept}
 use Rattle.write_set.specs.Rows.{lookup, row, set_row, AreRows, IsFirst}
 use Rattle.write_set.proofs.Overlays.{AreRows-push, AreRows-take}
 use Rattle.write_set.proofs.Places.{indexed, other_at, place_of_found, AreRows-set_row}
@@ -314,3 +315,77 @@ AreKept-take slots order n kept = record {
   placed = λ i at h. kept.placed i at (got_cut n order i at h);
   distinct = kept.distinct;
 }
+
+-- ## The rows are the first ones of the order
+
+pub got_take : (n : ℕ) (order : List ℕ) (i x : ℕ) → i < n → slice_get order i ≡ Some x → slice_get (take n order) i ≡ Some x
+got_take zero order i x l e = absurd (omega arith)
+got_take (suc n) [] i x l e = absurd (cc)
+got_take (suc n) (y ∷ ys) zero x l e = e
+got_take (suc n) (y ∷ ys) (suc i) x l e = got_take n ys i x (omega arith) e
+
+got_next : (n : ℕ) (order : List ℕ) (x : ℕ) → slice_get order n ≡ Some x → take (suc n) order ≡ take n order ++ x ∷ []
+got_next zero [] x e = absurd (cc)
+got_next zero (y ∷ ys) x e = ap (λ (at : ℕ). at ∷ []) (same_Some y x e)
+got_next (suc n) [] x e = absurd (cc)
+got_next (suc n) (y ∷ ys) x e = ap (λ order. y ∷ order) (got_next n ys x e)
+
+pub take_twice : (n m : ℕ) (order : List ℕ) → n ≤ m → take n (take m order) ≡ take n order
+take_twice zero m order l = refl
+take_twice (suc n) zero order l = absurd (omega arith)
+take_twice (suc n) (suc m) [] l = refl
+take_twice (suc n) (suc m) (y ∷ ys) l = ap (λ order. y ∷ order) (take_twice n m ys (omega arith))
+
+pub held : (slots : Slots) (order : List ℕ) (len : ℕ) → AreKept slots order → len ≤ length order → AreHeld slots order len
+held slots order len kept within = record { kept = kept; are = (AreKept-take slots order len kept).are; within = within }
+
+pub got_below : (n : ℕ) (order : List ℕ) (i x : ℕ) → slice_get (take n order) i ≡ Some x → i < n
+got_below zero order i x e = absurd (cc)
+got_below (suc n) [] i x e = absurd (cc)
+got_below (suc n) (y ∷ ys) zero x e = omega arith
+got_below (suc n) (y ∷ ys) (suc i) x e = (let below = got_below n ys i x e in omega (arith, below))
+
+module _ (slots : Slots) (order : List ℕ) (len : ℕ) (is : AreHeld slots order len) where
+  pub front : AreKept slots (take len order)
+  front = AreKept-take slots order len is.kept
+
+  pub count : length (rows_of slots (take len order)) ≡ len
+  count = length-rows_of slots (take len order) ∙ length-take-le len order is.within
+
+  pub here_at : (place at : ℕ) → place < len → at ≡ get_or order place at → slice_get (take len order) place ≡ Some at
+  here_at place at l same = got_take len order place at l (got_within order place at (omega (arith, l, is.within)) same)
+
+  -- the word of the slot behind the last row's has no row
+  pub none_behind : (at word : ℕ) → slice_get (keys_of slots) at ≡ Some word → slice_get order len ≡ Some at → lookup word (rows_of slots (take len order)) ≡ None
+  none_behind at word here there =
+      let slot = is.kept.placed len at there in
+      none_at slots (take len order) at word slot.0.1 front here (got_value slots at slot.0 slot.1)
+      (λ e. (let place = slot.2 in (let below = got_below len order slot.0.1.place at e in omega (arith, place, below))))
+
+  -- a row that joins in its place
+  pub held-again : (at word : ℕ) (c : Slot) → slice_get (keys_of slots) at ≡ Some word → slice_get order len ≡ Some at → c.place ≡ len → c.mask < 2 ^ 64 → c.value < 2 ^ 64
+      → AreHeld (set_value_at slots at c) order (len + 1) × (rows_of (set_value_at slots at c) (take (len + 1) order) ≡ rows_of slots (take len order) ++ row word c.mask c.value ∷ [])
+  held-again at word c here there place mask value =
+      let first = AreKept-add slots (take len order) at word c front here (none_behind at word here there) (place ∙ sym (length-take-le len order is.within)) mask value in (
+        held (set_value_at slots at c) order (len + 1) (AreKept-set slots order len at c is.kept there place mask value).0 (omega (arith, slice_get_within order len at there)),
+        ap (rows_of (set_value_at slots at c)) (ap (λ (n : ℕ). take n order) (add-one len) ∙ got_next len order at there) ∙ first.1,
+      )
+
+  -- and one that joins in place of those that are kept
+  pub held-add : (at word : ℕ) (c : Slot) → slice_get (keys_of slots) at ≡ Some word → lookup word (rows_of slots (take len order)) ≡ None → c.place ≡ len → c.mask < 2 ^ 64 → c.value < 2 ^ 64
+      → AreHeld (set_value_at slots at c) (take len order ++ at ∷ []) (len + 1)
+      × (rows_of (set_value_at slots at c) (take (len + 1) (take len order ++ at ∷ [])) ≡ rows_of slots (take len order) ++ row word c.mask c.value ∷ [])
+  held-add at word c here none place mask value =
+      let long : length (take len order ++ at ∷ []) ≡ len + 1 = omega (arith, length_push (take len order) at, length-take-le len order is.within) in
+      let first = AreKept-add slots (take len order) at word c front here none (place ∙ sym (length-take-le len order is.within)) mask value in (
+        held (set_value_at slots at c) (take len order ++ at ∷ []) (len + 1) first.0 (omega (arith, long)),
+        ap (rows_of (set_value_at slots at c)) (take_all (len + 1) (take len order ++ at ∷ []) (omega (arith, long))) ∙ first.1,
+      )
+
+  -- a row that is written
+  pub held-set : (place at : ℕ) (c : Slot) → place < len → slice_get order place ≡ Some at → c.place ≡ place → c.mask < 2 ^ 64 → c.value < 2 ^ 64
+      → AreHeld (set_value_at slots at c) order len × (rows_of (set_value_at slots at c) (take len order) ≡ set_row (rows_of slots (take len order)) place c.mask c.value)
+  held-set place at c below there its mask value = (
+    held (set_value_at slots at c) order len (AreKept-set slots order place at c is.kept there its mask value).0 is.within,
+    (AreKept-set slots (take len order) place at c front (got_take len order place at below there) its mask value).1,
+  )

@@ -1,5 +1,5 @@
 -- Rows that stand in the slots of a map, by their words, and what holds of the fields of the rows of every write set.
-use Rattle.std.specs.Prelude.{◌≡◌, ℕ, zero, suc, List, [], ◌∷◌, map, nat_eq, Some, slice_get}
+use Rattle.std.specs.Prelude.{◌≡◌, ◌≤◌, ℕ, zero, suc, List, [], ◌∷◌, length, map, nat_eq, Some, slice_get, take}
 use Rattle.std.specs.List.{IsDistinct}
 use Rattle.std.specs.Map.{keys_of}
 use Rattle.write_set.specs.declared.keyed_rows.Slot.{Slot}
@@ -33,8 +33,14 @@ pub record Keyed : Type 0 where
 abbrev pub keyed : Slots → List ℕ → Keyed
 keyed slots order = record { rows = rows_of slots order; words = keys_of slots }
 
--- what holds of them in every write set: the rows are apart and fit, each one's slot tells its place, and no word has two slots
+-- what holds of slots and an order of them: the rows are apart and fit, each one's slot tells its place, and no word has two slots
 pub record AreKept (slots : Slots) (order : List ℕ) : Type 0 where
   pub are : AreRows (rows_of slots order)
   pub placed : ArePlaced slots order
   pub distinct : IsDistinct nat_eq (keys_of slots)
+
+-- what holds of them in every write set, whose rows are the first ones of the order
+pub record AreHeld (slots : Slots) (order : List ℕ) (len : ℕ) : Type 0 where
+  pub kept : AreKept slots order
+  pub are : AreRows (rows_of slots (take len order))
+  pub within : len ≤ length order

@@ -1,7 +1,6 @@
 -- Commits of blocks within others.
-use Rattle.std.proofs.Common.{◌≡◌, ℕ, ◌<◌, Bool, true, false, List, [], ◌∷◌, length, refl, sym, ap, subst, ◌∙◌, arith}
+use Rattle.std.proofs.Common.{◌≡◌, ℕ, ◌<◌, true, false, List, [], ◌∷◌, length, refl, sym, ap, subst, ◌∙◌, arith}
 use Rattle.user_actions.specs.Actions.{Actions}
-use Rattle.write_set.specs.declared.row.Row.{Row}
 use Rattle.write_set.specs.Rows.{AreRows}
 use Rattle.nest_frames.specs.Nest.{Frame, Nest, actions_closed, closed}
 use Rattle.norec_core.specs.Core.{is_inside, is_outermost}

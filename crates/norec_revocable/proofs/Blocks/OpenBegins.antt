@@ -1,5 +1,5 @@
 -- The begins of open blocks, as blocks begin, close, are cancelled or go back.
-use Rattle.std.proofs.Common.{◌≡◌, ℕ, ◌≤◌, true, false, List, [], ◌∷◌, length, take, drop, length-append, refl, sym, ap, subst, ◌∙◌, arith}
+use Rattle.std.proofs.Common.{◌≡◌, ℕ, ◌≤◌, true, false, List, [], ◌∷◌, length, take, drop, length-append, refl, sym, subst, arith}
 use Rattle.std.proofs.lemmas.List.{length-take-le}
 use Rattle.itm_types.specs.declared.call.Action.{Action}
 use Rattle.itm_types.specs.declared.call.ActionKind.{ActionKind}
@@ -7,10 +7,10 @@ use Rattle.itm_types.specs.declared.call.ActionKind.TheVariants as kinds
 use Rattle.itm_types.specs.declared.call.Props.{Props}
 use Rattle.itm_types.specs.declared.row.LogRow.{LogRow}
 use Rattle.undo_log.specs.Rollback.{Old}
-use Rattle.user_actions.specs.Actions.{Actions, cut_back, no_actions, registered}
+use Rattle.user_actions.specs.Actions.{Actions, no_actions, registered}
 use Rattle.write_set.specs.declared.row.Row.{Row}
 use Rattle.nest_frames.specs.Nest.{Frame, actions_cancelled, begun, closed, logged, reads_of, renewed}
-use Rattle.norec_core.specs.Core.{is_within, is_outermost, is_inside}
+use Rattle.norec_core.specs.Core.{is_inside}
 use Rattle.norec_core.specs.Proceeds.{AreRead}
 use Rattle.norec_revocable.specs.OpenBegins.{AreBegun, HasBegun}
 

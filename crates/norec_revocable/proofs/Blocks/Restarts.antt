@@ -1,21 +1,17 @@
 -- A block that goes back to its begin: what a round that found its row different comes to.
-use Rattle.std.proofs.Common.{◌≡◌, ◌≢◌, ℕ, ◌+◌, ◌%◌, ◌<◌, ◌≤◌, ◌==◌, Bool, true, false, List, [], ◌∷◌, ◌++◌, length, take, Option, None, Some, slice_get, refl, sym, ap, subst, ◌∙◌, arith, eq-eqb, inl, inr}
+use Rattle.std.proofs.Common.{◌≡◌, ℕ, ◌+◌, ◌%◌, ◌<◌, ◌≤◌, ◌==◌, true, false, List, [], ◌∷◌, ◌++◌, length, take, Option, None, Some, slice_get, refl, sym, ap, subst, ◌∙◌, arith, eq-eqb, inr}
 use Rattle.std.proofs.lemmas.Bool.{cond-true}
 use Rattle.std.proofs.lemmas.Option.{slice_get-get_or}
-use Rattle.itm_types.specs.declared.row.LogRow.{LogRow}
-use Rattle.itm_types.specs.Memory.{IsMemory, Agrees}
-use Rattle.user_actions.specs.Actions.{Actions}
 use Rattle.write_set.specs.Rows.{AreRows}
-use Rattle.nest_frames.specs.Nest.{Frame, actions_cancelled, log_of, reads_of, renewed as blocks_renewed, rows_of}
+use Rattle.nest_frames.specs.Nest.{Frame, actions_cancelled, reads_of, renewed as blocks_renewed, rows_of}
 use Rattle.itm_model.specs.Machine.{back as rolled_back_to}
 use Rattle.norec_core.specs.declared.answer.Answer.{Answer}
 use Rattle.norec_core.specs.declared.answer.Answer.TheVariants.{Conflict, Restarted}
 use Rattle.norec_core.specs.Aims.{Aim}
 use Rattle.norec_core.specs.Phases as at
-use Rattle.norec_core.specs.Core.{Core, handed, is_inside, is_outermost, is_within, renewed}
-use Rattle.norec_core.specs.Endings.{IsEnding, ending_after}
-use Rattle.norec_core.specs.Order.{log_after, snapshot_after, stage_after}
-use Rattle.norec_core.specs.Proceeds.{Ends, GoesBack, Joins, Settles}
+use Rattle.norec_core.specs.Core.{Core, handed, is_inside, is_within, renewed}
+use Rattle.norec_core.specs.Endings.{IsEnding}
+use Rattle.norec_core.specs.Proceeds.{Ends, GoesBack}
 use Rattle.norec_core.specs.Restarts.{Restarts, begun_again}
 use Rattle.norec_core.specs.Rows.{row_at, AllWritesWithin, IsLog}
 use Rattle.norec_core.specs.Stands.{stands_for}
@@ -23,9 +19,8 @@ use Rattle.norec_core.proofs.Accesses.Overlays.{IsLog-take}
 use Rattle.norec_core.proofs.Engines.BlocksAgain.{restart_parts, stands_renewed}
 use Rattle.norec_data.specs.declared.data.Data.{Data}
 use Rattle.norec_data.specs.declared.end.CallEnd.{CallEnd}
-use Rattle.norec_data.specs.declared.turn.Turn.TheVariants.{Wait, End}
+use Rattle.norec_data.specs.declared.turn.Turn.TheVariants.{End}
 use Rattle.norec_data.specs.Ends.{answer_of}
-use Rattle.norec_data.specs.Turns.{TurnEndsSo, Turns}
 use Rattle.norec_data.specs.View.{core, found_at, in_block}
 use Rattle.norec_revocable.specs.Between.{IsSoundTurn}
 use Rattle.norec_revocable.specs.InPhases.{AreFrames, IsOpen, IsSound}

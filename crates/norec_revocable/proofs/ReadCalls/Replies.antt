@@ -28,6 +28,11 @@ use Rattle.norec_data.specs.View.{call_for, core, rows_before}
 use Rattle.norec_revocable.specs.InPhases.{IsFor, IsOpen}
 use Rattle.norec_revocable.specs.Between.{between, logged, IsValue}
 
+-- a value is read behind all the rows that there are
+pub all_before : (s : Data) (what : Purpose) (at size : ℕ) → IsFor s what at size → IsValue what → rows_before s ≡ s.frames.writes.rows
+all_before s (for.Value hint width) at size f value = take_all s.written s.frames.writes.rows (omega (arith, f.1))
+all_before s (for.Chunk k n) at size f value = absurd value
+
 -- the read finds these bytes in whatever memory agrees with the log
 pub record Finds (s : Data) (r : Reading) (bytes : List ℕ) : Type 0 where
   pub bounds : IsBounded s.words s.limits s.restarted s.snapshot s.frames.size s.frames.depth s.arena
@@ -43,7 +48,7 @@ module _ (s : Data) (r : Reading) (bytes : List ℕ) (finds : Finds s r bytes) (
   replies (for.Value hint width) is value =
       let rows : List Row = s.frames.writes.rows in
       let f = subst (λ (what : Purpose). IsFor s what r.at r.size) is finds.purpose in
-      let before : rows_before s ≡ rows = take_all s.written rows (omega (arith, f.1)) in
+      let before : rows_before s ≡ rows = all_before s (for.Value hint width) r.at r.size f tt in
       let within : r.at + size_of width ≤ 8 * s.words = omega (arith, finds.within, f.0) in
       let all = λ (m : List ℕ) (mem : IsMemory s.words m) (agrees : Agrees m s.log.rows).
       reads s.frames.depth rows s.frames.blocks s.arena s.frames.actions m s.words hint width r.at finds.is_open.is_open mem bytes within (finds.has m mem agrees ∙ ap (slice (bytes_of (overlay m rows)) r.at) f.0) in

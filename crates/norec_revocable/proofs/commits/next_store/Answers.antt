@@ -1,6 +1,5 @@
-use Rattle.std.proofs.Common.{◌≡◌, ◌≢◌, ℕ, Option, None, ◌<◌, ◌+◌, ◌*◌, ◌==◌, nat_lt, length, arith, refl, sym, ap, subst, ◌∙◌, eq-eqb, rules}
+use Rattle.std.proofs.Common.{◌≡◌, ◌≢◌, ◌<◌, ◌*◌, ◌==◌, nat_lt, length, arith, refl, sym, ap, subst, ◌∙◌, rules}
 use Rattle.itm_types.specs.declared.call.Reply.TheVariants.{Done, Code}
-use Rattle.norec_data.specs.declared.data.Data.{Data}
 use Rattle.norec_data.specs.declared.end.CallEnd.{CallEnd}
 use Rattle.norec_data.specs.declared.turn.Turn.TheVariants.{EndIrrevocable}
 use Rattle.norec_data.specs.Turns.{Turns}
@@ -17,56 +16,9 @@ use Rattle.word_pieces.specs.Masks.{whole}
 use Rattle.norec_core.specs.Phases.{BackLoad, Store}
 use Rattle.norec_core.specs.Rows.{write_at}
 use Rattle.norec_core.specs.Order.{row_store, stored_stage}
-use Rattle.norec_revocable.proofs.ReadCalls.Loads.{wants_later}
-use Rattle.norec_core.proofs.Accesses.Overlays.{AllWritesWithin-at, write_at_of, stores_whole}
+use Rattle.norec_revocable.proofs.Holding.{holds_on}
+use Rattle.norec_core.proofs.Accesses.Overlays.{AllWritesWithin-at, write_at_of}
 use Rattle.norec_revocable.proofs.commits.next_store.Goals as goal
-
--- the clock is held as one step more is asked for
-holds_on : (s : Data) (got : Option ℕ) (row : ℕ) → IsHolding s s.taking (2 * row) → IsHolding (record s { got = got; spent = s.spent + 1 }) s.taking (2 * row + 1)
-holds_on s got row hold =
-    let o = hold.is_open in
-    record {
-      is_open = record { is_open = o.is_open; log = o.log; writes = o.writes; rows = o.rows; frames = o.frames; begun = o.begun; tries = o.tries };
-      wants = wants_later s s.taking s.clock s.snapshot (s.spent + 1) hold.wants;
-      settled = hold.settled;
-      free = hold.free;
-      spent = omega (arith, hold.spent);
-    }
-
-pub returns-then-written : goal.returns-then-written
-returns-then-written c =
-    let rows = c.args.state.now.frames.writes.rows in
-    let within : c.args.row < length rows = omega (arith, c.if-row-len.true, c.len.ensures.len) in
-    let mask : (write_at rows c.args.row).mask ≡ whole = ap (λ (r : Row). r.mask) (write_at_of rows c.args.row c.row-written.result c.row-written.ensures.row) ∙ c.if-written.true in
-    record {
-      sound =
-          (let may = c.requires.may in
-          let hold = may.holding in
-          record {
-            asked = tt;
-            sound = record {
-              bounds = may.bounds;
-              reached = omega (arith, hold.settled);
-              in_phase = (holds_on c.args.state.now None c.args.row hold, within, mask);
-            };
-          });
-      proceeds =
-          record {
-            unfreed = refl;
-            lawful = (
-              omega (arith, AllWritesWithin-at c.args.state.now.words rows c.args.row c.requires.may.holding.is_open.writes within),
-              refl,
-              λ r. record { some = within; word_is = refl; value_is = λ m mem got. stores_whole m rows c.args.row within c.requires.may.holding.is_open.rows mask },
-            );
-            stays = refl;
-          };
-      stays = record { opens = λ o. o; log = λ o. refl; snapshot = refl };
-      order =
-          (sym (cond-true (nat_lt c.args.row (length rows)) (row_store c.args.state.now.taking (write_at rows c.args.row) c.args.row) (stored_stage c.args.state.now.taking) (lt-ltb c.args.row (length rows) within)
-          ∙ cond-true ((write_at rows c.args.row).mask == whole) (Store c.args.state.now.taking c.args.row _) (BackLoad c.args.state.now.taking c.args.row) (eq-eqb (write_at rows c.args.row).mask whole mask)));
-      ends = tt;
-      tries = refl;
-    }
 
 pub returns-else-written : goal.returns-else-written
 returns-else-written c =

@@ -1,4 +1,4 @@
-use Rattle.std.proofs.Common.{◌+◌, ◌≤◌, length, arith}
+use Rattle.std.proofs.Common.{◌+◌, length, arith}
 use Rattle.norec_data.specs.View.{aim_of}
 use Rattle.norec_revocable.specs.InPhases.{InRound}
 use Rattle.norec_revocable.proofs.Blocks.Restarts.{may_renew, round_renewed}

@@ -1,6 +1,9 @@
-use Rattle.std.proofs.Common.{◌≡◌, length, refl, sym, subst, ◌∙◌, rules, arith}
+use Rattle.std.proofs.Common.{◌≡◌, List, None, length, take, refl, sym, subst, ◌∙◌, rules, arith}
 use Rattle.std.proofs.lemmas.Grind.{common_steps}
+use Rattle.std.proofs.lemmas.List.{take_all}
 use Rattle.value_log.specs.Log.{Log}
+use Rattle.write_set.specs.declared.row.Row.{Row}
+use Rattle.write_set.specs.Rows.{lookup}
 use Rattle.norec_core.specs.Order.{value_reading}
 use Rattle.norec_core.specs.declared.call_parts.Reading.{Reading}
 use Rattle.norec_data.specs.declared.data.Data.{Data}
@@ -27,3 +30,14 @@ returns-clause-called c = record {
   ends = tt;
   tries = search rules;
 }
+
+pub returns-clause-unwritten : goal.returns-clause-unwritten
+returns-clause-unwritten c =
+    let s = c.args.state.now in
+    let g = c.new-state.result in
+    let log : Log = s.log in
+    let is : c.start.new.state ≡ ready s g log = c.start.ensures ∙ (λ i. record s { log = log; gathered = g; written = c.len-state.ensures.len i; spent = 0; entry = length log.rows; tries = 0 }) in
+    let rows = s.frames.writes.rows in
+    let all : take (length rows) rows ≡ rows = take_all (length rows) rows (omega arith) in
+    subst (λ (d : Data). lookup c.in_ok-word.word (take d.written d.frames.writes.rows) ≡ None) (sym is)
+    (subst (λ (r : List Row). lookup c.in_ok-word.word r ≡ None) (sym all) c.in_ok-word.ensures.unwritten)

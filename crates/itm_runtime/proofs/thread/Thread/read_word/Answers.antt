@@ -31,7 +31,7 @@ returns-in-Some g c =
 
 pub returns-in-None : goal.returns-in-None
 returns-in-None g c =
-    let slow = c.read_number_slow in
+    let slow = c.read_known in
     let here : Standing = standing c.self.inside.pass c.read_fast.new.self in
     let is : here ≡ c.args.self.now = ap (standing c.self.inside.pass) c.in-None.ensures.none ∙ c.self.view_is in
     subst (λ (t : Standing). Tells c.args.words.now t (Read R U8 c.args.at) (answer_to_read (number_or slow.result slow.new.stop)) slow.new.self) is slow.ensures

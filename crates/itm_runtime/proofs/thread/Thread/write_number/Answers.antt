@@ -31,7 +31,7 @@ invariant_of-self g c =
 
 pub returns : goal.returns
 returns g c =
-    let slow = c.write_afar in
+    let slow = c.write_found in
     let here : Standing = standing c.self.inside.pass c.write_next.new.self in
     let is : here ≡ c.args.self.now = ap (standing c.self.inside.pass) (c.write_next.ensures.none c.if-write_next.false) ∙ c.self.view_is in
     subst (λ (t : Standing). Tells c.args.words.now t (Write W c.args.at (number c.args.value)) (answer_to_write (done_or slow.result slow.new.stop)) slow.new.self) is slow.ensures

@@ -14,6 +14,6 @@ returns c = record {
   log = search rules;
   asks = search rules;
   count = search rules;
-  settled = settled_in c.self.inside.irrevocable c.confirmed_word-number.new.state Idle (search rules);
+  settled = settled_in c.self.inside.irrevocable c.confirmed_new.new.state Idle (search rules);
   held = λ h. (let r = c.requires.confirms.revocable in absurd (cc));
 }

@@ -1,13 +1,15 @@
-use Rattle.std.proofs.Common.{◌≡◌, rules, false, sym, ap, subst, ◌∙◌}
+use Rattle.std.proofs.Common.{◌≡◌, rules, false, List, None, sym, ap, subst, ◌∙◌}
+use Rattle.write_set.specs.declared.row.Row.{Row}
+use Rattle.write_set.specs.Rows.{lookup}
 use Rattle.norec_core.specs.Core.{Core}
 use Rattle.norec_core.specs.Proceeds.{Joins}
 use Rattle.norec_data.specs.declared.data.Data.{Data}
 use Rattle.norec_data.specs.Turns.{counted}
-use Rattle.norec_data.specs.View.{phase_of}
+use Rattle.norec_data.specs.View.{phase_of, rows_before}
 use Rattle.norec_revocable.specs.Between.{IsWord}
 use Rattle.norec_engine.specs.Modes.{engine_in}
 use Rattle.norec_engine.proofs.SettledEngines.{counts_in, settled_in}
-use Rattle.norec_engine.proofs.WholeReads.{confirms, joins_none, mode_is, same_load, same_wait, stage_is}
+use Rattle.norec_engine.proofs.WholeReads.{confirms, joins_none, mode_is, rows_loaded, same_load, same_wait, stage_is}
 use Rattle.norec_engine.proofs.engine.Engine.load_fast.Goals as goal
 
 pub returns-clause-resumed : goal.returns-clause-resumed
@@ -39,4 +41,5 @@ returns-clause-confirms c word l =
     let mode : b ≡ false = sym (mode_is b s phase) ∙ (ap (λ (e : Core). e.irrevocable) c.self.view_is ∙ l.revocable) in
     let loads = sym (ap (phase_of s) c.in-Load.is) ∙ (sym (stage_is b s phase) ∙ (ap (λ (e : Core). e.stage) c.self.view_is ∙ l.stage)) in
     let here : IsWord s.reading word = subst (λ r. IsWord r word) (sym (same_load s.reading l.reading loads)) l.is_word in
-    confirms (counted c.loaded.new.state) word c.args.value b c.in-Wait.next mode (same_wait _ _ (sym c.in-Wait.is ∙ c.loaded.ensures.turn)) (subst (λ (d : Data). IsWord d.reading word) (sym c.loaded.ensures.state) here)
+    let none : lookup word (rows_before s) ≡ None = subst (λ (rows : List Row). lookup word rows ≡ None) (sym (ap (λ (e : Core). e.writes) c.self.view_is) ∙ rows_loaded b s c.self.inside.pending mode c.in-Load.is) l.unwritten in
+    confirms (counted c.loaded.new.state) word c.args.value b c.in-Wait.next mode (same_wait _ _ (sym c.in-Wait.is ∙ c.loaded.ensures.turn)) (subst (λ (d : Data). IsWord d.reading word) (sym c.loaded.ensures.state) here) (subst (λ (d : Data). lookup word (rows_before d) ≡ None) (sym c.loaded.ensures.state) none)

@@ -10,9 +10,9 @@ returns-clause-index c = λ rows size is value.
     let last = c.args.self.now.last.items in
     let before = c.args.self.now.before.items in
     let row : LogRow = record { word = c.args.word; value = value } in
-    let old = c.index.result.now in
+    let old = c.index-before.result.now in
     let own = c.slot-slot.ensures.slot in
-    let there = slice_get-get_or last c.slot-slot.result old c.slot-slot.ensures.within ∙ ap Some (sym c.index.ensures) in
+    let there = slice_get-get_or last c.slot-slot.result old c.slot-slot.ensures.within ∙ ap Some (sym c.index-before.ensures) in
     let pushed = index_push last before rows row old (subst (λ (n : ℕ). slice_get last n ≡ Some old) own there) (subst (λ (n : ℕ). n < length before) (sym size) c.requires.room) is in
     subst (λ (n : ℕ). IsIndex (slice_set last c.slot-slot.result n) (slice_set before n old) (rows ++ row ∷ [])) size
     (subst (λ (n : ℕ). IsIndex (slice_set last n (length rows)) (slice_set before (length rows) old) (rows ++ row ∷ [])) (sym own) pushed)

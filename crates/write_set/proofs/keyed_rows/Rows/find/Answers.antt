@@ -1,21 +1,21 @@
-use Rattle.std.proofs.Common.{◌≡◌, ◌-◌, ℕ, length, slice_get, Option, None, Some, sym, subst, arith, ◌∙◌}
+use Rattle.std.proofs.Common.{◌≡◌, ◌-◌, ℕ, length, slice_get, Option, None, Some, sym, subst, arith, take, ◌∙◌}
 use Rattle.std.specs.Prelude.{IfNone}
 use Rattle.std.specs.Map.{keys_of}
 use Rattle.write_set.specs.Slots.{rows_of, Keyed}
 use Rattle.write_set.specs.Rows.{lookup, IsFirst}
-use Rattle.write_set.proofs.Slots.{found_at, got_within, length-rows_of, none_without, word_at}
+use Rattle.write_set.proofs.Slots.{count, found_at, front, here_at, none_without, word_at}
 use Rattle.write_set.proofs.keyed_rows.Rows.find.Goals as goal
 
 pub returns-then-is_last-clause-here : goal.returns-then-is_last-clause-here
 returns-then-is_last-clause-here c =
     let slots = c.self.inside.slots.entries in
     let order = c.self.inside.order.items in
+    let len = c.self.inside.len in
     let word = c.args.word in
     let first = subst (λ (k : Keyed). IsFirst k.rows word (length k.rows - 1)) (sym c.self.view_is) (c.is_last.ensures c.if-is_last.true) in
-    let count : c.len.result ≡ length (rows_of slots order) = c.len.ensures ∙ (c.self.inside.order.ok.0 ∙ sym (length-rows_of slots order)) in
-    let last = subst (λ (n : ℕ). IsFirst (rows_of slots order) word (n - 1)) (sym count) first in
-    let there = got_within order (c.len.result - 1) c.index.result.now (omega (arith, last.within, length-rows_of slots order)) c.index.ensures in
-    subst (λ (k : Keyed). slice_get k.words c.index.result.now ≡ Some word) c.self.view_is (word_at slots order (c.len.result - 1) c.index.result.now word c.self.invariant there last)
+    let last = subst (λ (n : ℕ). IsFirst (rows_of slots (take len order)) word (n - 1)) (count slots order len c.self.invariant) first in
+    let there = here_at slots order len c.self.invariant (len - 1) c.index.result.now (omega (arith, last.within, count slots order len c.self.invariant)) c.index.ensures in
+    subst (λ (k : Keyed). slice_get k.words c.index.result.now ≡ Some word) c.self.view_is (word_at slots (take len order) (len - 1) c.index.result.now word (front slots order len c.self.invariant) there last)
 
 pub returns-clause-here : goal.returns-clause-here
 returns-clause-here c =
@@ -25,5 +25,5 @@ returns-clause-here c =
 pub returns-in_err-at-clause-no_row : goal.returns-in_err-at-clause-no_row
 returns-in_err-at-clause-no_row c =
     let word = c.args.word in
-    let none = none_without c.self-2.inside.slots.entries c.self-2.inside.order.items word c.self-2.invariant (sym c.in_err-at.ensures.index) in
+    let none = none_without c.self-2.inside.slots.entries (take c.self-2.inside.len c.self-2.inside.order.items) word (front c.self-2.inside.slots.entries c.self-2.inside.order.items c.self-2.inside.len c.self-2.invariant) (sym c.in_err-at.ensures.index) in
     subst (λ (o : Option ℕ). IfNone o (lookup word c.if-is_crowded.self.rows ≡ None)) (sym c.from_residual.ensures) (subst (λ (k : Keyed). lookup word k.rows ≡ None) c.self-2.view_is none)

@@ -1,0 +1,201 @@
+-- Outermost begins and commits, for the engine as its callers see it.
+use Rattle.std.proofs.Common.{◌≡◌, ℕ, suc, ◌+◌, ◌<◌, ◌≤◌, ◌&&◌, ◌||◌, not, Bool, true, false, List, length, Option, None, Some, if◌then◌else◌, slice_get, inl, refl, sym, ap, subst, ◌∙◌}
+use Rattle.itm_types.specs.declared.step.Step.TheVariants as steps
+use Rattle.itm_types.specs.declared.call.Props.{Props}
+use Rattle.write_set.specs.declared.row.Row.{Row}
+use Rattle.nest_frames.specs.Nest.{Frame, stays_revocable}
+use Rattle.itm_types.specs.declared.call.Reply.TheVariants.{Code}
+use Rattle.norec_core.specs.declared.answer.Answer.TheVariants.{Reply}
+use Rattle.norec_core.specs.Proceeds.{Fits}
+use Rattle.norec_core.specs.Rows.{write_at}
+use Rattle.norec_core.proofs.Accesses.Overlays.{write_at_of}
+use Rattle.norec_revocable.proofs.Phases.{store_row, stores_as}
+use Rattle.norec_core.specs.Core.{Core, may_go}
+use Rattle.norec_core.specs.Order.{kept_log}
+use Rattle.norec_core.specs.Phases.{Phase}
+use Rattle.norec_core.specs.Phases as at
+use Rattle.norec_core.specs.declared.answer.Next.TheVariants.{Step as Asks}
+use Rattle.norec_core.specs.declared.call_parts.Opening.{Opening}
+use Rattle.norec_core.specs.declared.call_parts.Taking.{Taking}
+use Rattle.norec_core.specs.declared.call_parts.Taking.TheVariants as takings
+use Rattle.norec_core.proofs.Engines.Blocks.{none_inside}
+use Rattle.norec_data.specs.declared.data.Data.{Data}
+use Rattle.norec_data.specs.declared.end.CallEnd.{CallEnd}
+use Rattle.norec_data.specs.declared.pending.Pending.{Pending}
+use Rattle.norec_data.specs.declared.pending.Pending.TheVariants as waits
+use Rattle.norec_data.specs.declared.end.CallEnd.TheVariants.{Committed, Entered, EnteredAgain}
+use Rattle.norec_data.specs.declared.turn.Turn.{Turn}
+use Rattle.norec_data.specs.declared.turn.Turn.TheVariants.{End, Wait}
+use Rattle.norec_data.specs.Ends.{answer_of, told}
+use Rattle.norec_data.specs.View.{core, in_block, phase_of, step_of}
+use Rattle.norec_revocable.specs.InPhases.{IsSound}
+use Rattle.norec_revocable.specs.Moves.{StepGoesTo, StepTurns}
+use Rattle.norec_engine.specs.Modes.{engine_in, IsSoundIn}
+use Rattle.norec_engine.specs.BlockSteps.{FreesClock, Opens, StoresRow, TakesClock}
+use Rattle.norec_engine.proofs.EitherTurns.{idle_sound, is_idle}
+use Rattle.norec_engine.proofs.WholeReads.{mode_is, stage_is}
+
+-- ## What is waited for, by the stage
+
+begin_waits : (d : Data) (p : Pending) (o : Opening) → phase_of d p ≡ at.Begin o → p ≡ waits.Begin
+begin_waits d waits.Begin o is = refl
+begin_waits d p o is = absurd (cc)
+
+exchange_waits : (d : Data) (p : Pending) (t : Taking) → phase_of d p ≡ at.Exchange t → p ≡ waits.Exchange
+exchange_waits d waits.Exchange t is = refl
+exchange_waits d p t is = absurd (cc)
+
+store_waits : (d : Data) (p : Pending) (t : Taking) (row : ℕ) (got : Option ℕ) → phase_of d p ≡ at.Store t row got → p ≡ waits.Store row
+store_waits d (waits.Store r) t row got is = (let same : r ≡ row = cc in ap waits.Store same)
+store_waits d p t row got is = absurd (cc)
+
+free_waits : (d : Data) (p : Pending) → phase_of d p ≡ at.Free → p ≡ waits.Free
+free_waits d waits.Free is = refl
+free_waits d p is = absurd (cc)
+
+same_opening : (a b : Opening) → at.Begin a ≡ at.Begin b → a ≡ b
+same_opening a b is = cc
+
+same_taking : (a b : Taking) → at.Exchange a ≡ at.Exchange b → a ≡ b
+same_taking a b is = cc
+
+store_taking : (a b : Taking) (r s : ℕ) (g h : Option ℕ) → at.Store a r g ≡ at.Store b s h → a ≡ b
+store_taking a b r s g h is = cc
+
+-- an engine of these fields, as its callers see it, in a revocable transaction
+module _ (b : Bool) (d : Data) (p : Pending) (c : Core) (view : engine_in b d (phase_of d p) ≡ c) (sound : IsSoundIn b d (phase_of d p)) (revocable : c.irrevocable ≡ false) where
+  pub mode : b ≡ false
+  mode = sym (mode_is b d (phase_of d p)) ∙ (ap (λ (x : Core). x.irrevocable) view ∙ revocable)
+
+  stage : phase_of d p ≡ c.stage
+  stage = sym (stage_is b d (phase_of d p)) ∙ ap (λ (x : Core). x.stage) view
+
+  sound_for : (q : Pending) → p ≡ q → IsSound d (phase_of d q)
+  sound_for q is = subst (λ (x : Pending). IsSound d (phase_of d x)) is (subst (λ (x : Bool). IsSoundIn x d (phase_of d p)) mode sound)
+
+  pub begin_at : (o : Opening) → c.stage ≡ at.Begin o → (p ≡ waits.Begin) × (d.opening ≡ o) × IsSound d (at.Begin d.opening)
+  begin_at o is =
+      let here = begin_waits d p o (stage ∙ is) in
+      (here, same_opening d.opening o (sym (ap (phase_of d) here) ∙ (stage ∙ is)), sound_for waits.Begin here)
+
+  pub exchange_at : c.stage ≡ at.Exchange takings.Commit → (p ≡ waits.Exchange) × (d.taking ≡ takings.Commit) × IsSound d (at.Exchange d.taking)
+  exchange_at is =
+      let here = exchange_waits d p takings.Commit (stage ∙ is) in
+      (here, same_taking d.taking takings.Commit (sym (ap (phase_of d) here) ∙ (stage ∙ is)), sound_for waits.Exchange here)
+
+  pub store_at : (row : ℕ) (got : Option ℕ) → c.stage ≡ at.Store takings.Commit row got → (p ≡ waits.Store row) × (d.taking ≡ takings.Commit) × IsSound d (at.Store d.taking row d.got)
+  store_at row got is =
+      let here = store_waits d p takings.Commit row got (stage ∙ is) in
+      (here, store_taking d.taking takings.Commit row row d.got got (sym (ap (phase_of d) here) ∙ (stage ∙ is)), sound_for (waits.Store row) here)
+
+  pub free_at : c.stage ≡ at.Free → (p ≡ waits.Free) × IsSound d at.Free
+  free_at is = (let here = free_waits d p (stage ∙ is) in (here, sound_for waits.Free here))
+
+idle_waits : (d : Data) (p : Pending) → phase_of d p ≡ at.Idle → p ≡ waits.Idle
+idle_waits d waits.Idle is = refl
+idle_waits d p is = absurd (cc)
+
+-- between two calls of a revocable transaction
+module _ (b : Bool) (d : Data) (p : Pending) (c : Core) (view : engine_in b d (phase_of d p) ≡ c) (sound : IsSoundIn b d (phase_of d p)) (none : c.waits ≡ None) where
+  pub idle_at : p ≡ waits.Idle
+  idle_at = idle_waits d p (is_idle d p b c view none)
+
+  pub sound_idle : b ≡ false → IsSound d at.Idle
+  sound_idle mode = subst (λ (x : Bool). IsSoundIn x d at.Idle) mode (idle_sound d p b c view sound none)
+
+-- a begin that stays revocable is not refused
+pub served_outside : (d : Data) (props : Props) → in_block d ≡ false → props.goes_irrevocable ≡ false → 0 < d.frames.depth → (may_go d.frames.blocks props ≡ true) × (length d.frames.blocks < d.frames.depth)
+served_outside d props shut stays deep = (
+  ap (λ (g : Bool). not (g && (props.no_irrevocable || stays_revocable d.frames.blocks))) stays,
+  subst (λ (bs : List Frame). length bs < d.frames.depth) (sym (none_inside d.frames.blocks shut)) deep,
+)
+
+-- the clock fits where it did not fall
+pub fits_begin : (b : Bool) (d : Data) (p : Pending) (c : Core) → engine_in b d (phase_of d p) ≡ c → b ≡ false → p ≡ waits.Begin → (seen : ℕ) → Fits c seen → d.clock ≤ seen
+fits_begin b d p c view mode is seen f =
+    subst (λ (q : Pending). Fits (core d (phase_of d q)) seen) is
+    (subst (λ (m : Bool). Fits (engine_in m d (phase_of d p)) seen) mode (subst (λ (x : Core). Fits x seen) (sym view) f))
+
+-- ## A block that has begun
+
+pub told_code : (again : Bool) (end : CallEnd) (d : Data) → end ≡ (if again then EnteredAgain else Entered) → d ≡ told end d
+told_code true end d is = (let same : d ≡ told EnteredAgain d = refl in same ∙ ap (λ (x : CallEnd). told x d) (sym is))
+told_code false end d is = (let same : d ≡ told Entered d = refl in same ∙ ap (λ (x : CallEnd). told x d) (sym is))
+
+pub answer_code : (again : Bool) (end : CallEnd) (d : Data) (code : ℕ) → end ≡ (if again then EnteredAgain else Entered) → code ≡ (if again then 9 else 5) → Reply (Code code) ≡ answer_of d end
+answer_code true end d code is number = ap (λ (n : ℕ). Reply (Code n)) number ∙ ap (answer_of d) (sym is)
+answer_code false end d code is number = ap (λ (n : ℕ). Reply (Code n)) number ∙ ap (answer_of d) (sym is)
+
+-- ## What the engine waits for then
+
+module _ (b : Bool) (d : Data) (p : Pending) (mode : b ≡ false) where
+  pub opens_at : p ≡ waits.Begin → (props : Props) (room : ℕ) (again : Bool) → d.opening ≡ record { props = props; room = room; again = again } → props.goes_irrevocable ≡ false → Opens (engine_in b d (phase_of d p)) props again
+  opens_at is props room again opening stays =
+      subst (λ (m : Bool). Opens (engine_in m d (phase_of d p)) props again) (sym mode)
+      (subst (λ (q : Pending). Opens (core d (phase_of d q)) props again) (sym is) (record { revocable = refl; room = room; stage = ap at.Begin opening; stays = stays }))
+
+  pub takes_at : p ≡ waits.Exchange → d.taking ≡ takings.Commit → 0 < length d.frames.writes.rows → TakesClock (engine_in b d (phase_of d p))
+  takes_at is taking some =
+      subst (λ (m : Bool). TakesClock (engine_in m d (phase_of d p))) (sym mode)
+      (subst (λ (q : Pending). TakesClock (core d (phase_of d q))) (sym is) (record { revocable = refl; stage = ap at.Exchange taking; some = some }))
+
+  pub stores_at : (row : ℕ) → p ≡ waits.Store row → d.taking ≡ takings.Commit → StoresRow (engine_in b d (phase_of d p)) row
+  stores_at row is taking =
+      subst (λ (m : Bool). StoresRow (engine_in m d (phase_of d p)) row) (sym mode)
+      (subst (λ (q : Pending). StoresRow (core d (phase_of d q)) row) (sym is) (record { revocable = refl; got = d.got; stage = ap (λ (t : Taking). at.Store t row d.got) taking }))
+
+  pub frees_at : p ≡ waits.Free → FreesClock (engine_in b d (phase_of d p))
+  frees_at is =
+      subst (λ (m : Bool). FreesClock (engine_in m d (phase_of d p))) (sym mode)
+      (subst (λ (q : Pending). FreesClock (core d (phase_of d q))) (sym is) (record { revocable = refl; stage = refl }))
+
+  -- the rows that it stores
+  pub rows_exchanged : p ≡ waits.Exchange → (engine_in b d (phase_of d p)).writes ≡ d.frames.writes.rows
+  rows_exchanged is = λ i. (engine_in (mode i) d (phase_of d (is i))).writes
+
+  pub rows_stored : (row : ℕ) → p ≡ waits.Store row → (engine_in b d (phase_of d p)).writes ≡ d.frames.writes.rows
+  rows_stored row is = λ i. (engine_in (mode i) d (phase_of d (is i))).writes
+
+-- the store of a whole word, as the write set shows it
+pub asks_store : (s d : Data) (row : ℕ) (r : Row) → d ≡ record s { got = None } → slice_get s.frames.writes.rows row ≡ Some r → Asks (step_of d (phase_of d (waits.Store row))) ≡ Asks (steps.Store (r.word + 1) r.value)
+asks_store s d row r same is =
+    let rows = s.frames.writes.rows in
+    ap (λ (x : Data). Asks (step_of x (phase_of x (waits.Store row)))) same
+    ∙ sym (ap Asks (stores_as r (write_at rows row) (write_at_of rows row r is) None r.value refl))
+
+pub snapshot_is : (b : Bool) (d : Data) (phase : Phase) → (engine_in b d phase).snapshot ≡ d.snapshot
+snapshot_is true d phase = refl
+snapshot_is false d phase = refl
+
+-- ## The clock that is freed
+
+pub freed_turns : (s d : Data) (seen : ℕ) (turn : Turn) → turn ≡ End Committed → StepGoesTo s at.Free 0 turn d → StepTurns s at.Free seen (End Committed) d
+freed_turns s d seen turn is goes =
+    let g : StepGoesTo s at.Free 0 (End Committed) d = subst (λ (t : Turn). StepGoesTo s at.Free 0 t d) is goes in
+    record {
+      sound = g.sound;
+      proceeds = g.proceeds;
+      joins = record { log = λ o. inl (g.stays.log o); begins = λ shut o. (let was = g.stays.opens o in absurd (cc)); snapshot = λ o. inl g.stays.snapshot };
+      order = g.order;
+      ends = g.ends;
+      tries = g.tries;
+      snapshot = g.stays.snapshot;
+      log = g.stays.log;
+    }
+
+-- ## A row that is stored
+
+-- what it finds is of no account to what follows
+pub row_turns : (s d : Data) (row seen : ℕ) (q : Pending) → IsSound s (at.Store s.taking row s.got) → kept_log (phase_of d q) s.log.rows ≡ s.log.rows → StepTurns s (at.Store s.taking row s.got) 0 (Wait q) d → StepTurns s (at.Store s.taking row s.got) seen (Wait q) d
+row_turns s d row seen q sound kept t =
+    let inside = (store_row s s.taking row s.got sound.in_phase).0.is_open in
+    record {
+      sound = t.sound;
+      proceeds = t.proceeds;
+      joins = record { log = λ o. inl (t.log o ∙ (ap (λ (p : Phase). kept_log p s.log.rows) (sym t.order) ∙ kept)); begins = λ shut o. absurd (cc); snapshot = λ o. inl t.snapshot };
+      order = t.order;
+      ends = t.ends;
+      tries = t.tries;
+      snapshot = t.snapshot;
+      log = t.log;
+    }

@@ -1,0 +1,15 @@
+use Rattle.std.proofs.Common.{◌++◌, List, take, ap, arith, ◌∙◌}
+use Rattle.std.proofs.lemmas.List.{take_all}
+use Rattle.itm_types.specs.declared.row.LogRow.{LogRow}
+use Rattle.value_log.specs.Filled.{Filled}
+use Rattle.value_log.proofs.FilledRows.{take_front}
+use Rattle.value_log.proofs.rows.Rows.reserve_exact.Goals as goal
+
+pub returns-clause-items : goal.returns-clause-items
+returns-clause-items c =
+    let places = c.self.inside.places.items in
+    let len = c.self.inside.len in
+    let joined = c.in_ok-resize.ensures.ok in
+    let all = take_all c.in_ok-capacity.capacity places (omega (arith, c.self.invariant.all, c.if-capacity-self.false)) in
+    ap (take len) (joined.1 ∙ ap (λ (front : List LogRow). front ++ joined.0) all)
+    ∙ (take_front places joined.0 len (omega (arith, c.self.invariant.all, c.self.invariant.within)) ∙ ap (λ (f : Filled). f.items) c.self.view_is)
