@@ -1,0 +1,117 @@
+//! What one transaction does.
+
+ghost use Rattle.std.specs.Prelude.{◌≡◌};
+ghost use Rattle.shared_words.specs.Passes.{Owns};
+
+use itm_runtime::{Stop, Thread};
+use shared_words::Words;
+use std::alloc::AllocError;
+
+/// How many words the shared memory has.
+pub const WORDS: usize = 8_192;
+
+/// What each transaction does.
+#[derive(Clone, Copy, Debug, PartialEq, Eq)]
+pub enum Workload {
+    /// Adds 1 to word 0.
+    Counter,
+    /// Moves 1 between two random words of so many.
+    Transfer,
+    /// Reads so many words from a random one on.
+    ReadOnly,
+    /// Writes so many words, from word 0 on.
+    Writes,
+    /// Reads so many words, from word 0 on, and then the next ones, a tenth as many, in an inner block. One of several threads
+    /// does not read: it adds 1 to the first word of that tenth, again and again.
+    Nested,
+}
+
+/// Each of them.
+pub const WORKLOADS: [Workload; 5] = [
+    Workload::Counter,
+    Workload::Transfer,
+    Workload::ReadOnly,
+    Workload::Writes,
+    Workload::Nested,
+];
+
+/// The word by which it is called.
+pub fn name_of(workload: Workload) -> &'static str {
+    match workload {
+        Workload::Counter => "counter",
+        Workload::Transfer => "transfer",
+        Workload::ReadOnly => "readonly",
+        Workload::Writes => "writes",
+        Workload::Nested => "nested",
+    }
+}
+
+/// The workload of this name.
+pub fn named(name: &str) -> Option<Workload> {
+    match name {
+        "counter" => Some(Workload::Counter),
+        "transfer" => Some(Workload::Transfer),
+        "readonly" => Some(Workload::ReadOnly),
+        "writes" => Some(Workload::Writes),
+        "nested" => Some(Workload::Nested),
+        _ => None,
+    }
+}
+
+/// One transaction: tried again, it does the same.
+#[derive(Clone, Copy)]
+pub struct Block {
+    /// How many words it is about.
+    pub size: u64,
+    /// The first of them.
+    pub first: u64,
+    /// How far each other one lies behind the one before.
+    pub stride: u64,
+    /// What a word counts for that is not read.
+    pub value: u64,
+    /// What is added to that, or to what was read, where the first one is written. To each other one 1 is added.
+    pub more: u64,
+    /// Whether it reads the words.
+    pub reads: bool,
+    /// Whether it writes them.
+    pub writes: bool,
+}
+
+/// The place of a word.
+pub fn place_of(word: u64) -> u64 {
+    8 * (word % WORDS as u64)
+}
+
+/// The word of these bytes, the low one first.
+pub fn word_of(bytes: &[u8]) -> u64 {
+    match bytes {
+        [a, b, c, d, e, f, g, h] => u64::from_le_bytes([*a, *b, *c, *d, *e, *f, *g, *h]),
+        _ => 0,
+    }
+}
+
+/// The value of a word, where the transaction is still open.
+#[inline(always)]
+pub fn get(words: &Words, thread: &mut Thread, word: u64) -> Result<Option<u64>, AllocError>
+    requires own { Owns words.now thread.old.pass }
+    ensures own { Owns words.now thread.new.pass }
+{
+    match thread.read_u64(words, place_of(word)) {
+        Ok(value) => Ok(Some(value)),
+        Err(Stop::Memory) => Err(AllocError),
+        Err(_) => Ok(None),
+    }
+}
+
+/// Writes a word; whether the transaction is still open.
+#[inline(always)]
+pub fn put(words: &Words, thread: &mut Thread, word: u64, value: u64) -> Result<bool, AllocError>
+    requires own { Owns words.now thread.old.pass }
+    ensures own { Owns words.now thread.new.pass }
+{
+    match thread.write_u64(words, place_of(word), value) {
+        Ok(()) => Ok(true),
+        Err(Stop::Memory) => Err(AllocError),
+        Err(_) => Ok(false),
+    }
+}

@@ -1,5 +1,0 @@
-use Rattle.shared_words.specs.Passes.{Owns}
-use Rattle.runtime_bench.proofs.nested.read_inner.Given as goal
-
-abbrev pub invariant-loop-number : goal.invariant-loop-number
-invariant-loop-number l = Owns l.words l.thread.pass
