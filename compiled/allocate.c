@@ -11,7 +11,7 @@ static void *noted(void *p, size_t size) {
 
 static void release(void *p) {
     if (!p) return;
-    if (tx.nesting) add_action(&tx.commits, free, p);
+    if (tx.depth) add_action(&tx.commits, free, p);
     else free(p);
 }
 

@@ -2,24 +2,34 @@
  * that has the block has not returned. */
     .text
 
+/* Into a struct registers. */
+    .macro keep segment, at
+    movq %rbx, \segment 0(\at)
+    movq %rbp, \segment 8(\at)
+    movq %r12, \segment 16(\at)
+    movq %r13, \segment 24(\at)
+    movq %r14, \segment 32(\at)
+    movq %r15, \segment 40(\at)
+    movq %rdx, \segment 48(\at)
+    movq %rcx, \segment 56(\at)
+    .endm
+
     .globl _ITM_beginTransaction
     .type _ITM_beginTransaction, @function
 _ITM_beginTransaction:
     .cfi_startproc
-    movq (%rsp), %rax
+    movq tx@gottpoff(%rip), %rax
     leaq 8(%rsp), %rdx
-    pushq %rax
-    pushq %rdx
-    pushq %r15
-    pushq %r14
-    pushq %r13
-    pushq %r12
-    pushq %rbp
-    pushq %rbx
-    movq %rsp, %rsi         /* a struct registers */
-    subq $8, %rsp
+    movq (%rsp), %rcx
+    cmpl $0, %fs:104(%rax)  /* no block is open; blocks.c checks that these lie so */
+    jne 1f
+    keep %fs:, %rax         /* the outermost one's */
+    jmp begin_outermost
+1:  subq $72, %rsp
     .cfi_def_cfa_offset 80
-    call begin_called
+    movq %rsp, %rsi
+    keep , %rsi
+    call begin_inner
     addq $72, %rsp
     .cfi_def_cfa_offset 8
     ret

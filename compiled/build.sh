@@ -8,6 +8,7 @@
 #   ENGINE   an archive or object with the calls of engine.h, instead: nothing is proved then
 #   OUT      the folder of the library, instead of compiled/out
 #   CC       the compiler, gcc where it is not set
+#   RT_JOBS  how many processors a proof takes, where it is set
 set -u
 here=$(CDPATH= cd -- "$(dirname -- "$0")" && pwd) || exit 1
 crate=$here/../crates/itm_c
@@ -30,7 +31,9 @@ if [ -z "$engine" ]; then
         stop "the Rattle kit is not here (no rt on the path), so the engine can't be proved." \
             "ENGINE=libitm_c.a takes one that was built on another machine"
     [ -d "$crate" ] || stop "there is no crates/itm_c"
-    (cd "$crate" && rt lib) || stop "the engine could not be proved and built"
+    # a check takes a processor and up to 4 GB
+    jobs=${RT_JOBS:-$(awk -v most="$(nproc)" '/^MemAvailable:/ { n = int($2 / 4000000) } END { print n < 1 ? 1 : n < most ? n : most }' /proc/meminfo)}
+    (cd "$crate" && rt lib --jobs "$jobs") || stop "the engine could not be proved and built"
     engine=$crate/out/libitm_c.a
 fi
 [ -f "$engine" ] || stop "there is no $engine"

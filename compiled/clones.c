@@ -47,7 +47,7 @@ static void *clone_of(void *plain) {
 ENTRY void *_ITM_getTMCloneOrIrrevocable(void *plain) {
     void *clone = clone_of(plain);
     if (clone) return clone;
-    if (tx.nesting) become_irrevocable();
+    if (tx.depth) become_irrevocable();
     return plain;
 }
 

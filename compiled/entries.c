@@ -4,16 +4,16 @@
 enum { NO_TRANSACTION = 1 }; /* as an id */
 
 ENTRY int _ITM_inTransaction(void) {
-    return !tx.nesting ? 0 : tx.fixed ? 2 : 1;
+    return !tx.depth ? 0 : tx.fixed ? 2 : 1;
 }
 
 ENTRY uint64_t _ITM_getTransactionId(void) {
-    return tx.nesting ? (uintptr_t)&tx : NO_TRANSACTION;
+    return tx.depth ? (uintptr_t)&tx : NO_TRANSACTION;
 }
 
 ENTRY void _ITM_addUserCommitAction(void (*run)(void *), uint64_t id, void *argument) {
     if (id != NO_TRANSACTION) fail("a commit action that another transaction resumes is not served");
-    if (!tx.nesting) fail("a commit action outside of a transaction");
+    if (!tx.depth) fail("a commit action outside of a transaction");
     add_action(&tx.commits, run, argument);
 }
 

@@ -67,31 +67,34 @@ static inline bool is_within(uintptr_t at, const struct memory *m) {
 struct block {
     struct registers registers;
     uint32_t props;
-    int nesting; /* open blocks, this one and those that have no entry among them */
+    int plain; /* of `tx`, by then */
     size_t undo, commits, undos, fresh;
 };
 
 /* A thread's transactions. In a serial one the engine's is irrevocable, so no other one commits; what it writes is in
  * its place at once, and the undo log has it all, so blocks that are not `fixed` can be cancelled. */
 struct tx {
-    uintptr_t fast; /* so many bytes of the region need no further question: all or none */
-    struct itm_c_thread engine;
-    struct block *block; /* there is room for one; `depth` of them are open, of which the engine has `engine_blocks` */
-    int nesting, depth, engine_blocks;
-    int fixed; /* so many blocks, from the outermost on, can't be cancelled any more */
-    int block_room;
-    bool serial, serial_next;
-    unsigned tries;
+    struct block outermost;
+    int depth;                   /* so many blocks are open, */
+    int plain;                   /* and within the innermost one so many that are not gone back to */
+    uintptr_t fast;              /* so many bytes of the region need no further question: all or none */
+    struct itm_c_thread engine;  /* its handle, where it has one */
+    uint64_t ended;              /* so many tries, however they ended */
+    bool has_more;               /* what follows is not as a begin finds it */
+    bool serial;
+    int fixed;        /* so many blocks, from the outermost on, can't be cancelled any more */
+    int engine_inner; /* so many inner blocks are the engine's too */
+    int tries;
+    struct list inner; /* struct block: those within the outermost one */
     struct list undo, commits, undos;
     struct list fresh, fresh_sorted; /* struct memory: in the order of allocation, and by address */
     /* of threads.c */
-    int handle; /* whose `engine` is */
+    struct lent *lent; /* whose the handle is, where it is lent */
     struct memory stack, tls;
-    uint64_t epoch;         /* odd while a transaction is open */
     bool is_shared;         /* others use its stack or its thread-local storage */
     uintptr_t foreign_page; /* that was used last, in this transaction */
     struct tx *next;
-    uint64_t done, restarts, serials;
+    uint64_t restarts, cancels, serials;
 };
 
 extern __thread struct tx tx __attribute__((tls_model("initial-exec")));
@@ -99,7 +102,14 @@ extern __thread struct tx tx __attribute__((tls_model("initial-exec")));
 _Noreturn void call_failed(uint32_t code);
 void become_serial(void);
 void become_irrevocable(void);
-void grow_blocks(void);
+
+static inline void served(uint32_t code) {
+    if (UNLIKELY(code >= ITM_C_CONFLICT)) call_failed(code);
+}
+
+static inline struct block *block_at(int depth) {
+    return depth ? (struct block *)tx.inner.at + depth - 1 : &tx.outermost;
+}
 
 /* A block is open that may yet be cancelled, in a transaction whose shared writes are in their place. */
 static inline bool logs_shared(void) {
@@ -108,24 +118,11 @@ static inline bool logs_shared(void) {
 
 /* -- threads.c -- */
 
-enum { NO_HANDLE, OWN_HANDLE, LENT_HANDLE };
-
 extern bool needs_fences;
 
 void take_handle(void);
 void give_handle(void);
 void wait_for_owner(const void *p, size_t size);
-
-/* (No fence: a thread that looks at another's epoch orders them all, see threads.c.) */
-static inline void mark_open(void) {
-    __atomic_store_n(&tx.epoch, tx.epoch + 1, __ATOMIC_RELEASE);
-    __atomic_signal_fence(__ATOMIC_SEQ_CST);
-    if (UNLIKELY(needs_fences)) __atomic_thread_fence(__ATOMIC_SEQ_CST);
-}
-
-static inline void mark_closed(void) {
-    __atomic_store_n(&tx.epoch, tx.epoch + 1, __ATOMIC_RELEASE);
-}
 
 /* -- region.c -- */
 
@@ -140,9 +137,14 @@ static inline bool in_region(const void *p, size_t size) {
     return at < region.size && region.size - at >= size;
 }
 
+/* (A stack may lie in the region.) */
+static inline void allow_fast(void) {
+    tx.fast = is_within((uintptr_t)tx.outermost.registers.sp, &region) ? 0 : region.size;
+}
+
 static inline void set_fast(void) {
-    bool is_plain = !tx.fresh.used && !logs_shared() && !in_region(tx.block[0].registers.sp, 1);
-    tx.fast = is_plain ? region.size : 0;
+    if (tx.fresh.used || logs_shared()) tx.fast = 0;
+    else allow_fast();
 }
 
 /* -- memory.c -- */

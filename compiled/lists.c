@@ -24,6 +24,7 @@ static SLOW void list_grow(struct list *l, size_t size) {
 
 void *list_add(struct list *l, size_t size) {
     if (UNLIKELY(l->room - l->used < size)) list_grow(l, size);
+    tx.has_more = true;
     l->used += size;
     return l->at + l->used - size;
 }

@@ -57,7 +57,7 @@ void drop_fresh(size_t left) {
 /* Of an open transaction. A stack may lie in the region: then it is shared but for the transaction's own frames. */
 enum kind kind_of(const void *p, size_t size) {
     uintptr_t at = (uintptr_t)p;
-    if (is_frame(at, tx.block[0].registers.sp)) return OWN;
+    if (is_frame(at, tx.outermost.registers.sp)) return OWN;
     if (tx.fresh.used && is_fresh(at)) return OWN;
     if (in_region(p, size)) return SHARED;
     if (is_within(at, &tx.stack) || is_within(at, &tx.tls))
@@ -74,7 +74,7 @@ static size_t padded(size_t size) {
 
 void log_bytes(const void *p, size_t size) {
     if (!size || tx.depth <= tx.fixed) return;
-    if (is_frame((uintptr_t)p, tx.block[tx.depth - 1].registers.sp)) return;
+    if (is_frame((uintptr_t)p, block_at(tx.depth - 1)->registers.sp)) return;
     char *to = list_add(&tx.undo, padded(size) + sizeof(struct memory));
     memcpy(to, p, size);
     *(struct memory *)(to + padded(size)) = (struct memory){(uintptr_t)p, size};

@@ -14,7 +14,7 @@ enum { OWN_HANDLES = 119, LENT_HANDLES = 8 };
 
 static struct itm_c_words words;
 static int own_handles;
-static struct {
+static struct lent {
     struct itm_c_thread engine;
     bool is_out;
 } lent[LENT_HANDLES];
@@ -22,7 +22,7 @@ static struct {
 static pthread_mutex_t threads_lock = PTHREAD_MUTEX_INITIALIZER;
 static pthread_cond_t handle_is_free = PTHREAD_COND_INITIALIZER;
 static struct tx *first_thread;
-static uint64_t all_done, all_restarts, all_serials;
+static uint64_t all_committed, all_restarts, all_serials;
 static pthread_key_t leaving;
 
 bool needs_fences;
@@ -30,15 +30,16 @@ bool needs_fences;
 /* -- counts -- */
 
 static void add_counts(void) {
-    all_done += tx.done, all_restarts += tx.restarts, all_serials += tx.serials;
-    tx.done = tx.restarts = tx.serials = 0;
+    all_committed += tx.ended - tx.restarts - tx.cancels;
+    all_restarts += tx.restarts, all_serials += tx.serials;
+    tx.ended = tx.restarts = tx.cancels = tx.serials = 0;
 }
 
 /* Threads that are there still are not counted. */
 static void tell_counts(void) {
     pthread_mutex_lock(&threads_lock);
     add_counts();
-    fprintf(stderr, "libitm (Sofjundel): %lu committed, %lu restarts, %lu serial\n", all_done, all_restarts, all_serials);
+    fprintf(stderr, "libitm (Sofjundel): %lu committed, %lu restarts, %lu serial\n", all_committed, all_restarts, all_serials);
     pthread_mutex_unlock(&threads_lock);
 }
 
@@ -94,8 +95,9 @@ static struct tx *owner_of(uintptr_t at) {
 static void mark_shared(struct tx *owner) {
     __atomic_store_n(&owner->is_shared, true, __ATOMIC_SEQ_CST);
     if (!needs_fences && !orders_all_threads()) fail("memory of another thread can't be used");
-    uint64_t epoch = __atomic_load_n(&owner->epoch, __ATOMIC_SEQ_CST);
-    while (epoch & 1 && __atomic_load_n(&owner->epoch, __ATOMIC_ACQUIRE) == epoch) sched_yield();
+    uint64_t ended = __atomic_load_n(&owner->ended, __ATOMIC_SEQ_CST);
+    while (__atomic_load_n(&owner->depth, __ATOMIC_ACQUIRE) && __atomic_load_n(&owner->ended, __ATOMIC_ACQUIRE) == ended)
+        sched_yield();
 }
 
 static void use_foreign_at(uintptr_t at) {
@@ -124,12 +126,13 @@ static bool has_entered(struct itm_c_thread *engine) {
 
 static bool is_lent(void) {
     bool is_any_out = false;
-    for (int i = 0; i < LENT_HANDLES; i++) {
-        is_any_out |= lent[i].is_out;
-        if (lent[i].is_out || (!lent[i].engine.at && !has_entered(&lent[i].engine))) continue;
-        lent[i].is_out = true;
-        tx.engine = lent[i].engine;
-        tx.handle = LENT_HANDLE + i;
+    for (struct lent *l = lent; l < lent + LENT_HANDLES; l++) {
+        is_any_out |= l->is_out;
+        if (l->is_out || (!l->engine.at && !has_entered(&l->engine))) continue;
+        l->is_out = true;
+        tx.engine = l->engine;
+        tx.lent = l;
+        tx.has_more = true;
         return true;
     }
     if (!is_any_out) fail("no memory for a thread");
@@ -139,7 +142,6 @@ static bool is_lent(void) {
 static bool found_handle(void) {
     if (own_handles == OWN_HANDLES || !has_entered(&tx.engine)) return is_lent();
     own_handles++;
-    tx.handle = OWN_HANDLE;
     return true;
 }
 
@@ -152,7 +154,6 @@ static void find_own_memory(void) {
     pthread_attr_destroy(&attributes);
     tx.stack = (struct memory){(uintptr_t)at, size};
     tx.tls = (struct memory){(uintptr_t)__builtin_thread_pointer() - tls_size, tls_size};
-    grow_blocks();
     pthread_setspecific(leaving, &tx);
 }
 
@@ -173,14 +174,13 @@ void take_handle(void) {
     pthread_mutex_unlock(&threads_lock);
 }
 
-/* A lent one. */
+/* Where it is a lent one. */
 void give_handle(void) {
-    int i = tx.handle - LENT_HANDLE;
+    if (!tx.lent) return;
     pthread_mutex_lock(&threads_lock);
-    lent[i].engine = tx.engine;
-    lent[i].is_out = false;
+    *tx.lent = (struct lent){tx.engine, false};
     tx.engine.at = 0;
-    tx.handle = NO_HANDLE;
+    tx.lent = 0;
     pthread_cond_signal(&handle_is_free);
     pthread_mutex_unlock(&threads_lock);
 }
@@ -194,11 +194,11 @@ static void remove_thread(void) {
 }
 
 static void leave(void *none) {
-    struct list *lists[] = {&tx.undo, &tx.commits, &tx.undos, &tx.fresh, &tx.fresh_sorted};
+    struct list *lists[] = {&tx.inner, &tx.undo, &tx.commits, &tx.undos, &tx.fresh, &tx.fresh_sorted};
     (void)none;
-    if (tx.nesting) fail("a thread ends within a transaction");
+    if (tx.depth) fail("a thread ends within a transaction");
     pthread_mutex_lock(&threads_lock);
-    if (tx.handle == OWN_HANDLE) {
+    if (tx.engine.at) {
         if (itm_c_leave(&words, &tx.engine)) fail("a thread could not leave");
         own_handles--;
         pthread_cond_signal(&handle_is_free);
@@ -206,8 +206,7 @@ static void leave(void *none) {
     remove_thread();
     add_counts();
     pthread_mutex_unlock(&threads_lock);
-    for (int i = 0; i < 5; i++) list_drop(lists[i]);
-    __libc_free(tx.block);
+    for (int i = 0; i < 6; i++) list_drop(lists[i]);
     tx = (struct tx){0};
 }
 
@@ -216,8 +215,8 @@ static void leave(void *none) {
 static __thread bool holds_clock __attribute__((tls_model("initial-exec")));
 
 static void before_fork(void) {
-    holds_clock = words.at && !tx.nesting;
-    if (holds_clock && tx.handle == NO_HANDLE) take_handle();
+    holds_clock = words.at && !tx.depth;
+    if (holds_clock && !tx.engine.at) take_handle();
     while (holds_clock && itm_c_begin(&tx.engine, false, false, true, false) != ITM_C_ENTERED) sched_yield();
     pthread_mutex_lock(&threads_lock);
     lock_heap();
@@ -228,7 +227,7 @@ static void after_fork(void) {
     pthread_mutex_unlock(&threads_lock);
     if (!holds_clock) return;
     if (itm_c_commit(&tx.engine) >= ITM_C_CONFLICT) fail("the clock could not be freed after a fork");
-    if (tx.handle >= LENT_HANDLE) give_handle();
+    give_handle();
 }
 
 /* The other threads are gone, with their handles. */

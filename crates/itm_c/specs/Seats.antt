@@ -1,5 +1,5 @@
 -- How words are opened, and how threads enter and leave.
-use Rattle.std.specs.Prelude.{◌≡◌, ℕ, ◌-◌, [], ◌∷◌, length, Option, None, Some}
+use Rattle.std.specs.Prelude.{◌≡◌, ◌-◌, [], ◌∷◌, length, Option, None, Some}
 use Rattle.std.specs.Arc.{arc_value}
 use Rattle.itm_types.specs.declared.limits.TheConstants.{MAX_COMMITS, MAX_DEPTH}
 use Rattle.norec_core.specs.Core.{opening as fresh}

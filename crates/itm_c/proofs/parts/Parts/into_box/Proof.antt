@@ -10,10 +10,9 @@ use denote.Param.{bounded}
 use denote.RawPtr.{block_ptr}
 use denote.Triple.Call.{calls_at_last}
 use denote.Triple.Table.{framed}
-use Rattle.std.proofs.alloc.Calls.{token, Goes-blank}
+use Rattle.std.proofs.alloc.Calls.{Goes-blank}
 use Rattle.std.proofs.VecSteps.Shapes.{after}
-use Rattle.std_alloc.specs.Box.Ownership.{box_owns}
-use Rattle.std_alloc.proofs.BoxSteps.Form.{Bx, D, R, P, B, box_ty, word, box_typed}
+use Rattle.std_alloc.proofs.BoxSteps.Form.{Bx, D, R, P, B, box_ty, box_typed}
 use Rattle.std_alloc.proofs.BoxSteps.Steps.{box_out, box_in}
 use Rattle.std_alloc.specs.contracts.boxed.Box.from_raw as g
 use Rattle.std_alloc.proofs.boxed.Box.from_raw.Met.{met}

@@ -1,5 +1,5 @@
 -- `of` opens a box, and the parts own what it owned.
-use Rattle.itm_c.proofs.Steps.{◌≡◌, List, [], ◌∷◌, ◌++◌, refl, ap, ◌∙◌, proved_at, SProp, ent, id⊢, fst∗, never, ftrue, fsep, flft, sem, Val, vstruct, fact, tables, Item, ‵, raw, ◌⊛◌, some, later, prop, ◌$◌, ◌∵◌, !, qed, done, move, drop, use1, split, split3, join, fsplit, fjoin, fpick, feq_l, pick, await, rewrite, regoal, suffices, agg, sub, whole, enter, of_opd, stop, fld, no_more, and_then, returns, alloc_all, pass_all, free_all, look_at, get, get_in, sets, lands_as, no, plain, nothing, heard, only, triple_of, Stays, walk_of, says, stay_dropped, ends_at}
+use Rattle.itm_c.proofs.Steps.{◌≡◌, List, [], ◌∷◌, ◌++◌, refl, ap, ◌∙◌, proved_at, id⊢, fst∗, never, ftrue, fsep, flft, sem, Val, vstruct, fact, tables, Item, ‵, raw, ◌⊛◌, some, later, prop, ◌$◌, ◌∵◌, !, qed, done, move, drop, use1, split, split3, join, fsplit, fjoin, fpick, feq_l, pick, await, rewrite, regoal, suffices, agg, sub, whole, enter, of_opd, stop, fld, no_more, and_then, returns, alloc_all, pass_all, free_all, look_at, get, get_in, sets, lands_as, no, plain, nothing, heard, only, triple_of, Stays, walk_of, says, stay_dropped, ends_at}
 use mir.Syntax.{Args, Fn, a_type, dcons, dnil}
 use mir.MapTy.{inst_fn}
 use mir.Raw.{raw as bare}
