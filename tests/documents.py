@@ -20,7 +20,7 @@ import sys
 ROOT = pathlib.Path(__file__).resolve().parent.parent
 PAGES = [ROOT / "README.md", *sorted(ROOT.glob("docs/*.md"))]
 SOURCES = [
-    "crates.txt", "HANDLES", "itmrun", "crates/*/stdout", "*.sh", ".ci/run", "tests/**/*", "bench/*", "examples/*", "judge/**/*",
+    "crates.txt", "HANDLES", "itmrun", "crates/*/stdout", "*.sh", ".ci/run", "tests/**/*", "tools/*", "bench/*", "examples/*", "judge/**/*",
     "compiled/**/*",
     *(f"crates/*/{part}/**/*" for part in ("src", "specs", "proofs", "must-fail", "wrong-bodies")),
 ]
@@ -35,7 +35,7 @@ LINK = re.compile(r"\]\(([^)#]+)[^)]*\)")
 THREADS = re.compile(r"\b(?:std|core)\s*(?:::\s*(?:sync\b|thread\b|\*|\{[^;]*\b(?:sync|thread)\b)|\s+as\b)")
 
 # the crates that start threads or wait for them, and those of the kit that share nothing between threads
-THREADED = {"tx_host", "run_commands", "itmrun", "bank", "runtime_bench", "large_words", "thread_tests", "itm_c", "transactions"}
+THREADED = {"tx_host", "run_commands", "itmrun", "bank", "bench_loads", "large_words", "thread_tests", "itm_c", "transactions"}
 UNSHARED = {"arrayvec", "hex", "indexmap", "itoa", "smallvec", "std_alloc", "thiserror"}
 
 HINTS = {"R": ["R", "RaR", "RaW", "RfW"], "W": ["W", "WaR", "WaW"]}
@@ -154,10 +154,10 @@ class Documents:
 
 
     def counts(self):
-        """README.md tells how many planted errors the prover refuses."""
+        """README.md tells how many must-fail edits the prover refuses."""
         page = ROOT / "README.md"
         there = len([*ROOT.glob("crates/*/must-fail/*.edit")])
-        self.expect(f"refuses {there} planted errors" in page.read_text(), page, "there are", str(there), "planted errors")
+        self.expect(f"refuses {there} must-fail edits" in page.read_text(), page, "there are", str(there), "must-fail edits")
 
     def handles(self):
         """CALLING.md says that the runtime needs no handle: it has nothing by which one thread could wait for another."""
