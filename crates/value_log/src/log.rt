@@ -36,7 +36,7 @@ impl Model for ValueLog {
 impl ValueLog {
     /// The value log of a transaction that has read nothing. Takes no memory.
     pub fn new(alloc: Global) -> ValueLog
-        ensures { result ≡ record { rows = []; room = INLINE_ROWS } }
+        ensures { result ≡ record { rows = []; room = 8 } }
     {
         ValueLog {
             rows: Rows::new(alloc),
