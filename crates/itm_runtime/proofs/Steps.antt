@@ -1,6 +1,7 @@
 -- The steps of a call: what is asked for, and the value that is handed in.
 pub mod CallsInHand
 pub mod NewCalls
+pub mod ClockLooks
 pub mod NextViews
 pub mod HandedValues
 pub mod HeldSteps

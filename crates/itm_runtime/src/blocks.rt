@@ -57,14 +57,15 @@ pub(crate) fn begin_block<A: Allocator>(
     requires stands { Stands (view_of pass.old) engine.old }
     ensures { BeginsSo words.now pass.old engine.old (Call.Begin props room) again result pass.new engine.new }
 {
-    if !engine.begin_outer(props, room, again) {
+    if !engine.begins_outer(props) {
         return Begun::Nothing;
     }
     let clock = words.step(pass, Step::Load(0));
     if clock % 2 != 0 {
+        engine.begin_outer(props, room, again);
         return Begun::Odd(clock);
     }
-    Begun::Code(engine.begin_even(props, again, clock))
+    Begun::Code(engine.begin_at_once(props, again, clock))
 }
 
 /// A transaction commits.

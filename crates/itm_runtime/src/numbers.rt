@@ -7,6 +7,7 @@ ghost use Rattle.std.specs.Prelude.{◌≡◌, ◌+◌, ℕ, Some, false};
 ghost use Rattle.itm_types.specs.declared.call.Call.{Call};
 ghost use Rattle.norec_core.specs.declared.answer.Next.TheVariants.{Step as Asks};
 ghost use Rattle.norec_engine.specs.WholeReads.{LoadsWord};
+ghost use Rattle.norec_engine.specs.WholeWrites.{ServesWrite};
 ghost use Rattle.shared_words.specs.declared.view.View.{View};
 ghost use Rattle.shared_words.specs.Passes.{IsOver, Owns, cells_of, view_of};
 ghost use Rattle.itm_runtime.specs.CallResults.{Tells};
@@ -86,11 +87,11 @@ fn finish_number<A: Allocator>(
 {
     let value = words.step(pass, Step::Load(word + 1));
     let clock = words.step(pass, Step::Load(0));
-    engine.load_fast(value);
     if clock != engine.snapshot() {
+        engine.load_fast(value);
         return finish_moved_number(words, pass, engine, clock, stop);
     }
-    Some(engine.confirm_number(word, clock))
+    Some(engine.confirm_number(word, value, clock))
 }
 
 /// The same once another one has committed: the clock was loaded, and is not the snapshot.
@@ -239,13 +240,16 @@ impl Thread {
         ensures { Tells words.now self.old (Call.Write WriteHint.W at (number value)) (answer_to_write (done_or result stop.new)) self.new }
     {
         let datum = datum_of(value);
+        if !self.engine.serves_write(at, &datum) {
+            return self.write_number_slow(words, at, value, stop);
+        }
         if self.engine.write_next(WriteHint::W, at, &datum) {
             return true;
         }
         self.write_found(words, at, value, stop)
     }
 
-    /// The same, where the word is looked for.
+    /// The same of a write that is served, where the word is looked for.
     #[inline(never)]
     fn write_found<A: Allocator>(
         &mut self,
@@ -255,6 +259,7 @@ impl Thread {
         stop: &mut Stop,
     ) -> bool
         requires own { Owns words.now self.old.pass }
+        requires serves { ServesWrite self.old.engine at (number value) }
         ensures { Tells words.now self.old (Call.Write WriteHint.W at (number value)) (answer_to_write (done_or result stop.new)) self.new }
     {
         let datum = datum_of(value);
@@ -274,6 +279,7 @@ impl Thread {
         stop: &mut Stop,
     ) -> bool
         requires own { Owns words.now self.old.pass }
+        requires serves { ServesWrite self.old.engine at (number value) }
         ensures { Tells words.now self.old (Call.Write WriteHint.W at (number value)) (answer_to_write (done_or result stop.new)) self.new }
     {
         let datum = datum_of(value);

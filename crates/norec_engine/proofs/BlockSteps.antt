@@ -1,21 +1,21 @@
 -- Outermost begins and commits, for the engine as its callers see it.
-use Rattle.std.proofs.Common.{◌≡◌, ℕ, suc, ◌+◌, ◌<◌, ◌≤◌, ◌&&◌, ◌||◌, not, Bool, true, false, List, length, Option, None, Some, if◌then◌else◌, slice_get, inl, refl, sym, ap, subst, ◌∙◌}
+use Rattle.std.proofs.Common.{◌≡◌, ℕ, ◌+◌, ◌<◌, ◌≤◌, ◌&&◌, ◌||◌, not, Bool, true, false, List, length, Option, None, Some, if◌then◌else◌, slice_get, inl, refl, sym, ap, subst, ◌∙◌}
 use Rattle.itm_types.specs.declared.step.Step.TheVariants as steps
+use Rattle.itm_types.specs.declared.call.Call.TheVariants.{Begin}
 use Rattle.itm_types.specs.declared.call.Props.{Props}
 use Rattle.write_set.specs.declared.row.Row.{Row}
 use Rattle.nest_frames.specs.Nest.{Frame, stays_revocable}
 use Rattle.itm_types.specs.declared.call.Reply.TheVariants.{Code}
 use Rattle.norec_core.specs.declared.answer.Answer.TheVariants.{Reply}
-use Rattle.norec_core.specs.Proceeds.{Fits}
+use Rattle.norec_core.specs.Moves.{IsCalled, IsResumed}
 use Rattle.norec_core.specs.Rows.{write_at}
 use Rattle.norec_core.proofs.Accesses.Overlays.{write_at_of}
 use Rattle.norec_revocable.proofs.Phases.{store_row, stores_as}
-use Rattle.norec_core.specs.Core.{Core, may_go}
+use Rattle.norec_core.specs.Core.{Core, in_transaction, may_go}
 use Rattle.norec_core.specs.Order.{kept_log}
 use Rattle.norec_core.specs.Phases.{Phase}
 use Rattle.norec_core.specs.Phases as at
-use Rattle.norec_core.specs.declared.answer.Next.TheVariants.{Step as Asks}
-use Rattle.norec_core.specs.declared.call_parts.Opening.{Opening}
+use Rattle.norec_core.specs.declared.answer.Next.TheVariants.{Step as Asks, Answer as Answers}
 use Rattle.norec_core.specs.declared.call_parts.Taking.{Taking}
 use Rattle.norec_core.specs.declared.call_parts.Taking.TheVariants as takings
 use Rattle.norec_core.proofs.Engines.Blocks.{none_inside}
@@ -29,17 +29,16 @@ use Rattle.norec_data.specs.declared.turn.Turn.TheVariants.{End, Wait}
 use Rattle.norec_data.specs.Ends.{answer_of, told}
 use Rattle.norec_data.specs.View.{core, in_block, phase_of, step_of}
 use Rattle.norec_revocable.specs.InPhases.{IsSound}
-use Rattle.norec_revocable.specs.Moves.{StepGoesTo, StepTurns}
+use Rattle.norec_data.specs.Turns.{counted}
+use Rattle.norec_revocable.specs.Moves.{CallTurns, StepGoesTo, StepTurns}
+use Rattle.norec_revocable.specs.OuterBegins.{BeginTurns}
 use Rattle.norec_engine.specs.Modes.{engine_in, IsSoundIn}
-use Rattle.norec_engine.specs.BlockSteps.{FreesClock, Opens, StoresRow, TakesClock}
-use Rattle.norec_engine.proofs.EitherTurns.{idle_sound, is_idle}
+use Rattle.norec_engine.specs.BlockSteps.{FreesClock, IsBegun, StoresRow, TakesClock, begins_outer}
+use Rattle.norec_engine.proofs.EitherTurns.{called_in, idle_sound, is_idle, resumed_in, revocable_call, revocable_step}
+use Rattle.norec_engine.proofs.FastSteps.{outside_revocable}
 use Rattle.norec_engine.proofs.WholeReads.{mode_is, stage_is}
 
 -- ## What is waited for, by the stage
-
-begin_waits : (d : Data) (p : Pending) (o : Opening) → phase_of d p ≡ at.Begin o → p ≡ waits.Begin
-begin_waits d waits.Begin o is = refl
-begin_waits d p o is = absurd (cc)
 
 exchange_waits : (d : Data) (p : Pending) (t : Taking) → phase_of d p ≡ at.Exchange t → p ≡ waits.Exchange
 exchange_waits d waits.Exchange t is = refl
@@ -52,9 +51,6 @@ store_waits d p t row got is = absurd (cc)
 free_waits : (d : Data) (p : Pending) → phase_of d p ≡ at.Free → p ≡ waits.Free
 free_waits d waits.Free is = refl
 free_waits d p is = absurd (cc)
-
-same_opening : (a b : Opening) → at.Begin a ≡ at.Begin b → a ≡ b
-same_opening a b is = cc
 
 same_taking : (a b : Taking) → at.Exchange a ≡ at.Exchange b → a ≡ b
 same_taking a b is = cc
@@ -72,11 +68,6 @@ module _ (b : Bool) (d : Data) (p : Pending) (c : Core) (view : engine_in b d (p
 
   sound_for : (q : Pending) → p ≡ q → IsSound d (phase_of d q)
   sound_for q is = subst (λ (x : Pending). IsSound d (phase_of d x)) is (subst (λ (x : Bool). IsSoundIn x d (phase_of d p)) mode sound)
-
-  pub begin_at : (o : Opening) → c.stage ≡ at.Begin o → (p ≡ waits.Begin) × (d.opening ≡ o) × IsSound d (at.Begin d.opening)
-  begin_at o is =
-      let here = begin_waits d p o (stage ∙ is) in
-      (here, same_opening d.opening o (sym (ap (phase_of d) here) ∙ (stage ∙ is)), sound_for waits.Begin here)
 
   pub exchange_at : c.stage ≡ at.Exchange takings.Commit → (p ≡ waits.Exchange) × (d.taking ≡ takings.Commit) × IsSound d (at.Exchange d.taking)
   exchange_at is =
@@ -103,37 +94,98 @@ module _ (b : Bool) (d : Data) (p : Pending) (c : Core) (view : engine_in b d (p
   pub sound_idle : b ≡ false → IsSound d at.Idle
   sound_idle mode = subst (λ (x : Bool). IsSoundIn x d at.Idle) mode (idle_sound d p b c view sound none)
 
+-- ## An outermost begin that stays revocable
+
 -- a begin that stays revocable is not refused
-pub served_outside : (d : Data) (props : Props) → in_block d ≡ false → props.goes_irrevocable ≡ false → 0 < d.frames.depth → (may_go d.frames.blocks props ≡ true) × (length d.frames.blocks < d.frames.depth)
+served_outside : (d : Data) (props : Props) → in_block d ≡ false → props.goes_irrevocable ≡ false → 0 < d.frames.depth → (may_go d.frames.blocks props ≡ true) × (length d.frames.blocks < d.frames.depth)
 served_outside d props shut stays deep = (
   ap (λ (g : Bool). not (g && (props.no_irrevocable || stays_revocable d.frames.blocks))) stays,
   subst (λ (bs : List Frame). length bs < d.frames.depth) (sym (none_inside d.frames.blocks shut)) deep,
 )
 
--- the clock fits where it did not fall
-pub fits_begin : (b : Bool) (d : Data) (p : Pending) (c : Core) → engine_in b d (phase_of d p) ≡ c → b ≡ false → p ≡ waits.Begin → (seen : ℕ) → Fits c seen → d.clock ≤ seen
-fits_begin b d p c view mode is seen f =
-    subst (λ (q : Pending). Fits (core d (phase_of d q)) seen) is
-    (subst (λ (m : Bool). Fits (engine_in m d (phase_of d p)) seen) mode (subst (λ (x : Core). Fits x seen) (sym view) f))
-
--- ## A block that has begun
-
-pub told_code : (again : Bool) (end : CallEnd) (d : Data) → end ≡ (if again then EnteredAgain else Entered) → d ≡ told end d
+-- what it answers is told by its code alone
+told_code : (again : Bool) (end : CallEnd) (d : Data) → end ≡ (if again then EnteredAgain else Entered) → d ≡ told end d
 told_code true end d is = (let same : d ≡ told EnteredAgain d = refl in same ∙ ap (λ (x : CallEnd). told x d) (sym is))
 told_code false end d is = (let same : d ≡ told Entered d = refl in same ∙ ap (λ (x : CallEnd). told x d) (sym is))
 
-pub answer_code : (again : Bool) (end : CallEnd) (d : Data) (code : ℕ) → end ≡ (if again then EnteredAgain else Entered) → code ≡ (if again then 9 else 5) → Reply (Code code) ≡ answer_of d end
+answer_code : (again : Bool) (end : CallEnd) (d : Data) (code : ℕ) → end ≡ (if again then EnteredAgain else Entered) → code ≡ (if again then 9 else 5) → Reply (Code code) ≡ answer_of d end
 answer_code true end d code is number = ap (λ (n : ℕ). Reply (Code n)) number ∙ ap (answer_of d) (sym is)
 answer_code false end d code is number = ap (λ (n : ℕ). Reply (Code n)) number ∙ ap (answer_of d) (sym is)
+
+neither : (a b : Bool) → not (a || b) ≡ true → (a ≡ false) × (b ≡ false)
+neither false false is = (refl, refl)
+neither false true is = absurd (cc)
+neither true b is = absurd (cc)
+
+pub stays_of : (c : Core) (props : Props) → begins_outer c props ≡ true → props.goes_irrevocable ≡ false
+stays_of c props outer = (neither props.goes_irrevocable (in_transaction c) outer).0
+
+pub closed_of : (c : Core) (props : Props) → begins_outer c props ≡ true → in_transaction c ≡ false
+closed_of c props outer = (neither props.goes_irrevocable (in_transaction c) outer).1
+
+inside_is : (b : Bool) (d : Data) (phase : Phase) → in_transaction (engine_in b d phase) ≡ in_block d
+inside_is true d phase = refl
+inside_is false d phase = refl
+
+clock_is : (b : Bool) (d : Data) (phase : Phase) → (engine_in b d phase).clock ≡ d.clock
+clock_is true d phase = refl
+clock_is false d phase = refl
+
+module _ (b : Bool) (d : Data) (p : Pending) (c : Core) (view : engine_in b d (phase_of d p) ≡ c) (sound : IsSoundIn b d (phase_of d p)) (none : c.waits ≡ None) (props : Props) (outer : begins_outer c props ≡ true) where
+  pub outer_stays : props.goes_irrevocable ≡ false
+  outer_stays = stays_of c props outer
+
+  pub outside : in_block d ≡ false
+  outside = sym (inside_is b d (phase_of d p)) ∙ (ap in_transaction view ∙ closed_of c props outer)
+
+  pub outer_mode : b ≡ false
+  outer_mode = outside_revocable b d (phase_of d p) sound outside
+
+  pub outer_sound : IsSound d at.Idle
+  outer_sound = sound_idle b d p c view sound none outer_mode
+
+  pub outer_served : (may_go d.frames.blocks props ≡ true) × (length d.frames.blocks < d.frames.depth)
+  outer_served = served_outside d props outside outer_stays outer_sound.bounds.deep
+
+  pub outer_fits : (seen : ℕ) → c.clock ≤ seen → d.clock ≤ seen
+  outer_fits seen fits = subst (λ (n : ℕ). n ≤ seen) (sym (ap (λ (e : Core). e.clock) view) ∙ clock_is b d (phase_of d p)) fits
+
+  -- nothing is waited for before it, and nothing after it
+  pub outer_left : (new : Data) → IsSound new at.Idle → IsSoundIn b new (phase_of new p)
+  outer_left new s =
+      subst (λ (q : Pending). IsSoundIn b new (phase_of new q)) (sym (idle_at b d p c view sound none))
+      (subst (λ (m : Bool). IsSoundIn m new at.Idle) (sym outer_mode) s)
+
+  left_is : (last new : Data) → core last at.Idle ≡ core new at.Idle → engine_in b last at.Idle ≡ engine_in b new (phase_of new p)
+  left_is last new same =
+      subst (λ (m : Bool). engine_in m last at.Idle ≡ engine_in m new at.Idle) (sym outer_mode) same
+      ∙ ap (λ (q : Pending). engine_in b new (phase_of new q)) (sym (idle_at b d p c view sound none))
+
+  pub outer_waits : (mid : Data) → IsSound (counted mid) (phase_of mid waits.Begin) → IsSoundIn b (counted mid) (phase_of (counted mid) waits.Begin)
+  outer_waits mid s = subst (λ (m : Bool). IsSoundIn m (counted mid) (phase_of (counted mid) waits.Begin)) (sym outer_mode) s
+
+  pub outer_called : (room : ℕ) (again : Bool) (mid : Data) → CallTurns d (Begin props room) again (Wait waits.Begin) mid → IsCalled c (Begin props room) again (Asks (steps.Load 0)) (engine_in b (counted mid) (phase_of (counted mid) waits.Begin))
+  outer_called room again mid t =
+      called_in d p b c view (Wait waits.Begin) mid (Asks (steps.Load 0)) (counted mid) waits.Begin b (record { state = refl; pending = refl; mode = refl; next = refl })
+      sound none (Begin props room) again (revocable_call b d (Begin props room) again _ _ outer_mode t)
+
+  pub outer_begun : (room : ℕ) (again : Bool) (clock code : ℕ) (end : CallEnd) (new : Data) → BeginTurns d props room again clock end new → end ≡ (if again then EnteredAgain else Entered) → code ≡ (if again then 9 else 5)
+      → IsBegun c props room again clock code (engine_in b new (phase_of new p))
+  outer_begun room again clock code end new t ends number =
+      let mid = counted t.mid in
+      let resumed : IsResumed (engine_in b mid (phase_of mid waits.Begin)) clock (Answers (Reply (Code code))) (engine_in b t.last at.Idle) =
+      resumed_in mid waits.Begin b (engine_in b mid (phase_of mid waits.Begin)) refl (End end) t.last (Answers (Reply (Code code))) t.last waits.Idle b
+      (record { state = told_code again end t.last ends; pending = refl; mode = outer_mode; next = ap Answers (answer_code again end t.last code ends number) })
+      (outer_waits t.mid t.called.sound.sound) clock (revocable_step b mid (phase_of mid waits.Begin) clock _ _ outer_mode t.resumed) in
+      record {
+        mid = engine_in b mid (phase_of mid waits.Begin);
+        called = outer_called room again t.mid t.called;
+        resumed = subst (IsResumed (engine_in b mid (phase_of mid waits.Begin)) clock (Answers (Reply (Code code)))) (left_is t.last new t.same) resumed;
+      }
 
 -- ## What the engine waits for then
 
 module _ (b : Bool) (d : Data) (p : Pending) (mode : b ≡ false) where
-  pub opens_at : p ≡ waits.Begin → (props : Props) (room : ℕ) (again : Bool) → d.opening ≡ record { props = props; room = room; again = again } → props.goes_irrevocable ≡ false → Opens (engine_in b d (phase_of d p)) props again
-  opens_at is props room again opening stays =
-      subst (λ (m : Bool). Opens (engine_in m d (phase_of d p)) props again) (sym mode)
-      (subst (λ (q : Pending). Opens (core d (phase_of d q)) props again) (sym is) (record { revocable = refl; room = room; stage = ap at.Begin opening; stays = stays }))
-
   pub takes_at : p ≡ waits.Exchange → d.taking ≡ takings.Commit → 0 < length d.frames.writes.rows → TakesClock (engine_in b d (phase_of d p))
   takes_at is taking some =
       subst (λ (m : Bool). TakesClock (engine_in m d (phase_of d p))) (sym mode)

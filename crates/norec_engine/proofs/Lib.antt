@@ -5,6 +5,7 @@ pub mod SettledEngines
 pub mod RevocableTurns
 pub mod EitherTurns
 pub mod WholeReads
+pub mod WholeWrites
 pub mod FastSteps
 pub mod RestartingCalls
 pub mod BlockSteps

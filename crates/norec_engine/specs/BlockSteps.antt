@@ -1,18 +1,27 @@
 -- The steps of an outermost begin, and of a commit that stores whole words.
-use Rattle.std.specs.Prelude.{◌≡◌, ℕ, ◌<◌, Bool, false, Option, length}
+use Rattle.std.specs.Prelude.{◌≡◌, ℕ, ◌<◌, ◌||◌, not, Bool, false, Option, length}
+use Rattle.itm_types.specs.declared.call.Call.TheVariants.{Begin}
 use Rattle.itm_types.specs.declared.call.Props.{Props}
-use Rattle.norec_core.specs.Core.{Core}
-use Rattle.norec_core.specs.Phases.{Begin, Exchange, Store, Free}
+use Rattle.itm_types.specs.declared.call.Reply.TheVariants.{Code}
+use Rattle.itm_types.specs.declared.step.Step.TheVariants.{Load}
+use Rattle.norec_core.specs.declared.answer.Answer.TheVariants.{Reply}
+use Rattle.norec_core.specs.declared.answer.Next.TheVariants.{Step as Asks, Answer as Answers}
+use Rattle.norec_core.specs.Core.{Core, in_transaction}
+use Rattle.norec_core.specs.Moves.{IsCalled, IsResumed}
+use Rattle.norec_core.specs.Phases.{Exchange, Store, Free}
 use Rattle.norec_core.specs.declared.call_parts.Taking.TheVariants.{Commit}
 
--- the engine waits for the clock, to begin a block that stays revocable
-pub record Opens (e : Core) (props : Props) (again : Bool) : Type 0 where
-  pub revocable : e.irrevocable ≡ false
-  pub room : ℕ
-  pub stage : e.stage ≡ Begin (record { props = props; room = room; again = again })
-  pub stays : props.goes_irrevocable ≡ false
+-- a begin is one of an outermost block that stays revocable
+abbrev pub begins_outer : Core → Props → Bool
+begins_outer e props = not (props.goes_irrevocable || in_transaction e)
 
--- it takes the clock, to commit what is written
+-- such a begin came, the clock that it asked for was this, and it has begun with this code
+pub record IsBegun (old : Core) (props : Props) (room : ℕ) (again : Bool) (clock code : ℕ) (new : Core) : Type 0 where
+  pub mid : Core
+  pub called : IsCalled old (Begin props room) again (Asks (Load 0)) mid
+  pub resumed : IsResumed mid clock (Answers (Reply (Code code))) new
+
+-- the engine takes the clock, to commit what is written
 pub record TakesClock (e : Core) : Type 0 where
   pub revocable : e.irrevocable ≡ false
   pub stage : e.stage ≡ Exchange Commit

@@ -2,5 +2,6 @@ pub mod Modes
 pub mod NextSteps
 pub mod FastCalls
 pub mod WholeReads
+pub mod WholeWrites
 pub mod RestartingCalls
 pub mod BlockSteps

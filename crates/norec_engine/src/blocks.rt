@@ -1,14 +1,13 @@
 //! Outermost begins and commits on the fast path: of a block that stays revocable, and of a transaction whose rows are whole
 //! words.
 //!
-//! Each function does one step of the call, and makes no answer: who calls it knows which one it is. Where the step leads to
-//! anything else, it changes nothing, and tells so.
+//! Each function does one step of the call, or a begin with its step, and makes no answer: who calls it knows which one it is.
+//! Where the step leads to anything else, it changes nothing, and tells so.
 
-ghost use Rattle.std.specs.Prelude.{◌≡◌, ◌+◌, ◌/◌, ◌%◌, ◌<◌, ℕ, IfNone, IfSome, OnSome, None, length, true, false, if◌then◌else◌};
-ghost use Rattle.norec_core.specs.Proceeds.{Fits};
+ghost use Rattle.std.specs.Prelude.{◌≡◌, ◌+◌, ◌/◌, ◌%◌, ◌<◌, ◌≤◌, ℕ, IfNone, IfSome, OnSome, None, length, true, false, if◌then◌else◌};
 ghost use Rattle.norec_core.specs.Moves.{IsCalled, IsResumed};
 ghost use Rattle.norec_core.specs.declared.answer.Next.TheVariants.{Step as Asks, Answer as Answers};
-ghost use Rattle.norec_engine.specs.BlockSteps.{FreesClock, Opens, StoresRow, TakesClock};
+ghost use Rattle.norec_engine.specs.BlockSteps.{FreesClock, IsBegun, StoresRow, TakesClock, begins_outer};
 
 use crate::engine::Engine;
 use crate::turns::wait;
@@ -16,7 +15,7 @@ use itm_types::{Call, ENTERED, ENTERED_AGAIN, Props, Reply, Step};
 use norec_core::Answer;
 use norec_data::Pending;
 use norec_revocable::{
-    ask_first_store, ask_free, ask_next_store, begin_even, begin_outer, commit_reads,
+    ask_first_store, ask_free, ask_next_store, begin_at_once, begin_outer, commit_reads,
     commit_writes, freed,
 };
 
@@ -29,33 +28,39 @@ fn entered(again: bool) -> u32
 }
 
 impl Engine {
-    /// `begin_into` of an outermost block that stays revocable: the clock is to be loaded.
+    /// Whether a begin with these properties is one of an outermost block that stays revocable.
     #[inline(always)]
-    pub fn begin_outer(&mut self, props: Props, room: u32, again: bool) -> bool
-        requires idle { self.old.waits ≡ None }
-        ensures none { result ≡ false → self.new ≡ self.old }
-        ensures called { result ≡ true → IsCalled self.old (Call.Begin props room) again (Asks (Step.Load 0)) self.new }
-        ensures opens { result ≡ true → Opens self.new props again }
+    pub fn begins_outer(&self, props: Props) -> bool
+        ensures { result ≡ begins_outer self.now props }
     {
         // (an irrevocable transaction is open)
         if props.goes_irrevocable || self.state.is_open() {
             return false;
         }
-        begin_outer(&mut self.state, props, room, again);
-        let _step = wait(&mut self.state, &mut self.pending, false, Pending::Begin);
         true
     }
 
-    /// `resume_into` of such a begin with the clock, which is even: the block begins. The code that tells so.
+    /// `begin_into` of such a begin: the clock is to be loaded.
     #[inline(always)]
-    pub fn begin_even(&mut self, props: Props, again: bool, clock: u64) -> u32
-        requires opens { Opens self.old props again }
-        requires fits { Fits self.old clock }
-        requires even { clock % 2 ≡ 0 }
-        ensures { IsResumed self.old clock (Answers (Answer.Reply (Reply.Code result))) self.new }
+    pub fn begin_outer(&mut self, props: Props, room: u32, again: bool)
+        requires idle { self.old.waits ≡ None }
+        requires outer { begins_outer self.old props ≡ true }
+        ensures { IsCalled self.old (Call.Begin props room) again (Asks (Step.Load 0)) self.new }
     {
-        let _end = begin_even(&mut self.state, props, again, clock);
-        self.pending = Pending::Idle;
+        begin_outer(&mut self.state, props, room, again);
+        let _step = wait(&mut self.state, &mut self.pending, false, Pending::Begin);
+    }
+
+    /// The same, and `resume_into` with the clock, which is known already and even: the block begins. The code that tells so.
+    #[inline(always)]
+    pub fn begin_at_once(&mut self, props: Props, again: bool, clock: u64) -> u32
+        requires idle { self.old.waits ≡ None }
+        requires outer { begins_outer self.old props ≡ true }
+        requires fits { self.old.clock ≤ clock }
+        requires even { clock % 2 ≡ 0 }
+        ensures { (room : ℕ) → IsBegun self.old props room again clock result self.new }
+    {
+        let _end = begin_at_once(&mut self.state, props, again, clock);
         entered(again)
     }
 

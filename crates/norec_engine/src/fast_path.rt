@@ -8,84 +8,24 @@
 //! driver then takes the slow path: it hands the same to the general function, in a function of its own that does the whole
 //! rest of the call. What came back onto the fast path would have to be told apart there.
 
-ghost use Rattle.std.specs.Prelude.{◌≡◌, ◌+◌, ℕ, IfNone, IfSome, IsSome, IsTrue, OnSome, MatchOption, None, length, true, false, ◌<◌, ◌≤◌, ◌↔◌};
+ghost use Rattle.std.specs.Prelude.{◌≡◌, ◌+◌, ℕ, IfNone, IfSome, IsTrue, OnSome, None, length, true, false, ◌<◌, ◌↔◌};
 ghost use Rattle.std.specs.Int.{w64, to_le_bytes};
-ghost use Rattle.itm_types.specs.Access.{size_of};
-ghost use Rattle.norec_core.specs.Accesses.{access_refusal};
-ghost use Rattle.norec_core.specs.Proceeds.{Fits};
-ghost use Rattle.norec_data.specs.View.{in_block};
 ghost use Rattle.norec_core.specs.Moves.{IsCalled, IsResumed};
 ghost use Rattle.norec_core.specs.declared.answer.Next.TheVariants.{Step as Asks, Answer as Answers};
-ghost use Rattle.norec_engine.specs.NextSteps.{next_in};
 ghost use Rattle.norec_engine.specs.FastCalls.{ServesCall};
-ghost use Rattle.norec_engine.specs.WholeReads.{LoadsWord, ConfirmsWord};
+ghost use Rattle.norec_engine.specs.WholeReads.{LoadsWord, ConfirmsWord, IsConfirmed};
+ghost use Rattle.norec_engine.specs.WholeWrites.{ServesWrite};
 
 use crate::engine::Engine;
 use crate::turns::{next_step, take};
-use itm_types::{Call, Datum, MAX_WORDS, Props, ReadHint, Reply, Step, Width, WriteHint};
-use norec_core::{Answer, Taking};
-use norec_data::{CallEnd, Data, Pending, Turn, access_refusal};
+use itm_types::{Call, Datum, ReadHint, Reply, Step, Width, WriteHint};
+use norec_core::Answer;
+use norec_data::{CallEnd, Pending, Turn, access_refusal};
 use norec_revocable::{
-    begin, begin_word, commit, confirmed_new, known_number, loaded, resumed, write, write_found,
-    write_next, write_served,
+    begin_word, confirmed_new, known_number, loaded, write, write_found, write_next, write_served,
 };
 
-/// A step of the fast path, and what it leads to there.
-#[derive(Clone, Copy)]
-pub enum FastStep {
-    /// The clock is loaded for a begin: it is even, and the block begins.
-    Begin,
-    /// The clock is taken: a row of a whole word is stored next.
-    Exchange,
-    /// A row is stored: a row of a whole word is stored next.
-    Store,
-    /// The last row of a commit is stored: the clock is freed next.
-    LastStore,
-    /// The clock is freed: the transaction has committed.
-    Free,
-}
-
-/// Whether a write is one of a whole word, in a revocable transaction, and is served.
-#[inline(always)]
-fn serves_word(state: &Data, irrevocable: bool, at: u64, value: &Datum) -> bool
-    requires { state.now.words ≤ MAX_WORDS }
-    ensures revocable { result ≡ true → irrevocable ≡ false }
-    ensures served { result ≡ true → access_refusal (in_block state.now) state.now.words at (size_of value.now.width) ≡ None }
-{
-    let size = u64::from(value.width.size());
-    !irrevocable && size == 8 && at % 8 == 0 && access_refusal(state, at, size).is_none()
-}
-
 impl Engine {
-    /// `begin_into` of an outermost block that stays revocable.
-    #[inline(always)]
-    pub fn begin_fast(
-        &mut self,
-        props: Props,
-        room: u32,
-        again: bool,
-        answer: &mut Answer,
-    ) -> Option<Option<Step>>
-        requires idle { self.old.waits ≡ None }
-        ensures { ServesCall self.old (Call.Begin props room) again answer.old result answer.new self.new }
-    {
-        // (an irrevocable transaction is open)
-        if props.goes_irrevocable || self.state.is_open() {
-            return None;
-        }
-        let Ok(turn) = begin(&mut self.state, props, room, again) else {
-            return None;
-        };
-        Some(take(
-            &mut self.state,
-            &mut self.pending,
-            &mut self.irrevocable,
-            false,
-            turn,
-            answer,
-        ))
-    }
-
     /// `call_into` of a read of one whole word that is neither written nor logged, where there is memory to log it: this
     /// word is to be loaded.
     #[inline(always)]
@@ -153,16 +93,17 @@ impl Engine {
         CallEnd::Word(value).tell(&mut self.state, answer);
     }
 
-    /// The same, where the word is asked for as a number: the answer has its bytes.
+    /// The same of a read whose word was loaded with this number, and then the clock, which is still the snapshot: where the
+    /// word is asked for as a number, the answer has its bytes.
     #[inline(always)]
-    pub fn confirm_number(&mut self, word: u32, clock: u64) -> u64
-        requires confirms { ConfirmsWord self.old word }
+    pub fn confirm_number(&mut self, word: u32, number: u64, clock: u64) -> u64
+        requires loads { LoadsWord self.old word }
         requires same { clock ≡ self.old.snapshot }
-        ensures { IsResumed self.old clock (Answers (Answer.Reply (Reply.Bytes (record { items = to_le_bytes w64 result })))) self.new }
+        ensures { IsConfirmed self.old number clock (Answer.Reply (Reply.Bytes (record { items = to_le_bytes w64 result }))) self.new }
     {
-        let Pending::Confirm(number) = self.pending else {
-            unreachable!();
-        };
+        let _turn = loaded(&mut self.state, number);
+        let _step = next_step(&self.state, false, Pending::Confirm(number));
+        self.state.spent += 1;
         confirmed_new(&mut self.state, word, number, clock);
         self.pending = Pending::Idle;
         number
@@ -177,28 +118,29 @@ impl Engine {
         self.state.frames.len() > 0
     }
 
-    /// `call_into` of a write of one whole word, where there is memory for it: it is done.
+    /// Whether a write is one of a whole word, in a revocable transaction, and is not refused.
+    #[inline(always)]
+    pub fn serves_write(&self, at: u64, value: &Datum) -> bool
+        ensures { result ≡ true → ServesWrite self.now at value.now }
+    {
+        if self.irrevocable || at % 8 != 0 {
+            return false;
+        }
+        let size = u64::from(value.width.size());
+        size == 8 && access_refusal(&self.state, at, size).is_none()
+    }
+
+    /// `call_into` of such a write, where there is memory for it: it is done.
     #[inline(always)]
     pub fn write_word(&mut self, hint: WriteHint, at: u64, value: &Datum) -> bool
         requires idle { self.old.waits ≡ None }
+        requires serves { ServesWrite self.old at value.now }
         ensures none { result ≡ false → self.new ≡ self.old }
         ensures called { result ≡ true → IsCalled self.old (Call.Write hint at value.now) false (Answers (Answer.Reply Reply.Done)) self.new }
     {
-        if !serves_word(&self.state, self.irrevocable, at, value) {
-            return false;
-        }
         let Ok(()) = write_served(&mut self.state, hint, at, value) else {
             return false;
         };
-        let mut answer = Answer::Reply(Reply::Done);
-        let _none = take(
-            &mut self.state,
-            &mut self.pending,
-            &mut self.irrevocable,
-            false,
-            Turn::End(CallEnd::Done),
-            &mut answer,
-        );
         true
     }
 
@@ -206,48 +148,22 @@ impl Engine {
     #[inline(always)]
     pub fn write_next(&mut self, hint: WriteHint, at: u64, value: &Datum) -> bool
         requires idle { self.old.waits ≡ None }
+        requires serves { ServesWrite self.old at value.now }
         ensures none { result ≡ false → self.new ≡ self.old }
         ensures called { result ≡ true → IsCalled self.old (Call.Write hint at value.now) false (Answers (Answer.Reply Reply.Done)) self.new }
     {
-        if !serves_word(&self.state, self.irrevocable, at, value)
-            || !write_next(&mut self.state, hint, at, value)
-        {
-            return false;
-        }
-        let mut answer = Answer::Reply(Reply::Done);
-        let _none = take(
-            &mut self.state,
-            &mut self.pending,
-            &mut self.irrevocable,
-            false,
-            Turn::End(CallEnd::Done),
-            &mut answer,
-        );
-        true
+        write_next(&mut self.state, hint, at, value)
     }
 
     /// The same, where that takes no memory: the word was written before, in this transaction or an earlier one.
     #[inline(always)]
     pub fn write_found(&mut self, hint: WriteHint, at: u64, value: &Datum) -> bool
         requires idle { self.old.waits ≡ None }
+        requires serves { ServesWrite self.old at value.now }
         ensures none { result ≡ false → self.new ≡ self.old }
         ensures called { result ≡ true → IsCalled self.old (Call.Write hint at value.now) false (Answers (Answer.Reply Reply.Done)) self.new }
     {
-        if !serves_word(&self.state, self.irrevocable, at, value)
-            || !write_found(&mut self.state, hint, at, value)
-        {
-            return false;
-        }
-        let mut answer = Answer::Reply(Reply::Done);
-        let _none = take(
-            &mut self.state,
-            &mut self.pending,
-            &mut self.irrevocable,
-            false,
-            Turn::End(CallEnd::Done),
-            &mut answer,
-        );
-        true
+        write_found(&mut self.state, hint, at, value)
     }
 
     /// `call_into` of a write in a revocable transaction, where there is memory for it.
@@ -276,79 +192,5 @@ impl Engine {
             turn,
             answer,
         ))
-    }
-
-    /// `call_into` of a commit in a revocable transaction. Takes no memory.
-    #[inline(always)]
-    pub fn commit_fast(&mut self, answer: &mut Answer) -> Option<Option<Step>>
-        requires idle { self.old.waits ≡ None }
-        ensures { ServesCall self.old Call.Commit false answer.old result answer.new self.new }
-    {
-        if self.irrevocable {
-            return None;
-        }
-        let turn = commit(&mut self.state);
-        Some(take(
-            &mut self.state,
-            &mut self.pending,
-            &mut self.irrevocable,
-            false,
-            turn,
-            answer,
-        ))
-    }
-
-    /// `resume_into` of this step, where it leads to what it is to lead to.
-    #[inline(always)]
-    pub fn resume_fast(
-        &mut self,
-        step: FastStep,
-        seen: u64,
-        answer: &mut Answer,
-    ) -> Option<Option<Step>>
-        requires fits { Fits self.old seen }
-        ensures { MatchOption result ((self.new ≡ self.old) × (answer.new ≡ answer.old)) (λ next. IsResumed self.old seen (next_in next answer.new) self.new) }
-    {
-        if !self.is_at(step, seen) {
-            return None;
-        }
-        let turn = resumed(&mut self.state, self.pending, seen);
-        Some(take(
-            &mut self.state,
-            &mut self.pending,
-            &mut self.irrevocable,
-            false,
-            turn,
-            answer,
-        ))
-    }
-
-    /// The call waits for this step, in a revocable transaction, and this value leads to what it is to lead to. Most
-    /// phases are those of a revocable transaction alone.
-    #[inline(always)]
-    fn is_at(&self, step: FastStep, seen: u64) -> bool
-        ensures revocable { result ≡ true → self.now.irrevocable ≡ false }
-        ensures waits { result ≡ true → IsSome self.now.waits }
-    {
-        let frames = &self.state.frames;
-        let rows = frames.len();
-        match (step, self.pending) {
-            (FastStep::Begin, Pending::Begin) => {
-                let opening = self.state.opening;
-                seen % 2 == 0 && !opening.props.goes_irrevocable
-            }
-            (FastStep::Exchange, Pending::Exchange) => {
-                seen == self.state.snapshot && rows > 0 && frames.row(0).mask == u64::MAX
-            }
-            (FastStep::Store, Pending::Store(row)) => {
-                row + 1 < rows && frames.row(row + 1).mask == u64::MAX
-            }
-            (FastStep::LastStore, Pending::Store(row)) => match self.state.taking {
-                Taking::Commit => row + 1 == rows,
-                _ => false,
-            },
-            (FastStep::Free, Pending::Free) => !self.irrevocable,
-            _ => false,
-        }
     }
 }

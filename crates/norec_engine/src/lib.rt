@@ -11,6 +11,5 @@ mod restarting;
 mod turns;
 
 pub use engine::Engine;
-pub use fast_path::FastStep;
 pub use norec_core::{Answer, Next, Undone};
 pub use refused::EngineRefused;

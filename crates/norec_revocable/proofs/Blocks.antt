@@ -8,3 +8,4 @@ pub mod EndedTransactions
 pub mod Cancels
 pub mod IrrevocableEntries
 pub mod Begins
+pub mod OuterBegins

@@ -4,3 +4,4 @@ pub mod Restarts
 pub mod Between
 pub mod WholeReads
 pub mod Moves
+pub mod OuterBegins

@@ -1,7 +1,7 @@
 //! Begins of blocks.
 
 ghost use Rattle.norec_core.specs.Phases as phases;
-ghost use Rattle.std.specs.Prelude.{◌≡◌, ◌%◌, ◌<◌, ◌≤◌, ◌∷◌, [], true, false, if◌then◌else◌, OnOk, OnErr, length};
+ghost use Rattle.std.specs.Prelude.{◌≡◌, ◌%◌, ◌<◌, ◌≤◌, ◌∷◌, [], true, false, if◌then◌else◌, ℕ, OnOk, OnErr, length};
 ghost use Rattle.user_actions.specs.Actions.{no_actions};
 ghost use Rattle.nest_frames.specs.Nest.{begun};
 ghost use Rattle.norec_revocable.specs.InPhases.{IsSound};
@@ -9,6 +9,7 @@ ghost use Rattle.norec_data.specs.Bounds.{IsOutside};
 ghost use Rattle.norec_data.specs.Ends.{answer_of};
 ghost use Rattle.norec_data.specs.declared.data.Data.{Data};
 ghost use Rattle.norec_revocable.specs.Moves.{StepTurns, CallComes, CallTurns};
+ghost use Rattle.norec_revocable.specs.OuterBegins.{BeginTurns};
 ghost use Rattle.norec_core.specs.Core.{may_go};
 ghost use Rattle.norec_data.specs.View.{in_block};
 
@@ -53,13 +54,35 @@ pub fn begin_outer(state: &mut Data, props: Props, room: u32, again: bool)
     requires outside { in_block state.old ≡ false }
     requires stays { props.goes_irrevocable ≡ false }
     requires served { (may_go state.old.frames.blocks props ≡ true) × (length state.old.frames.blocks < state.old.frames.depth) }
-    ensures turns { CallTurns state.old (Call.Begin props room) again (Turn.Wait Pending.Begin) state.new }
-    ensures opening { state.new.opening ≡ record { props = props; room = room; again = again } }
+    ensures { CallTurns state.old (Call.Begin props room) again (Turn.Wait Pending.Begin) state.new }
 {
     state.start_call();
     state.tries = 1;
     state.restarted = 0;
     state.opening = Opening { props, room, again };
+}
+
+/// The same where the clock is known already, and even: the block begins. What is true of the fields only while the clock is
+/// waited for is not stored.
+#[inline(always)]
+pub fn begin_at_once(state: &mut Data, props: Props, again: bool, seen: u64) -> CallEnd
+    requires sound { IsSound state.old phases.Idle }
+    requires outside { in_block state.old ≡ false }
+    requires stays { props.goes_irrevocable ≡ false }
+    requires served { (may_go state.old.frames.blocks props ≡ true) × (length state.old.frames.blocks < state.old.frames.depth) }
+    requires fits { state.old.clock ≤ seen }
+    requires even { seen % 2 ≡ 0 }
+    ensures turns { (room : ℕ) → BeginTurns state.old props room again seen result state.new }
+    ensures end { result ≡ if again then CallEnd.EnteredAgain else CallEnd.Entered }
+{
+    // (what begins a block within others is not compiled here)
+    prove!(!state.is_open());
+    state.entry = 0;
+    state.spent = 1;
+    state.restarted = 0;
+    state.clock = seen;
+    state.snapshot = seen;
+    open(state, props, again)
 }
 
 /// Makes room for the actions of a begin, where it goes irrevocable.
@@ -78,7 +101,7 @@ fn reserve_room(frames: &mut Frames, props: Props, room: u32) -> Result<(), Allo
 /// The clock was loaded for a begin that stays revocable, and is even: the block begins. It is one of these properties, begun
 /// before or not, as the call that is in progress has them.
 #[inline(always)]
-pub fn begin_even(state: &mut Data, props: Props, again: bool, seen: u64) -> CallEnd
+fn begin_even(state: &mut Data, props: Props, again: bool, seen: u64) -> CallEnd
     requires sound { IsSound state.old (phases.Begin state.old.opening) }
     requires props { props ≡ state.old.opening.props }
     requires again { again ≡ state.old.opening.again }

@@ -21,7 +21,7 @@ mod steps;
 mod words;
 mod writes;
 
-pub use begins::{begin, begin_even, begin_outer};
+pub use begins::{begin, begin_at_once, begin_outer};
 pub use calls::{called, resumed};
 pub use commits::{
     ask_first_store, ask_free, ask_next_store, commit, commit_reads, commit_writes, freed,

@@ -34,26 +34,27 @@ returns-then-clock-snapshot g c =
     )
 
 pub returns : goal.returns
-returns g c = (
-  _,
-  refl,
-  record {
-    own = c.step-clock.ensures.own;
-    steps = (Load (c.args.word + 1), c.step-value.result) ∷ (Load 0, c.step-clock.result) ∷ [];
-    leads = (
-      refl,
-      view_of c.step-value.new.pass,
-      c.load_fast.new.self,
+returns g c =
+    let confirmed = c.confirm_number.ensures in (
       _,
-      record { stepped = record { turn = c.step-value.ensures.turn; moves = c.step-value.ensures.moves }; over = c.step-value.ensures.own.over; resumed = c.load_fast.ensures.resumed },
-      (
-        refl,
-        view_of c.step-clock.new.pass,
-        c.confirm_number.new.self,
-        _,
-        record { stepped = record { turn = c.step-clock.ensures.turn; moves = c.step-clock.ensures.moves }; over = c.step-clock.ensures.own.over; resumed = c.confirm_number.ensures },
-        (refl, refl, refl),
-      ),
-    );
-  },
-)
+      refl,
+      record {
+        own = c.step-clock.ensures.own;
+        steps = (Load (c.args.word + 1), c.step-value.result) ∷ (Load 0, c.step-clock.result) ∷ [];
+        leads = (
+          refl,
+          view_of c.step-value.new.pass,
+          confirmed.loaded,
+          _,
+          record { stepped = record { turn = c.step-value.ensures.turn; moves = c.step-value.ensures.moves }; over = c.step-value.ensures.own.over; resumed = confirmed.asked },
+          (
+            refl,
+            view_of c.step-clock.new.pass,
+            c.confirm_number.new.self,
+            _,
+            record { stepped = record { turn = c.step-clock.ensures.turn; moves = c.step-clock.ensures.moves }; over = c.step-clock.ensures.own.over; resumed = confirmed.answered },
+            (refl, refl, refl),
+          ),
+        );
+      },
+    )

@@ -1,43 +1,21 @@
-use Rattle.std.proofs.Common.{[], ◌∷◌, refl, rules}
-use Rattle.user_actions.specs.Actions.{no_actions}
-use Rattle.nest_frames.specs.Nest.{begun}
-use Rattle.norec_revocable.proofs.Blocks.OpenBegins.{begun_first, begun_same}
+use Rattle.std.proofs.Common.{Bool, ap, if◌then◌else◌, subst, sym, ◌∙◌}
+use Rattle.itm_types.specs.declared.call.Props.{Props}
+use Rattle.itm_types.specs.declared.call.Reply.TheVariants.{Code}
+use Rattle.norec_core.specs.declared.answer.Answer.TheVariants.{Reply}
+use Rattle.norec_core.specs.Phases.{Begin}
+use Rattle.norec_data.specs.declared.data.Data.{Data}
+use Rattle.norec_data.specs.declared.turn.Turn.TheVariants.{End}
+use Rattle.norec_revocable.specs.Moves.{StepTurns}
+use Rattle.norec_revocable.proofs.Blocks.OuterBegins.{Opened, opens_even}
 use Rattle.norec_revocable.proofs.begins.begin_even.Goals as goal
 
 pub returns-clause-turns : goal.returns-clause-turns
-returns-clause-turns c = record {
-  sound =
-      (let s = c.args.state.now in
-      let props = c.args.props in
-      let out = c.requires.sound.in_phase.0 in
-      let opens = c.open.ensures in
-      rw opens.others (record {
-        asked = tt;
-        sound = record {
-          bounds = search rules;
-          reached = search rules;
-          in_phase = (
-            λ o. (
-              record {
-                is_open = o;
-                log = search rules;
-                writes = search rules;
-                rows = search rules;
-                frames = search rules;
-                begun = begun_same [] s.log.rows no_actions c.open.new.state.frames.actions (begun props [] no_actions 0 ∷ []) c.open.new.state.frames.blocks out.log opens.actions opens.blocks (begun_first props c.requires.stays);
-                tries = out.tries;
-              },
-              refl,
-            ),
-            λ shut. search rules,
-          );
-        };
-      }));
-  proceeds = search rules;
-  joins = search rules;
-  order = search rules;
-  ends = search rules;
-  tries = search rules;
-  snapshot = search rules;
-  log = search rules;
-}
+returns-clause-turns c =
+    let s = c.args.state.now in
+    let o = c.open.ensures in
+    let same = c.requires.props in
+    let opens : Opened c.args.props s.frames c.open.new.state.frames = record { blocks = o.blocks; actions = o.actions; rows = o.rows; size = o.frames.0; room = o.frames.1; depth = o.depth } in
+    subst (λ (d : Data). StepTurns s (Begin s.opening) c.args.seen (End c.open.result) d) (sym o.others)
+    (opens_even s c.open.new.state.frames c.args.seen c.open.result c.requires.sound (ap (λ (p : Props). p.goes_irrevocable) (sym same) ∙ c.requires.stays) c.requires.fits c.requires.even
+    (subst (λ (p : Props). Opened p s.frames c.open.new.state.frames) same opens)
+    (λ d. o.reply d ∙ ap (λ (again : Bool). Reply (Code (if again then 9 else 5))) c.requires.again))

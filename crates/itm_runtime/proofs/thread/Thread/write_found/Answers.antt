@@ -1,4 +1,4 @@
-use Rattle.std.proofs.Common.{◌≡◌, ◌∙◌, ap, false, subst}
+use Rattle.std.proofs.Common.{◌≡◌, ◌∙◌, ap, false, subst, sym}
 use Rattle.itm_types.specs.declared.access.WriteHint.TheVariants.{W}
 use Rattle.itm_types.specs.declared.call.Call.TheVariants.{Write}
 use Rattle.itm_types.specs.declared.call.Reply.TheVariants.{Done}
@@ -7,6 +7,7 @@ use Rattle.norec_core.specs.declared.answer.Answer.TheVariants.{Reply}
 use Rattle.norec_core.specs.declared.answer.Next.TheVariants.{Answer as Answers}
 use Rattle.norec_core.specs.Core.{Core}
 use Rattle.norec_core.specs.Moves.{IsCalled}
+use Rattle.norec_engine.specs.WholeWrites.{ServesWrite}
 use Rattle.shared_words.specs.declared.pass.Pass.{Pass}
 use Rattle.itm_runtime.specs.CallResults.{Tells}
 use Rattle.itm_runtime.specs.Standing.{Standing}
@@ -28,6 +29,17 @@ invariant_of-self g c =
     let p = c.self.inside.pass in
     let called = subst (λ (d : Datum). IsCalled c.self.inside.engine (Write W c.args.at d) false (Answers (Reply Done)) c.write_found.new.self) c.datum_of-datum.ensures (c.write_found.ensures.called c.if-write_found.true) in
     left_standing p c.self.invariant called (at_once p c.self.inside.engine (Reply Done) c.self.view_is c.requires.own c.write_found.new.self) c.args.self.now c.self.view_is c.requires.own
+
+pub write_found-requires-clause-serves : goal.write_found-requires-clause-serves
+write_found-requires-clause-serves g c =
+    subst (λ (d : Datum). ServesWrite c.self.inside.engine c.args.at d) (sym c.datum_of-datum.ensures)
+    (subst (λ (t : Standing). ServesWrite t.engine c.args.at (number c.args.value)) (sym c.self.view_is) c.requires.serves)
+
+-- where it is not done, nothing has changed
+pub write_afar-requires-clause-serves : goal.write_afar-requires-clause-serves
+write_afar-requires-clause-serves g c =
+    subst (λ (e : Core). ServesWrite e c.args.at (number c.args.value)) (sym (c.write_found.ensures.none c.if-write_found.false))
+    (subst (λ (t : Standing). ServesWrite t.engine c.args.at (number c.args.value)) (sym c.self.view_is) c.requires.serves)
 
 pub returns : goal.returns
 returns g c =

@@ -1,32 +1,39 @@
-use Rattle.std.proofs.Common.{◌∙◌, ap, refl, subst, sym}
+use Rattle.std.proofs.Common.{subst, sym}
+use Rattle.norec_data.specs.declared.data.Data.{Data}
+use Rattle.norec_data.specs.declared.pending.Pending.{Pending}
 use Rattle.itm_types.specs.declared.call.Call.TheVariants.{Begin}
-use Rattle.norec_core.specs.declared.answer.Next.{Next}
+use Rattle.itm_types.specs.declared.step.Step.TheVariants.{Load}
 use Rattle.norec_core.specs.declared.answer.Next.TheVariants.{Step as Asks}
 use Rattle.norec_core.specs.Moves.{IsCalled}
-use Rattle.norec_data.specs.declared.data.Data.{Data}
-use Rattle.norec_data.specs.declared.turn.Turn.TheVariants.{Wait}
-use Rattle.norec_data.specs.declared.pending.Pending.TheVariants as waits
+use Rattle.norec_data.specs.Turns.{counted}
 use Rattle.norec_data.specs.View.{phase_of}
-use Rattle.norec_engine.specs.Modes.{engine_in}
-use Rattle.norec_engine.proofs.BlockSteps.{opens_at}
-use Rattle.norec_engine.proofs.EitherTurns.{called_in, revocable_call}
-use Rattle.norec_engine.proofs.FastSteps.{outside_revocable}
+use Rattle.norec_engine.specs.Modes.{engine_in, IsSoundIn}
+use Rattle.norec_engine.proofs.BlockSteps.{outer_called, outer_served, outer_sound, outer_stays, outer_waits, outside}
 use Rattle.norec_engine.proofs.engine.Engine.begin_outer.Goals as goal
 
-pub returns-clause-called : goal.returns-clause-called
-returns-clause-called c done =
+pub begin_outer-requires : goal.begin_outer-requires
+begin_outer-requires c =
     let s = c.self.inside in
-    let shut = sym c.is_open.ensures ∙ c.if-is_open.false in
-    let mode = outside_revocable s.irrevocable s.state (phase_of s.state s.pending) c.self.invariant shut in
-    let call = Begin c.args.props c.args.room in
-    subst (λ (n : Next). IsCalled c.args.self.now call c.args.again n (engine_in s.irrevocable c.wait-step.new.state (phase_of c.wait-step.new.state c.wait-step.new.pending))) (ap Asks c.wait-step.ensures.step)
-    (called_in s.state s.pending s.irrevocable c.args.self.now c.self.view_is (Wait waits.Begin) c.begin_outer.new.state (Asks c.wait-step.result) c.wait-step.new.state c.wait-step.new.pending s.irrevocable
-    (record { state = c.wait-step.ensures.state; pending = c.wait-step.ensures.pending; mode = refl; next = ap Asks c.wait-step.ensures.step })
-    c.self.invariant c.requires.idle call c.args.again (revocable_call s.irrevocable s.state call c.args.again _ _ mode c.begin_outer.ensures.turns))
+    record {
+      sound = outer_sound s.irrevocable s.state s.pending c.args.self.now c.self.view_is c.self.invariant c.requires.idle c.args.props c.requires.outer;
+      outside = outside s.irrevocable s.state s.pending c.args.self.now c.self.view_is c.self.invariant c.requires.idle c.args.props c.requires.outer;
+      stays = outer_stays s.irrevocable s.state s.pending c.args.self.now c.self.view_is c.self.invariant c.requires.idle c.args.props c.requires.outer;
+      served = outer_served s.irrevocable s.state s.pending c.args.self.now c.self.view_is c.self.invariant c.requires.idle c.args.props c.requires.outer;
+    }
 
-pub returns-clause-opens : goal.returns-clause-opens
-returns-clause-opens c done =
+pub returns : goal.returns
+returns c =
     let s = c.self.inside in
-    let shut = sym c.is_open.ensures ∙ c.if-is_open.false in
-    let mode = outside_revocable s.irrevocable s.state (phase_of s.state s.pending) c.self.invariant shut in
-    opens_at s.irrevocable c.wait-step.new.state c.wait-step.new.pending mode c.wait-step.ensures.pending c.args.props c.args.room c.args.again (ap (λ (d : Data). d.opening) c.wait-step.ensures.state ∙ c.begin_outer.ensures.opening) c.if-props.false
+    let w = c.wait-step.ensures in
+    let call = Begin c.args.props c.args.room in
+    subst (λ (d : Data). IsCalled c.args.self.now call c.args.again (Asks (Load 0)) (engine_in s.irrevocable d (phase_of d c.wait-step.new.pending))) (sym w.state)
+    (subst (λ (p : Pending). IsCalled c.args.self.now call c.args.again (Asks (Load 0)) (engine_in s.irrevocable (counted c.begin_outer.new.state) (phase_of (counted c.begin_outer.new.state) p))) (sym w.pending)
+    (outer_called s.irrevocable s.state s.pending c.args.self.now c.self.view_is c.self.invariant c.requires.idle c.args.props c.requires.outer c.args.room c.args.again c.begin_outer.new.state c.begin_outer.ensures))
+
+pub invariant_of-self : goal.invariant_of-self
+invariant_of-self c =
+    let s = c.self.inside in
+    let w = c.wait-step.ensures in
+    subst (λ (d : Data). IsSoundIn s.irrevocable d (phase_of d c.wait-step.new.pending)) (sym w.state)
+    (subst (λ (p : Pending). IsSoundIn s.irrevocable (counted c.begin_outer.new.state) (phase_of (counted c.begin_outer.new.state) p)) (sym w.pending)
+    (outer_waits s.irrevocable s.state s.pending c.args.self.now c.self.view_is c.self.invariant c.requires.idle c.args.props c.requires.outer c.begin_outer.new.state c.begin_outer.ensures.sound.sound))

@@ -1,19 +1,7 @@
-use Rattle.std.proofs.Common.{rules}
-use Rattle.norec_core.specs.Phases.{Idle}
-use Rattle.norec_engine.proofs.SettledEngines.{settled_in}
+use Rattle.norec_engine.proofs.WholeReads.{is_confirmed}
 use Rattle.norec_engine.proofs.engine.Engine.confirm_number.Goals as goal
 
 pub returns : goal.returns
-returns c = record {
-  proceeds = search rules;
-  joins = search rules;
-  order = search rules;
-  ends = search rules;
-  tries = search rules;
-  snapshot = search rules;
-  log = search rules;
-  asks = search rules;
-  count = search rules;
-  settled = settled_in c.self.inside.irrevocable c.confirmed_new.new.state Idle (search rules);
-  held = λ h. (let r = c.requires.confirms.revocable in absurd (cc));
-}
+returns c =
+    let s = c.self.inside in
+    is_confirmed s.state s.pending s.irrevocable c.args.self.now c.self.view_is c.self.invariant c.args.word c.requires.loads c.args.number c.loaded-turn.result c.loaded-turn.new.state c.loaded-turn.ensures.turn c.loaded-turn.ensures.goes c.args.clock c.confirmed_new.new.state c.confirmed_new.ensures

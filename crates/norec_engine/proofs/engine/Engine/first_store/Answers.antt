@@ -1,6 +1,5 @@
-use Rattle.std.proofs.Common.{◌≡◌, ◌+◌, ◌<◌, ◌∙◌, List, None, Option, ℕ, ap, false, length, refl, subst, sym}
+use Rattle.std.proofs.Common.{◌+◌, ◌∙◌, ℕ, ap, refl, subst, sym}
 use Rattle.itm_types.specs.declared.step.Step.TheVariants as steps
-use Rattle.write_set.specs.declared.row.Row.{Row}
 use Rattle.norec_core.specs.Core.{Core}
 use Rattle.norec_core.specs.declared.answer.Next.{Next}
 use Rattle.norec_core.specs.declared.answer.Next.TheVariants.{Step as Asks}

@@ -1,7 +1,5 @@
-use Rattle.std.proofs.Common.{◌≡◌, ◌+◌, ◌∙◌, List, ℕ, ap, false, length, refl, subst, sym}
+use Rattle.std.proofs.Common.{◌+◌, ◌∙◌, ap, refl, subst, sym}
 use Rattle.itm_types.specs.declared.step.Step.TheVariants as steps
-use Rattle.write_set.specs.declared.row.Row.{Row}
-use Rattle.norec_core.specs.Core.{Core}
 use Rattle.norec_core.specs.declared.answer.Next.{Next}
 use Rattle.norec_core.specs.declared.answer.Next.TheVariants.{Step as Asks}
 use Rattle.norec_core.specs.Moves.{IsResumed}
@@ -12,7 +10,7 @@ use Rattle.norec_data.specs.declared.turn.Turn.TheVariants.{Wait}
 use Rattle.norec_data.specs.View.{phase_of}
 use Rattle.norec_revocable.specs.Moves.{StepTurns}
 use Rattle.norec_engine.specs.Modes.{engine_in}
-use Rattle.norec_engine.proofs.BlockSteps.{row_turns, frees_at, mode, rows_stored, store_at}
+use Rattle.norec_engine.proofs.BlockSteps.{row_turns, mode, store_at}
 use Rattle.norec_engine.proofs.EitherTurns.{resumed_in, revocable_step}
 use Rattle.norec_engine.proofs.engine.Engine.last_store.Goals as goal
 

@@ -1,4 +1,4 @@
-use Rattle.std.proofs.Common.{◌≡◌, ◌+◌, ◌<◌, ◌∙◌, List, None, Option, ℕ, ap, false, length, refl, subst, sym, arith}
+use Rattle.std.proofs.Common.{◌+◌, ◌<◌, ◌∙◌, ap, length, refl, subst, sym, arith}
 use Rattle.write_set.specs.declared.row.Row.{Row}
 use Rattle.norec_core.specs.Core.{Core}
 use Rattle.norec_core.proofs.Accesses.Overlays.{AllWritesWithin-at, write_at_of}
