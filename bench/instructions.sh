@@ -1,6 +1,6 @@
 #!/bin/sh
 # How many instructions a transaction takes, on one thread: `sh bench/instructions.sh PEERS`, where PEERS is the folder of
-# bench/peers.sh, left out to count our programs alone: those with one place, two and ten of each call.
+# bench/peers.sh, left out to count our programs alone: those whose transactions stand at one place, two and ten.
 #
 # Each program commits so many transactions, and then some thousands more, under valgrind's callgrind, which counts the
 # instructions of the whole process. Told are those that the longer run has more, for each transaction: so the begin and the end

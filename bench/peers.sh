@@ -1,7 +1,7 @@
 # Our benchmark and the programs that it is compared with: read by other files here, which have set `root` and `work`.
 #
-# peers FOLDER: sets `programs` to those that can be run. Ours are `one`, `two` and `ten`, by how many places each call of the
-# runtime has in the program. FOLDER has the sources of the others, `itm_bench.c`, over GCC's libitm, and `norec/norec.rs`, an
+# peers FOLDER: sets `programs` to those that can be run. Ours are `one`, `two` and `ten`, by how many places of the program its
+# transactions stand at. FOLDER has the sources of the others, `itm_bench.c`, over GCC's libitm, and `norec/norec.rs`, an
 # algorithm of the same kind in plain Rust, whose write set is searched row by row (list) or by a table (index). Each is built
 # where its source and its compiler are there, and left out where they are not; without FOLDER there are our programs alone.
 # Every program runs as PROGRAM WORKLOAD THREADS SIZE MILLISECONDS: `counter` adds 1 to one word, `transfer` moves 1 between

@@ -5,7 +5,7 @@ ghost use Rattle.std.specs.Prelude.{◌≡◌, ◌<◌, ◌≤◌, IfOk};
 use crate::fault::Fault;
 use crate::measure::{Outcome, is_right, measure};
 use crate::sites::has_nested;
-use crate::worker::Task;
+use crate::task::Task;
 use crate::workload::{WORDS, WORKLOADS, Workload, name_of, named};
 use std::env;
 use std::num::nearest_u64_to_f64;

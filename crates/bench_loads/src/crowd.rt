@@ -4,7 +4,8 @@ ghost use Rattle.std.specs.Thread.{IsSync};
 ghost use Rattle.std.specs.Prelude.{◌≡◌, ◌+◌, ◌<◌, ◌≤◌, false, IfOk};
 ghost use Rattle.shared_words.specs.Passes.{Owns, view_of};
 
-use crate::worker::{Tally, Task, Worked, serve};
+use crate::task::{Tally, Task};
+use crate::worker::{Worked, serve};
 use crate::workload::Workload;
 use shared_words::{Pass, Words};
 use std::alloc::Global;

@@ -2,11 +2,11 @@
 
 ghost use Rattle.std.specs.Prelude.{◌<◌};
 
-use crate::worker::Task;
+use crate::task::Task;
 use crate::workload::{Block, WORDS, Workload};
 
 /// The number after this one in a row that looks random.
-fn next(number: u64) -> u64 {
+fn after(number: u64) -> u64 {
     let mut number = number;
     number ^= number << 13;
     number ^= number >> 7;
@@ -14,53 +14,57 @@ fn next(number: u64) -> u64 {
     number
 }
 
-/// Two random numbers below a bound, and the number from which the next ones come.
-fn draw_two(random: u64, bound: u64) -> (u64, u64, u64)
-    requires some { 0 < bound }
-{
-    let first = next(random);
-    let second = next(first);
-    (first % bound, second % bound, second)
+/// A row of numbers below a bound that looks random.
+#[derive(Drop)]
+pub struct Row {
+    number: u64,
+    bound: u64,
+    ghost some: { 0 < bound },
 }
 
-/// A transaction of the workload.
-pub fn first_block(task: &Task) -> Block {
-    let size = match task.workload {
-        Workload::Counter => 1,
-        Workload::Transfer => 2,
-        _ => task.size.min(WORDS as u64),
-    };
-    Block {
-        size,
-        first: 0,
-        stride: 1,
-        value: 0,
-        more: if task.workload == Workload::Transfer {
-            u64::MAX
-        } else {
-            1
-        },
-        reads: task.workload != Workload::Writes,
-        writes: task.workload != Workload::ReadOnly,
+impl Row {
+    /// The row of the words that a task chooses among.
+    pub fn new(task: &Task, seed: u64) -> Row {
+        let size = task.size.min(WORDS as u64);
+        let bound = match task.workload {
+            Workload::ReadOnly => WORDS as u64 - size + 1,
+            _ => size.max(1),
+        };
+        Row {
+            number: seed,
+            bound,
+        }
+    }
+
+    /// The next one.
+    fn draw(&mut self) -> u64 {
+        self.number = after(self.number);
+        self.number % self.bound
     }
 }
 
-/// Makes the block the one that comes after so many; the random number after those that it took.
-pub fn draw(task: &Task, block: &mut Block, random: u64, done: u64) -> u64 {
-    block.value = done;
+/// A transaction of the task, about no words yet that are drawn; none where it has an inner block.
+pub fn first_block(task: &Task) -> Option<Block> {
     let size = task.size.min(WORDS as u64);
     match task.workload {
-        Workload::Transfer => {
-            let (first, second, random) = draw_two(random, size.max(1));
-            block.first = first;
-            block.stride = second.wrapping_sub(first);
-            random
+        Workload::Counter => Some(Block::Counter),
+        Workload::Transfer => Some(Block::Transfer { from: 0, to: 0 }),
+        Workload::ReadOnly => Some(Block::ReadOnly { first: 0, size }),
+        Workload::Writes => Some(Block::Writes { size, value: 0 }),
+        Workload::Nested => None,
+    }
+}
+
+/// Makes the block the next one of its kind.
+#[inline(always)]
+pub fn advance(block: &mut Block, row: &mut Row) {
+    match block {
+        Block::Counter => {}
+        Block::Transfer { from, to } => {
+            *from = row.draw();
+            *to = row.draw();
         }
-        Workload::ReadOnly => {
-            let (first, _, random) = draw_two(random, WORDS as u64 - size + 1);
-            block.first = first;
-            random
-        }
-        _ => random,
+        Block::ReadOnly { first, .. } => *first = row.draw(),
+        Block::Writes { value, .. } => *value = value.wrapping_add(1),
     }
 }

@@ -1,7 +1,8 @@
-//! How many transactions a second threads run over shared words, with each call of the runtime at so many places of the
-//! program. The programs above say how many: a place that never runs counts too, so no word of a command line can tell it.
+//! How many transactions a second threads run over shared words, where transactions stand at so many places of the program.
+//! The programs above say how many: a place that never runs counts too, so no word of a command line can tell it.
 #![tactic(auto)]
 
+mod bodies;
 mod command;
 mod crowd;
 mod draw;
@@ -9,6 +10,7 @@ mod fault;
 mod measure;
 mod nested;
 mod sites;
+mod task;
 mod worker;
 mod workload;
 
@@ -19,8 +21,8 @@ use std::thread::Threads;
 /// back to their begins alone in a transaction, and how many transactions each thread commits, in the place of the time. With
 /// no words it runs some of each workload on one thread, and prints what they came to. Answers the program's status.
 ///
-/// Each transaction is at another one of `SITES` places than the one before. The program has 1, 2 or else 10 of each call, and
-/// the `nested` workload, with its own, where it has 10.
+/// Each transaction is at another one of `SITES` places than the one before, each with calls of the runtime of its own. The
+/// program has 1 of them, 2 or else 10, and the `nested` workload, at a place of its own, where it has 10.
 pub fn bench<const SITES: u64, R: Env + Threads + Clock + AllocGlobal + Print + Eprint + Sync>(
     rt: &R,
 ) -> u8 {

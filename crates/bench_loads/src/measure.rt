@@ -5,7 +5,7 @@ ghost use Rattle.shared_words.specs.Passes.{Owns, view_of, cells_of};
 
 use crate::crowd::serve_for;
 use crate::fault::Fault;
-use crate::worker::{Tally, Task};
+use crate::task::{Tally, Task};
 use crate::workload::{WORDS, Workload, word_of};
 use shared_words::{Pass, Words};
 use std::rt::Clock;

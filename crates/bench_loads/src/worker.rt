@@ -3,11 +3,11 @@
 ghost use Rattle.std.specs.Prelude.{◌≡◌, false, IfOk};
 ghost use Rattle.shared_words.specs.Passes.{Owns, view_of};
 
-use crate::draw::{draw, first_block};
 use crate::fault::Fault;
 use crate::nested::{disturb, try_nested};
-use crate::sites::{TryEnd, has_nested, next_site, try_at};
-use crate::workload::{Block, Workload};
+use crate::sites::{TryEnd, all_turns, has_nested};
+use crate::task::{Halt, NOTHING_DONE, Progress, Tally, Task, most_of};
+use crate::workload::WORDS;
 use itm_runtime::Thread;
 use itm_types::{Limits, MAX_COMMITS, USUAL_DEPTH};
 use shared_words::{Pass, Words};
@@ -24,77 +24,51 @@ const LIMITS: Limits = Limits {
     restarts: 0,
 };
 
-/// What all threads do.
-#[derive(Clone, Copy)]
-pub struct Task {
-    pub workload: Workload,
-    /// How many words each transaction is about, or chooses among.
-    pub size: u64,
-    /// How many transactions each thread commits, or 0 where only the time ends them.
-    pub count: u64,
-    /// How often inner blocks may go back to their begins alone, in one transaction.
-    pub restarts: u32,
-}
-
-/// What threads did.
-#[derive(Clone, Copy)]
-pub struct Tally {
-    pub commits: u64,
-    pub attempts: u64,
-    /// The numbers of the places at which they committed, added up.
-    pub sites: u64,
-}
-
 /// A pass that has come back, and what was done with it.
 pub type Worked = Result<(Pass, Tally), Fault>;
 
-/// Tries a transaction once, at this place.
-#[inline(always)]
-fn attempt<const SITES: u64>(
-    words: &Words,
-    thread: &mut Thread,
-    task: &Task,
-    block: &Block,
-    site: u64,
-    again: bool,
-    sites: &mut u64,
-) -> Result<TryEnd, AllocError>
-    requires own { Owns words.now thread.old.pass }
-    ensures own { Owns words.now thread.new.pass }
-{
-    if has_nested::<SITES>() && task.workload == Workload::Nested {
-        return try_nested(words, thread, block.size, again);
-    }
-    try_at::<SITES>(site, words, thread, block, again, sites)
-}
-
-/// Runs transactions until it is told to stop, or has committed as many as the task has.
+/// Runs transactions until the thread is told to stop, or has committed as many as the task has.
 fn run<const SITES: u64>(
     words: &Words,
     thread: &mut Thread,
+    begin: Progress,
+) -> Result<Tally, AllocError>
+    requires own { Owns words.now thread.old.pass }
+    ensures own { Owns words.now thread.new.pass }
+{
+    let mut progress = begin;
+    for _ in 0..u64::MAX {
+        match all_turns::<SITES>(words, thread, &mut progress) {
+            Ok(()) => {}
+            Err(Halt::Over) => break,
+            Err(Halt::Memory) => return Err(AllocError),
+        }
+    }
+    Ok(progress.tally)
+}
+
+/// The same of transactions with an inner block.
+fn run_nested(
+    words: &Words,
+    thread: &mut Thread,
     task: &Task,
-    seed: u64,
     stop: &AtomicBool,
 ) -> Result<Tally, AllocError>
     requires own { Owns words.now thread.old.pass }
     ensures own { Owns words.now thread.new.pass }
 {
-    let (mut commits, mut attempts, mut sites) = (0u64, 0u64, 0u64);
-    let mut block = first_block(task);
-    let mut random = draw(task, &mut block, seed, 0);
+    let mut tally = NOTHING_DONE;
+    let size = task.size.min(WORDS as u64);
+    let most = most_of(task);
     let mut again = false;
-    let mut site = 0;
-    let most = if task.count > 0 { task.count } else { u64::MAX };
     for _ in 0..u64::MAX {
-        if stop.load(Ordering::SeqCst) || commits == most {
+        if stop.load(Ordering::SeqCst) || tally.commits == most {
             break;
         }
-        attempts = attempts.wrapping_add(1);
-        match attempt::<SITES>(words, thread, task, &block, site, again, &mut sites)? {
+        tally.attempts = tally.attempts.wrapping_add(1);
+        match try_nested(words, thread, size, again)? {
             TryEnd::Committed => {
-                commits = commits.wrapping_add(1);
-                random = draw(task, &mut block, random, commits);
-                site = next_site::<SITES>(site);
+                tally.commits = tally.commits.wrapping_add(1);
                 again = false;
             }
             TryEnd::RolledBack => {
@@ -104,11 +78,7 @@ fn run<const SITES: u64>(
             TryEnd::Outside => spin_loop(),
         }
     }
-    Ok(Tally {
-        commits,
-        attempts,
-        sites,
-    })
+    Ok(tally)
 }
 
 /// Disturbs those that read until it is told to stop. Its own commits are not counted.
@@ -127,11 +97,7 @@ fn run_beside(
         }
         disturb(words, thread, task.size)?;
     }
-    Ok(Tally {
-        commits: 0,
-        attempts: 0,
-        sites: 0,
-    })
+    Ok(NOTHING_DONE)
 }
 
 /// Does the task or, `beside` those that do, disturbs them.
@@ -146,10 +112,11 @@ fn run_part<const SITES: u64>(
     requires own { Owns words.now thread.old.pass }
     ensures own { Owns words.now thread.new.pass }
 {
-    if has_nested::<SITES>() && beside {
-        run_beside(words, thread, task, stop)
-    } else {
-        run::<SITES>(words, thread, task, seed, stop)
+    match Progress::new(task, seed, stop) {
+        Some(begin) => run::<SITES>(words, thread, begin),
+        None if !has_nested::<SITES>() => Ok(NOTHING_DONE),
+        None if beside => run_beside(words, thread, task, stop),
+        None => run_nested(words, thread, task, stop),
     }
 }
 

@@ -60,21 +60,15 @@ pub fn named(name: &str) -> Option<Workload> {
 
 /// One transaction: tried again, it does the same.
 #[derive(Clone, Copy)]
-pub struct Block {
-    /// How many words it is about.
-    pub size: u64,
-    /// The first of them.
-    pub first: u64,
-    /// How far each other one lies behind the one before.
-    pub stride: u64,
-    /// What a word counts for that is not read.
-    pub value: u64,
-    /// What is added to that, or to what was read, where the first one is written. To each other one 1 is added.
-    pub more: u64,
-    /// Whether it reads the words.
-    pub reads: bool,
-    /// Whether it writes them.
-    pub writes: bool,
+pub enum Block {
+    /// Adds 1 to word 0.
+    Counter,
+    /// Takes 1 from a word, and then adds 1 to another, or to the same one.
+    Transfer { from: u64, to: u64 },
+    /// Reads so many words from this one on.
+    ReadOnly { first: u64, size: u64 },
+    /// Writes this value to so many words, from word 0 on.
+    Writes { size: u64, value: u64 },
 }
 
 /// The place of a word.

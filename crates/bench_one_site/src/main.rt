@@ -1,4 +1,4 @@
-//! How many transactions a second threads run over shared words, with each call at one place of the program:
+//! How many transactions a second threads run over shared words, where transactions stand at one place of the program:
 //! `bench_one_site WORKLOAD THREADS SIZE MILLISECONDS`.
 #![tactic(auto)]
 

@@ -1,4 +1,4 @@
-//! How many transactions a second threads run over shared words, with each call at two places of the program:
+//! How many transactions a second threads run over shared words, where transactions stand at two places of the program:
 //! `bench_two_sites WORKLOAD THREADS SIZE MILLISECONDS`.
 #![tactic(auto)]
 

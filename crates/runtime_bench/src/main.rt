@@ -1,5 +1,5 @@
-//! How many transactions a second threads run over shared words, with each call at ten places of the program, and of transactions with an inner block:
-//! `runtime_bench WORKLOAD THREADS SIZE MILLISECONDS`.
+//! How many transactions a second threads run over shared words, where transactions stand at ten places of the
+//! program, and of transactions with an inner block: `runtime_bench WORKLOAD THREADS SIZE MILLISECONDS`.
 #![tactic(auto)]
 
 use bench_loads::bench;
