@@ -2,7 +2,7 @@
 use Rattle.std.proofs.Common.{◌≡◌, ℕ, false, Option, None, Some, Result, Ok, Err, ap, refl, subst, sym}
 use Rattle.itm_types.specs.declared.call.Action.{Action}
 use Rattle.itm_types.specs.declared.call.Call.{Call}
-use Rattle.itm_types.specs.declared.call.Call.TheVariants.{Commit, CommitAction}
+use Rattle.itm_types.specs.declared.call.Call.TheVariants.{Commit, CommitAction, UndoAction}
 use Rattle.itm_types.specs.declared.call.Refusal.{Refusal}
 use Rattle.itm_types.specs.declared.call.Reply.{Reply as Replied}
 use Rattle.itm_types.specs.declared.call.Reply.TheVariants.{Done}
@@ -68,3 +68,12 @@ action_done t action (answers.Conflict clock word) v e served on = absurd (on (C
 action_done t action (answers.Restarted clock word) v e served on = absurd (on (Restarted clock word) refl)
 action_done t action (answers.Busy clock) v e served on = absurd (on (Busy clock) refl)
 action_done t action (answers.Full position) v e served on = absurd (on (Full position) refl)
+
+pub undo_done : (t : Standing) (action : Action) (a : Answer) (v : View) (e : Core) → Served (start_of t (UndoAction action) false) a v e → GoesOn a → a ≡ Reply Done
+undo_done t action (Reply r) v e served on =
+    registered r (refusal t.engine.depth (stands_for t.engine (came_over (start_of t (UndoAction action) false) v e)) (UndoAction action)) served.tells.here.reply_is on
+undo_done t action (Committed position wrote) v e served on = absurd (subst no_commit served.tells.call tt)
+undo_done t action (answers.Conflict clock word) v e served on = absurd (on (Conflict clock word) refl)
+undo_done t action (answers.Restarted clock word) v e served on = absurd (on (Restarted clock word) refl)
+undo_done t action (answers.Busy clock) v e served on = absurd (on (Busy clock) refl)
+undo_done t action (answers.Full position) v e served on = absurd (on (Full position) refl)

@@ -2,3 +2,5 @@ mod Modes
 mod Kept
 mod Looks
 mod Tries
+mod WidthReads
+pub mod Plain

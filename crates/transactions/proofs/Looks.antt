@@ -39,7 +39,7 @@ opened_by s true r (Some why) is on = absurd (on (stops.Refused why) (ap (λ (x 
 opened_by s false r (Some why) is on = absurd (on (stops.Refused why) (ap (λ (x : Replied). Some (answers.Reply x)) (sym is)))
 opened_by s again r None is on = opens s
 
-engine_open : (c : Core) (m : List ℕ) → c.irrevocable ≡ false → is_open (stands_for c m) ≡ in_transaction c
+pub engine_open : (c : Core) (m : List ℕ) → c.irrevocable ≡ false → is_open (stands_for c m) ≡ in_transaction c
 engine_open c m is = subst (λ (b : Bool). is_open (state_in b c.writes c.blocks c.arena c.actions m) ≡ is_inside c.blocks) (sym is) (open_is c.writes c.blocks c.arena c.actions m)
 
 abbrev begins_so : Call → Type 0

@@ -14,7 +14,7 @@ use Rattle.transactions.specs.declared.tried.Tried.{Tried}
 use Rattle.transactions.specs.declared.tried.Tried.TheVariants.{Conflict, Failed as Fails}
 use Rattle.transactions.specs.declared.stopped.Stopped.{Stopped}
 use Rattle.transactions.specs.Lent.{Lent}
-use Rattle.transactions.specs.Runs.{ComesTo, KeepsLent, Tells, cancel_told, commit_told, mine_then, stop_told}
+use Rattle.transactions.specs.Runs.{ComesTo, IsGivenUp, KeepsLent, LeftBy, Tells, cancel_told, commit_told, mine_then, stop_told}
 
 module _ {F R E : Type 0} (fn : Mut F (MutBor Lent × Unit {0}) (Result R (Stopped E) × (MutBor Lent × Unit {0}))) (words first : Words) (is : KeepsLent fn → words ≡ first) where
   -- told of the words that the tries began on
@@ -76,3 +76,12 @@ again_told value (answers.Reply reply) other full = refl
 again_told value (answers.Conflict clock word) other full = refl
 again_told value (answers.Restarted clock word) other full = refl
 again_told value (answers.Busy clock) other full = refl
+
+-- a commit that is not done is given up after
+pub gave_up : (a : Answer) (then : Lent) (new : Standing) → ((at : ℕ) (wrote : Bool) → a ≡ answers.Committed at wrote → ⊥) → IsGivenUp then new → LeftBy a then new
+gave_up (answers.Committed at wrote) then new other up = absurd (other at wrote refl)
+gave_up (answers.Reply reply) then new other up = inr up
+gave_up (answers.Conflict clock word) then new other up = inr up
+gave_up (answers.Restarted clock word) then new other up = inr up
+gave_up (answers.Busy clock) then new other up = inr up
+gave_up (answers.Full at) then new other up = inr up

@@ -1,2 +1,4 @@
 pub mod Lent
 pub mod Runs
+pub mod Plain
+pub mod Widths

@@ -9,10 +9,12 @@ use Rattle.norec_core.specs.declared.answer.Answer.TheVariants as answers
 use Rattle.norec_core.specs.Core.{in_transaction}
 use Rattle.norec_core.specs.Undoing.{after_undoing}
 use Rattle.shared_words.specs.InGlobal.{Words}
+use Rattle.shared_words.specs.Passes.{view_of}
 use Rattle.itm_runtime.specs.CallResults.{IsAnswered, IsThreadStarved}
 use Rattle.itm_runtime.specs.Served.{mine_if}
 use Rattle.itm_runtime.specs.Standing.{Standing, start_of}
 use Rattle.itm_runtime.specs.Stops.{GoesOn, answer_of}
+use Rattle.itm_runtime.specs.Ties.{Stands}
 use Rattle.itm_runtime.specs.declared.stop.Stop.{Stop}
 use Rattle.itm_runtime.specs.declared.stop.Stop.TheVariants as stops
 use Rattle.transactions.specs.declared.failed.Failed.{Failed}
@@ -78,8 +80,10 @@ pub record IsGivenUp (old : Lent) (new : Standing) : Type 0 where
   pub pass : new.pass ≡ old.thread.pass
   pub engine : new.engine ≡ after_undoing old.thread.engine
 
--- a begin was answered so that the transaction goes on
+-- outside a transaction a begin was answered so that the transaction goes on
 pub record HasBegun (before : Standing) (again : Bool) (answer : Answer) (began : Lent) : Type 0 where
+  pub stood : Stands (view_of before.pass) before.engine
+  pub outside : in_transaction before.engine ≡ false
   pub answered : IsAnswered began.words (start_of before (Begin usual 0) again) answer began.thread.pass began.thread.engine
   pub goes_on : GoesOn answer
 
@@ -88,13 +92,18 @@ abbrev pub BeginTold : Standing → Bool → Option Answer → Lent → Type 0
 BeginTold before again (Some answer) new = IsAnswered new.words (start_of before (Begin usual 0) again) answer new.thread.pass new.thread.engine
 BeginTold before again None new = IsThreadStarved new.words before (Begin usual 0) new.thread
 
+-- what is left once the commit was answered so: one that is done leaves the thread so
+abbrev pub LeftBy : Answer → Lent → Standing → Type 0
+LeftBy (answers.Committed at wrote) then new = new ≡ then.thread
+LeftBy _ then new = (new ≡ then.thread) ⊎ IsGivenUp then new
+
 -- the commit of a body's transaction, where it gave this value: what has not committed is rolled back
 pub record HasEnded {R E : Type 0} (last : Lent) (value : R) (told : Tried R E) (new : Standing) : Type 0 where
   pub answer : Answer
   pub then : Lent
   pub answered : IsAnswered last.words (start_of last.thread Commit false) answer then.thread.pass then.thread.engine
   pub told_is : told ≡ commit_told value answer
-  pub left : (new ≡ then.thread) ⊎ IsGivenUp then new
+  pub left : LeftBy answer then new
 
 -- how a try ends whose body gave this
 abbrev pub EndsBy : {R E : Type 0} → Result R (Stopped E) → Lent → Tried R E → Standing → Type 0

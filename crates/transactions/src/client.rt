@@ -1,6 +1,6 @@
 //! A thread of a program, and the transactions that it makes.
 
-ghost use Rattle.std.specs.Prelude.{◌≡◌, ◌+◌, ◌≤◌, false, IfErr};
+ghost use Rattle.std.specs.Prelude.{◌≡◌, ◌+◌, ◌≤◌, false, IfErr, IfOk};
 ghost use Rattle.norec_core.specs.Core.{in_transaction};
 ghost use Rattle.shared_words.specs.Passes.{Owns};
 
@@ -25,6 +25,7 @@ pub struct Client {
 impl Client {
     ghost use Rattle.transactions.specs.Lent.{IsLeft, looks_of, mine_of};
     ghost use Rattle.transactions.specs.declared.failed.Failed.TheVariants.{Tries};
+    ghost use Rattle.transactions.specs.Plain.{IsPlainRun, Makings};
     ghost use Rattle.transactions.specs.Runs.{ComesTo, KeepsLent, mine_left};
 
     /// A thread outside a transaction, over the words that own its pass. Each body is tried as often as `tries` says.
@@ -50,6 +51,7 @@ impl Client {
     pub fn into_parts(self) -> (Arc<Words>, Thread)
         ensures words { result.0.value ≡ self.transaction.words }
         ensures thread { result.1 ≡ self.transaction.thread }
+        ensures own { Owns result.0.value result.1.pass }
     {
         let Client { transaction, .. } = self;
         let Transaction { words, thread } = transaction;
@@ -64,6 +66,9 @@ impl Client {
     ) -> Result<Done<R>, Failed<E>>
         requires callable { F.IsAlwaysCallable body }
         ensures comes { ComesTo F.FnMut self.old.transaction.words result self.new.transaction.thread }
+
+        // Where each run's calls are known, those of the run that gave the value are the plain machine's at the position told.
+        ensures plain { KeepsLent F.FnMut → (makings : Makings F.FnMut) → IfOk result (λ done. IsPlainRun F.FnMut makings self.old.transaction.words done self.new.transaction.thread) }
 
         // The body hands back what it was lent: the words are the same, and the pass's own commits are those told.
         ensures left { KeepsLent F.FnMut → IsLeft (mine_left (mine_of self.old.transaction) result) self.old.transaction self.new.transaction }

@@ -71,4 +71,14 @@ impl Transaction {
         Stop::check(answer)?;
         Ok(())
     }
+
+    /// Registers an undo action: it is due once the transaction has been rolled back.
+    pub fn on_undo(&mut self, action: Action) -> Result<(), Stop>
+        ensures tells { Tells self.old.words self.old.thread (Call.UndoAction action) (answer_to_write result) self.new.thread }
+        ensures kept { IsKept self.old self.new }
+    {
+        let answer = self.thread.call(&*self.words, &Call::UndoAction(action))?;
+        Stop::check(answer)?;
+        Ok(())
+    }
 }

@@ -69,6 +69,8 @@ impl Transaction {
         ensures stopped { IfErr result (λ stop. BeginTold self.old.thread again (answer_of stop) self.new) }
         ensures looks { IfOk result (λ _. looks_of self.old < looks_of self.new) }
     {
+        // (its clause says that the thread stands, which the clause `begun` tells of)
+        let _clock = self.thread.clock();
         let answer = self.thread.begin(&*self.words, Props::default(), 0, again)?;
         Stop::check(answer)?;
         Ok(())

@@ -1,4 +1,4 @@
-use Rattle.std.proofs.Common.{◌≡◌, ◌≤◌, ◌∙◌, inl, inr, ap, false, refl, subst, sym}
+use Rattle.std.proofs.Common.{◌≡◌, ◌≤◌, ◌∙◌, inl, ap, false, refl, subst, sym}
 use Rattle.itm_types.specs.declared.call.Call.TheVariants.{Commit}
 use Rattle.norec_core.specs.declared.answer.Answer.{Answer}
 use Rattle.norec_core.specs.Core.{Core}
@@ -8,8 +8,8 @@ use Rattle.shared_words.specs.declared.pass.Pass.{Pass}
 use Rattle.itm_runtime.specs.CallResults.{IsAnswered}
 use Rattle.itm_runtime.specs.Standing.{Standing, start_of}
 use Rattle.transactions.specs.Lent.{Lent, looks_of, mine_of}
-use Rattle.transactions.specs.Runs.{commit_told}
-use Rattle.transactions.proofs.Tries.{again_told}
+use Rattle.transactions.specs.Runs.{LeftBy, commit_told}
+use Rattle.transactions.proofs.Tries.{again_told, gave_up}
 use Rattle.transactions.proofs.Modes.{keeps_commit, mine_stays, stays_revocable}
 use Rattle.transactions.proofs.transaction.Transaction.ended.Goals as goal
 
@@ -41,7 +41,7 @@ returns-in_default g c = record {
     then = record { words = c.args.self.now.words; thread = c.commit.new.self };
     answered = moved _ c.args.self.now c.deref.result.now c.commit.result c.commit.new.self.pass c.commit.new.self.engine c.deref.ensures c.self.view_is c.commit.ensures.answered;
     told_is = again_told c.args.value c.commit.result c.in_default.not-Committed c.in_default.not-Full;
-    left = inr (record { pass = c.give_up.ensures.given_up.pass; engine = c.give_up.ensures.given_up.engine });
+    left = gave_up c.commit.result (record { words = c.args.self.now.words; thread = c.commit.new.self }) c.give_up.new.self.thread c.in_default.not-Committed (record { pass = c.give_up.ensures.given_up.pass; engine = c.give_up.ensures.given_up.engine });
   };
 }
 
@@ -51,7 +51,7 @@ returns-in-Committed-clause-ends g c = record {
   then = record { words = c.args.self.now.words; thread = c.commit.new.self };
   answered = moved _ c.args.self.now c.deref.result.now c.commit.result c.commit.new.self.pass c.commit.new.self.engine c.deref.ensures c.self.view_is c.commit.ensures.answered;
   told_is = ap (commit_told c.args.value) (sym c.in-Committed.is);
-  left = inl refl;
+  left = subst (λ (a : Answer). LeftBy a (record { words = c.args.self.now.words; thread = c.commit.new.self }) c.commit.new.self) (sym c.in-Committed.is) refl;
 }
 
 pub returns-in-Full-clause-ends : goal.returns-in-Full-clause-ends
@@ -60,5 +60,5 @@ returns-in-Full-clause-ends g c = record {
   then = record { words = c.args.self.now.words; thread = c.commit.new.self };
   answered = moved _ c.args.self.now c.deref.result.now c.commit.result c.commit.new.self.pass c.commit.new.self.engine c.deref.ensures c.self.view_is c.commit.ensures.answered;
   told_is = ap (commit_told c.args.value) (sym c.in-Full.is);
-  left = inl refl;
+  left = subst (λ (a : Answer). LeftBy a (record { words = c.args.self.now.words; thread = c.commit.new.self }) c.commit.new.self) (sym c.in-Full.is) (inl refl);
 }

@@ -1,0 +1,323 @@
+-- The calls of a transaction are the plain machine's, on every memory that agrees with what was read.
+use Rattle.std.proofs.Common.{◌≡◌, ◌∙◌, ◌⊎◌, inl, inr, ℕ, ◌/◌, ◌&&◌, not, if◌then◌else◌, Bool, true, false, List, [], ◌∷◌, Option, None, Some, Result, Ok, Err, ap, refl, subst, sym, true≢false}
+use Rattle.std.specs.Borrow.{MutBor}
+use Rattle.std.specs.Fn.{CalledAtMut, Mut}
+use Rattle.itm_types.specs.declared.call.Call.{Call}
+use Rattle.itm_types.specs.declared.call.Call.TheVariants.{Begin, Commit, Abort, Mode, InTransaction, Read, Write, Log, LogBytes, Copy, Fill, CommitAction, UndoAction, Load, Save}
+use Rattle.itm_types.specs.declared.call.ActionKind.TheVariants as kinds
+use Rattle.itm_types.specs.declared.call.Props.{Props}
+use Rattle.itm_types.specs.declared.call.Refusal.{Refusal}
+use Rattle.itm_types.specs.declared.call.Reply.{Reply as Replied}
+use Rattle.itm_types.specs.declared.call.Reply.TheVariants.{Code}
+use Rattle.itm_types.specs.declared.copy.CopyPair.{CopyPair}
+use Rattle.itm_types.specs.declared.copy.CopyPair.TheVariants.{Out, In, Within}
+use Rattle.itm_types.specs.Calls.{is_abort}
+use Rattle.itm_types.specs.Memory.{Agrees, IsMemory, bytes_of}
+use Rattle.itm_model.specs.Machine.{after, after_unless, back, back_from, effect, entered, irrevocable_from, is_open, opened, outside, pushed, refusal, reply, reply_unless, rolled_back, source_bytes, target_written, undone, undone_from, with_action}
+use Rattle.itm_model.specs.Runs.{replies, state_after}
+use Rattle.itm_model.specs.State.{Block, Saved, State}
+use Rattle.norec_core.specs.declared.answer.Answer.{Answer}
+use Rattle.norec_core.specs.declared.answer.Answer.TheVariants as answers
+use Rattle.norec_core.specs.declared.answer.Answer.TheVariants.{Reply}
+use Rattle.nest_frames.specs.Nest.{Frame}
+use Rattle.write_set.specs.declared.row.Row.{Row}
+use Rattle.norec_core.specs.Core.{Core, in_transaction, is_inside}
+use Rattle.norec_core.specs.Effects.{recoded}
+use Rattle.norec_core.specs.Proceeds.{GoesOver}
+use Rattle.norec_core.specs.Stands.{stands_for, state_in, state_over}
+use Rattle.norec_core.proofs.Accesses.Logs.{agrees_less}
+use Rattle.norec_core.proofs.Replies.AnsweredEngines.{told_plainly}
+use Rattle.shared_words.specs.Commits.{StartsWith}
+use Rattle.shared_words.specs.InGlobal.{Words}
+use Rattle.shared_words.specs.Passes.{view_of}
+use Rattle.itm_runtime.specs.CallResults.{IsAnswered}
+use Rattle.itm_runtime.specs.Served.{Start, came_over, left_over, memory_in}
+use Rattle.itm_runtime.specs.Standing.{Standing, start_of}
+use Rattle.itm_runtime.specs.Stops.{GoesOn}
+use Rattle.itm_runtime.specs.Ties.{Stands, memory_of}
+use Rattle.itm_runtime.specs.declared.stop.Stop.{Stop}
+use Rattle.itm_runtime.specs.declared.stop.Stop.TheVariants as stops
+use Rattle.itm_runtime.proofs.Steps.CallsInHand.{is_memory}
+use Rattle.transactions.specs.Lent.{Lent}
+use Rattle.transactions.specs.Plain.{IsPlain, IsPlainRun, Makes, Makings, Stays, begun_at, calls_of, committed_at, replies_of}
+use Rattle.transactions.specs.declared.tried.Done.{Done as Value}
+use Rattle.transactions.specs.declared.tried.Tried.{Tried}
+use Rattle.transactions.specs.declared.tried.Tried.TheVariants.{Done}
+use Rattle.transactions.specs.declared.stopped.Stopped.{Stopped}
+use Rattle.transactions.specs.declared.stopped.Stopped.TheVariants.{Engine, Cancelled}
+use Rattle.transactions.specs.Runs.{EndsBy, HasBegun, KeepsLent, LeftBy, Tells, cancel_told, commit_told, stop_told, usual}
+use Rattle.transactions.proofs.Looks.{engine_open}
+use Rattle.transactions.proofs.Modes.{KeepsMode, keeps_begin, keeps_commit, shut_revocable, stays_revocable}
+
+-- ## The mode
+
+entered_mode : (s : State) (p : Props) → p.goes_irrevocable ≡ false → s.irrevocable ≡ false → (entered s p).irrevocable ≡ false
+entered_mode s p stays is = ap (λ (b : Bool). (if b then irrevocable_from (pushed s p) else pushed s p).irrevocable) stays ∙ is
+
+rolled_mode : (s : State) (rest : List Block) (o : Option Saved) → s.irrevocable ≡ false → (rolled_back s rest o).irrevocable ≡ false
+rolled_mode s rest None is = is
+rolled_mode s rest (Some saved) is = is
+
+back_mode : (s : State) (bs : List Block) → s.irrevocable ≡ false → (back_from s bs).irrevocable ≡ false
+back_mode s [] is = is
+back_mode s (b ∷ bs) is = rolled_mode s bs b.saved is
+
+undone_mode : (s : State) (bs : List Block) → s.irrevocable ≡ false → (undone_from s bs).irrevocable ≡ false
+undone_mode s [] is = is
+undone_mode s (b ∷ bs) is = undone_mode (rolled_back s bs b.saved) bs (rolled_mode s bs b.saved is)
+
+both_modes : (b : Bool) (s u : State) → s.irrevocable ≡ false → u.irrevocable ≡ false → (if b then s else u).irrevocable ≡ false
+both_modes true s u e f = e
+both_modes false s u e f = f
+
+copied_mode : (s : State) (pair : CopyPair) (place : ℕ) (bytes : List ℕ) → s.irrevocable ≡ false → (target_written s pair place bytes).irrevocable ≡ false
+copied_mode s (Out to) place bytes is = is
+copied_mode s (In from) place bytes is = is
+copied_mode s (Within from to) place bytes is = is
+
+keeps : (call : Call) (new : Standing) → Stays call new → KeepsMode call
+keeps (Begin props room) new stays s is = both_modes (is_open s) (entered s props) (opened s.memory s.arena props) (entered_mode s props stays is) (entered_mode (outside s.memory s.arena) props stays refl)
+keeps Commit new stays s is = keeps_commit s is
+keeps (Abort outer) new stays s is = both_modes outer (undone s) (back s) (undone_mode s s.blocks is) (back_mode s s.blocks is)
+keeps (Mode room) new stays s is = absurd stays
+keeps InTransaction new stays s is = is
+keeps (Read hint width at) new stays s is = is
+keeps (Write hint at value) new stays s is = is
+keeps (Log width at) new stays s is = is
+keeps (LogBytes at size) new stays s is = is
+keeps (Copy c) new stays s is = copied_mode s c.pair c.to (source_bytes s c.pair c.from c.size) is
+keeps (Fill hint to byte size) new stays s is = is
+keeps (CommitAction action) new stays s is = is
+keeps (UndoAction action) new stays s is = both_modes s.irrevocable s (with_action s kinds.Undo action) is is
+keeps (Load width at) new stays s is = is
+keeps (Save at value) new stays s is = is
+
+-- ## One call
+
+left_open : (call : Call) (new : Standing) → Stays call new → (is_abort call ≡ false → in_transaction new.engine ≡ true) → in_transaction new.engine ≡ true
+left_open (Abort outer) new stays inside = stays
+left_open call new stays inside = inside refl
+
+grown : (m : List ℕ) (old new : Core) → StartsWith new.log old.log ⊎ GoesOver old new → new.irrevocable ≡ false → Agrees m new.log → Agrees m old.log
+grown m old new (inl more) is agrees = agrees_less m old.log more.0 (subst (Agrees m) more.1 agrees)
+grown m old new (inr over) is agrees = absurd (true≢false (sym over.is ∙ is))
+
+module _ (words : Words) (t next : Standing) (call : Call) (r : Replied) (stays : Stays call next) (a : IsAnswered words (start_of t call false) (Reply r) next.pass next.engine) (is : t.engine.irrevocable ≡ false) (inside : in_transaction t.engine ≡ true) where
+  still_revocable : next.engine.irrevocable ≡ false
+  still_revocable = stays_revocable (start_of t call false) (Reply r) (view_of next.pass) next.engine a.served a.stands (keeps call next stays) is
+
+  still_open : in_transaction next.engine ≡ true
+  still_open = left_open call next stays (λ other. a.served.tells.still other inside)
+
+  agrees_before : (m : List ℕ) → Agrees m next.engine.log → Agrees m t.engine.log
+  agrees_before m agrees = grown m t.engine next.engine (a.served.grows inside still_open (λ x. x)).log still_revocable agrees
+
+  state_then : (m : List ℕ) → IsMemory t.engine.words m → Agrees m next.engine.log → stands_for next.engine m ≡ after t.engine.depth (stands_for t.engine m) call
+  state_then m fits agrees = (a.served.tells.all is still_revocable m fits agrees).state
+
+  reply_then : (m : List ℕ) → IsMemory t.engine.words m → Agrees m next.engine.log → r ≡ reply t.engine.depth (stands_for t.engine m) call
+  reply_then m fits agrees = (a.served.tells.all is still_revocable m fits agrees).reply_is ∙ told_plainly call (reply t.engine.depth (stands_for t.engine m) call)
+
+-- ## All calls
+
+-- what the calls come to over this memory
+record Comes (t : Standing) (made : List (Call × Replied)) (last : Standing) (m : List ℕ) : Type 0 where
+  agrees : Agrees m t.engine.log
+  state : stands_for last.engine m ≡ state_after t.engine.depth (stands_for t.engine m) (calls_of made)
+  replied : replies_of made ≡ replies t.engine.depth (stands_for t.engine m) (calls_of made)
+
+record Leads (t : Standing) (made : List (Call × Replied)) (last : Standing) : Type 0 where
+  revocable : last.engine.irrevocable ≡ false
+  words_are : last.engine.words ≡ t.engine.words
+  depth_is : last.engine.depth ≡ t.engine.depth
+  comes : (m : List ℕ) → IsMemory t.engine.words m → Agrees m last.engine.log → Comes t made last m
+
+none_made : (t last : Standing) → last ≡ t → t.engine.irrevocable ≡ false → Leads t [] last
+none_made t last e is =
+    subst (λ (l : Standing). Leads t [] l) (sym e) (record { revocable = is; words_are = refl; depth_is = refl; comes = λ m fits agrees. record { agrees = agrees; state = refl; replied = refl } })
+
+leads : (words : Words) (made : List (Call × Replied)) (t last : Standing) → Makes words t made last → t.engine.irrevocable ≡ false → in_transaction t.engine ≡ true → Leads t made last
+leads words [] t last e is inside = none_made t last e is
+leads words (x ∷ rest) t last made is inside =
+    let next = made.0 in
+    let a = made.2 in
+    let on = leads words rest next last made.3 (still_revocable words t next x.0 x.1 made.1 a is inside) (still_open words t next x.0 x.1 made.1 a is inside) in
+    let deep : next.engine.depth ≡ t.engine.depth = a.served.limits.2 in
+    let size : next.engine.words ≡ t.engine.words = a.served.words in
+    record {
+      revocable = on.revocable;
+      words_are = on.words_are ∙ size;
+      depth_is = on.depth_is ∙ deep;
+      comes = λ m fits agrees.
+          let later = on.comes m (subst (λ n. IsMemory n m) (sym size) fits) agrees in
+          let state = state_then words t next x.0 x.1 made.1 a is inside m fits later.agrees in
+          let was = stands_for t.engine m in
+          record {
+            agrees = agrees_before words t next x.0 x.1 made.1 a is inside m later.agrees;
+            state = later.state ∙ ap (λ d. state_after d (stands_for next.engine m) (calls_of rest)) deep ∙ ap (λ (s : State). state_after t.engine.depth s (calls_of rest)) state;
+            replied = ap (λ (r : Replied). r ∷ replies_of rest) (reply_then words t next x.0 x.1 made.1 a is inside m fits later.agrees)
+                ∙ ap (λ (rs : List Replied). reply t.engine.depth was x.0 ∷ rs) (later.replied ∙ ap (λ d. replies d (stands_for next.engine m) (calls_of rest)) deep ∙ ap (λ (s : State). replies t.engine.depth s (calls_of rest)) state);
+          };
+    }
+
+-- ## The begin
+
+shut_blocks : (blocks : List Frame) → is_inside blocks ≡ false → blocks ≡ []
+shut_blocks [] shut = refl
+shut_blocks (b ∷ bs) shut = absurd (true≢false shut)
+
+-- outside a transaction an engine stands for the memory alone
+shut_state : (c : Core) (m : List ℕ) → in_transaction c ≡ false → c.irrevocable ≡ false → c.writes ≡ [] → stands_for c m ≡ state_over [] [] c.arena c.actions m
+shut_state c m shut is unwritten =
+    ap (λ (b : Bool). state_in b c.writes c.blocks c.arena c.actions m) is
+    ∙ ap (λ (rows : List Row). state_over rows c.blocks c.arena c.actions m) unwritten
+    ∙ ap (λ (blocks : List Frame). state_over [] blocks c.arena c.actions m) (shut_blocks c.blocks shut)
+
+-- a begin that is not refused opens a block
+unrefused : (s : State) (b : Bool) (r : Replied) (why : Option Refusal) → r ≡ recoded (Begin usual 0) b (reply_unless why (Code 5)) → GoesOn (Reply r) → after_unless why s (effect s (Begin usual 0)) ≡ effect s (Begin usual 0)
+unrefused s true r (Some why) is on = absurd (on (stops.Refused why) (ap (λ (x : Replied). Some (Reply x)) (sym is)))
+unrefused s false r (Some why) is on = absurd (on (stops.Refused why) (ap (λ (x : Replied). Some (Reply x)) (sym is)))
+unrefused s b r None is on = refl
+
+abbrev begins : Call → Type 0
+begins Commit = ⊥
+begins call = Unit {0}
+
+-- what a transaction that began has by then
+pub record Begins (before : Standing) (began : Lent) : Type 0 where
+  revocable : began.thread.engine.irrevocable ≡ false
+  inside : in_transaction began.thread.engine ≡ true
+  words_are : began.thread.engine.words ≡ before.engine.words
+  state : (m : List ℕ) → IsMemory before.engine.words m → Agrees m began.thread.engine.log → stands_for began.thread.engine m ≡ opened (bytes_of m) before.engine.arena usual
+
+opens_on : (before : Standing) (again : Bool) (answer : Answer) (began : Lent) (stood : Stands (view_of before.pass) before.engine) → in_transaction before.engine ≡ false → IsAnswered began.words (start_of before (Begin usual 0) again) answer began.thread.pass began.thread.engine → GoesOn answer → Begins before began
+opens_on before again (Reply r) began stood shut a on =
+    let s : Start = start_of before (Begin usual 0) again in
+    let t = before.engine in
+    let e = began.thread.engine in
+    let v = view_of began.thread.pass in
+    let is : t.irrevocable ≡ false = shut_revocable stood shut in
+    let still : e.irrevocable ≡ false = stays_revocable s (Reply r) v e a.served a.stands keeps_begin is in
+    let unwritten : t.writes ≡ [] = (stood.settled.closed shut).1 in
+    let opened_over : (m : List ℕ) (r' : Replied) → r' ≡ recoded (Begin usual 0) (again && not (in_transaction t)) (reply t.depth (stands_for t m) (Begin usual 0)) → GoesOn (Reply r') → after t.depth (stands_for t m) (Begin usual 0) ≡ opened (bytes_of m) t.arena usual = λ m r' e on.
+    unrefused (stands_for t m) (again && not (in_transaction t)) r' (refusal t.depth (stands_for t m) (Begin usual 0)) e on ∙ ap (λ (u : State). effect u (Begin usual 0)) (shut_state t m shut is unwritten) in
+    let here = a.served.tells.here in
+    record {
+      revocable = still;
+      inside = sym (engine_open e (left_over v e) still) ∙ ap is_open here.state ∙ ap is_open (opened_over (came_over s v e) r here.reply_is on);
+      words_are = a.served.words;
+      state = λ m fits agrees. let meets = a.served.tells.all is still m fits agrees in meets.state ∙ opened_over m r meets.reply_is on;
+    }
+opens_on before again (answers.Committed at wrote) began stood shut a on = absurd (subst begins a.served.tells.call tt)
+opens_on before again (answers.Conflict clock word) began stood shut a on = absurd (on (stops.Conflict clock word) refl)
+opens_on before again (answers.Restarted clock word) began stood shut a on = absurd (on (stops.Restarted clock word) refl)
+opens_on before again (answers.Busy clock) began stood shut a on = absurd (on (stops.Busy clock) refl)
+opens_on before again (answers.Full at) began stood shut a on = absurd (on (stops.Full at) refl)
+
+state_arena : (c : Core) (m : List ℕ) → (stands_for c m).arena ≡ c.arena
+state_arena c m = by_mode c.irrevocable
+  where
+    by_mode : (b : Bool) → (state_in b c.writes c.blocks c.arena c.actions m).arena ≡ c.arena
+    by_mode true = refl
+    by_mode false = refl
+
+-- ## The commit
+
+pub law : (words : Words) (before : Standing) (began : Lent) (made : List (Call × Replied)) (last : Standing) (at : ℕ) (wrote : Bool) (w : Words) (new : Standing)
+    → Begins before began → Makes words began.thread made last → IsAnswered w (start_of last Commit false) (answers.Committed at wrote) new.pass new.engine
+    → IsPlain began.thread.engine.depth began.thread.engine.arena made at wrote new
+law words before began made last at wrote w new begins makes a =
+    let on = leads words made began.thread last makes begins.revocable begins.inside in
+    let v = view_of new.pass in
+    let e = new.engine in
+    let commits = a.served.tells in
+    let m = memory_of v at in
+    let size : e.words ≡ before.engine.words = a.served.words ∙ on.words_are ∙ begins.words_are in
+    let fits : IsMemory before.engine.words m = subst (λ n. IsMemory n m) size (is_memory e.words v a.stands.over at) in
+    let agrees : Agrees m last.engine.log = commits.closes.agrees commits.was_open in
+    let comes = on.comes m (subst (λ n. IsMemory n m) (sym begins.words_are) fits) agrees in
+    let opens = begins.state m fits comes.agrees in
+    let arena : before.engine.arena ≡ began.thread.engine.arena = sym (ap (λ (s : State). s.arena) opens) ∙ state_arena began.thread.engine m in
+    let begun : stands_for began.thread.engine m ≡ begun_at v at began.thread.engine.arena = opens ∙ ap (λ xs. opened (bytes_of m) xs usual) arena in
+    let deepest = began.thread.engine.depth in
+    let came : came_over (start_of last Commit false) v e ≡ m = ap (λ (b : Bool). memory_in b (view_of last.pass) v (e.snapshot / 2)) on.revocable ∙ ap (memory_of v) (sym commits.closes.at_is) in
+    let whole : after last.engine.depth (stands_for last.engine (came_over (start_of last Commit false) v e)) Commit ≡ committed_at deepest v at began.thread.engine.arena (calls_of made) =
+    ap (λ d. after d (stands_for last.engine (came_over (start_of last Commit false) v e)) Commit) on.depth_is
+    ∙ ap (λ x. after deepest (stands_for last.engine x) Commit) came
+    ∙ ap (λ (s : State). after deepest s Commit) (comes.state ∙ ap (λ (s : State). state_after deepest s (calls_of made)) begun) in
+    record {
+      seen = commits.closes.seen;
+      replied = comes.replied ∙ ap (λ (s : State). replies deepest s (calls_of made)) begun;
+      wrote_is = commits.wrote_is ∙ ap (λ (s : State). s.wrote) whole;
+      next = λ is. let n = commits.next is in (n.0, n.1 ∙ ap (λ (s : State). s.memory) whole);
+      arena_is = commits.arena_is ∙ ap (λ (s : State). s.arena) whole;
+      actions_are = commits.actions_is ∙ ap (λ (s : State). s.actions) whole;
+    }
+
+-- ## The tries
+
+abbrev told_at : {R E : Type 0} → Tried R E → ℕ
+told_at (Done done) = done.at
+told_at _ = 0
+
+abbrev told_wrote : {R E : Type 0} → Tried R E → Bool
+told_wrote (Done done) = done.wrote
+told_wrote _ = false
+
+abbrev told_value : {R E : Type 0} → R → Tried R E → R
+told_value value (Done done) = done.value
+told_value value _ = value
+
+abbrev is_done : {R E : Type 0} → Tried R E → Type 0
+is_done (Done done) = Unit {0}
+is_done _ = ⊥
+
+module _ {F R E : Type 0} (fn : Mut F (MutBor Lent × Unit {0}) (Result R (Stopped E) × (MutBor Lent × Unit {0}))) (makings : Makings fn) (first : Words) (done : Value R) (new : Standing) where
+  abbrev told : Tried R E
+  told = Done done
+
+  not_stopped : (why : Stop) (b : Bool) → told ≡ stop_told why b → ⊥
+  not_stopped (stops.Refused refusal) true e = subst is_done e tt
+  not_stopped (stops.Refused refusal) false e = subst is_done e tt
+  not_stopped (stops.Conflict clock word) b e = subst is_done e tt
+  not_stopped (stops.Restarted clock word) b e = subst is_done e tt
+  not_stopped (stops.Busy clock) b e = subst is_done e tt
+  not_stopped (stops.Full at) b e = subst is_done e tt
+  not_stopped stops.Memory b e = subst is_done e tt
+
+  not_cancelled : (why : E) (b : Bool) → told ≡ cancel_told why b → ⊥
+  not_cancelled why true e = subst is_done e tt
+  not_cancelled why false e = subst is_done e tt
+
+  module _ (before : Standing) (again : Bool) (answer : Answer) (began : Lent) (begins : HasBegun before again answer began) (here : began.words ≡ first) (body body' : F) (last : Lent) where
+    committed : (value : R) (a : Answer) (stood : Lent) → IsAnswered last.words (start_of last.thread Commit false) a stood.thread.pass stood.thread.engine → told ≡ commit_told value a → LeftBy a stood new → CalledAtMut fn body began (Ok value) body' last → IsPlainRun fn makings first done new
+    committed value (answers.Committed at wrote) stood answered e left runs =
+        let same : CalledAtMut fn body began (Ok done.value) body' last = subst (λ (x : R). CalledAtMut fn body began (Ok x) body' last) (sym (ap (told_value done.value) e)) runs in
+        let made = makings body began done.value body' last same in
+        let a : IsAnswered last.words (start_of last.thread Commit false) (answers.Committed at wrote) new.pass new.engine =
+        subst (λ (t : Standing). IsAnswered last.words (start_of last.thread Commit false) (answers.Committed at wrote) t.pass t.engine) (sym left) answered in
+        let told_so : answers.Committed at wrote ≡ answers.Committed done.at done.wrote = ap (λ n. answers.Committed n wrote) (sym (ap told_at e)) ∙ ap (λ b. answers.Committed done.at b) (sym (ap told_wrote e)) in
+        record {
+          body = body;
+          body' = body';
+          began = began;
+          last = last;
+          here = here;
+          runs = same;
+          plain = law began.words before began made.0 last.thread done.at done.wrote last.words new (opens_on before again answer began begins.stood begins.outside begins.answered begins.goes_on) made.1
+              (subst (λ (x : Answer). IsAnswered last.words (start_of last.thread Commit false) x new.pass new.engine) told_so a);
+        }
+    committed value (answers.Reply r) stood answered e left runs = absurd (subst is_done e tt)
+    committed value (answers.Conflict clock word) stood answered e left runs = absurd (subst is_done e tt)
+    committed value (answers.Restarted clock word) stood answered e left runs = absurd (subst is_done e tt)
+    committed value (answers.Busy clock) stood answered e left runs = absurd (subst is_done e tt)
+    committed value (answers.Full at) stood answered e left runs = absurd (subst is_done e tt)
+
+    ran : (gives : Result R (Stopped E)) → CalledAtMut fn body began gives body' last → EndsBy gives last told new → IsPlainRun fn makings first done new
+    ran (Ok value) runs ends = committed value ends.answer ends.then ends.answered ends.told_is ends.left runs
+    ran (Err (Engine why)) runs ends = absurd (not_stopped why (in_transaction last.thread.engine) ends.1)
+    ran (Err (Cancelled why)) runs ends = absurd (not_cancelled why (in_transaction last.thread.engine) ends.1)
+
+  pub plain_run : (words : Words) → words ≡ first → KeepsLent fn → Tells fn words told new → IsPlainRun fn makings first done new
+  plain_run words is kept (inl run) = ran run.before run.again run.answer run.began run.begins (run.here kept ∙ is) run.body run.body' run.last run.gives run.runs run.ends
+  plain_run words is kept (inr none) = absurd (not_stopped none.stop true none.told_is)

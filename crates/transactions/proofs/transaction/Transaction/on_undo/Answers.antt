@@ -1,0 +1,17 @@
+use Rattle.std.proofs.Common.{false, rules, subst}
+use Rattle.itm_types.specs.declared.call.Call.TheVariants.{UndoAction}
+use Rattle.norec_core.specs.declared.answer.Answer.{Answer}
+use Rattle.shared_words.specs.Passes.{view_of}
+use Rattle.itm_runtime.specs.CallResults.{IsAnswered}
+use Rattle.itm_runtime.specs.Standing.{start_of}
+use Rattle.transactions.proofs.Kept.{undo_done}
+use Rattle.transactions.proofs.transaction.Transaction.on_undo.Goals as goal
+
+pub returns-clause-tells : goal.returns-clause-tells
+returns-clause-tells c =
+    let w = c.args.self.now.words in
+    let t = c.args.self.now.thread in
+    let new = c.call.new.self in
+    let answered : IsAnswered w (start_of t (UndoAction c.args.action) false) c.in_ok-answer.answer new.pass new.engine = search rules in
+    subst (λ (a : Answer). IsAnswered w (start_of t (UndoAction c.args.action) false) a new.pass new.engine)
+    (undo_done t c.args.action c.in_ok-answer.answer (view_of new.pass) new.engine answered.served c.in_ok-check.ensures.goes_on) answered

@@ -1,0 +1,26 @@
+use Rattle.std.proofs.Common.{◌∙◌, Some, ap, false, rules, subst, sym}
+use Rattle.itm_types.specs.declared.access.ReadHint.TheVariants.{R}
+use Rattle.itm_types.specs.declared.call.Call.TheVariants.{Read}
+use Rattle.shared_words.specs.Passes.{view_of}
+use Rattle.itm_runtime.specs.CallResults.{IsAnswered}
+use Rattle.itm_runtime.specs.Standing.{start_of}
+use Rattle.itm_runtime.proofs.Calls.NumberAnswers.{told_of}
+use Rattle.transactions.specs.Widths.{HasValue}
+use Rattle.transactions.proofs.WidthReads.{read_value}
+use Rattle.transactions.proofs.transaction.Transaction.read.Goals as goal
+
+pub value_in-requires : goal.value_in-requires
+value_in-requires c =
+    let w = c.args.self.now.words in
+    let t = c.args.self.now.thread in
+    let new = c.read.new.self in
+    let answered : IsAnswered w (start_of t (Read R c.args.width c.args.at) false) c.in_ok-answer.answer new.pass new.engine = search rules in
+    subst (HasValue c.args.width) (sym c.in_ok-checked.ensures.ok) (read_value t R c.args.width c.args.at c.in_ok-answer.answer (view_of new.pass) new.engine answered.served c.in_ok-checked.ensures.goes_on)
+
+pub returns-clause-tells : goal.returns-clause-tells
+returns-clause-tells c =
+    let w = c.args.self.now.words in
+    let t = c.args.self.now.thread in
+    let new = c.read.new.self in
+    let answered : IsAnswered w (start_of t (Read R c.args.width c.args.at) false) c.in_ok-answer.answer new.pass new.engine = search rules in
+    told_of _ c.in_ok-answer.answer w t (Read R c.args.width c.args.at) new (c.value_in.ensures.told ∙ ap Some c.in_ok-checked.ensures.ok) answered

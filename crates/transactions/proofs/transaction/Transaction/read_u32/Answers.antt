@@ -1,0 +1,13 @@
+use Rattle.std.proofs.Common.{◌∙◌, ℕ, List, Some, subst, sym}
+use Rattle.itm_types.specs.declared.access.ReadHint.TheVariants.{R}
+use Rattle.itm_types.specs.declared.access.Width.TheVariants.{U4}
+use Rattle.itm_types.specs.declared.call.Call.TheVariants.{Read}
+use Rattle.itm_model.specs.Machine.{bytes_reply}
+use Rattle.norec_core.specs.declared.answer.Answer.TheVariants.{Reply}
+use Rattle.itm_runtime.specs.CallResults.{Tells}
+use Rattle.transactions.proofs.transaction.Transaction.read_u32.Goals as goal
+
+pub returns-clause-tells : goal.returns-clause-tells
+returns-clause-tells c =
+    subst (λ (xs : List ℕ). Tells c.args.self.now.words c.args.self.now.thread (Read R U4 c.args.at) (Some (Reply (bytes_reply xs))) c.read.new.self.thread)
+    (sym (c.word_of.ensures ∙ c.as_slice.ensures.value)) c.in_ok-value.ensures.tells
