@@ -5,7 +5,8 @@
  *   reads     adds up SIZE words in a row, from a random one on
  *   writes    writes SIZE words in a row
  *
- * The words are looked at in the end: a count that is lost ends it with status 2. */
+ * A word is a uint64_t, or what WORD is defined as. The words are looked at in the end: a count that is lost ends it with
+ * status 2. */
 #include <pthread.h>
 #include <stdint.h>
 #include <stdio.h>
@@ -14,8 +15,12 @@
 #include <time.h>
 #include <unistd.h>
 
+#ifndef WORD
+#define WORD uint64_t
+#endif
+
 enum { WORDS = 8192, MOST_THREADS = 64 };
-static uint64_t word[WORDS] __attribute__((aligned(64)));
+static WORD word[WORDS] __attribute__((aligned(64)));
 static volatile int is_over;
 static unsigned size;
 
@@ -102,7 +107,7 @@ int main(int count, char **words) {
     double took = now() - began;
 
     for (int i = 0; i < WORDS; i++) sum += word[i];
-    if ((load == counter && sum != commits) || (load == transfer && sum)) return 2;
+    if ((load == counter && (WORD)sum != (WORD)commits) || (load == transfer && (WORD)sum)) return 2;
     printf("%.0f\n", commits / took);
     return 0;
 }

@@ -4,7 +4,8 @@
 # bench/compiled.c is built with `gcc -fgnu-tm`, and runs on LIBRARY (compiled/out/libitm.so.1, which compiled/build.sh
 # builds) and on libitm by its methods ml_wt, gl_wt and the one that it takes by itself. The four run by turns, ROUNDS times
 # (5) for MILLISECONDS each (200), so that what else the machine does meets all alike. Told are the medians, in thousands,
-# and the library's as a part of ml_wt's. A machine with other work gives figures that are worth nothing.
+# and the library's as a part of ml_wt's. A machine with other work gives figures that are worth nothing. With WORD=uint32_t
+# the words that they touch have 4 bytes, as an int has, and not 8.
 set -u
 root=$(CDPATH= cd -- "$(dirname -- "$0")/.." && pwd) || exit 1
 library=${1:-$root/compiled/out/libitm.so.1} time=${2:-200} rounds=${3:-5}
@@ -18,7 +19,7 @@ stop() {
 library=$(CDPATH= cd -- "$(dirname -- "$library")" && pwd)
 work=$(mktemp -d) || exit 1
 trap 'rm -rf "$work"' EXIT
-"${CC:-gcc}" -O2 -fgnu-tm -pthread -Wno-clobbered -o "$work/bench" "$root/bench/compiled.c" || exit 1
+"${CC:-gcc}" -O2 -fgnu-tm -pthread -Wno-clobbered -DWORD="${WORD:-uint64_t}" -o "$work/bench" "$root/bench/compiled.c" || exit 1
 
 # once RUNTIME WORKLOAD SIZE THREADS: commits in a second
 once() {

@@ -23,10 +23,6 @@ ENTRY void *_ITM_calloc(size_t count, size_t each) {
     return noted(calloc(count, each), count * each);
 }
 
-ENTRY void _ITM_free(void *p) {
-    release(p);
-}
-
 /* -- C++: new and delete -- */
 
 static void *made(size_t size) {
@@ -47,6 +43,7 @@ static void *surely_made(size_t size) {
     ENTRY void NAME(void *p __VA_ARGS__) { release(p); }
 #define UNUSED __attribute__((unused))
 
+FREES(_ITM_free)
 MAKES(_ZGTtnwm)
 MAKES(_ZGTtnam)
 MAKES_IF_CAN(_ZGTtnwmRKSt9nothrow_t)

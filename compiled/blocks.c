@@ -13,7 +13,7 @@ enum { MOST_TRIES = 100 };
 /* What a transaction finds so, and most leave so. */
 static void reset_more(void) {
     tx.plain = tx.fixed = tx.engine_inner = tx.tries = 0;
-    tx.inner.used = tx.undo.used = tx.commits.used = tx.undos.used = tx.fresh.used = tx.fresh_sorted.used = 0;
+    tx.inner.used = tx.undo.used = tx.commits.used = tx.undos.used = tx.fresh.used = 0;
     tx.foreign_page = 0;
     tx.serial = tx.has_more = false;
 }
@@ -21,7 +21,7 @@ static void reset_more(void) {
 static inline void end_try(void) {
     tx.fast = 0;
     __atomic_store_n(&tx.depth, 0, __ATOMIC_RELEASE);
-    __atomic_store_n(&tx.ended, tx.ended + 1, __ATOMIC_RELEASE);
+    tx.ended++;
 }
 
 /* The thread's own part of going back to where a block began. */
@@ -52,24 +52,21 @@ static uint32_t code_to_run(uint32_t props) {
     return props & INSTRUMENTED ? RUN_INSTRUMENTED : RUN_UNINSTRUMENTED;
 }
 
-static inline bool has_entered(bool serial, bool again) {
-    uint32_t code = itm_c_begin(&tx.engine, false, false, serial, again);
-    if (LIKELY(code == ITM_C_ENTERED || code == ITM_C_ENTERED_AGAIN)) return true;
-    if (code != ITM_C_BUSY && code != ITM_C_CONFLICT) fail("a transaction could not begin: %u", code);
-    return false;
-}
-
 /* No transaction is open meanwhile: who holds the clock may be waiting for that. */
-static SLOW void wait_to_enter(bool serial, bool again) {
-    for (unsigned times = 0; !has_entered(serial, again); times++) wait_a_little(times);
+static SLOW void wait_to_enter(uint32_t code, bool serial, bool again) {
+    for (unsigned times = 0; code >= ITM_C_CONFLICT; times++) {
+        if (code != ITM_C_BUSY && code != ITM_C_CONFLICT) fail("a transaction could not begin: %u", code);
+        wait_a_little(times);
+        code = itm_c_begin(tx.engine, false, false, serial, again);
+    }
 }
 
 /* (No fence: a thread that looks whether another's transaction is open orders them all, see threads.c.) */
 static inline void enter(bool serial, bool again) {
-    if (UNLIKELY(!has_entered(serial, again))) wait_to_enter(serial, again);
+    uint32_t code = itm_c_begin(tx.engine, false, false, serial, again);
+    if (UNLIKELY(code >= ITM_C_CONFLICT)) wait_to_enter(code, serial, again);
     __atomic_store_n(&tx.depth, 1, __ATOMIC_RELEASE);
     __atomic_signal_fence(__ATOMIC_SEQ_CST);
-    if (UNLIKELY(needs_fences)) __atomic_thread_fence(__ATOMIC_SEQ_CST);
 }
 
 static SLOW uint32_t enter_serial(uint32_t props, bool again) {
@@ -89,9 +86,9 @@ static inline uint32_t open_try(uint32_t props, bool is_last, bool again) {
 }
 
 uint32_t begin_outermost(uint32_t props) {
-    if (UNLIKELY(!tx.engine.at)) take_handle();
     tx.outermost.props = props;
-    return open_try(props, false, false) | SAVE_LIVE;
+    if (UNLIKELY(!tx.engine)) take_handle();
+    return open_try(tx.outermost.props, false, false) | SAVE_LIVE;
 }
 
 /* GCC 12 may leave code that follows an inner block without barriers, so by the end of that block what the transaction
@@ -103,7 +100,7 @@ static void open_inner(uint32_t props, const struct registers *r) {
         *r, props, tx.plain, tx.undo.used, tx.commits.used, tx.undos.used, tx.fresh.used,
     };
     if (!tx.serial) {
-        served(itm_c_begin(&tx.engine, false, false, false, false));
+        served(itm_c_begin(tx.engine, false, false, false, false));
         tx.engine_inner++;
     }
     tx.plain = 0;
@@ -142,7 +139,7 @@ static _Noreturn void restart(int tries) {
 
 void become_serial(void) {
     if (tx.serial) return;
-    served(itm_c_cancel(&tx.engine, true));
+    served(itm_c_cancel(tx.engine, true));
     restart(MOST_TRIES + 1);
 }
 
@@ -157,7 +154,7 @@ void call_failed(uint32_t code) {
 /* Code runs that nothing is known of: no block that is open can be cancelled any more. */
 void become_irrevocable(void) {
     if (!tx.serial) {
-        uint32_t code = itm_c_irrevocable(&tx.engine);
+        uint32_t code = itm_c_irrevocable(tx.engine);
         if (code == ITM_C_CONFLICT) restart(MOST_TRIES + 1);
         served(code);
         tx.has_more = tx.serial = true;
@@ -197,7 +194,7 @@ static void drop_blocks(int depth) {
 
 static void commit_inner(void) {
     if (tx.engine_inner == tx.depth - 1) {
-        served(itm_c_commit(&tx.engine));
+        served(itm_c_commit(tx.engine));
         tx.engine_inner--;
     }
     drop_blocks(tx.depth - 1);
@@ -225,7 +222,7 @@ ENTRY void _ITM_commitTransaction(void) {
         end_inner();
         return;
     }
-    served(itm_c_commit(&tx.engine));
+    served(itm_c_commit(tx.engine));
     end_try();
     if (UNLIKELY(tx.has_more)) end_more();
 }
@@ -233,7 +230,7 @@ ENTRY void _ITM_commitTransaction(void) {
 /* A serial transaction puts the bytes back, and commits that. */
 static void cancel_in_engine(int target) {
     if (tx.serial && target) return;
-    served(tx.serial ? itm_c_commit(&tx.engine) : itm_c_cancel(&tx.engine, !target));
+    served(tx.serial ? itm_c_commit(tx.engine) : itm_c_cancel(tx.engine, !target));
     tx.engine_inner = target - 1;
 }
 

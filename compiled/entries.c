@@ -11,6 +11,8 @@ ENTRY uint64_t _ITM_getTransactionId(void) {
     return tx.depth ? (uintptr_t)&tx : NO_TRANSACTION;
 }
 
+/* Actions are kept here, though the engine has its own: a serial transaction may be cancelled, which to the engine is
+ * irrevocable and has no undo actions; and what a block frees is due in one order with its commit actions. */
 ENTRY void _ITM_addUserCommitAction(void (*run)(void *), uint64_t id, void *argument) {
     if (id != NO_TRANSACTION) fail("a commit action that another transaction resumes is not served");
     if (!tx.depth) fail("a commit action outside of a transaction");

@@ -78,7 +78,7 @@ struct tx {
     int depth;                   /* so many blocks are open, */
     int plain;                   /* and within the innermost one so many that are not gone back to */
     uintptr_t fast;              /* so many bytes of the region need no further question: all or none */
-    struct itm_c_thread engine;  /* its handle, where it has one */
+    struct itm_c_thread *engine; /* its handle, its own or one that is lent, or none */
     uint64_t ended;              /* so many tries, however they ended */
     bool has_more;               /* what follows is not as a begin finds it */
     bool serial;
@@ -87,9 +87,9 @@ struct tx {
     int tries;
     struct list inner; /* struct block: those within the outermost one */
     struct list undo, commits, undos;
-    struct list fresh, fresh_sorted; /* struct memory: in the order of allocation, and by address */
+    struct list fresh; /* of memory.c */
     /* of threads.c */
-    struct lent *lent; /* whose the handle is, where it is lent */
+    struct itm_c_thread own_engine;
     struct memory stack, tls;
     bool is_shared;         /* others use its stack or its thread-local storage */
     uintptr_t foreign_page; /* that was used last, in this transaction */
@@ -118,15 +118,13 @@ static inline bool logs_shared(void) {
 
 /* -- threads.c -- */
 
-extern bool needs_fences;
-
 void take_handle(void);
 void give_handle(void);
 void wait_for_owner(const void *p, size_t size);
 
 /* -- region.c -- */
 
-extern struct memory region, constants, heap;
+extern struct memory region, constants;
 extern size_t tls_size;
 extern bool is_verbose;
 
@@ -139,12 +137,12 @@ static inline bool in_region(const void *p, size_t size) {
 
 /* (A stack may lie in the region.) */
 static inline void allow_fast(void) {
-    tx.fast = is_within((uintptr_t)tx.outermost.registers.sp, &region) ? 0 : region.size;
+    if (LIKELY(!is_within((uintptr_t)tx.outermost.registers.sp, &region))) tx.fast = region.size;
 }
 
 static inline void set_fast(void) {
-    if (tx.fresh.used || logs_shared()) tx.fast = 0;
-    else allow_fast();
+    tx.fast = 0;
+    if (!tx.fresh.used && !logs_shared()) allow_fast();
 }
 
 /* -- memory.c -- */
@@ -158,21 +156,15 @@ void drop_fresh(size_t left);
 
 /* -- barriers.c -- */
 
-void read_bytes(void *to, const void *from, size_t size);
+void read_bytes(const void *from, void *to, size_t size);
 void write_bytes(void *to, const void *from, size_t size);
 void write_shared(uint64_t place, const char *from, size_t size);
-
-/* -- heap.c -- */
-
-void lock_heap(void);
-void unlock_heap(void);
 
 #pragma GCC visibility pop
 
 /* -- the C library's own memory, which is no transaction's -- */
 
-extern void *__libc_malloc(size_t), *__libc_calloc(size_t, size_t), *__libc_realloc(void *, size_t);
-extern void *__libc_memalign(size_t, size_t);
+extern void *__libc_malloc(size_t), *__libc_realloc(void *, size_t), *__libc_memalign(size_t, size_t);
 extern void __libc_free(void *);
 
 #endif

@@ -8,48 +8,47 @@ static bool is_frame(uintptr_t at, const void *sp) {
     return at < (uintptr_t)sp && (at >= (uintptr_t)__builtin_frame_address(0) || is_within(at, &tx.stack));
 }
 
-/* -- what the transaction has allocated -- */
+/* -- what the transaction has allocated, in the order of the addresses -- */
 
-static struct memory *first_above(uintptr_t at) {
-    struct memory *low = (void *)tx.fresh_sorted.at, *high = (void *)(tx.fresh_sorted.at + tx.fresh_sorted.used);
+struct fresh {
+    struct memory memory;
+    size_t before; /* so many bytes of the list were used by those that are older */
+};
+
+static struct fresh *first_above(uintptr_t at) {
+    struct fresh *low = (void *)tx.fresh.at, *high = (void *)(tx.fresh.at + tx.fresh.used);
     while (low < high) {
-        struct memory *middle = low + (high - low) / 2;
-        if (middle->at > at) high = middle;
+        struct fresh *middle = low + (high - low) / 2;
+        if (middle->memory.at > at) high = middle;
         else low = middle + 1;
     }
     return low;
 }
 
 static bool is_fresh(uintptr_t at) {
-    struct memory *m = first_above(at);
-    return (char *)m > tx.fresh_sorted.at && is_within(at, m - 1);
-}
-
-static void sort_in(struct memory new) {
-    list_add(&tx.fresh_sorted, sizeof new);
-    struct memory *end = (void *)(tx.fresh_sorted.at + tx.fresh_sorted.used) - sizeof new, *m;
-    tx.fresh_sorted.used -= sizeof new;
-    m = first_above(new.at);
-    memmove(m + 1, m, (char *)end - (char *)m);
-    *m = new;
-    tx.fresh_sorted.used += sizeof new;
+    struct fresh *f = first_above(at);
+    return (char *)f > tx.fresh.at && is_within(at, &f[-1].memory);
 }
 
 void add_fresh(void *p, size_t size) {
-    struct memory new = {(uintptr_t)p, size ? size : 1};
-    *(struct memory *)list_add(&tx.fresh, sizeof new) = new;
-    sort_in(new);
+    struct fresh new = {{(uintptr_t)p, size ? size : 1}, tx.fresh.used};
+    char *end = list_add(&tx.fresh, sizeof new);
+    tx.fresh.used = new.before;
+    struct fresh *f = first_above(new.memory.at);
+    memmove(f + 1, f, end - (char *)f);
+    *f = new;
+    tx.fresh.used += sizeof new;
     set_fast();
 }
 
-void drop_fresh(size_t left) {
-    if (tx.fresh.used == left) return;
-    while (tx.fresh.used > left) {
-        tx.fresh.used -= sizeof(struct memory);
-        free((void *)((struct memory *)(tx.fresh.at + tx.fresh.used))->at);
+/* Frees the younger ones. */
+void drop_fresh(size_t before) {
+    struct fresh *left = (void *)tx.fresh.at, *end = (void *)(tx.fresh.at + tx.fresh.used);
+    for (struct fresh *f = left; f < end; f++) {
+        if (f->before < before) *left++ = *f;
+        else free((void *)f->memory.at);
     }
-    tx.fresh_sorted.used = 0;
-    for (size_t i = 0; i < left; i += sizeof(struct memory)) sort_in(*(struct memory *)(tx.fresh.at + i));
+    tx.fresh.used = before;
 }
 
 /* -- kinds -- */

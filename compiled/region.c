@@ -1,15 +1,15 @@
 /* Where the region lies, and the memory that the engine takes. */
 #include "library.h"
 #include <link.h>
+#include <malloc.h>
 #include <stdio.h>
 #include <stdlib.h>
-#include <sys/auxv.h>
-#include <sys/mman.h>
+#include <unistd.h>
 
-enum { PAGE = 4096, MIB = 1 << 20, REGION_MIB = 4096 };
+enum { PAGE = 4096, LINE = 64, MIB = 1 << 20, HEAP_MIB = 4096 };
 static const size_t most_bytes = ((1ul << 32) - 8) * 8; /* that the engine has cells for */
 
-struct memory region, constants, heap;
+struct memory region, constants;
 size_t tls_size;
 bool is_verbose;
 
@@ -26,8 +26,9 @@ static struct tried told(void *at) {
     return (struct tried){at != 0, at ? at : &nowhere};
 }
 
+/* (In lines of its own: what other threads write to lies beside.) */
 struct tried rattle_alloc(size_t size, size_t align) {
-    return told(__libc_malloc(size ? size : align));
+    return told(__libc_memalign(LINE, size ? size : align));
 }
 
 struct tried rattle_realloc(void *old, size_t had, size_t size, size_t align) {
@@ -67,14 +68,12 @@ static void look_at(const ElfW(Phdr) *part, struct image *image) {
     if (part->p_type == PT_TLS) tls_size = (part->p_memsz + part->p_align - 1) & -part->p_align;
 }
 
-static struct image find_image(void) {
-    const ElfW(Phdr) *parts = (void *)getauxval(AT_PHDR);
-    size_t count = getauxval(AT_PHNUM);
-    struct image image = {0};
-    for (size_t i = 0; i < count; i++)
-        if (parts[i].p_type == PT_PHDR) image.base = (uintptr_t)parts - parts[i].p_vaddr;
-    for (size_t i = 0; i < count; i++) look_at(&parts[i], &image);
-    return image;
+/* (The program comes first.) */
+static int find_image(struct dl_phdr_info *program, size_t size, void *image) {
+    (void)size;
+    ((struct image *)image)->base = program->dlpi_addr;
+    for (size_t i = 0; i < program->dlpi_phnum; i++) look_at(&program->dlpi_phdr[i], image);
+    return 1;
 }
 
 /* What is sealed once the program is loaded lies in front of .data, and then the slots, where a linker has not put them
@@ -99,50 +98,37 @@ static uintptr_t clock_of(const struct image *image) {
     return word <= last && !word[0] ? (uintptr_t)word : 0;
 }
 
-/* -- the heap, right behind -- */
+/* -- the heap: the C library's, all of it in one piece behind the data -- */
 
-static size_t wanted_size(void) {
+/* Memory is never given back to the system, since a transaction that will not commit may still read what has been
+ * freed. */
+static void keep_heap_whole(void) {
+    mallopt(M_ARENA_MAX, 1);
+    mallopt(M_MMAP_MAX, 0);
+    mallopt(M_TRIM_THRESHOLD, -1);
+}
+
+static size_t heap_room(void) {
     const char *told = getenv("ITM_REGION");
-    size_t mib = told ? strtoul(told, 0, 10) : REGION_MIB;
-    return mib > most_bytes / MIB ? most_bytes & -PAGE : mib * MIB;
+    size_t mib = told ? strtoul(told, 0, 10) : HEAP_MIB;
+    return (mib < most_bytes / MIB ? mib : most_bytes / MIB) * MIB;
 }
 
-static void map_heap(uintptr_t at, size_t size) {
-    for (; size >= MIB; size = size / 2 & -PAGE) {
-        void *got = mmap((void *)at, size, PROT_READ | PROT_WRITE,
-                         MAP_PRIVATE | MAP_ANONYMOUS | MAP_FIXED_NOREPLACE | MAP_NORESERVE, -1, 0);
-        if (got == (void *)at) {
-            heap = (struct memory){at, size};
-            return;
-        }
-        if (got != MAP_FAILED) munmap(got, size);
-    }
-}
-
-static void place_region(void) {
-    static uint64_t least[2];
-    struct image image = find_image();
-    uintptr_t clock = clock_of(&image), behind = (image.end + PAGE - 1) & -PAGE;
-    size_t data = behind - clock, most = wanted_size();
-    bool has_data = clock && data <= most;
-    map_heap(behind, has_data ? most - data : most);
-    constants = (struct memory){image.first, (has_data ? clock : image.writable) - image.first};
-    if (!has_data) {
-        /* the data are foreign, and the heap alone is shared */
-        clock = heap.size ? heap.at : (uintptr_t)least;
-        data = heap.size ? PAGE : sizeof least;
-        if (heap.size) heap.at += PAGE, heap.size -= PAGE;
-    }
-    region = (struct memory){clock + 8, data - 8 + heap.size};
-}
-
-/* At the first malloc of the process: before then nobody has moved the end of the program's memory. */
 void find_region(void) {
-    static bool is_found;
-    if (is_found) return;
-    is_found = true;
+    struct image image = {0};
+    keep_heap_whole();
+    dl_iterate_phdr(find_image, &image);
+    uintptr_t clock = clock_of(&image), heap = (uintptr_t)sbrk(0), end = heap + heap_room();
+    constants = (struct memory){image.first, (clock ? clock : image.writable) - image.first};
+    if (clock > heap) end = image.end; /* the loader was called by name: the heap lies elsewhere */
+    if (!clock) {
+        /* the data are foreign, and the heap alone is shared */
+        if (sbrk(PAGE) == (void *)-1) fail("no memory for the clock");
+        clock = (heap + 7) & -8;
+    }
+    size_t size = (end - clock) & -8;
+    region = (struct memory){clock + 8, (size < most_bytes ? size : most_bytes) - 8};
     is_verbose = getenv("ITM_VERBOSE");
-    place_region();
     if (is_verbose)
         fprintf(stderr, "libitm (Sofjundel): region %p, %zu MiB\n", (void *)region.at, region.size / MIB);
 }

@@ -25,8 +25,6 @@ static struct tx *first_thread;
 static uint64_t all_committed, all_restarts, all_serials;
 static pthread_key_t leaving;
 
-bool needs_fences;
-
 /* -- counts -- */
 
 static void add_counts(void) {
@@ -45,17 +43,10 @@ static void tell_counts(void) {
 
 /* -- the process -- */
 
-static bool orders_all_threads(void) {
-    return !syscall(SYS_membarrier, MEMBARRIER_CMD_PRIVATE_EXPEDITED, 0, 0) ||
-           (!syscall(SYS_membarrier, MEMBARRIER_CMD_REGISTER_PRIVATE_EXPEDITED, 0, 0) &&
-            !syscall(SYS_membarrier, MEMBARRIER_CMD_PRIVATE_EXPEDITED, 0, 0));
-}
-
 static void leave(void *);
 
 static void open_engine(void) {
     struct itm_c_cells cells = {(uint64_t *)(region.at - 8), (region.size + 8) / 8};
-    needs_fences = !orders_all_threads();
     if (*cells.at) fail("the word before the program's data is in use");
     uint32_t code = itm_c_open(cells, &words);
     if (code) fail("the engine could not open the region: %u", code);
@@ -65,23 +56,20 @@ static void open_engine(void) {
 
 /* -- memory of a thread that others use. From the first such use on it is foreign to its own thread too. -- */
 
-/* Where that was while nobody had it: a thread that comes later may. */
+/* Where that was while nobody had it: a thread that comes later may. Once these are too many, it is anywhere. */
 enum { MOST_UNOWNED = 256, GRAIN = 1 << 16 };
 static uintptr_t unowned[MOST_UNOWNED];
 static int unowned_count;
 
-static void note_unowned(uintptr_t at) {
-    at &= -(uintptr_t)GRAIN;
-    for (int i = 0; i < unowned_count && i < MOST_UNOWNED; i++)
-        if (unowned[i] == at) return;
-    if (unowned_count < MOST_UNOWNED) unowned[unowned_count] = at;
-    if (unowned_count <= MOST_UNOWNED) unowned_count++;
+static bool was_used(const struct memory *m) {
+    for (int i = 0; i < unowned_count; i++)
+        if (unowned[i] + GRAIN > m->at && unowned[i] < m->at + m->size) return true;
+    return unowned_count == MOST_UNOWNED;
 }
 
-static bool was_used(const struct memory *m) {
-    for (int i = 0; i < unowned_count && i < MOST_UNOWNED; i++)
-        if (unowned[i] + GRAIN > m->at && unowned[i] < m->at + m->size) return true;
-    return unowned_count > MOST_UNOWNED;
+static void note_unowned(uintptr_t at) {
+    struct memory grain = {at & -(uintptr_t)GRAIN, GRAIN};
+    if (!was_used(&grain)) unowned[unowned_count++] = grain.at;
 }
 
 static struct tx *owner_of(uintptr_t at) {
@@ -91,13 +79,13 @@ static struct tx *owner_of(uintptr_t at) {
 }
 
 /* The owner's transaction that is open just now may have used it unguarded: it has to end. It does, since the clock is
- * held by this one: what it can't do without the clock it gives up, and is not open while it waits. */
+ * held by this one: what it can't do without the clock it gives up, and none is open while the owner waits for it. */
 static void mark_shared(struct tx *owner) {
     __atomic_store_n(&owner->is_shared, true, __ATOMIC_SEQ_CST);
-    if (!needs_fences && !orders_all_threads()) fail("memory of another thread can't be used");
-    uint64_t ended = __atomic_load_n(&owner->ended, __ATOMIC_SEQ_CST);
-    while (__atomic_load_n(&owner->depth, __ATOMIC_ACQUIRE) && __atomic_load_n(&owner->ended, __ATOMIC_ACQUIRE) == ended)
-        sched_yield();
+    syscall(SYS_membarrier, MEMBARRIER_CMD_REGISTER_PRIVATE_EXPEDITED, 0, 0);
+    if (syscall(SYS_membarrier, MEMBARRIER_CMD_PRIVATE_EXPEDITED, 0, 0))
+        fail("memory of another thread is used, and the kernel has no membarrier to order the two");
+    while (__atomic_load_n(&owner->depth, __ATOMIC_ACQUIRE)) sched_yield();
 }
 
 static void use_foreign_at(uintptr_t at) {
@@ -124,25 +112,22 @@ static bool has_entered(struct itm_c_thread *engine) {
     return !code;
 }
 
-static bool is_lent(void) {
+static struct itm_c_thread *lent_handle(void) {
     bool is_any_out = false;
     for (struct lent *l = lent; l < lent + LENT_HANDLES; l++) {
         is_any_out |= l->is_out;
         if (l->is_out || (!l->engine.at && !has_entered(&l->engine))) continue;
-        l->is_out = true;
-        tx.engine = l->engine;
-        tx.lent = l;
-        tx.has_more = true;
-        return true;
+        l->is_out = tx.has_more = true;
+        return &l->engine;
     }
     if (!is_any_out) fail("no memory for a thread");
-    return false;
+    return 0;
 }
 
-static bool found_handle(void) {
-    if (own_handles == OWN_HANDLES || !has_entered(&tx.engine)) return is_lent();
+static struct itm_c_thread *find_handle(void) {
+    if (own_handles == OWN_HANDLES || !has_entered(&tx.own_engine)) return lent_handle();
     own_handles++;
-    return true;
+    return &tx.own_engine;
 }
 
 static void find_own_memory(void) {
@@ -170,17 +155,16 @@ void take_handle(void) {
     if (is_new) find_own_memory();
     pthread_mutex_lock(&threads_lock);
     if (is_new) add_thread();
-    while (!found_handle()) pthread_cond_wait(&handle_is_free, &threads_lock);
+    while (!(tx.engine = find_handle())) pthread_cond_wait(&handle_is_free, &threads_lock);
     pthread_mutex_unlock(&threads_lock);
 }
 
 /* Where it is a lent one. */
 void give_handle(void) {
-    if (!tx.lent) return;
+    if (tx.engine == &tx.own_engine) return;
     pthread_mutex_lock(&threads_lock);
-    *tx.lent = (struct lent){tx.engine, false};
-    tx.engine.at = 0;
-    tx.lent = 0;
+    ((struct lent *)tx.engine)->is_out = false;
+    tx.engine = 0;
     pthread_cond_signal(&handle_is_free);
     pthread_mutex_unlock(&threads_lock);
 }
@@ -194,19 +178,19 @@ static void remove_thread(void) {
 }
 
 static void leave(void *none) {
-    struct list *lists[] = {&tx.inner, &tx.undo, &tx.commits, &tx.undos, &tx.fresh, &tx.fresh_sorted};
+    struct list *lists[] = {&tx.inner, &tx.undo, &tx.commits, &tx.undos, &tx.fresh};
     (void)none;
     if (tx.depth) fail("a thread ends within a transaction");
     pthread_mutex_lock(&threads_lock);
-    if (tx.engine.at) {
-        if (itm_c_leave(&words, &tx.engine)) fail("a thread could not leave");
+    if (tx.engine) {
+        if (itm_c_leave(&words, tx.engine)) fail("a thread could not leave");
         own_handles--;
         pthread_cond_signal(&handle_is_free);
     }
     remove_thread();
     add_counts();
     pthread_mutex_unlock(&threads_lock);
-    for (int i = 0; i < 6; i++) list_drop(lists[i]);
+    for (int i = 0; i < 5; i++) list_drop(lists[i]);
     tx = (struct tx){0};
 }
 
@@ -216,17 +200,15 @@ static __thread bool holds_clock __attribute__((tls_model("initial-exec")));
 
 static void before_fork(void) {
     holds_clock = words.at && !tx.depth;
-    if (holds_clock && !tx.engine.at) take_handle();
-    while (holds_clock && itm_c_begin(&tx.engine, false, false, true, false) != ITM_C_ENTERED) sched_yield();
+    if (holds_clock && !tx.engine) take_handle();
+    while (holds_clock && itm_c_begin(tx.engine, false, false, true, false) != ITM_C_ENTERED) sched_yield();
     pthread_mutex_lock(&threads_lock);
-    lock_heap();
 }
 
 static void after_fork(void) {
-    unlock_heap();
     pthread_mutex_unlock(&threads_lock);
     if (!holds_clock) return;
-    if (itm_c_commit(&tx.engine) >= ITM_C_CONFLICT) fail("the clock could not be freed after a fork");
+    if (itm_c_commit(tx.engine) >= ITM_C_CONFLICT) fail("the clock could not be freed after a fork");
     give_handle();
 }
 
