@@ -1,16 +1,25 @@
 #!/bin/sh
-# Proves and builds the program itmrun, and the libraries below it first: those that do not stand on each other side by
-# side, and none that is proved as it stands. RT_JOBS, where it is set, says how many processors to take.
+# Proves and builds the program itmrun, or the one that is named, itmsteps, and the libraries below it first: those that do
+# not stand on each other side by side, and none that is proved as it stands. RT_JOBS, where it is set, says how many
+# processors to take.
 
 stop() {
-    echo "itmrun: $1" >&2
+    echo "$program: $1" >&2
     exit 127
 }
 
+program=${1:-itmrun}
+case $program in
+itmrun) words='sched -' ;;
+itmsteps) words=- ;;
+*) program=itmrun && stop "there is no such program: $1" ;;
+esac
+
 here=$(CDPATH= cd -- "$(dirname -- "$0")" && pwd) || exit
 crates=$here/crates
-out=$crates/itmrun/out
-work=$out/below
+out=$crates/$program/out
+# (one for all programs, since they stand on the same libraries)
+work=$crates/itmrun/out/below lock=$crates/itmrun/out/building
 
 # the libraries below the program, each with those that it names, a line each: first what the longest chain of crates up
 # to the program begins with, by their lines
@@ -18,9 +27,9 @@ libraries() {
     while read -r name named; do
         lines=$(cd "$crates/${name%:}" && find src specs proofs -type f -exec cat {} + 2>/dev/null | wc -l)
         echo "$((lines)) ${name%:} $named"
-    done <"$here/crates.txt" | awk '{ row[NR] = $0; crates[$2] }
+    done <"$here/crates.txt" | awk -v program="$program" '{ row[NR] = $0; crates[$2] }
     END {
-        above["itmrun"] = 0
+        above[program] = 0
         for (n = NR; n > 0; n--) {
             last = split(row[n], it)
             if (!(it[2] in above)) continue
@@ -30,7 +39,7 @@ libraries() {
                 named = named " " it[i]
                 if (above[it[i]] < height) above[it[i]] = height
             }
-            if (it[2] != "itmrun") print height, named
+            if (it[2] != program) print height, named
         }
     }' | sort -k 1,1nr | cut -d ' ' -f 2-
 }
@@ -78,15 +87,15 @@ end() {
         [ ! -f "$it" ] || kill "$(cat "$it")"
     done
     wait
-    rm -rf "$work" "$out/building"
+    rm -rf "$work" "$lock"
 }
 
 command -v rt >/dev/null || stop "the program has to be built, and there is no rt on the path"
-mkdir -p "$out" && [ -w "$out" ] || stop "the program has to be built, and its folder cannot be written: $out"
+mkdir -p "$out" "${lock%/*}" && [ -w "$out" ] && [ -w "${lock%/*}" ] || stop "the program has to be built, and its folder cannot be written: $out"
 # one build at a time: a second one waits, and then finds all proved
-until (set -C && echo $$ >"$out/building") 2>/dev/null; do
+until (set -C && echo $$ >"$lock") 2>/dev/null; do
     sleep 1
-    kill -0 "$(cat "$out/building" 2>/dev/null)" 2>/dev/null || rm -f "$out/building"
+    kill -0 "$(cat "$lock" 2>/dev/null)" 2>/dev/null || rm -f "$lock"
 done
 trap end EXIT
 trap 'exit 127' HUP INT TERM
@@ -105,7 +114,7 @@ begun=$proved
 # a check takes a processor and up to 4 GB
 most=${RT_JOBS:-$(awk -v most="$(nproc)" '/^MemAvailable:/ { n = int($2 / 4000000) } END { print n < 1 ? 1 : n < most ? n : most }' /proc/meminfo)}
 idle=$most
-echo "itmrun: proving and building the program; from nothing that takes a quarter to half an hour" >&2
+echo "$program: proving and building the program; from nothing that takes a quarter to half an hour" >&2
 while [ "$count" -lt $((total - 1)) ]; do
     first=
     set --
@@ -125,11 +134,11 @@ while [ "$count" -lt $((total - 1)) ]; do
     [ "$status" = 0 ] || { cat "$work/$name/said" >&2; stop "the library $name could not be proved; rt says above why"; }
     rm -rf "${work:?}/$name"
     proved="$proved$name " idle=$((idle + jobs)) count=$((count + 1))
-    echo "itmrun: proved $count of $total: $name" >&2
+    echo "$program: proved $count of $total: $name" >&2
 done
 # (what is edited from here on is newer than the program)
 : >"$work/begun"
-(cd "$crates/itmrun" && printf '.memory 8\n.thread\n' | rt run --jobs "$most" -- sched -) >"$work/said" 2>&1 ||
+(cd "$crates/$program" && printf '.memory 8\n.thread\n' | rt run --jobs "$most" -- $words) >"$work/said" 2>&1 ||
     { cat "$work/said" >&2; stop "the program could not be proved and built; rt says above why"; }
-touch -r "$work/begun" "$out/itmrun" || stop "the program was built, and cannot be marked as current: $out/itmrun"
-echo "itmrun: proved $total of $total: itmrun" >&2
+touch -r "$work/begun" "$out/$program" || stop "the program was built, and cannot be marked as current: $out/$program"
+echo "$program: proved $total of $total: $program" >&2

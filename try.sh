@@ -1,19 +1,22 @@
 #!/bin/sh
 # Runs the program itmrun from its sources as they stand, which nothing has proved here: `sh try.sh WORDS`. It answers as
-# the proved program does, some 45 seconds later, and a line on standard error says what it is.
+# the proved program does, some 45 seconds later, and a line on standard error says what it is. Its launcher has it run
+# itmsteps so, where ITM_PROGRAM says that.
 #
 # The program is compiled and run by `rt try`: in a folder of its own, with standard input only as far as it comes at once,
 # and with lines of rt's own on standard error. So the program gets whole paths, and a file for what is no file; and of
 # standard error its own lines are handed on.
 
 stop() {
-    echo "itmrun: $1" >&2
+    echo "$program: $1" >&2
     exit 127
 }
 
+program=${ITM_PROGRAM:-itmrun}
+
 here=$(CDPATH= cd -- "$(dirname -- "$0")" && pwd) || exit 127
 command -v rt >/dev/null || stop 'the program is not built, and there is no rt on the path'
-echo 'itmrun: not proved on this machine yet; this answer is of the unproved sources. sh build.sh proves and builds:' \
+echo "$program: not proved on this machine yet; this answer is of the unproved sources. sh build.sh proves and builds:" \
     'some 20 minutes on four processors, 40 on two' >&2 || exit 5
 work=$(mktemp -d) && work=$(CDPATH= cd -- "$work" && pwd) || stop 'there is no place for temporary files'
 trap 'rm -rf "$work"' EXIT
@@ -44,6 +47,8 @@ find() {
 
 # the words, with a whole path for each that stands behind the command and is no flag
 flags=yes command=
+# (of itmsteps each word that is no flag is a file)
+[ "$program" = itmrun ] || command=$program
 for word; do
     shift
     case $flags$word in
@@ -54,15 +59,15 @@ for word; do
     set -- "$@" "$word"
 done
 
-(cd "$here/crates/itmrun" && RT_SECONDS=${RT_SECONDS:-86400} exec rt try -- "$@") \
+(cd "$here/crates/$program" && RT_SECONDS=${RT_SECONDS:-86400} exec rt try -- "$@") \
     <"/dev/null" >"$work/output" 2>"$work/errors" &
 running=$!
 wait "$running"
 status=$(sed -n '$s/^run=ended status=\([0-9]*\) .*/\1/p' "$work/errors")
 [ -n "$status" ] || { cat "$work/errors" >&2; stop 'the sources could not be run; rt says above why'; }
 [ ! -s "$work/output" ] || cat "$work/output" 2>/dev/null || {
-    echo 'itmrun: writing failed' >&2
+    echo "$program: writing failed" >&2
     exit 5
 }
-sed -n '/^itmrun: /p' "$work/errors" >&2 || exit 5
+sed -n "/^$program: /p" "$work/errors" >&2 || exit 5
 exit "$status"

@@ -335,6 +335,7 @@ check 'a history in which an update is lost' 3
 . "$root/tests/streams.sh"
 . "$root/tests/launcher.sh"
 . "$root/tests/large_words.sh"
+. "$root/tests/steps.sh"
 
 # count NAME WORD..: runs these words, whose last line counts what passed and what failed
 count() {

@@ -12,3 +12,4 @@ pub use by_schedule::sched;
 pub use endings::Endings;
 pub use on_threads::{tell_run, threads};
 pub use playing::play;
+pub use running::{begin, each_out};

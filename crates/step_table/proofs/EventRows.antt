@@ -1,5 +1,5 @@
 -- One event of a world as a row.
-use Rattle.std.proofs.Common.{◌≡◌, ℕ, ◌≤◌, Bool, true, List, [], ◌∷◌, ◌++◌, drop, length, Option, None, Some, IsSome, refl, sym, subst, ◌∙◌, append-nil, arith}
+use Rattle.std.proofs.Common.{◌≡◌, ℕ, ◌≤◌, Bool, true, List, [], ◌∷◌, ◌++◌, drop, length, Option, None, Some, IsSome, refl, sym, ap, subst, ◌∙◌, append-nil, arith}
 use Rattle.std.proofs.lemmas.Grind.{common_steps}
 use Rattle.std.specs.Option.{option_map}
 use Rattle.itm_types.specs.declared.step.Step.{Step}
@@ -17,7 +17,6 @@ use Rattle.norec_world.proofs.Events.WorldEvents.{LeavesLessSoFar, told_event}
 use Rattle.norec_world.proofs.Events.Worlds.{waiting_there, waits_there}
 use Rattle.tx_attempts.specs.declared.attempt.Attempt.{Attempt}
 use Rattle.tx_player.specs.Rules.{Rules}
-use Rattle.step_table.specs.Came.{came_text}
 use Rattle.step_table.specs.Rows.{Row, SoMany}
 
 -- ## The operation that comes next
@@ -61,15 +60,22 @@ module _ {P : Type 0} (rules : Rules P) (old new : World P) (thread : ℕ) where
 
   -- ## The row
 
-  module _ (o : Operation) (goes_on : Bool) (had : Option ℕ) (first calls number clock : ℕ) (came : List ℕ) where
+  module _ (o : Operation) (goes_on : Bool) (had : Option ℕ) (first calls number clock : ℕ) where
     abbrev pub row : Row
-    row = record { event = record { number = number; thread = thread; operation = o; clock = clock }; came = came }
+    row = record {
+      event = record { number = number; thread = thread; operation = o; clock = clock };
+      goes_on = goes_on;
+      had = had;
+      calls = calls;
+      ended = drop first new.attempts.ended;
+      active = attempt_at new thread;
+      ending = ending_at new thread;
+    }
 
     pub is_row : Some o ≡ operation_at old thread → Goes rules thread old (event_result (ending_at new thread)) new → TellsCall rules thread goes_on old new → TellsCalls rules thread calls old new
         → had ≡ option_map (λ (a : Attempt). length a.calls.list) (attempt_at old thread) → first ≡ length old.attempts.ended → number ≡ new.events → clock ≡ new.cells.clock
-        → came ≡ came_text o.step goes_on had calls (drop first new.attempts.ended) (attempt_at new thread) (ending_at new thread)
         → SoMany rules thread 1 old (row ∷ []) new
-    is_row next goes tells told had_is first_is number_is clock_is came_is = (
+    is_row next goes tells told had_is first_is number_is clock_is = (
       record {
         leads = (
           new,
@@ -78,9 +84,12 @@ module _ {P : Type 0} (rules : Rules P) (old new : World P) (thread : ℕ) where
             goes = goes;
             number = number_is;
             clock = clock_is;
-            calls = calls;
-            told = told;
-            came = came_is ∙ (λ i. came_text o.step (tells.before i) (had_is i) calls (drop (first_is i) new.attempts.ended) (attempt_at new thread) (ending_at new thread));
+            goes_on = tells.before;
+            had = had_is;
+            calls = told;
+            ended = ap (λ (n : ℕ). drop n new.attempts.ended) first_is;
+            active = refl;
+            ending = refl;
           },
           refl,
         );

@@ -6,33 +6,33 @@ use Rattle.itm_types.specs.declared.step.Step.{Step}
 use Rattle.itm_types.specs.declared.step.Step.TheVariants.{Load, Store, Cas}
 use Rattle.tx_attempts.specs.declared.attempt.Outcome.TheVariants.{Committed, Conflict}
 use Rattle.step_table.specs.Came.{conflict_text, end_text}
-use Rattle.step_table.specs.Rows.{Row}
+use Rattle.step_table.specs.declared.event.Event.{Event}
 use Rattle.step_table.specs.Table.{back_text, cell_of, cell_text, column_text, event_text, exchange_text, front_text, number_text, step_text}
 
-abbrev row_of : ℕ → ℕ → Step → ℕ → ℕ → List ℕ → Row
-row_of number thread step found clock came = record { event = record { number = number; thread = thread; operation = record { step = step; found = found }; clock = clock }; came = came }
+abbrev event_of : ℕ → ℕ → Step → ℕ → ℕ → Event
+event_of number thread step found clock = record { number = number; thread = thread; operation = record { step = step; found = found }; clock = clock }
 
 abbrev both : List ℕ
 both = 0 ∷ 1 ∷ []
 
-reads : event_text both (row_of 2 0 (Load 1) 0 0 []) ≡ codes "    2  [0] = 0                    |                            |     0\n"
+reads : event_text both (event_of 2 0 (Load 1) 0 0) [] ≡ codes "    2  [0] = 0                    |                            |     0\n"
 unfolding back_text cell_of cell_text column_text event_text front_text number_text step_text digits
 reads = refl
 
-takes : event_text both (row_of 7 1 (Cas 0 0 1) 0 1 []) ≡ codes "    7                             | take 0                     |     1\n"
+takes : event_text both (event_of 7 1 (Cas 0 0 1) 0 1) [] ≡ codes "    7                             | take 0                     |     1\n"
 unfolding back_text cell_of column_text event_text exchange_text front_text number_text step_text digits
 takes = refl
 
-frees : event_text both (row_of 9 1 (Store 0 2) 0 2 (codes " | committed at 0")) ≡ codes "    9                             | clock := 2                 |     2 | committed at 0\n"
+frees : event_text both (event_of 9 1 (Store 0 2) 0 2) (codes " | committed at 0") ≡ codes "    9                             | clock := 2                 |     2 | committed at 0\n"
 unfolding back_text cell_of cell_text column_text event_text front_text number_text step_text digits
 frees = refl
 
-loses : event_text both (row_of 10 0 (Cas 0 0 1) 2 2 []) ≡ codes "   10  take 0: finds 2            |                            |     2\n"
+loses : event_text both (event_of 10 0 (Cas 0 0 1) 2 2) [] ≡ codes "   10  take 0: finds 2            |                            |     2\n"
 unfolding back_text cell_of column_text event_text exchange_text front_text number_text step_text digits
 loses = refl
 
 -- of the second thread alone, in a column that is not wide enough
-overflows : event_text (1 ∷ []) (row_of 8 1 (Store 1000 18446744073709551615) 0 1 []) ≡ codes "    8  [7992] := 18446744073709551615 |     1\n"
+overflows : event_text (1 ∷ []) (event_of 8 1 (Store 1000 18446744073709551615) 0 1) [] ≡ codes "    8  [7992] := 18446744073709551615 |     1\n"
 unfolding back_text cell_of cell_text column_text event_text front_text number_text step_text digits
 overflows = refl
 

@@ -10,7 +10,7 @@ use Rattle.tx_history.specs.Spelling.{IsCut, Puts}
 use Rattle.step_table.specs.declared.view.View.{View}
 use Rattle.step_table.specs.Rows.{Row}
 use Rattle.step_table.specs.Shown.{Shows}
-use Rattle.step_table.specs.Table.{head_text, line_text, lines_text, table_text}
+use Rattle.step_table.specs.Table.{came_of, head_text, line_of, line_text, lines_text, table_text}
 
 module _ (view : View) where
   lines_both : (xs ys : List Row) → lines_text view (xs ++ ys) ≡ lines_text view xs ++ lines_text view ys
@@ -44,13 +44,13 @@ module _ {P : Type 0} (view : View) (R S T : World P → List Row → World P �
   written_begun join (xs, r, p) (ys, n, s, q) = (xs ++ ys, length (lines_text view xs) + n, join xs ys r s, got_cut view u v w xs ys n p q)
 
 module _ {P : Type 0} (view : View) (R : World P → List Row → World P → Type 0) (a b : World P) (row : Row) (u v : Option (List ℕ)) (all : R a (row ∷ []) b) where
-  -- the line of one event
-  pub written_one : Appends u v (line_text view row) → Written view R a b u v
-  written_one p = (row ∷ [], all, subst (Appends u v) (sym (append-nil (line_text view row))) p)
+  -- the line of one event, of which this came
+  pub written_one : (came : List ℕ) → came ≡ came_of row → Appends u v (line_of view row.event came) → Written view R a b u v
+  written_one came is p = (row ∷ [], all, subst (Appends u v) (ap (line_of view row.event) is ∙ sym (append-nil (line_text view row))) p)
 
   -- a part of it
-  pub begun_one : IsCut u v (line_text view row) → Begun view R a b u v
-  begun_one (n, h, p) = (row ∷ [], n, all, subst (λ (l : List ℕ). Appends u v (take n l)) (sym (append-nil (line_text view row))) p)
+  pub begun_one : (came : List ℕ) → came ≡ came_of row → IsCut u v (line_of view row.event came) → Begun view R a b u v
+  begun_one came is (n, h, p) = (row ∷ [], n, all, subst (λ (l : List ℕ). Appends u v (take n l)) (ap (line_of view row.event) is ∙ sym (append-nil (line_text view row))) p)
 
 -- ## The head
 

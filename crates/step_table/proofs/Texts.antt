@@ -9,8 +9,8 @@ use Rattle.tx_history.specs.Spelling.{IsCut, Puts}
 use Rattle.tx_history.proofs.TextPieces.{cut_short}
 use Rattle.step_table.proofs.ShownRows.{puts_then}
 use Rattle.step_table.specs.declared.view.View.{View}
-use Rattle.step_table.specs.Rows.{Row}
-use Rattle.step_table.specs.Table.{back_text, blanks_beside, column_text, event_text, front_text, line_text, number_text, shows}
+use Rattle.step_table.specs.declared.event.Event.{Event}
+use Rattle.step_table.specs.Table.{back_text, blanks_beside, column_text, event_text, front_text, line_of, number_text, shows}
 
 -- ## Those of a list
 
@@ -72,9 +72,9 @@ came_parts bar words ending = simp append-nil
 
 -- ## The line of an event that is shown
 
-pub line_shown : (view : View) (row : Row) (threads : List ℕ) → shows view row.event ≡ true → threads ≡ view.columns.items
-    → front_text row.event ++ flat_map (column_text (Some row.event)) threads ++ back_text row.event row.came ≡ line_text view row
+pub line_shown : (view : View) (event : Event) (came : List ℕ) (threads : List ℕ) → shows view event ≡ true → threads ≡ view.columns.items
+    → front_text event ++ flat_map (column_text (Some event)) threads ++ back_text event came ≡ line_of view event came
 unfolding event_text
-line_shown view row threads shown e =
-    ap (λ (l : List ℕ). front_text row.event ++ flat_map (column_text (Some row.event)) l ++ back_text row.event row.came) e
-    ∙ sym (ap (λ (b : Bool). if b then event_text view.columns.items row else []) shown)
+line_shown view event came threads shown e =
+    ap (λ (l : List ℕ). front_text event ++ flat_map (column_text (Some event)) l ++ back_text event came) e
+    ∙ sym (ap (λ (b : Bool). if b then event_text view.columns.items event came else []) shown)

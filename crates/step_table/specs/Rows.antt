@@ -1,5 +1,5 @@
 -- The events of a world as rows, and which rows a schedule gives.
-use Rattle.std.specs.Prelude.{◌≡◌, ◌⊎◌, ℕ, ◌<◌, ◌≤◌, List, [], ◌∷◌, ◌++◌, drop, length, Some, IsSome}
+use Rattle.std.specs.Prelude.{◌≡◌, ◌⊎◌, ℕ, ◌<◌, ◌≤◌, Bool, List, [], ◌∷◌, ◌++◌, drop, length, Option, Some, IsSome}
 use Rattle.std.specs.Option.{option_map}
 use Rattle.norec_world.specs.Progress.{TellsCalls, goes_on_at}
 use Rattle.norec_world.specs.World.{World, attempt_at, ending_at, event_result, operation_at}
@@ -7,13 +7,19 @@ use Rattle.norec_world.specs.WorldEvents.{Goes}
 use Rattle.script_program.specs.declared.schedule.Item.{Item}
 use Rattle.script_program.specs.declared.schedule.Item.TheVariants.{Take, Out}
 use Rattle.step_table.specs.declared.event.Event.{Event}
-use Rattle.step_table.specs.Came.{came_text}
+use Rattle.tx_attempts.specs.declared.attempt.Attempt.{Attempt}
 use Rattle.tx_player.specs.Rules.{Rules}
+use Rattle.tx_runs.specs.declared.ending.End.{End}
 
--- an event, and in words what came of it
+-- an event, and what came of it
 pub record Row : Type 0 where
   pub event : Event
-  pub came : List ℕ
+  pub goes_on : Bool  -- its call
+  pub had : Option ℕ  -- calls of the open attempt had a reply before it; none, where no attempt was open
+  pub calls : ℕ  -- of the open attempt have a reply once the operation is done
+  pub ended : List Attempt  -- with it
+  pub active : Option Attempt  -- the attempt of its thread that is open after it
+  pub ending : Option End  -- of its thread
 
 -- each is of the thread
 abbrev pub AreOf : ℕ → List Row → Type 0
@@ -27,10 +33,12 @@ module _ {P : Type 0} (rules : Rules P) where
     pub goes : Goes rules row.event.thread old (event_result (ending_at new row.event.thread)) new
     pub number : row.event.number ≡ new.events
     pub clock : row.event.clock ≡ new.cells.clock
-    pub calls : ℕ  -- of its open attempt have a reply once the operation is done
-    pub told : TellsCalls rules row.event.thread calls old new
-    pub came : row.came ≡ came_text row.event.operation.step (goes_on_at old row.event.thread) (option_map (λ a. length a.calls.list) (attempt_at old row.event.thread)) calls
-        (drop (length old.attempts.ended) new.attempts.ended) (attempt_at new row.event.thread) (ending_at new row.event.thread)
+    pub goes_on : row.goes_on ≡ goes_on_at old row.event.thread
+    pub had : row.had ≡ option_map (λ a. length a.calls.list) (attempt_at old row.event.thread)
+    pub calls : TellsCalls rules row.event.thread row.calls old new
+    pub ended : row.ended ≡ drop (length old.attempts.ended) new.attempts.ended
+    pub active : row.active ≡ attempt_at new row.event.thread
+    pub ending : row.ending ≡ ending_at new row.event.thread
 
   -- one event after the other leads from the one world to the other
   abbrev pub AreRows : World P → List Row → World P → Type 0

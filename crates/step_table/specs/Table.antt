@@ -6,6 +6,7 @@ use Rattle.itm_types.specs.declared.step.Step.TheVariants.{Load, Store, Cas}
 use Rattle.norec_world.specs.declared.operation.Operation.{Operation}
 use Rattle.step_table.specs.declared.event.Event.{Event}
 use Rattle.step_table.specs.declared.view.View.{View}
+use Rattle.step_table.specs.Came.{came_text}
 use Rattle.step_table.specs.Rows.{Row}
 
 -- ## Operations
@@ -54,16 +55,23 @@ front_text event = number_text event.number ++ codes "  "
 unfoldable pub back_text : Event → List ℕ → List ℕ
 back_text event came = number_text event.clock ++ came ++ codes "\n"
 
-unfoldable pub event_text : List ℕ → Row → List ℕ
-event_text threads row = front_text row.event ++ flat_map (column_text (Some row.event)) threads ++ back_text row.event row.came
+unfoldable pub event_text : List ℕ → Event → List ℕ → List ℕ
+event_text threads event came = front_text event ++ flat_map (column_text (Some event)) threads ++ back_text event came
+
+-- what came of an event, in words
+abbrev pub came_of : Row → List ℕ
+came_of row = came_text row.event.operation.step row.goes_on row.had row.calls row.ended row.active row.ending
 
 -- its number is one of those that are shown, and its thread has a column
 abbrev pub shows : View → Event → Bool
 shows view event = nat_le view.from event.number && nat_le event.number view.to && list_any (λ thread. thread == event.thread) view.columns.items
 
--- the line of an event that is shown; of another one there is none
+-- the line of an event that is shown, of which this came; of another one there is none
+abbrev pub line_of : View → Event → List ℕ → List ℕ
+line_of view event came = if shows view event then event_text view.columns.items event came else []
+
 abbrev pub line_text : View → Row → List ℕ
-line_text view row = if shows view row.event then event_text view.columns.items row else []
+line_text view row = line_of view row.event (came_of row)
 
 -- the head of the table
 unfoldable pub head_text : View → List ℕ

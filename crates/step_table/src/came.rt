@@ -6,7 +6,7 @@ ghost use Rattle.norec_world.specs.World.{attempt_at, ending_at};
 ghost use Rattle.tx_history.specs.Histories.{reply_text};
 ghost use Rattle.tx_history.specs.Spelling.{spelled};
 ghost use Rattle.step_table.specs.Said.{said};
-ghost use Rattle.step_table.specs.Came.{answer_text, call_text, came_text, conflict_text, ended_text, ending_text, open_text};
+ghost use Rattle.step_table.specs.Came.{answer_text, call_text, came_text, conflict_text, end_text, ended_text, ending_text, open_text};
 
 use crate::operations::{NOTHING, place_of};
 use itm_types::{Reply, Step};
@@ -15,7 +15,7 @@ use tx_history::Piece;
 use tx_player::Player;
 
 /// What is told in three pieces.
-type Words<'a> = [Piece<'a>; 3];
+pub type Words<'a> = [Piece<'a>; 3];
 
 /// A conflict that was found by this operation: at the word that it loaded.
 #[tactic(auto, unfolding(crate::specs::Came::conflict_text))]
@@ -39,17 +39,13 @@ fn conflict_words<'a>(step: Step) -> Words<'a>
     }
 }
 
-/// How the attempt ended by an event with this operation, and at which position one that wrote has committed.
+/// How an attempt ended by an event with this operation, and at which position one that wrote has committed.
 #[tactic(auto, unfolding(crate::specs::Came::end_text))]
-fn ended_words(step: Step, attempt: &Attempt) -> Words<'_>
-    ensures { flat_map spelled result ≡ ended_text step attempt.now }
+pub fn end_words<'a>(step: Step, at: u64, outcome: Outcome) -> Words<'a>
+    ensures { flat_map spelled result ≡ end_text step at outcome }
 {
-    match attempt.outcome {
-        Outcome::Committed => [
-            Piece::Text(b"committed at "),
-            Piece::Number(attempt.at),
-            NOTHING,
-        ],
+    match outcome {
+        Outcome::Committed => [Piece::Text(b"committed at "), Piece::Number(at), NOTHING],
         Outcome::ReadOnly => [Piece::Text(b"readonly"), NOTHING, NOTHING],
         Outcome::Cancelled => [Piece::Text(b"cancelled"), NOTHING, NOTHING],
         Outcome::Conflict => conflict_words(step),
@@ -57,6 +53,13 @@ fn ended_words(step: Step, attempt: &Attempt) -> Words<'_>
         Outcome::NoMemory => [Piece::Text(b"no memory"), NOTHING, NOTHING],
         Outcome::Unfinished => [Piece::Text(b"unfinished"), NOTHING, NOTHING],
     }
+}
+
+/// How the attempt ended.
+fn ended_words(step: Step, attempt: &Attempt) -> Words<'_>
+    ensures { flat_map spelled result ≡ ended_text step attempt.now }
+{
+    end_words(step, attempt.at, attempt.outcome)
 }
 
 /// A reply.

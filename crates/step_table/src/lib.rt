@@ -11,6 +11,9 @@ mod parts;
 mod showing;
 mod view;
 
+pub use came::{Words, end_words};
 pub use event::Event;
-pub use showing::show;
-pub use view::{Columns, View};
+pub use operations::operation_pieces;
+pub use parts::put_three;
+pub use showing::{calls_of, next_of, show};
+pub use view::{Columns, View, shows};

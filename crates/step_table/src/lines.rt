@@ -2,7 +2,7 @@
 
 ghost use Rattle.std.specs.Prelude.{◌≡◌, ◌++◌, None, Some, codes, flat_map};
 ghost use Rattle.tx_history.specs.Spelling.{Puts, spelled};
-ghost use Rattle.step_table.specs.Table.{back_text, column_text, front_text, head_text, line_text, number_text};
+ghost use Rattle.step_table.specs.Table.{back_text, column_text, front_text, head_text, line_of, number_text};
 ghost use Rattle.step_table.specs.Said.{said};
 
 use crate::came::Came;
@@ -75,7 +75,7 @@ pub(crate) fn put_line<W: Write>(
     came: &Came<'_>,
 ) -> io::Result<()>
     ensures { Puts (W.contents writer.old) (W.contents writer.new) result
-        (line_text view.now (record { event = event; came = said came.now })) }
+        (line_of view.now event (said came.now)) }
 {
     if !shows(view, event) {
         return Ok(());

@@ -61,7 +61,7 @@ fn exchange_pieces(from: u64, found: u64) -> [Piece<'static>; 5]
 
 /// The operation, with what it finds.
 #[tactic(auto, unfolding(crate::specs::Table::step_text))]
-pub(crate) fn operation_pieces(operation: Operation) -> [Piece<'static>; 5]
+pub fn operation_pieces(operation: Operation) -> [Piece<'static>; 5]
     ensures { flat_map spelled result ≡ operation_text operation }
 {
     match operation.step {

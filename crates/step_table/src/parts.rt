@@ -8,7 +8,7 @@ use std::io::Write;
 use tx_history::{Piece, put_pieces};
 
 /// Writes three texts, one after the other. Where a write fails, what the writer took is a beginning of them.
-pub(crate) fn put_three<W: Write>(
+pub fn put_three<W: Write>(
     writer: &mut W,
     first: &[Piece<'_>],
     second: &[Piece<'_>],

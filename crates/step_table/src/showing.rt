@@ -22,7 +22,7 @@ use std::io::Write;
 use tx_player::Player;
 
 /// The operation that the thread waits for, and what it finds.
-fn next_of<P: Player>(world: &World<P>, thread: u8) -> Operation
+pub fn next_of<P: Player>(world: &World<P>, thread: u8) -> Operation
     requires { IsSome (waits_at world.now thread) }
     ensures { Some result ≡ operation_at world.now thread }
 {
@@ -33,7 +33,7 @@ fn next_of<P: Player>(world: &World<P>, thread: u8) -> Operation
 }
 
 /// How many calls of the thread's open attempt have a reply, where it has one.
-fn calls_of<P: Player>(world: &World<P>, thread: u8) -> Option<usize>
+pub fn calls_of<P: Player>(world: &World<P>, thread: u8) -> Option<usize>
     ensures { result ≡ option_map (λ a. length a.calls.list) (attempt_at world.now thread) }
 {
     match world.open_attempt(thread) {

@@ -29,7 +29,7 @@ fn has_column(columns: &[u8], thread: u8) -> bool
 }
 
 /// Whether the event has a line.
-pub(crate) fn shows(view: &View, event: Event) -> bool
+pub fn shows(view: &View, event: Event) -> bool
     ensures { result ≡ shows view.now event }
 {
     view.from <= event.number

@@ -1,0 +1,4 @@
+mod Drawings
+pub mod Tables
+mod Texts
+mod Threads

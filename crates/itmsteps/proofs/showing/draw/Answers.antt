@@ -1,0 +1,8 @@
+use Rattle.step_picture.specs.Picture.{picture_text}
+use Rattle.tx_history.specs.Spelling.{Writes}
+use Rattle.itmsteps.proofs.Drawings.{drawn}
+use Rattle.itmsteps.proofs.showing.draw.Goals as goal
+
+pub returns : goal.returns
+returns g c =
+    drawn c.args.view.now c.args.items.now c.args.world.now c.gather.new.world _ _ _ _ _ c.write_picture.result c.as_slice.ensures.value c.deref.ensures.value c.in_ok-marks.ensures c.write_picture.ensures.drawn c.write_picture.ensures.failure

@@ -1,0 +1,4 @@
+mod Backs
+mod GatheredMarks
+mod SameBars
+mod Texts

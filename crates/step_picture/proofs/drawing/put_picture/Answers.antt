@@ -1,0 +1,12 @@
+use Rattle.std.proofs.lemmas.Result.{err_from_is_err_and}
+use Rattle.step_table.proofs.ShownRows.{puts_then}
+use Rattle.step_table.proofs.Texts.{two_cut_first}
+use Rattle.step_picture.proofs.drawing.put_picture.Goals as goal
+
+pub returns-in_err-put_head : goal.returns-in_err-put_head
+returns-in_err-put_head g c =
+    let p = err_from_is_err_and c.from_residual.result c.from_residual.ensures.1 in
+    rw p.1 (two_cut_first _ _ _ _ c.in_err-put_head.ensures)
+
+pub returns : goal.returns
+returns g c = puts_then _ _ _ _ _ c.put_body.result c.in_ok-put_head.ensures c.put_body.ensures
