@@ -6,10 +6,12 @@ The last line is "N passed, M failed"; the exit status is 0 where none failed.
 - An `_ITM_` name is an entry point or the beginning of one, and what docs/ABI.md lists as left out is none; on the page of
   compiled programs it stands in their library.
 - Of every other span each word stands in the code, the definitions, the proofs, the tests or the examples.
-- A block of Rattle is a part of a source file; a plain block of README.md or CALLING.md is a file of examples/, what a
-  program prints, or a line of crates.txt. README.md counts the must-fail edits right.
+- A block of Rattle is a part of a source file; a plain block of README.md or CALLING.md is a file of examples/, perhaps
+  without its lines of comment, what a program prints, or a line of crates.txt; tests/steps.sh holds the tables of events.
+  README.md counts the must-fail edits right.
 - The runtime needs no handle, as CALLING.md has it: where no thread is started, no source names a lock, a thread or a cell
   that threads share, but for the table of words.
+- The tables of files in docs/DEFINITIONS.md, and what the headline leads to there, are what tools/definitions.py prints.
 - A link leads to a page that is there.
 """
 
@@ -18,9 +20,14 @@ import re
 import sys
 
 ROOT = pathlib.Path(__file__).resolve().parent.parent
+sys.path.insert(0, str(ROOT / "tools"))
+sys.dont_write_bytecode = True
+
+import definitions  # noqa: E402
+
 PAGES = [ROOT / "README.md", *sorted(ROOT.glob("docs/*.md"))]
 SOURCES = [
-    "crates.txt", "HANDLES", "itmrun", "crates/*/stdout", "*.sh", ".ci/run", "tests/**/*", "tools/*", "bench/*", "examples/*", "judge/**/*",
+    "crates.txt", "HANDLES", "itmrun", "itmsteps", "crates/*/stdout", "*.sh", ".ci/run", "tests/**/*", "tools/*", "bench/*", "examples/*", "judge/**/*",
     "compiled/**/*",
     *(f"crates/*/{part}/**/*" for part in ("src", "specs", "proofs", "must-fail", "wrong-bodies")),
 ]
@@ -36,7 +43,7 @@ THREADS = re.compile(r"\b(?:std|core)\s*(?:::\s*(?:sync\b|thread\b|\*|\{[^;]*\b(
 
 # the crates that start threads or wait for them, and those of the kit that share nothing between threads
 THREADED = {"tx_host", "run_commands", "itmrun", "bank", "bench_loads", "large_words", "thread_tests", "itm_c", "transactions"}
-UNSHARED = {"arrayvec", "hex", "indexmap", "itoa", "smallvec", "std_alloc", "thiserror"}
+UNSHARED = {"arrayvec", "clap", "hex", "indexmap", "itoa", "smallvec", "std_alloc", "thiserror"}
 
 HINTS = {"R": ["R", "RaR", "RaW", "RfW"], "W": ["W", "WaR", "WaW"]}
 TYPES = ["U1", "U2", "U4", "U8", "F", "D", "M64", "M128", "M256", "CF", "CD"]
@@ -50,7 +57,7 @@ ABROAD = {
 
 
 def entries():
-    """The names of all entry points, by the rule of docs/SCRIPTS.md."""
+    """The names of all entry points, by the rule of docs/HISTORIES.md."""
     plain = ["beginTransaction", "commitTransaction", "abortTransaction", "changeTransactionMode", "inTransaction"]
     names = plain + ["addUserCommitAction", "addUserUndoAction", "LB"]
     names += [hint + it for hints in HINTS.values() for hint in hints for it in TYPES]
@@ -64,6 +71,11 @@ def sources():
     """The texts of all files that docs speak of, by path."""
     files = {it for pattern in SOURCES for it in ROOT.glob(pattern) if it.is_file() and "out" not in it.parts}
     return {it.relative_to(ROOT): it.read_text(errors="replace") for it in files}
+
+
+def uncommented(script):
+    """The script without its lines of comment."""
+    return "".join(line for line in script.splitlines(keepends=True) if not line.startswith(";"))
 
 
 def unindented(text):
@@ -133,9 +145,9 @@ class Documents:
         if kind == "rust":
             held = any(unindented(text) in it for it in self.parts)
             self.expect(held, page, "no source has the lines", text.splitlines()[0].strip(), "..")
-        elif not kind and page.name in ("README.md", "CALLING.md"):
+        elif not kind and page.name in ("README.md", "CALLING.md") and not text.startswith("event  thread"):
             files = [it for path, it in self.texts.items() if path.parts[0] == "examples" or path.name in ("stdout", "crates.txt")]
-            held = any(text == it or text in it.splitlines(keepends=True) for it in files)
+            held = any(text in (it, uncommented(it)) or text in it.splitlines(keepends=True) for it in files)
             self.expect(held, page, "no file has", text.splitlines()[0], "..")
 
     def page(self, page):
@@ -159,6 +171,21 @@ class Documents:
         there = len([*ROOT.glob("crates/*/must-fail/*.edit")])
         self.expect(f"refuses {there} must-fail edits" in page.read_text(), page, "there are", str(there), "must-fail edits")
 
+    def definitions(self):
+        """docs/DEFINITIONS.md has the files of definitions as their comments say, and all that the headline leads to."""
+        page = ROOT / "docs/DEFINITIONS.md"
+        text = page.read_text()
+        lines = text.splitlines()
+        rows, total = definitions.headline_rows()
+        told = [it for it in lines if re.fullmatch(r"`\w+` \| \d+ \| \d+ \| .*", it)]
+        self.expect(told == rows, page, "the headline leads to", *(it for it in rows if it not in told))
+        self.expect(total in text, page, "the headline leads to", total)
+        files = [it for it in lines if re.match(r"`\w+/specs/", it)]
+        known = {definitions.file_row(it) for it in definitions.spec_files(definitions.all_crates())}
+        self.expect(files, page, "names no file of definitions")
+        for it in files:
+            self.expect(it in known, page, "no file begins so:", it)
+
     def handles(self):
         """CALLING.md says that the runtime needs no handle: it has nothing by which one thread could wait for another."""
         page = ROOT / "docs/CALLING.md"
@@ -180,6 +207,7 @@ class Documents:
 def main():
     documents = Documents()
     documents.counts()
+    documents.definitions()
     documents.handles()
     for page in PAGES:
         documents.page(page)

@@ -2,7 +2,7 @@
 # Copies the crates that a program needs into its own repository: `sh tools/vendor.sh DEST [CRATE..]`. With no crate named,
 # those that programs name first: itm_runtime, transactions and typed_cells. Below each it takes all that it stands on.
 #
-# A crate's planted errors and wrong bodies stay here, where the gate tries them. HANDLES is written where there is none,
+# A crate's must-fail edits and wrong bodies stay here, where the gate tries them. HANDLES is written where there is none,
 # and a line of crates.txt where it lacks the crate. A crate that is there already is replaced, and nothing else is changed.
 
 stop() {
