@@ -1,4 +1,4 @@
--- A write of one whole word.
+-- Writes that the fast path may do.
 use Rattle.std.specs.Prelude.{◌≡◌, ℕ, false, None}
 use Rattle.itm_types.specs.Access.{size_of}
 use Rattle.itm_types.specs.declared.datum.Datum.{Datum}

@@ -118,7 +118,8 @@ impl Engine {
         self.state.frames.len() > 0
     }
 
-    /// Whether a write is one of a whole word, in a revocable transaction, and is not refused.
+    /// Whether the fast path does a write: one of a whole word, in a revocable transaction, that is not refused. The clause
+    /// says so of the last two alone.
     #[inline(always)]
     pub fn serves_write(&self, at: u64, value: &Datum) -> bool
         ensures { result ≡ true → ServesWrite self.now at value.now }
