@@ -1,38 +1,37 @@
-use Rattle.std.proofs.Common.{◌≡◌, ℕ, None, Some, slice_get, take, sym, subst, arith, ◌∙◌}
+use Rattle.std.proofs.Common.{◌≡◌, ◌<◌, length, slice_get, None, Some, sym, ap, subst, arith, ◌∙◌}
 use Rattle.std.proofs.lemmas.Option.{same_Some}
-use Rattle.write_set.specs.Slots.{Keyed}
+use Rattle.write_set.specs.declared.row.Row.{Row}
+use Rattle.write_set.specs.Indexed.{Indexed}
 use Rattle.write_set.specs.Rows.{lookup, IsFirst}
-use Rattle.write_set.proofs.Slots.{first_at, front, got_below, here_at, none_at}
+use Rattle.write_set.proofs.Held.{count, first_at, got_within, none_told, told_at}
+use Rattle.write_set.proofs.keyed_rows.Rows.place_at.Goals.{else-place-self-via-then-place-self+else-index-word, else-place-self-via-else-place-self}
 use Rattle.write_set.proofs.keyed_rows.Rows.place_at.Goals as goal
 
-pub returns-then-place-self : goal.returns-then-place-self
-returns-then-place-self c =
-    let slots = c.self.inside.slots.entries in
-    let order = c.self.inside.order.items in
-    let len = c.self.inside.len in
-    let place = c.index.result.now.place in
-    subst (λ (k : Keyed). (word : ℕ) → slice_get k.words c.args.at ≡ Some word → lookup word k.rows ≡ None) c.self.view_is
-    (λ word its. none_at slots (take len order) c.args.at word c.index.result.now (front slots order len c.self.invariant) its c.index.ensures
-    (λ here. (let below = got_below len order place c.args.at here in omega (arith, below, c.if-place-self.true))))
+pub returns-then-index-word : goal.returns-then-index-word
+returns-then-index-word c =
+    let list = c.self.inside.list.items in
+    let place = c.index-place.result.now in
+    let r = c.index.result.now in
+    let got = got_within list place r r (omega (arith, c.if-place-self.true, c.self.invariant.within)) c.index.ensures in
+    subst (λ (k : Indexed). IsFirst k.rows c.args.word place) c.self.view_is (first_at c.self.inside.list.items c.self.inside.len c.self.inside.index.entries c.self.inside.indexed c.self.invariant c.args.word place r c.if-place-self.true got c.if-index-word.true)
 
-pub returns-then-there-at : goal.returns-then-there-at
-returns-then-there-at c =
-    let slots = c.self.inside.slots.entries in
-    let order = c.self.inside.order.items in
-    let len = c.self.inside.len in
-    let place = c.index.result.now.place in
-    let there = here_at slots order len c.self.invariant place c.index-there.result.now (omega (arith, c.if-place-self.false)) c.index-there.ensures in
-    let here = subst (λ (at : ℕ). slice_get (take len order) place ≡ Some at) c.if-there-at.true there in
-    subst (λ (k : Keyed). (word : ℕ) → slice_get k.words c.args.at ≡ Some word → IsFirst k.rows word place) c.self.view_is
-    (λ word its. first_at slots (take len order) place c.args.at word (front slots order len c.self.invariant) its here)
-
-pub returns-else-there-at : goal.returns-else-there-at
-returns-else-there-at c =
-    let slots = c.self.inside.slots.entries in
-    let order = c.self.inside.order.items in
-    let len = c.self.inside.len in
-    let place = c.index.result.now.place in
-    let there = here_at slots order len c.self.invariant place c.index-there.result.now (omega (arith, c.if-place-self.false)) c.index-there.ensures in
-    subst (λ (k : Keyed). (word : ℕ) → slice_get k.words c.args.at ≡ Some word → lookup word k.rows ≡ None) c.self.view_is
-    (λ word its. none_at slots (take len order) c.args.at word c.index.result.now (front slots order len c.self.invariant) its c.index.ensures
-    (λ here. c.if-there-at.false (same_Some c.index-there.result.now c.args.at (sym there ∙ here))))
+pub returns-else-place-self : goal.returns-else-place-self
+returns-else-place-self c =
+    let list = c.self.inside.list.items in
+    let word = c.args.word in
+    let place = c.index-place.result.now in
+    let here = subst (λ (k : Indexed). slice_get k.words c.args.at ≡ Some word) (sym c.self.view_is) c.requires.here in
+    let many = subst (λ (k : Indexed). 8 < length k.rows) (sym c.self.view_is) c.requires.many in
+    let told = told_at c.self.inside.index.entries c.args.at word place c.self.invariant.distinct here c.index-place.ensures in
+    let is_len = count c.self.inside.list.items c.self.inside.len c.self.inside.index.entries c.self.inside.indexed c.self.invariant in
+    subst (λ (k : Indexed). lookup word k.rows ≡ None) c.self.view_is (none_told c.self.inside.list.items c.self.inside.len c.self.inside.index.entries c.self.inside.indexed c.self.invariant word (omega (arith, many, is_len))
+    (λ p r below got same other. (
+    let there : p ≡ place = same_Some p place (sym other ∙ told) in
+    elim c.else-place-self.branch [
+      | else-place-self-via-then-place-self+else-index-word w ↦ (
+          let x = w.index.result.now in
+          let its : slice_get list place ≡ Some x = got_within list place x x (omega (arith, w.if-place-self.true, c.self.invariant.within)) w.index.ensures in
+          let is : r ≡ x = same_Some r x (sym got ∙ (ap (slice_get list) there ∙ its)) in
+          w.if-index-word.false (ap (λ (r : Row). r.word) (sym is) ∙ same))
+      | else-place-self-via-else-place-self w ↦ omega (arith, below, there, w.if-place-self.false)
+    ])))

@@ -1,0 +1,8 @@
+use Rattle.std.proofs.Common.{subst}
+use Rattle.write_set.specs.Indexed.{Indexed}
+use Rattle.write_set.specs.Rows.{AreRows}
+use Rattle.write_set.proofs.Held.{front}
+use Rattle.write_set.proofs.keyed_rows.Rows.len.Goals as goal
+
+pub returns-clause-rows : goal.returns-clause-rows
+returns-clause-rows c = subst (λ (k : Indexed). AreRows k.rows) c.self.view_is (front c.self.inside.list.items c.self.inside.len c.self.inside.index.entries c.self.inside.indexed c.self.invariant)
