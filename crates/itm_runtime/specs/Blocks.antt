@@ -1,5 +1,5 @@
 -- What a begin and a commit come to on the fast path.
-use Rattle.std.specs.Prelude.{◌≡◌, ℕ, Bool, true, false, List}
+use Rattle.std.specs.Prelude.{◌≡◌, ℕ, ◌+◌, ◌≤◌, Bool, true, false, List}
 use Rattle.itm_types.specs.declared.step.Step.{Step}
 use Rattle.itm_types.specs.declared.call.Call.{Call}
 use Rattle.itm_types.specs.declared.call.Call.TheVariants.{Commit}
@@ -10,6 +10,7 @@ use Rattle.norec_core.specs.declared.answer.Next.{Next}
 use Rattle.norec_core.specs.declared.answer.Next.TheVariants.{Step as Asks}
 use Rattle.norec_core.specs.Core.{Core}
 use Rattle.norec_core.specs.Moves.{IsCalled}
+use Rattle.norec_engine.specs.BlockSteps.{next_step, storing}
 use Rattle.shared_words.specs.declared.view.View.{View}
 use Rattle.shared_words.specs.declared.pass.Pass.{Pass}
 use Rattle.shared_words.specs.declared.words.Words.{Words}
@@ -29,6 +30,13 @@ pub record Finds {A : Type 0} (words : Words A) (v : View) (e : Core) (next : Ne
   pub over : IsOver (cells_of words) before
   pub leads : LeadsOn (cells_of words) v e next steps before new (Asks step)
   pub stepped : HasStepped before step found (view_of pass)
+
+-- in a commit that has taken the clock, with so many loads, the row was stored by these steps, and the next one is asked for: after so many loads
+pub record RowStored {A : Type 0} (words : Words A) (v : View) (e : Core) (row loads : ℕ) (pass : Pass) (after : ℕ) : Type 0 where
+  pub own : Owns words pass
+  pub few : after ≤ row + 1
+  pub steps : List (Step × ℕ)
+  pub leads : LeadsOn (cells_of words) v (storing e row loads) (Asks (next_step e row)) steps (view_of pass) (storing e (row + 1) after) (Asks (next_step e (row + 1)))
 
 -- the call came to the engine, and all its steps were done, up to this answer
 pub record IsServed {A : Type 0} (words : Words A) (pass : Pass) (e : Core) (call : Call) (again : Bool) (a : Answer) (left : Pass) (new : Core) : Type 0 where

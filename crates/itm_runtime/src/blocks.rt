@@ -1,12 +1,12 @@
 //! Outermost begins and commits on the fast path, as functions whose answers come in registers and not through memory: what
 //! stands at each of a program's sites of them is a call and a test.
 
-ghost use Rattle.std.specs.Prelude.{◌≡◌, ◌+◌, ◌<◌, ℕ, IfErr, IfOk, length, true};
+ghost use Rattle.std.specs.Prelude.{◌≡◌, ◌+◌, ◌^◌, ◌<◌, ◌≤◌, ℕ, IfErr, IfOk, length, true};
 ghost use Rattle.norec_core.specs.declared.answer.Next.TheVariants.{Step as Asks};
-ghost use Rattle.norec_engine.specs.BlockSteps.{StoresRow, TakesClock};
+ghost use Rattle.norec_engine.specs.BlockSteps.{StoresRows, TakesClock, next_step, storing};
 ghost use Rattle.shared_words.specs.declared.view.View.{View};
 ghost use Rattle.shared_words.specs.Passes.{Owns, cells_of, view_of};
-ghost use Rattle.itm_runtime.specs.Blocks.{BeginsSo, CommitsSo, Finds};
+ghost use Rattle.itm_runtime.specs.Blocks.{BeginsSo, CommitsSo, Finds, RowStored};
 ghost use Rattle.itm_runtime.specs.Drives.{Finishes, HasStepped};
 ghost use Rattle.itm_runtime.specs.InCall.{InCall, IsDone};
 ghost use Rattle.itm_runtime.specs.Served.{Start};
@@ -37,7 +37,7 @@ pub enum Ended {
     Wrote(u64),
     /// It only read, and has committed after so many others.
     Read(u64),
-    /// A step found this, and does not lead to the store of a whole word.
+    /// This was found in the clock, which was not the snapshot.
     Found(u64),
     /// Nothing was done.
     Nothing,
@@ -91,8 +91,7 @@ pub(crate) fn commit_block<A: Allocator>(
     }
 }
 
-/// Takes the clock, and stores the rows. How many had committed before; or what a step found that leads to no store of a whole
-/// word.
+/// Takes the clock, and stores the rows. How many had committed before; or what else was found in the clock.
 #[inline(always)]
 fn take_clock<A: Allocator>(
     words: &Words<A>,
@@ -111,48 +110,62 @@ fn take_clock<A: Allocator>(
     if found != snapshot {
         return Err(found);
     }
-    match engine.first_store() {
-        Some((cell, value)) => store_rows(words, pass, engine, rows, cell, value),
-        None => Err(found),
-    }
+    Ok(store_rows(words, pass, engine, rows))
 }
 
-/// Stores the rows, from the first one on, and frees the clock.
+/// Stores the rows, and frees the clock. The engine is told of them all at once, after the last one.
 #[inline(always)]
 fn store_rows<A: Allocator>(
     words: &Words<A>,
     pass: &mut Pass,
     engine: &mut Engine,
     rows: usize,
-    first: u32,
-    word: u64,
-) -> Result<u64, u64>
+) -> u64
     requires own { Owns words.now pass.old }
-    requires stores { StoresRow engine.old 0 }
+    requires takes { TakesClock engine.old }
+    requires stores { StoresRows engine.old }
     requires rows { rows ≡ length engine.old.writes }
-    requires some { 0 < rows }
-    requires due { (s : Start) × InCall s (view_of pass.old) engine.old (Step.Store first word) }
-    ensures wrote { IfOk result (λ at. Finishes words.now (view_of pass.old) engine.old (Asks (Step.Store first word)) (Answer.Committed at true) pass.new engine.new) }
-    ensures found { IfErr result (λ n. Finds words.now (view_of pass.old) engine.old (Asks (Step.Store first word)) n pass.new engine.new) }
+    requires due { (s : Start) × InCall s (view_of pass.old) (storing engine.old 0 0) (next_step engine.old 0) }
+    ensures { Finishes words.now (view_of pass.old) (storing engine.old 0 0) (Asks (next_step engine.old 0)) (Answer.Committed result true) pass.new engine.new }
 {
-    let mut cell = first;
-    let mut value = word;
     let mut row = 0;
-    while row + 1 < rows {
-        let found = words.step(pass, Step::Store(cell, value));
-        match engine.next_store(row, found) {
-            Some((next, word)) => {
-                cell = next;
-                value = word;
-            }
-            None => return Err(found),
-        }
+    let mut loads = 0;
+    while row < rows {
+        loads = store_row(words, pass, engine, row, loads);
         row += 1;
     }
-    let stored = words.step(pass, Step::Store(cell, value));
-    let clock = engine.last_store(row, stored);
+    let clock = engine.rows_stored(loads);
     let freed = words.step(pass, Step::Store(0, clock));
-    Ok(engine.clock_freed(freed))
+    engine.clock_freed(freed)
+}
+
+/// Stores a row: after a load of the word, where it has a part of it. The number of such loads so far.
+#[inline(always)]
+fn store_row<A: Allocator>(
+    words: &Words<A>,
+    pass: &mut Pass,
+    engine: &Engine,
+    row: usize,
+    loads: usize,
+) -> usize
+    requires own { Owns words.now pass.old }
+    requires takes { TakesClock engine.now }
+    requires stores { StoresRows engine.now }
+    requires within { row < length engine.now.writes }
+    requires few { loads ≤ row }
+    requires fits { row + 1 < 2 ^ 64 }
+    requires due { (s : Start) × InCall s (view_of pass.old) (storing engine.now row loads) (next_step engine.now row) }
+    ensures { RowStored words.now (view_of pass.old) engine.now row loads pass.new result }
+{
+    let (cell, whole) = engine.row_to_store(row);
+    if let Some(value) = whole {
+        let _stored = words.step(pass, Step::Store(cell, value));
+        return loads;
+    }
+    let found = words.step(pass, Step::Load(cell));
+    let value = engine.part_over(row, found);
+    let _stored = words.step_over(pass, Step::Store(cell, value), Some(found));
+    loads + 1
 }
 
 /// The steps that are left of a call, a step of which found this.

@@ -9,6 +9,7 @@ mod refused;
 mod slow_path;
 mod stop;
 mod thread;
+mod values;
 
 pub use refused::ThreadRefused;
 pub use stop::Stop;

@@ -323,7 +323,7 @@ impl Thread {
 
 /// The same value once more. Takes no memory.
 #[inline(always)]
-fn copy_of(value: &Datum) -> Datum
+pub(crate) fn copy_of(value: &Datum) -> Datum
     ensures { result ≡ value.now }
 {
     Datum::new(value.width, value.bytes.as_slice())

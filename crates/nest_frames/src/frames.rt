@@ -328,8 +328,8 @@ impl Frames {
         Ok(())
     }
 
-    /// The same, where that is done with no memory and no look for the word: it has no row, and is the one that is looked for
-    /// next. Else nothing is done.
+    /// The same, where that takes no memory and no look at the write set's index: the last transaction wrote this word next, or few
+    /// words are written, this one had no row as the innermost block began, and a row that joins has room. Else nothing is done.
     #[inline(always)]
     pub fn write_next(&mut self, word: u32, mask: u64, value: u64) -> bool
         requires { 0 < length self.old.blocks }
@@ -339,8 +339,8 @@ impl Frames {
         self.writes.write_next(word, mask, value)
     }
 
-    /// The same, where the word was written before, in this transaction or an earlier one, it had no row as the innermost block
-    /// began, and a row that joins has room. Else nothing is done.
+    /// The same, where more words than few are written and the index has this one, it had no row as the innermost block began, and
+    /// a row that joins has room. Else nothing is done.
     #[inline(always)]
     pub fn write_found(&mut self, word: u32, mask: u64, value: u64) -> bool
         requires { 0 < length self.old.blocks }

@@ -1,18 +1,13 @@
 -- Outermost begins and commits, for the engine as its callers see it.
-use Rattle.std.proofs.Common.{◌≡◌, ℕ, ◌+◌, ◌<◌, ◌≤◌, ◌&&◌, ◌||◌, not, Bool, true, false, List, length, Option, None, Some, if◌then◌else◌, slice_get, inl, refl, sym, ap, subst, ◌∙◌}
+use Rattle.std.proofs.Common.{◌≡◌, ℕ, ◌<◌, ◌≤◌, ◌&&◌, ◌||◌, not, Bool, true, false, List, length, None, if◌then◌else◌, inl, refl, sym, ap, subst, ◌∙◌}
 use Rattle.itm_types.specs.declared.step.Step.TheVariants as steps
 use Rattle.itm_types.specs.declared.call.Call.TheVariants.{Begin}
 use Rattle.itm_types.specs.declared.call.Props.{Props}
-use Rattle.write_set.specs.declared.row.Row.{Row}
 use Rattle.nest_frames.specs.Nest.{Frame, stays_revocable}
 use Rattle.itm_types.specs.declared.call.Reply.TheVariants.{Code}
 use Rattle.norec_core.specs.declared.answer.Answer.TheVariants.{Reply}
 use Rattle.norec_core.specs.Moves.{IsCalled, IsResumed}
-use Rattle.norec_core.specs.Rows.{write_at}
-use Rattle.norec_core.proofs.Accesses.Overlays.{write_at_of}
-use Rattle.norec_revocable.proofs.Phases.{store_row, stores_as}
 use Rattle.norec_core.specs.Core.{Core, in_transaction, may_go}
-use Rattle.norec_core.specs.Order.{kept_log}
 use Rattle.norec_core.specs.Phases.{Phase}
 use Rattle.norec_core.specs.Phases as at
 use Rattle.norec_core.specs.declared.answer.Next.TheVariants.{Step as Asks, Answer as Answers}
@@ -27,13 +22,13 @@ use Rattle.norec_data.specs.declared.end.CallEnd.TheVariants.{Committed, Entered
 use Rattle.norec_data.specs.declared.turn.Turn.{Turn}
 use Rattle.norec_data.specs.declared.turn.Turn.TheVariants.{End, Wait}
 use Rattle.norec_data.specs.Ends.{answer_of, told}
-use Rattle.norec_data.specs.View.{core, in_block, phase_of, step_of}
+use Rattle.norec_data.specs.View.{core, in_block, phase_of}
 use Rattle.norec_revocable.specs.InPhases.{IsSound}
 use Rattle.norec_data.specs.Turns.{counted}
 use Rattle.norec_revocable.specs.Moves.{CallTurns, StepGoesTo, StepTurns}
 use Rattle.norec_revocable.specs.OuterBegins.{BeginTurns}
 use Rattle.norec_engine.specs.Modes.{engine_in, IsSoundIn}
-use Rattle.norec_engine.specs.BlockSteps.{FreesClock, IsBegun, StoresRow, TakesClock, begins_outer}
+use Rattle.norec_engine.specs.BlockSteps.{FreesClock, IsBegun, TakesClock, begins_outer}
 use Rattle.norec_engine.proofs.EitherTurns.{called_in, idle_sound, is_idle, resumed_in, revocable_call, revocable_step}
 use Rattle.norec_engine.proofs.FastSteps.{outside_revocable}
 use Rattle.norec_engine.proofs.WholeReads.{mode_is, stage_is}
@@ -44,19 +39,12 @@ exchange_waits : (d : Data) (p : Pending) (t : Taking) → phase_of d p ≡ at.E
 exchange_waits d waits.Exchange t is = refl
 exchange_waits d p t is = absurd (cc)
 
-store_waits : (d : Data) (p : Pending) (t : Taking) (row : ℕ) (got : Option ℕ) → phase_of d p ≡ at.Store t row got → p ≡ waits.Store row
-store_waits d (waits.Store r) t row got is = (let same : r ≡ row = cc in ap waits.Store same)
-store_waits d p t row got is = absurd (cc)
-
 free_waits : (d : Data) (p : Pending) → phase_of d p ≡ at.Free → p ≡ waits.Free
 free_waits d waits.Free is = refl
 free_waits d p is = absurd (cc)
 
 same_taking : (a b : Taking) → at.Exchange a ≡ at.Exchange b → a ≡ b
 same_taking a b is = cc
-
-store_taking : (a b : Taking) (r s : ℕ) (g h : Option ℕ) → at.Store a r g ≡ at.Store b s h → a ≡ b
-store_taking a b r s g h is = cc
 
 -- an engine of these fields, as its callers see it, in a revocable transaction
 module _ (b : Bool) (d : Data) (p : Pending) (c : Core) (view : engine_in b d (phase_of d p) ≡ c) (sound : IsSoundIn b d (phase_of d p)) (revocable : c.irrevocable ≡ false) where
@@ -73,11 +61,6 @@ module _ (b : Bool) (d : Data) (p : Pending) (c : Core) (view : engine_in b d (p
   exchange_at is =
       let here = exchange_waits d p takings.Commit (stage ∙ is) in
       (here, same_taking d.taking takings.Commit (sym (ap (phase_of d) here) ∙ (stage ∙ is)), sound_for waits.Exchange here)
-
-  pub store_at : (row : ℕ) (got : Option ℕ) → c.stage ≡ at.Store takings.Commit row got → (p ≡ waits.Store row) × (d.taking ≡ takings.Commit) × IsSound d (at.Store d.taking row d.got)
-  store_at row got is =
-      let here = store_waits d p takings.Commit row got (stage ∙ is) in
-      (here, store_taking d.taking takings.Commit row row d.got got (sym (ap (phase_of d) here) ∙ (stage ∙ is)), sound_for (waits.Store row) here)
 
   pub free_at : c.stage ≡ at.Free → (p ≡ waits.Free) × IsSound d at.Free
   free_at is = (let here = free_waits d p (stage ∙ is) in (here, sound_for waits.Free here))
@@ -191,11 +174,6 @@ module _ (b : Bool) (d : Data) (p : Pending) (mode : b ≡ false) where
       subst (λ (m : Bool). TakesClock (engine_in m d (phase_of d p))) (sym mode)
       (subst (λ (q : Pending). TakesClock (core d (phase_of d q))) (sym is) (record { revocable = refl; stage = ap at.Exchange taking; some = some }))
 
-  pub stores_at : (row : ℕ) → p ≡ waits.Store row → d.taking ≡ takings.Commit → StoresRow (engine_in b d (phase_of d p)) row
-  stores_at row is taking =
-      subst (λ (m : Bool). StoresRow (engine_in m d (phase_of d p)) row) (sym mode)
-      (subst (λ (q : Pending). StoresRow (core d (phase_of d q)) row) (sym is) (record { revocable = refl; got = d.got; stage = ap (λ (t : Taking). at.Store t row d.got) taking }))
-
   pub frees_at : p ≡ waits.Free → FreesClock (engine_in b d (phase_of d p))
   frees_at is =
       subst (λ (m : Bool). FreesClock (engine_in m d (phase_of d p))) (sym mode)
@@ -204,16 +182,6 @@ module _ (b : Bool) (d : Data) (p : Pending) (mode : b ≡ false) where
   -- the rows that it stores
   pub rows_exchanged : p ≡ waits.Exchange → (engine_in b d (phase_of d p)).writes ≡ d.frames.writes.rows
   rows_exchanged is = λ i. (engine_in (mode i) d (phase_of d (is i))).writes
-
-  pub rows_stored : (row : ℕ) → p ≡ waits.Store row → (engine_in b d (phase_of d p)).writes ≡ d.frames.writes.rows
-  rows_stored row is = λ i. (engine_in (mode i) d (phase_of d (is i))).writes
-
--- the store of a whole word, as the write set shows it
-pub asks_store : (s d : Data) (row : ℕ) (r : Row) → d ≡ record s { got = None } → slice_get s.frames.writes.rows row ≡ Some r → Asks (step_of d (phase_of d (waits.Store row))) ≡ Asks (steps.Store (r.word + 1) r.value)
-asks_store s d row r same is =
-    let rows = s.frames.writes.rows in
-    ap (λ (x : Data). Asks (step_of x (phase_of x (waits.Store row)))) same
-    ∙ sym (ap Asks (stores_as r (write_at rows row) (write_at_of rows row r is) None r.value refl))
 
 pub snapshot_is : (b : Bool) (d : Data) (phase : Phase) → (engine_in b d phase).snapshot ≡ d.snapshot
 snapshot_is true d phase = refl
@@ -233,21 +201,4 @@ freed_turns s d seen turn is goes =
       tries = g.tries;
       snapshot = g.stays.snapshot;
       log = g.stays.log;
-    }
-
--- ## A row that is stored
-
--- what it finds is of no account to what follows
-pub row_turns : (s d : Data) (row seen : ℕ) (q : Pending) → IsSound s (at.Store s.taking row s.got) → kept_log (phase_of d q) s.log.rows ≡ s.log.rows → StepTurns s (at.Store s.taking row s.got) 0 (Wait q) d → StepTurns s (at.Store s.taking row s.got) seen (Wait q) d
-row_turns s d row seen q sound kept t =
-    let inside = (store_row s s.taking row s.got sound.in_phase).0.is_open in
-    record {
-      sound = t.sound;
-      proceeds = t.proceeds;
-      joins = record { log = λ o. inl (t.log o ∙ (ap (λ (p : Phase). kept_log p s.log.rows) (sym t.order) ∙ kept)); begins = λ shut o. absurd (cc); snapshot = λ o. inl t.snapshot };
-      order = t.order;
-      ends = t.ends;
-      tries = t.tries;
-      snapshot = t.snapshot;
-      log = t.log;
     }

@@ -9,3 +9,4 @@ pub mod WholeWrites
 pub mod FastSteps
 pub mod RestartingCalls
 pub mod BlockSteps
+pub mod RowSteps

@@ -1,23 +1,22 @@
-//! Outermost begins and commits on the fast path: of a block that stays revocable, and of a transaction whose rows are whole
-//! words.
+//! Outermost begins and commits on the fast path, of a block that stays revocable.
 //!
 //! Each function does one step of the call, or a begin with its step, and makes no answer: who calls it knows which one it is.
-//! Where the step leads to anything else, it changes nothing, and tells so.
+//! Where the step leads to anything else, it changes nothing, and tells so. Only the rows of a commit are stored with no change
+//! to the engine, which is told of them together.
 
-ghost use Rattle.std.specs.Prelude.{◌≡◌, ◌+◌, ◌/◌, ◌%◌, ◌<◌, ◌≤◌, ℕ, IfNone, IfSome, OnSome, None, length, true, false, if◌then◌else◌};
+ghost use Rattle.std.specs.Prelude.{◌≡◌, ◌+◌, ◌/◌, ◌%◌, ◌<◌, ◌≤◌, ℕ, IfNone, IfSome, None, Some, length, true, false, if◌then◌else◌};
 ghost use Rattle.norec_core.specs.Moves.{IsCalled, IsResumed};
 ghost use Rattle.norec_core.specs.declared.answer.Next.TheVariants.{Step as Asks, Answer as Answers};
-ghost use Rattle.norec_engine.specs.BlockSteps.{FreesClock, IsBegun, StoresRow, TakesClock, begins_outer};
+ghost use Rattle.norec_core.specs.Rows.{value_into, write_at};
+ghost use Rattle.norec_engine.specs.BlockSteps.{FreesClock, IsBegun, IsWhole, StoresRows, TakesClock, begins_outer, next_step, storing};
 
 use crate::engine::Engine;
 use crate::turns::wait;
 use itm_types::{Call, ENTERED, ENTERED_AGAIN, Props, Reply, Step};
 use norec_core::Answer;
 use norec_data::Pending;
-use norec_revocable::{
-    ask_first_store, ask_free, ask_next_store, begin_at_once, begin_outer, commit_reads,
-    commit_writes, freed,
-};
+use norec_revocable::{ask_free, begin_at_once, begin_outer, commit_reads, commit_writes, freed};
+use word_pieces::merge;
 
 /// The code of a block that has begun, `again` where it was begun before.
 #[inline(always)]
@@ -99,58 +98,47 @@ impl Engine {
         true
     }
 
-    /// `resume_into` of such a commit with the clock taken: the first row is to be stored, where it is one of a whole word.
+    /// The cell of a row, and the value that is stored there, where the row is one of a whole word.
     #[inline(always)]
-    pub fn first_store(&mut self) -> Option<(u32, u64)>
+    pub fn row_to_store(&self, row: usize) -> (u32, Option<u64>)
+        requires takes { TakesClock self.now }
+        requires within { row < length self.now.writes }
+        ensures cell { result.0 ≡ (write_at self.now.writes row).word + 1 }
+        ensures whole { IfSome result.1 (λ value. IsWhole self.now row × (next_step self.now row ≡ Step.Store result.0 value)) }
+        ensures part { IfNone result.1 ((¬ IsWhole self.now row) × (next_step self.now row ≡ Step.Load result.0)) }
+    {
+        let written = self.state.frames.row(row);
+        let cell = written.word + 1;
+        if written.mask == u64::MAX {
+            (cell, Some(written.value))
+        } else {
+            (cell, None)
+        }
+    }
+
+    /// The value that is stored of a row that has a part of its word, into what was found there.
+    #[inline(always)]
+    pub fn part_over(&self, row: usize, found: u64) -> u64
+        requires takes { TakesClock self.now }
+        requires within { row < length self.now.writes }
+        ensures { result ≡ value_into (write_at self.now.writes row) (Some found) }
+    {
+        let written = self.state.frames.row(row);
+        merge(found, written.mask, written.value)
+    }
+
+    /// `resume_into` with all that was found as the clock was taken, and then the rows stored, with so many loads: the clock is
+    /// to be freed. What it is freed with.
+    #[inline(always)]
+    pub fn rows_stored(&mut self, loads: usize) -> u64
         requires takes { TakesClock self.old }
-        ensures none { IfNone result (self.new ≡ self.old) }
-        ensures resumed { IfSome result (λ s. IsResumed self.old self.old.snapshot (Asks (Step.Store s.0 s.1)) self.new) }
-        ensures stores { OnSome result (StoresRow self.new 0) }
-    {
-        let written = self.state.frames.row(0);
-        if written.mask != u64::MAX {
-            return None;
-        }
-        let snapshot = self.state.snapshot;
-        ask_first_store(&mut self.state, written, snapshot);
-        let _step = wait(&mut self.state, &mut self.pending, false, Pending::Store(0));
-        Some((written.word + 1, written.value))
-    }
-
-    /// The same with this row stored: the one after it is to be stored, where it is one of a whole word.
-    #[inline(always)]
-    pub fn next_store(&mut self, row: usize, seen: u64) -> Option<(u32, u64)>
-        requires stores { StoresRow self.old row }
-        requires more { row + 1 < length self.old.writes }
-        ensures none { IfNone result (self.new ≡ self.old) }
-        ensures resumed { IfSome result (λ s. IsResumed self.old seen (Asks (Step.Store s.0 s.1)) self.new) }
-        ensures stores { OnSome result (StoresRow self.new (row + 1)) }
-    {
-        let _rows = self.state.frames.len();
-        let written = self.state.frames.row(row + 1);
-        if written.mask != u64::MAX {
-            return None;
-        }
-        ask_next_store(&mut self.state, written, row);
-        let _step = wait(
-            &mut self.state,
-            &mut self.pending,
-            false,
-            Pending::Store(row + 1),
-        );
-        Some((written.word + 1, written.value))
-    }
-
-    /// The same with the last row stored: the clock is to be freed. What it is freed with.
-    #[inline(always)]
-    pub fn last_store(&mut self, row: usize, seen: u64) -> u64
-        requires stores { StoresRow self.old row }
-        requires last { row + 1 ≡ length self.old.writes }
-        ensures resumed { IsResumed self.old seen (Asks (Step.Store 0 result)) self.new }
+        requires few { loads ≤ length self.old.writes }
+        ensures storing { self.new ≡ storing self.old (length self.old.writes) loads }
+        ensures step { next_step self.old (length self.old.writes) ≡ Step.Store 0 result }
         ensures frees { FreesClock self.new }
     {
-        ask_free(&mut self.state, row);
-        let _step = wait(&mut self.state, &mut self.pending, false, Pending::Free);
+        ask_free(&mut self.state, loads);
+        self.pending = Pending::Free;
         self.state.snapshot + 2
     }
 
@@ -165,11 +153,12 @@ impl Engine {
         self.state.snapshot / 2
     }
 
-    /// The number of rows that are written.
+    /// The number of rows that are written. The clause tells how they are stored.
     #[inline(always)]
     pub fn rows(&self) -> usize
         requires commits { TakesClock self.now }
-        ensures { result ≡ length self.now.writes }
+        ensures count { result ≡ length self.now.writes }
+        ensures stores { StoresRows self.now }
     {
         self.state.frames.len()
     }

@@ -118,17 +118,17 @@ impl Engine {
         self.state.frames.len() > 0
     }
 
-    /// Whether the fast path does a write: one of a whole word, in a revocable transaction, that is not refused. The clause
-    /// says so of the last two alone.
+    /// Whether the fast path does a write: one in one word, in a revocable transaction, that is not refused. The clause says so
+    /// of the last two alone.
     #[inline(always)]
     pub fn serves_write(&self, at: u64, value: &Datum) -> bool
         ensures { result ≡ true → ServesWrite self.now at value.now }
     {
-        if self.irrevocable || at % 8 != 0 {
+        let size = u64::from(value.width.size());
+        if self.irrevocable || at % 8 + size > 8 {
             return false;
         }
-        let size = u64::from(value.width.size());
-        size == 8 && access_refusal(&self.state, at, size).is_none()
+        access_refusal(&self.state, at, size).is_none()
     }
 
     /// `call_into` of such a write, where there is memory for it: it is done.
@@ -145,7 +145,8 @@ impl Engine {
         true
     }
 
-    /// The same, where that takes no memory and no look for the word: it is not written, and is the one that is looked for next.
+    /// The same, where that takes no memory and no look at the write set's index: the last transaction wrote this word next, or few
+    /// words are written.
     #[inline(always)]
     pub fn write_next(&mut self, hint: WriteHint, at: u64, value: &Datum) -> bool
         requires idle { self.old.waits ≡ None }
@@ -156,7 +157,7 @@ impl Engine {
         write_next(&mut self.state, hint, at, value)
     }
 
-    /// The same, where that takes no memory: the word was written before, in this transaction or an earlier one.
+    /// The same, where that takes no memory: more words than few are written, and the index has this one.
     #[inline(always)]
     pub fn write_found(&mut self, hint: WriteHint, at: u64, value: &Datum) -> bool
         requires idle { self.old.waits ≡ None }

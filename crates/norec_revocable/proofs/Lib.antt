@@ -5,3 +5,4 @@ pub mod Copies
 pub mod ReadCalls
 pub mod Counts
 pub mod Holding
+pub mod StoredRows

@@ -66,6 +66,10 @@ moved c was = record c { snapshot = was }
 abbrev pub in_stores : Data → Taking → ℕ → Core
 in_stores d taking row = record (core d (at.BackLoad taking row)) { waits = None; stage = at.Idle; tries = 0 }
 
+-- with what was found of a word, and so many steps more
+abbrev pub storing : Data → Option ℕ → ℕ → Data
+storing d got steps = record d { got = got; spent = d.spent + steps }
+
 -- in a round, the rows before this one being loaded
 abbrev pub in_rows : Data → Aim → ℕ → Core
 in_rows d aim row = record (core d (at.RoundRow aim row)) { waits = None; stage = at.Idle; tries = 0 }

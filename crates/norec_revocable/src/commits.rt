@@ -6,7 +6,7 @@ ghost use Rattle.std.specs.Prelude.{◌≡◌, ◌<◌, ◌≤◌, ◌+◌, ◌/
 ghost use Rattle.word_pieces.specs.Masks.{whole};
 ghost use Rattle.norec_core.specs.Core.{is_outermost};
 ghost use Rattle.norec_revocable.specs.InPhases.{IsSound};
-ghost use Rattle.norec_revocable.specs.Between.{between, moved, in_stores, left_by, MayExchange, InStores};
+ghost use Rattle.norec_revocable.specs.Between.{between, moved, in_stores, left_by, storing, MayExchange, InStores};
 ghost use Rattle.norec_data.specs.Turns.{Turns};
 ghost use Rattle.norec_core.specs.Order.{exchange_stage, store_stage};
 ghost use Rattle.norec_revocable.specs.Moves.{GoesTo, StepGoesTo, StepTurns, CallTurns};
@@ -158,45 +158,20 @@ fn ask_store(state: &mut Data, written: Row, row: usize)
     state.got = None;
 }
 
-/// The clock was taken, and the first row, which is this one, is of a whole word: it is stored next.
+/// The clock was taken, and then each row of a commit stored, so many of them after a load of the word that they have a part
+/// of: the clock is freed next. All these steps are counted, with that one.
 #[inline(always)]
-pub fn ask_first_store(state: &mut Data, written: Row, seen: u64)
+pub fn ask_free(state: &mut Data, loads: usize)
     requires sound { IsSound state.old (phases.Exchange state.old.taking) }
-    requires same { seen ≡ state.old.snapshot }
-    requires within { 0 < length state.old.frames.writes.rows }
-    requires written { slice_get state.old.frames.writes.rows 0 ≡ Some written }
-    requires mask { written.mask ≡ whole }
-    ensures turns { StepTurns state.old (phases.Exchange state.old.taking) seen (Turn.Wait (Pending.Store 0)) state.new }
-    ensures same { state.new ≡ record state.old { got = None } }
-{
-    ask_store(state, written, 0);
-}
-
-/// A row was stored, and the one after it, which is this one, is of a whole word: it is stored next.
-#[inline(always)]
-pub fn ask_next_store(state: &mut Data, written: Row, row: usize)
-    requires sound { IsSound state.old (phases.Store state.old.taking row state.old.got) }
-    requires within { row + 1 < length state.old.frames.writes.rows }
-    requires written { slice_get state.old.frames.writes.rows (row + 1) ≡ Some written }
-    requires mask { written.mask ≡ whole }
-    ensures turns { StepTurns state.old (phases.Store state.old.taking row state.old.got) 0 (Turn.Wait (Pending.Store (row + 1))) state.new }
-    ensures same { state.new ≡ record state.old { got = None } }
-{
-    let _rows = state.frames.len();
-    ask_store(state, written, row + 1);
-}
-
-/// The last row of a commit was stored: the clock is freed next.
-#[inline(always)]
-pub fn ask_free(state: &mut Data, row: usize)
-    requires sound { IsSound state.old (phases.Store state.old.taking row state.old.got) }
-    requires last { row + 1 ≡ length state.old.frames.writes.rows }
     requires commit { state.old.taking ≡ Taking.Commit }
-    ensures turns { StepTurns state.old (phases.Store state.old.taking row state.old.got) 0 (Turn.Wait Pending.Free) state.new }
-    ensures same { state.new ≡ state.old }
+    requires few { loads ≤ length state.old.frames.writes.rows }
+    ensures sound { IsSound state.new phases.Free }
+    ensures state { state.new ≡ storing state.old state.old.got (length state.old.frames.writes.rows + loads + 1) }
 {
-    let _rows = state.frames.len();
-    end_stores(state, row + 1);
+    // (there are fewer steps in all than a count can tell)
+    let _entry = state.entry;
+    let rows = state.frames.len();
+    state.spent += rows as u128 + loads as u128 + 1;
 }
 
 /// Each row of a commit is stored: the clock is freed next.

@@ -23,9 +23,7 @@ mod writes;
 
 pub use begins::{begin, begin_at_once, begin_outer};
 pub use calls::{called, resumed};
-pub use commits::{
-    ask_first_store, ask_free, ask_next_store, commit, commit_reads, commit_writes, freed,
-};
+pub use commits::{ask_free, commit, commit_reads, commit_writes, freed};
 pub use known::known_number;
 pub use mode::irrevocable_room;
 pub use read::{confirmed_new, loaded};

@@ -1,0 +1,19 @@
+use Rattle.std.proofs.Common.{false, rules, subst}
+use Rattle.itm_types.specs.declared.access.WriteHint.TheVariants.{W}
+use Rattle.itm_types.specs.declared.call.Call.TheVariants.{Write}
+use Rattle.norec_core.specs.declared.answer.Answer.{Answer}
+use Rattle.shared_words.specs.Passes.{view_of}
+use Rattle.itm_runtime.specs.CallResults.{IsAnswered}
+use Rattle.itm_runtime.specs.Standing.{start_of}
+use Rattle.itm_runtime.proofs.Calls.NumberAnswers.{write_done}
+use Rattle.itm_runtime.proofs.thread.Thread.write_value_slow.Goals as goal
+
+pub returns : goal.returns
+returns g c =
+    let w = c.args.words.now in
+    let t = c.args.self.now in
+    let new = c.write.new.self in
+    let value = c.args.value.now in
+    let answered : IsAnswered w (start_of t (Write W c.args.at value) false) c.in_ok-answer.answer new.pass new.engine = search rules in
+    subst (λ (a : Answer). IsAnswered w (start_of t (Write W c.args.at value) false) a new.pass new.engine)
+    (write_done t W c.args.at value c.in_ok-answer.answer (view_of new.pass) new.engine answered.served c.in_ok-check.ensures.goes_on) answered
