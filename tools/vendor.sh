@@ -1,6 +1,6 @@
 #!/bin/sh
 # Copies the crates that a program needs into its own repository: `sh tools/vendor.sh DEST [CRATE..]`. With no crate named,
-# those that programs name first: itm_runtime, transactions and typed_cells. Below each it takes all that it stands on.
+# those that programs name first: itm_runtime, transactions, typed_cells and tx_threads. Below each it takes all that it stands on.
 #
 # A crate's must-fail edits and wrong bodies stay here, where the gate tries them. HANDLES is written where there is none,
 # and a line of crates.txt where it lacks the crate. A crate that is there already is replaced, and nothing else is changed.
@@ -16,7 +16,7 @@ dest=$1
 shift
 mkdir -p -- "$dest/crates" && dest=$(CDPATH= cd -- "$dest" && pwd) || stop 'there is no such place'
 [ "$dest" != "$here" ] || stop 'that is this repository'
-[ $# -gt 0 ] || set -- itm_runtime transactions typed_cells
+[ $# -gt 0 ] || set -- itm_runtime transactions typed_cells tx_threads
 
 # below CRATE..: the lines of crates.txt of these and of all that they stand on, in their order
 below() {

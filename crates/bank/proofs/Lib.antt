@@ -1,1 +1,2 @@
-mod Owned
+mod Calls
+mod Moves

@@ -1,1 +1,2 @@
 pub mod Tellers
+pub mod Transfers

@@ -1,4 +1,4 @@
-//! A bank over `itm_runtime`: each teller is a thread, and each of its transfers between two accounts is a transaction.
+//! A bank: each teller is a thread, and each of its transfers between two accounts is a transaction.
 #![tactic(auto)]
 
 mod branch;

@@ -1,36 +1,22 @@
 //! One thread of the program, which makes the transfers of one teller.
 
 ghost use Rattle.std.specs.Prelude.{◌≡◌, ◌+◌, ◌<◌, ◌^◌, IfOk};
-ghost use Rattle.shared_words.specs.Passes.{Owns};
-ghost use Rattle.bank.specs.Tellers.{HaveServed, IsReady, ended};
+ghost use Rattle.bank.specs.Tellers.{ended};
 
 use crate::fault::Fault;
-use crate::transfer::{Outcome, RECEIPT, Transfer, make};
-use itm_runtime::Thread;
-use itm_types::{Limits, MAX_COMMITS, Ran, USUAL_DEPTH};
-use shared_words::{Pass, Words};
-use std::alloc::{AllocError, Global};
-use undo_log::Arena;
+use crate::transfer::{RECEIPT, Transfer, make};
+use itm_types::Ran;
+use transactions::{Client, Failed};
+use typed_cells::Row;
 
 /// How many accounts there are.
-pub const ACCOUNTS: u8 = 8;
+pub const ACCOUNTS: u64 = 8;
 
 /// How many transfers a teller is asked for.
 pub const TRANSFERS: u64 = 1_000;
 
 /// More than all accounts have together.
 const TOO_MUCH: u64 = 1_000_000;
-
-const LIMITS: Limits = Limits {
-    patience: 8,
-    retries: 0,
-    max_commits: MAX_COMMITS,
-    depth: USUAL_DEPTH,
-    restarts: 0,
-};
-
-/// A pass that has come back, and what was done with it.
-pub type Served = Result<(Pass, Tally), Fault>;
 
 /// What tellers did.
 #[derive(Clone, Copy, Debug, Default)]
@@ -58,14 +44,19 @@ impl Tally {
 }
 
 /// What a teller is asked for, by the number of the transfer. Each tenth one can't be made.
-fn transfer_of(number: u64) -> Transfer {
-    let from = (number % u64::from(ACCOUNTS)) as u8;
-    let to = (from + 1) % ACCOUNTS;
+fn transfer_of(accounts: &Row<u64>, number: u64) -> Transfer
+    requires { accounts.now.count ≡ ACCOUNTS }
+{
+    let from = number % ACCOUNTS;
     let amount = match number % 10 {
         9 => TOO_MUCH,
         rest => rest % 3 + 1,
     };
-    Transfer { from, to, amount }
+    Transfer {
+        from: accounts.at(from),
+        to: accounts.at((from + 1) % ACCOUNTS),
+        amount,
+    }
 }
 
 /// Runs the actions that are due: counts the receipts.
@@ -81,35 +72,21 @@ fn count_receipts(due: &[Ran], tally: &mut Tally)
 }
 
 /// Makes all transfers of a teller.
-fn make_all(words: &Words, thread: &mut Thread) -> Result<Tally, Fault>
-    requires own { Owns words.now thread.old.pass }
-    ensures own { Owns words.now thread.new.pass }
+pub fn serve(client: &mut Client, accounts: &Row<u64>) -> Result<Tally, Fault>
+    requires { accounts.now.count ≡ ACCOUNTS }
+    ensures words { client.new.transaction.words ≡ client.old.transaction.words }
     ensures all { IfOk result (λ tally. ended tally ≡ TRANSFERS) }
 {
     let mut tally = Tally::default();
     for number in 0..TRANSFERS {
-        match make(words, thread, transfer_of(number))? {
-            Outcome::Made => tally.made += 1,
-            Outcome::Cancelled => tally.cancelled += 1,
+        match make(client, transfer_of(accounts, number)) {
+            Ok(_) => {
+                tally.made += 1;
+                count_receipts(client.due(), &mut tally);
+            }
+            Err(Failed::Cancelled(_)) => tally.cancelled += 1,
+            Err(_) => return Err(Fault::Transfer),
         }
-        count_receipts(thread.due(), &mut tally);
-        thread.clear_due();
     }
     Ok(tally)
-}
-
-/// A teller, with its own pass, which comes back.
-pub fn serve(alloc: Global, words: &Words, pass: Pass) -> Served
-    requires { IsReady words.now pass }
-    ensures { IfOk result (HaveServed words.now 1) }
-{
-    let arena = Arena::new(alloc, 0)?;
-    let Ok(mut thread) = Thread::new(alloc, words, pass, arena, LIMITS) else {
-        return Err(Fault::Memory(AllocError));
-    };
-    let tally = make_all(words, &mut thread)?;
-    match thread.into_parts() {
-        Ok((pass, _arena)) => Ok((pass, tally)),
-        Err(_) => Err(Fault::Held),
-    }
 }

@@ -45,7 +45,7 @@ use Rattle.transactions.specs.declared.tried.Tried.{Tried}
 use Rattle.transactions.specs.declared.tried.Tried.TheVariants.{Done}
 use Rattle.transactions.specs.declared.stopped.Stopped.{Stopped}
 use Rattle.transactions.specs.declared.stopped.Stopped.TheVariants.{Engine, Cancelled}
-use Rattle.transactions.specs.Runs.{EndsBy, HasBegun, KeepsLent, LeftBy, Tells, cancel_told, commit_told, stop_told, usual}
+use Rattle.transactions.specs.Runs.{EndsBy, HasBegun, KeepsBody, KeepsLent, LeftBy, Tells, cancel_told, commit_told, stop_told, usual}
 use Rattle.transactions.proofs.Looks.{engine_open}
 use Rattle.transactions.proofs.Modes.{KeepsMode, keeps_begin, keeps_commit, shut_revocable, stays_revocable}
 
@@ -272,7 +272,7 @@ abbrev is_done : {R E : Type 0} → Tried R E → Type 0
 is_done (Done done) = Unit {0}
 is_done _ = ⊥
 
-module _ {F R E : Type 0} (fn : Mut F (MutBor Lent × Unit {0}) (Result R (Stopped E) × (MutBor Lent × Unit {0}))) (makings : Makings fn) (first : Words) (done : Value R) (new : Standing) where
+module _ {F R E : Type 0} (fn : Mut F (MutBor Lent × Unit {0}) (Result R (Stopped E) × (MutBor Lent × Unit {0}))) (makings : Makings fn) (passed : F) (first : Words) (done : Value R) (new : Standing) where
   abbrev told : Tried R E
   told = Done done
 
@@ -289,21 +289,22 @@ module _ {F R E : Type 0} (fn : Mut F (MutBor Lent × Unit {0}) (Result R (Stopp
   not_cancelled why true e = subst is_done e tt
   not_cancelled why false e = subst is_done e tt
 
-  module _ (before : Standing) (again : Bool) (answer : Answer) (began : Lent) (begins : HasBegun before again answer began) (here : began.words ≡ first) (body body' : F) (last : Lent) where
-    committed : (value : R) (a : Answer) (stood : Lent) → IsAnswered last.words (start_of last.thread Commit false) a stood.thread.pass stood.thread.engine → told ≡ commit_told value a → LeftBy a stood new → CalledAtMut fn body began (Ok value) body' last → IsPlainRun fn makings first done new
+  module _ (before : Standing) (again : Bool) (answer : Answer) (began : Lent) (begins : HasBegun before again answer began) (here : began.words ≡ first) (body body' : F) (same : KeepsBody fn → body ≡ passed) (last : Lent) where
+    committed : (value : R) (a : Answer) (stood : Lent) → IsAnswered last.words (start_of last.thread Commit false) a stood.thread.pass stood.thread.engine → told ≡ commit_told value a → LeftBy a stood new → CalledAtMut fn body began (Ok value) body' last → IsPlainRun fn makings passed first done new
     committed value (answers.Committed at wrote) stood answered e left runs =
-        let same : CalledAtMut fn body began (Ok done.value) body' last = subst (λ (x : R). CalledAtMut fn body began (Ok x) body' last) (sym (ap (told_value done.value) e)) runs in
-        let made = makings body began done.value body' last same in
+        let run : CalledAtMut fn body began (Ok done.value) body' last = subst (λ (x : R). CalledAtMut fn body began (Ok x) body' last) (sym (ap (told_value done.value) e)) runs in
+        let made = makings body began done.value body' last run in
         let a : IsAnswered last.words (start_of last.thread Commit false) (answers.Committed at wrote) new.pass new.engine =
         subst (λ (t : Standing). IsAnswered last.words (start_of last.thread Commit false) (answers.Committed at wrote) t.pass t.engine) (sym left) answered in
         let told_so : answers.Committed at wrote ≡ answers.Committed done.at done.wrote = ap (λ n. answers.Committed n wrote) (sym (ap told_at e)) ∙ ap (λ b. answers.Committed done.at b) (sym (ap told_wrote e)) in
         record {
           body = body;
+          same = same;
           body' = body';
           began = began;
           last = last;
           here = here;
-          runs = same;
+          runs = run;
           plain = law began.words before began made.0 last.thread done.at done.wrote last.words new (opens_on before again answer began begins.stood begins.outside begins.answered begins.goes_on) made.1
               (subst (λ (x : Answer). IsAnswered last.words (start_of last.thread Commit false) x new.pass new.engine) told_so a);
         }
@@ -313,11 +314,11 @@ module _ {F R E : Type 0} (fn : Mut F (MutBor Lent × Unit {0}) (Result R (Stopp
     committed value (answers.Busy clock) stood answered e left runs = absurd (subst is_done e tt)
     committed value (answers.Full at) stood answered e left runs = absurd (subst is_done e tt)
 
-    ran : (gives : Result R (Stopped E)) → CalledAtMut fn body began gives body' last → EndsBy gives last told new → IsPlainRun fn makings first done new
+    ran : (gives : Result R (Stopped E)) → CalledAtMut fn body began gives body' last → EndsBy gives last told new → IsPlainRun fn makings passed first done new
     ran (Ok value) runs ends = committed value ends.answer ends.then ends.answered ends.told_is ends.left runs
     ran (Err (Engine why)) runs ends = absurd (not_stopped why (in_transaction last.thread.engine) ends.1)
     ran (Err (Cancelled why)) runs ends = absurd (not_cancelled why (in_transaction last.thread.engine) ends.1)
 
-  pub plain_run : (words : Words) → words ≡ first → KeepsLent fn → Tells fn words told new → IsPlainRun fn makings first done new
-  plain_run words is kept (inl run) = ran run.before run.again run.answer run.began run.begins (run.here kept ∙ is) run.body run.body' run.last run.gives run.runs run.ends
-  plain_run words is kept (inr none) = absurd (not_stopped none.stop true none.told_is)
+  pub plain_run : (words : Words) → words ≡ first → (first_of : F) → (KeepsBody fn → first_of ≡ passed) → KeepsLent fn → Tells fn first_of words told new → IsPlainRun fn makings passed first done new
+  plain_run words is first_of same kept (inl run) = ran run.before run.again run.answer run.began run.begins (run.here kept ∙ is) run.body run.body' (λ steady. run.same steady ∙ same steady) run.last run.gives run.runs run.ends
+  plain_run words is first_of same kept (inr none) = absurd (not_stopped none.stop true none.told_is)

@@ -14,11 +14,11 @@ use Rattle.transactions.specs.declared.tried.Tried.{Tried}
 use Rattle.transactions.specs.declared.tried.Tried.TheVariants.{Conflict, Failed as Fails}
 use Rattle.transactions.specs.declared.stopped.Stopped.{Stopped}
 use Rattle.transactions.specs.Lent.{Lent}
-use Rattle.transactions.specs.Runs.{ComesTo, IsGivenUp, KeepsLent, LeftBy, Tells, cancel_told, commit_told, mine_then, stop_told}
+use Rattle.transactions.specs.Runs.{ComesTo, IsGivenUp, KeepsBody, KeepsLent, LeftBy, Tells, cancel_told, commit_told, mine_then, stop_told}
 
-module _ {F R E : Type 0} (fn : Mut F (MutBor Lent × Unit {0}) (Result R (Stopped E) × (MutBor Lent × Unit {0}))) (words first : Words) (is : KeepsLent fn → words ≡ first) where
+module _ {F R E : Type 0} (fn : Mut F (MutBor Lent × Unit {0}) (Result R (Stopped E) × (MutBor Lent × Unit {0}))) (words first : Words) (is : KeepsLent fn → words ≡ first) (body passed : F) (same : KeepsBody fn → body ≡ passed) where
   -- told of the words that the tries began on
-  pub rebased : (told : Tried R E) (new : Standing) → Tells fn words told new → Tells fn first told new
+  pub rebased : (told : Tried R E) (new : Standing) → Tells fn body words told new → Tells fn passed first told new
   rebased told new (inl run) = inl (record {
     before = run.before;
     again = run.again;
@@ -27,6 +27,7 @@ module _ {F R E : Type 0} (fn : Mut F (MutBor Lent × Unit {0}) (Result R (Stopp
     begins = run.begins;
     here = λ keeps. run.here keeps ∙ is keeps;
     body = run.body;
+    same = λ steady. run.same steady ∙ same steady;
     body' = run.body';
     gives = run.gives;
     last = run.last;
@@ -44,7 +45,7 @@ module _ {F R E : Type 0} (fn : Mut F (MutBor Lent × Unit {0}) (Result R (Stopp
     told_is = none.told_is;
   })
 
-  pub came_failed : (why : Failed E) (new : Standing) → Tells fn words (Fails why) new → ComesTo fn first (Err why) new
+  pub came_failed : (why : Failed E) (new : Standing) → Tells fn body words (Fails why) new → ComesTo fn passed first (Err why) new
   came_failed (failures.Cancelled why) new t = rebased _ new t
   came_failed (failures.Refused refusal) new t = rebased _ new t
   came_failed failures.Full new t = rebased _ new t

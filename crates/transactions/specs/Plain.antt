@@ -20,7 +20,7 @@ use Rattle.itm_runtime.specs.Ties.{memory_of}
 use Rattle.transactions.specs.declared.stopped.Stopped.{Stopped}
 use Rattle.transactions.specs.declared.tried.Done.{Done as Value}
 use Rattle.transactions.specs.Lent.{Lent}
-use Rattle.transactions.specs.Runs.{usual}
+use Rattle.transactions.specs.Runs.{KeepsBody, usual}
 
 -- the call leaves a transaction open and revocable: of an abort its caller says that some block is open still
 abbrev pub Stays : Call → Standing → Type 0
@@ -62,9 +62,10 @@ module _ {F R E : Type 0} (fn : Mut F (MutBor Lent × Unit {0}) (Result R (Stopp
   abbrev pub Makings : Type 0
   Makings = (f : F) (x : Lent) (value : R) (f' : F) (x' : Lent) → CalledAtMut fn f x (Ok value) f' x' → (made : List (Call × Replied)) × Makes x.words x.thread made x'.thread
 
-  -- the value that is told was given by a run whose calls are the plain machine's at the position told
-  pub record IsPlainRun (makings : Makings) (words : Words) (done : Value R) (new : Standing) : Type 0 where
+  -- the value that is told was given by a run whose calls are the plain machine's at the position told; the body is the first one where bodies are left as they were
+  pub record IsPlainRun (makings : Makings) (first : F) (words : Words) (done : Value R) (new : Standing) : Type 0 where
     pub body : F
+    pub same : KeepsBody fn → body ≡ first
     pub body' : F
     pub began : Lent
     pub last : Lent

@@ -116,8 +116,12 @@ module _ {F R E : Type 0} (fn : Mut F (MutBor Lent × Unit {0}) (Result R (Stopp
   abbrev pub KeepsLent : Type 0
   KeepsLent = (f : F) (x : Lent) (r : Result R (Stopped E)) (f' : F) (x' : Lent) → CalledAtMut fn f x r f' x' → IsKept x x'
 
-  -- a transaction began, on these words where bodies hand back what they are lent; the body was run in it, and it ended by what that gave
-  pub record HasRun (words : Words) (told : Tried R E) (new : Standing) : Type 0 where
+  -- and is left as it was itself
+  abbrev pub KeepsBody : Type 0
+  KeepsBody = (f : F) (x : Lent) (r : Result R (Stopped E)) (f' : F) (x' : Lent) → CalledAtMut fn f x r f' x' → f' ≡ f
+
+  -- a transaction began, on these words where bodies hand back what they are lent; the body was run in it, the first one where bodies are left as they were, and it ended by what that gave
+  pub record HasRun (first : F) (words : Words) (told : Tried R E) (new : Standing) : Type 0 where
     pub before : Standing
     pub again : Bool
     pub answer : Answer
@@ -125,6 +129,7 @@ module _ {F R E : Type 0} (fn : Mut F (MutBor Lent × Unit {0}) (Result R (Stopp
     pub begins : HasBegun before again answer began
     pub here : KeepsLent → began.words ≡ words
     pub body : F
+    pub same : KeepsBody → body ≡ first
     pub body' : F
     pub gives : Result R (Stopped E)
     pub last : Lent
@@ -143,11 +148,11 @@ module _ {F R E : Type 0} (fn : Mut F (MutBor Lent × Unit {0}) (Result R (Stopp
     pub told_is : told ≡ stop_told stop true
 
   -- what a try on these words is told as
-  abbrev pub Tells : Words → Tried R E → Standing → Type 0
-  Tells words told new = HasRun words told new ⊎ HasNotBegun words told new
+  abbrev pub Tells : F → Words → Tried R E → Standing → Type 0
+  Tells first words told new = HasRun first words told new ⊎ HasNotBegun words told new
 
   -- what all tries come to: what is told of the last one
-  abbrev pub ComesTo : Words → Result (Value R) (Failed E) → Standing → Type 0
-  ComesTo words (Ok done) new = Tells words (Done done) new
-  ComesTo words (Err failures.Tries) new = Unit {0}
-  ComesTo words (Err why) new = Tells words (Fails why) new
+  abbrev pub ComesTo : F → Words → Result (Value R) (Failed E) → Standing → Type 0
+  ComesTo first words (Ok done) new = Tells first words (Done done) new
+  ComesTo first words (Err failures.Tries) new = Unit {0}
+  ComesTo first words (Err why) new = Tells first words (Fails why) new

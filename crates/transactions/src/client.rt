@@ -65,10 +65,10 @@ impl Client {
         mut body: F,
     ) -> Result<Done<R>, Failed<E>>
         requires callable { F.IsAlwaysCallable body }
-        ensures comes { ComesTo F.FnMut self.old.transaction.words result self.new.transaction.thread }
+        ensures comes { ComesTo F.FnMut body self.old.transaction.words result self.new.transaction.thread }
 
         // Where each run's calls are known, those of the run that gave the value are the plain machine's at the position told.
-        ensures plain { KeepsLent F.FnMut → (makings : Makings F.FnMut) → IfOk result (λ done. IsPlainRun F.FnMut makings self.old.transaction.words done self.new.transaction.thread) }
+        ensures plain { KeepsLent F.FnMut → (makings : Makings F.FnMut) → IfOk result (λ done. IsPlainRun F.FnMut makings body self.old.transaction.words done self.new.transaction.thread) }
 
         // The body hands back what it was lent: the words are the same, and the pass's own commits are those told.
         ensures left { KeepsLent F.FnMut → IsLeft (mine_left (mine_of self.old.transaction) result) self.old.transaction self.new.transaction }

@@ -1,2 +1,3 @@
 pub mod ComesBack
+pub mod Reads
 pub mod Words

@@ -26,6 +26,7 @@ impl<T: Word> Cell<T> {
     pub fn get(&self, bytes: &[u8]) -> Option<T>
         ensures within { IsSome result ↔ (self.now.place + 8 ≤ length bytes.now) }
         ensures value { IfSome result (λ x. x ≡ T.value (from_le_bytes w64 (take 8 (drop self.now.place bytes.now)))) }
+        ensures fits { IfSome result T.fits }
     {
         if bytes.len() < 8 || self.place > (bytes.len() - 8) as u64 {
             return None;

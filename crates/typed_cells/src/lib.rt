@@ -2,6 +2,7 @@
 #![tactic(auto)]
 
 mod cell;
+mod in_transaction;
 mod places;
 mod row;
 mod word;

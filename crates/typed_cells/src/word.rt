@@ -21,7 +21,8 @@ pub trait Word: Copy {
 
     /// What the word stands for. Of one that stands for no value it is any.
     fn of_number(word: u64) -> Self
-        ensures { result ≡ value word };
+        ensures value { result ≡ value word }
+        ensures fits { fits result };
 
     // it comes back as it was
     ghost comes_back: { (x : Self) → fits x → value (number x) ≡ x };

@@ -1,5 +1,5 @@
 use Rattle.std.proofs.Common.{◌+◌, ◌*◌}
-use Rattle.bank.proofs.branch.+fn-serve_all-join+arg3+serve_all.Given as goal
+use Rattle.tx_threads.proofs.serving.+fn-serve_all-join+arg3+serve_all.Given as goal
 
 abbrev pub decreases-join+arg3 : goal.decreases-join+arg3
 decreases-join+arg3 g l = 2 * l.more

@@ -1,0 +1,56 @@
+-- A transfer's calls, by what each of them tells.
+use Rattle.std.proofs.Common.{◌≡◌, ℕ, ◌+◌, ◌-◌, Result, Ok, Err, false, ap, refl, subst, sym}
+use Rattle.itm_types.specs.declared.access.ReadHint.TheVariants.{R}
+use Rattle.itm_types.specs.declared.access.WriteHint.TheVariants.{W}
+use Rattle.itm_types.specs.declared.access.Width.TheVariants.{U8}
+use Rattle.itm_types.specs.declared.call.Call.{Call}
+use Rattle.itm_types.specs.declared.call.Call.TheVariants.{CommitAction, Read, Write}
+use Rattle.itm_types.specs.declared.call.Reply.{Reply as Replied}
+use Rattle.itm_types.specs.declared.call.Reply.TheVariants.{Done}
+use Rattle.itm_model.specs.Machine.{bytes_reply}
+use Rattle.norec_core.specs.declared.answer.Answer.TheVariants.{Reply}
+use Rattle.shared_words.specs.InGlobal.{Words}
+use Rattle.itm_runtime.specs.CallResults.{IsAnswered, Tells}
+use Rattle.itm_runtime.specs.Standing.{Standing, start_of}
+use Rattle.itm_runtime.specs.Stops.{answer_to_read, bytes_of_number, number}
+use Rattle.itm_runtime.specs.declared.stop.Stop.{Stop}
+use Rattle.typed_cells.specs.Reads.{read_as}
+use Rattle.bank.specs.declared.transfer.Transfer.{Transfer}
+use Rattle.bank.specs.declared.transfer.TheConstants.{RECEIPT}
+use Rattle.bank.specs.Transfers.{CanMove, IsMade}
+
+-- the call was answered by this reply
+abbrev pub Replies : Words → Standing → Call → Replied → Standing → Type 0
+Replies words old call r new = IsAnswered words (start_of old call false) (Reply r) new.pass new.engine
+
+abbrev IsFine : Result ℕ Stop → Type 0
+IsFine (Ok n) = Unit {0}
+IsFine (Err stop) = ⊥
+
+abbrev number_in : ℕ → Result ℕ Stop → ℕ
+number_in other (Ok n) = n
+number_in other (Err stop) = other
+
+read_by : (words : Words) (old new : Standing) (at had : ℕ) (read : Result ℕ Stop) → Tells words old (Read R U8 at) (answer_to_read read) new → Ok had ≡ read_as (λ n. n) read → Replies words old (Read R U8 at) (bytes_reply (bytes_of_number had)) new
+read_by words old new at had (Ok n) tells e = subst (λ k. Replies words old (Read R U8 at) (bytes_reply (bytes_of_number k)) new) (ap (number_in n) (sym e)) tells
+read_by words old new at had (Err stop) tells e = absurd (subst IsFine e tt)
+
+module _ (words : Words) (old new : Standing) (at had : ℕ) where
+  pub read_replied : (read : Result ℕ Stop) × Tells words old (Read R U8 at) (answer_to_read read) new × (Ok had ≡ read_as (λ n. n) read) → Replies words old (Read R U8 at) (bytes_reply (bytes_of_number had)) new
+  read_replied told = read_by words old new at had told.0 told.1 told.2
+
+pub over : (w words : Words) (old new : Standing) (call : Call) (r : Replied) → w ≡ words → Replies w old call r new → Replies words old call r new
+over w words old new call r e a = subst (λ (v : Words). Replies v old call r new) e a
+
+pub write_replied : (w words : Words) (old new : Standing) (at n m : ℕ) → w ≡ words → n ≡ m → Replies w old (Write W at (number n)) Done new → Replies words old (Write W at (number m)) Done new
+write_replied w words old new at n m e is a = subst (λ (k : ℕ). Replies words old (Write W at (number k)) Done new) is (over w words old new (Write W at (number n)) Done e a)
+
+pub made_by : (t : Transfer) (words : Words) (old a b d e new : Standing) (had has : ℕ) → CanMove t.amount had has
+    → Replies words old (Read R U8 t.from.place) (bytes_reply (bytes_of_number had)) a
+    → Replies words a (Write W t.from.place (number (had - t.amount))) Done b
+    → Replies words b (Read R U8 t.to.place) (bytes_reply (bytes_of_number has)) d
+    → Replies words d (Write W t.to.place (number (has + t.amount))) Done e
+    → Replies words e (CommitAction (record { fun = RECEIPT; arg = t.amount })) Done new
+    → IsMade t words old new
+made_by t words old a b d e new had has can r1 w1 r2 w2 last =
+    record { had = had; has = has; can = can; makes = (a, tt, r1, (b, tt, w1, (d, tt, r2, (e, tt, w2, (new, tt, last, refl))))) }

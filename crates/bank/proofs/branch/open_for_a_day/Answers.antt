@@ -1,0 +1,15 @@
+use Rattle.std.proofs.Common.{◌≡◌, rules, IfOk, List, Result, Ok, Some, ap, sym, ◌∙◌}
+use Rattle.std.specs.List.{slice_get}
+use Rattle.tx_threads.proofs.Runs.{each_given}
+use Rattle.bank.specs.declared.fault.Fault.{Fault}
+use Rattle.bank.specs.declared.teller.Tally.{Tally}
+use Rattle.bank.specs.declared.teller.TheConstants.{TRANSFERS}
+use Rattle.bank.specs.Tellers.{ended}
+use Rattle.bank.proofs.branch.open_for_a_day.Goals as goal
+
+pub all_of-requires-clause-all : goal.all_of-requires-clause-all
+all_of-requires-clause-all g c n t e =
+    let run = c.in_ok-joined.ensures.run in
+    let values = c.in_ok-joined.joined.values.items in
+    let here : slice_get values n ≡ Some (Ok t) = ap (λ (xs : List (Result Tally Fault)). slice_get xs n) (sym c.as_slice.ensures.value) ∙ e in
+    each_given _ _ run.words (λ (r : Result Tally Fault). IfOk r (λ (t : Tally). ended t ≡ TRANSFERS)) (λ k lent left r called. search rules) 0 values run.views run.each n (Ok t) here

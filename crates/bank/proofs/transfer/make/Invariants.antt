@@ -1,5 +1,0 @@
-use Rattle.shared_words.specs.Passes.{Owns}
-use Rattle.bank.proofs.transfer.make.Given as goal
-
-abbrev pub invariant-loop : goal.invariant-loop
-invariant-loop l = Owns l.words l.thread.pass

@@ -1,0 +1,100 @@
+-- What one thread, two rows of them, and all of them come to.
+use Rattle.std.proofs.Common.{◌≡◌, ◌∙◌, slice_get, Some, ℕ, zero, suc, ◌+◌, false, List, [], ◌∷◌, ◌++◌, ◌⊎◌, inl, inr, length, ap, refl, subst, sym, arith, append_assoc, length-append}
+use Rattle.std.specs.List.{flat_map}
+use Rattle.std.proofs.lemmas.Option.{none-some, same_Some}
+use Rattle.std.specs.Borrow.{MutBor}
+use denote.Param.Members.{Shared}
+use Rattle.itm_types.specs.Memory.{bytes_of}
+use Rattle.shared_words.specs.declared.pass.Pass.{Pass}
+use Rattle.shared_words.specs.declared.view.View.{View}
+use Rattle.shared_words.specs.Commits.{StartsWith, Stores}
+use Rattle.shared_words.specs.InGlobal.{Words}
+use Rattle.shared_words.specs.Passes.{Owns, view_of}
+use Rattle.shared_words.specs.Steps.{Joined}
+use Rattle.transactions.specs.declared.client.Client.{Client}
+use Rattle.tx_threads.specs.Threads.{AllBegin, AreServed, EachHasRun, Ending, HasRun, HaveRun}
+
+abbrev mine_of : View → List ℕ
+mine_of v = v.mine
+
+nothing_more : {A : Type 0} → (xs : List A) → xs ≡ xs ++ []
+nothing_more [] = refl
+nothing_more {A} (x ∷ xs) = ap (λ (l : List A). x ∷ l) (nothing_more xs)
+
+begins_itself : (log : List Stores) → StartsWith log log
+begins_itself log = ([], nothing_more log)
+
+begins_longer : (log some fewer : List Stores) → StartsWith log some → StartsWith some fewer → StartsWith log fewer
+begins_longer log some fewer a b = (b.0 ++ a.0, a.1 ∙ ap (λ (l : List Stores). l ++ a.0) b.1 ∙ append_assoc fewer b.0 a.0)
+
+all_longer : (log some : List Stores) (vs : List View) → StartsWith log some → AllBegin some vs → AllBegin log vs
+all_longer log some [] a b = tt
+all_longer log some (v ∷ vs) a b = (begins_longer log some v.seen a b.0, all_longer log some vs a b.1)
+
+both_begin : (log : List Stores) (vs ws : List View) → AllBegin log vs → AllBegin log ws → AllBegin log (vs ++ ws)
+both_begin log [] ws a b = b
+both_begin log (v ∷ vs) ws a b = (a.0, both_begin log vs ws a.1 b)
+
+pub first_begins : (v u w : View) → Joined v u w → StartsWith w.seen v.seen
+first_begins v u w j = by j.longer
+  where
+    by : (StartsWith v.seen u.seen × (w.seen ≡ v.seen)) ⊎ (StartsWith u.seen v.seen × (w.seen ≡ u.seen)) → StartsWith w.seen v.seen
+    by (inl l) = subst (λ (log : List Stores). StartsWith log v.seen) (sym l.1) (begins_itself v.seen)
+    by (inr r) = subst (λ (log : List Stores). StartsWith log v.seen) (sym r.1) r.0
+
+pub second_begins : (v u w : View) → Joined v u w → StartsWith w.seen u.seen
+second_begins v u w j = by j.longer
+  where
+    by : (StartsWith v.seen u.seen × (w.seen ≡ v.seen)) ⊎ (StartsWith u.seen v.seen × (w.seen ≡ u.seen)) → StartsWith w.seen u.seen
+    by (inl l) = subst (λ (log : List Stores). StartsWith log u.seen) (sym l.1) l.0
+    by (inr r) = subst (λ (log : List Stores). StartsWith log u.seen) (sym r.1) (begins_itself u.seen)
+
+mine_append : (vs ws : List View) → flat_map mine_of (vs ++ ws) ≡ flat_map mine_of vs ++ flat_map mine_of ws
+mine_append [] ws = refl
+mine_append (v ∷ vs) ws = ap (λ (l : List ℕ). v.mine ++ l) (mine_append vs ws) ∙ sym (append_assoc v.mine (flat_map mine_of vs) (flat_map mine_of ws))
+
+module _ {F T : Type 0} (fn : Shared F (ℕ × (MutBor Client × Unit {0})) (T × (MutBor Client × Unit {0}))) (f : F) (words : Words) where
+  pub one_served : {n : ℕ} {lent left : MutBor Client} {r : T} (pass : Pass) (values : List T) → fn.post f (n, (lent, tt)) (r, (left, tt)) → lent.now.transaction.words ≡ words → (view_of lent.now.transaction.thread.pass).mine ≡ [] → pass ≡ left.now.transaction.thread.pass → Owns words pass → (view_of pass).holds ≡ false → values ≡ r ∷ [] → AreServed fn f words n 1 values pass
+  one_served {n} {lent} {left} {r} pass values runs here new ends own idle is =
+      let run : HasRun fn f words n r (view_of pass) = record { lent = lent; left = left; here = here; new = new; runs = runs; ends = ap view_of ends } in
+      subst (λ (vs : List T). AreServed fn f words n 1 vs pass) (sym is) (record { own = own; idle = idle; count_is = refl; views = view_of pass ∷ []; each = (run, tt); mine = nothing_more (view_of pass).mine; begin = (begins_itself (view_of pass).seen, tt) })
+
+  runs_append : (n m : ℕ) (xs ys : List T) (vs ws : List View) → m ≡ n + length xs → EachHasRun fn f words n xs vs → EachHasRun fn f words m ys ws → EachHasRun fn f words n (xs ++ ys) (vs ++ ws)
+  runs_append n m [] ys [] ws e a b = let same : m ≡ n = omega arith in subst (λ (k : ℕ). EachHasRun fn f words k ys ws) same b
+  runs_append n m (x ∷ xs) ys (v ∷ vs) ws e a b = let next : m ≡ suc n + length xs = omega arith in (a.0, runs_append (suc n) m xs ys vs ws next a.1 b)
+  runs_append n m [] ys (v ∷ vs) ws e a b = absurd a
+  runs_append n m (x ∷ xs) ys [] ws e a b = absurd a
+
+  pub more_served : (n more : ℕ) (xs ys zs : List T) (p q w : Pass) → AreServed fn f words n 1 xs p → AreServed fn f words (n + 1) more ys q → Owns words w → (view_of w).holds ≡ false → (view_of w).mine ≡ (view_of p).mine ++ (view_of q).mine → StartsWith (view_of w).seen (view_of p).seen → StartsWith (view_of w).seen (view_of q).seen → zs ≡ xs ++ ys → AreServed fn f words n (more + 1) zs w
+  more_served n more xs ys zs p q w a b own idle mine first second is =
+      let count : length (xs ++ ys) ≡ more + 1 = omega (arith, length-append xs ys, a.count_is, b.count_is) in
+      let next : n + 1 ≡ n + length xs = omega (arith, a.count_is) in
+      subst (λ (vs : List T). AreServed fn f words n (more + 1) vs w) (sym is) (record {
+        own = own;
+        idle = idle;
+        count_is = count;
+        views = a.views ++ b.views;
+        each = runs_append n (n + 1) xs ys a.views b.views next a.each b.each;
+        mine = mine ∙ ap (λ (l : List ℕ). l ++ (view_of q).mine) a.mine ∙ ap (λ (l : List ℕ). flat_map mine_of a.views ++ l) b.mine ∙ sym (mine_append a.views b.views);
+        begin = both_begin (view_of w).seen a.views b.views (all_longer (view_of w).seen (view_of p).seen a.views first a.begin) (all_longer (view_of w).seen (view_of q).seen b.views second b.begin);
+      })
+
+  pub all_run : (count clock : ℕ) (values : List T) (trunk other : Pass) (old new : List ℕ) → AreServed fn f words 0 count values other → (view_of trunk).mine ≡ [] → bytes_of (view_of trunk).base ≡ old → Ending (view_of trunk) (view_of other) clock new → HaveRun fn f count old values clock new
+  all_run count clock values trunk other old new s none bytes e = record {
+    words = words;
+    count_is = s.count_is;
+    views = s.views;
+    each = s.each;
+    whole = e.whole;
+    bytes = ap bytes_of e.base ∙ bytes;
+    mine = e.mine ∙ ap (λ (l : List ℕ). l ++ (view_of other).mine) none ∙ s.mine;
+    begin = all_longer e.whole.seen (view_of other).seen s.views e.seen s.begin;
+    ends = e.ends;
+  }
+
+  -- what each run of the body gives is so
+  pub each_given : (P : T → Type 0) → ((n : ℕ) (lent left : MutBor Client) (r : T) → fn.post f (n, (lent, tt)) (r, (left, tt)) → P r) → (n : ℕ) (xs : List T) (vs : List View) → EachHasRun fn f words n xs vs → (i : ℕ) (x : T) → slice_get xs i ≡ Some x → P x
+  each_given P so n [] vs each i x e = absurd (none-some x e)
+  each_given P so n (y ∷ ys) [] each i x e = absurd each
+  each_given P so n (y ∷ ys) (v ∷ vs) each zero x e = subst P (same_Some y x e) (so n each.0.lent each.0.left y each.0.runs)
+  each_given P so n (y ∷ ys) (v ∷ vs) each (suc i) x e = each_given P so (suc n) ys vs each.1 i x e

@@ -1,0 +1,75 @@
+-- What threads begin with, and what they come to.
+use Rattle.std.specs.Prelude.{◌≡◌, ℕ, suc, ◌+◌, false, List, [], ◌∷◌, ◌++◌, length}
+use Rattle.std.specs.List.{flat_map}
+use Rattle.std.specs.Borrow.{MutBor}
+use denote.Param.Members.{Shared}
+use Rattle.itm_types.specs.Memory.{bytes_of}
+use Rattle.shared_words.specs.declared.pass.Pass.{Pass}
+use Rattle.shared_words.specs.declared.view.View.{View}
+use Rattle.shared_words.specs.Commits.{StartsWith, Stores}
+use Rattle.shared_words.specs.Good.{EndsWith}
+use Rattle.shared_words.specs.InGlobal.{Words}
+use Rattle.shared_words.specs.Passes.{Owns, view_of}
+use Rattle.transactions.specs.declared.client.Client.{Client}
+
+-- a client may be made of the pass, which has no commit of its own
+pub record IsNew (words : Words) (pass : Pass) : Type 0 where
+  pub own : Owns words pass
+  pub idle : (view_of pass).holds ≡ false
+  pub mine : (view_of pass).mine ≡ []
+
+-- what all passes know, where this one had no client and the other one is all those that had
+pub record Ending (trunk other : View) (clock : ℕ) (bytes : List ℕ) : Type 0 where
+  pub whole : View
+  pub base : whole.base ≡ trunk.base
+  pub mine : whole.mine ≡ trunk.mine ++ other.mine
+  pub seen : StartsWith whole.seen other.seen
+  pub ends : EndsWith whole clock bytes
+
+-- what each view has seen are first ones of these commits
+abbrev pub AllBegin : List Stores → List View → Type 0
+AllBegin log [] = Unit {0}
+AllBegin log (v ∷ vs) = StartsWith log v.seen × AllBegin log vs
+
+module _ {F T : Type 0} (fn : Shared F (ℕ × (MutBor Client × Unit {0})) (T × (MutBor Client × Unit {0}))) (f : F) where
+  -- the body hands back a client over the same words
+  abbrev pub KeepsWords : Type 0
+  KeepsWords = (n : ℕ) (lent left : MutBor Client) (r : T) → fn.post f (n, (lent, tt)) (r, (left, tt)) → left.now.transaction.words ≡ lent.now.transaction.words
+
+  -- as the thread of this number the body was lent a client over these words that had committed nothing, gave this, and handed it back with what its pass then knew
+  pub record HasRun (words : Words) (n : ℕ) (r : T) (v : View) : Type 0 where
+    pub lent : MutBor Client
+    pub left : MutBor Client
+    pub here : lent.now.transaction.words ≡ words
+    pub new : (view_of lent.now.transaction.thread.pass).mine ≡ []
+    pub runs : fn.post f (n, (lent, tt)) (r, (left, tt))
+    pub ends : v ≡ view_of left.now.transaction.thread.pass
+
+  -- so of each thread from this number on
+  abbrev pub EachHasRun : Words → ℕ → List T → List View → Type 0
+  EachHasRun words n [] [] = Unit {0}
+  EachHasRun words n (r ∷ rs) (v ∷ vs) = HasRun words n r v × EachHasRun words (suc n) rs vs
+  EachHasRun words n [] (v ∷ vs) = ⊥
+  EachHasRun words n (r ∷ rs) [] = ⊥
+
+  -- what so many threads from this number on gave; their commits are those of the pass that they came back as, which has seen what each of them has
+  pub record AreServed (words : Words) (n count : ℕ) (values : List T) (pass : Pass) : Type 0 where
+    pub own : Owns words pass
+    pub idle : (view_of pass).holds ≡ false
+    pub count_is : length values ≡ count
+    pub views : List View
+    pub each : EachHasRun words n values views
+    pub mine : (view_of pass).mine ≡ flat_map (λ (v : View). v.mine) views
+    pub begin : AllBegin (view_of pass).seen views
+
+  -- so many threads ran the body over words of these bytes and gave these values. All commits are theirs, each position that of one thread; each thread has seen first ones of them, and the clock and the bytes are as all commits have left them
+  pub record HaveRun (count : ℕ) (old : List ℕ) (values : List T) (clock : ℕ) (new : List ℕ) : Type 0 where
+    pub words : Words
+    pub count_is : length values ≡ count
+    pub views : List View
+    pub each : EachHasRun words 0 values views
+    pub whole : View
+    pub bytes : bytes_of whole.base ≡ old
+    pub mine : whole.mine ≡ flat_map (λ (v : View). v.mine) views
+    pub begin : AllBegin whole.seen views
+    pub ends : EndsWith whole clock new
