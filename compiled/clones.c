@@ -32,7 +32,9 @@ ENTRY void _ITM_registerTMCloneTable(void *at, size_t count) {
     __atomic_store_n(&tables, t, __ATOMIC_RELEASE);
 }
 
+/* The program's own stays: it ends by now, and its other threads may still be in transactions. */
 ENTRY void _ITM_deregisterTMCloneTable(void *at) {
+    if (in_region(at, 1) || is_within((uintptr_t)at, &constants)) return;
     for (struct table *t = tables; t; t = t->next)
         if (t->source == at) t->source = 0, t->count = 0;
 }

@@ -29,6 +29,7 @@ enum itm_c_code {
     ITM_C_MEMORY = 68,        /* memory was refused, and nothing is changed */
     ITM_C_NO_SEAT = 69,       /* 127 threads have entered: enter again once one has left */
     ITM_C_HELD = 70,          /* the thread's transaction is irrevocable: it has to commit before it leaves */
+    ITM_C_STILL_ENTERED = 71, /* a thread that entered has not left */
 
     ITM_C_REFUSED = 80,       /* and the number of why; nothing is changed */
     ITM_C_OUTSIDE = 81,       /* no transaction is open */
@@ -69,8 +70,10 @@ uint32_t itm_c_enter(struct itm_c_words *words, struct itm_c_thread *out);
  * handle is as it was. One call at a time on `words`, which the thread entered. */
 uint32_t itm_c_leave(struct itm_c_words *words, struct itm_c_thread *thread);
 
-/* Gives the words up; the cells stay as they are, and are C's again once each thread that entered has left. */
-void itm_c_close(struct itm_c_words *words);
+/* Gives the words up, and the cells are C's again: `out` tells where they lie. The first is twice the number of commits, and
+ * the others hold what all commits have left. ITM_C_DONE, or ITM_C_STILL_ENTERED: then nothing is changed. Before, `out` is
+ * of no cells: a count of 0, at an address that is not null. */
+uint32_t itm_c_close(struct itm_c_words *words, struct itm_c_cells *out);
 
 /* Begins a block, or one within the open one. ITM_C_ENTERED, ITM_C_ENTERED_AGAIN (an outermost one with `again`), or BUSY,
  * CONFLICT (one that goes irrevocable), FULL, MEMORY, REFUSED. */

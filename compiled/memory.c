@@ -5,7 +5,8 @@
 /* Frames of calls that the block at `sp` has made, on whichever stack. They are gone where it begins again, and nobody
  * else has them. */
 static bool is_frame(uintptr_t at, const void *sp) {
-    return at < (uintptr_t)sp && (at >= (uintptr_t)__builtin_frame_address(0) || is_within(at, &tx.stack));
+    if (at >= (uintptr_t)sp) return false;
+    return at >= (uintptr_t)__builtin_frame_address(0) || (is_within(at, &tx.stack) && is_within((uintptr_t)sp, &tx.stack));
 }
 
 /* -- what the transaction has allocated, in the order of the addresses -- */

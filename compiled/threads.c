@@ -45,6 +45,7 @@ static void tell_counts(void) {
 
 static void leave(void *);
 
+/* (Under the lock.) */
 static void open_engine(void) {
     struct itm_c_cells cells = {(uint64_t *)(region.at - 8), (region.size + 8) / 8};
     if (*cells.at) fail("the word before the program's data is in use");
@@ -139,21 +140,20 @@ static void find_own_memory(void) {
     pthread_attr_destroy(&attributes);
     tx.stack = (struct memory){(uintptr_t)at, size};
     tx.tls = (struct memory){(uintptr_t)__builtin_thread_pointer() - tls_size, tls_size};
-    pthread_setspecific(leaving, &tx);
 }
 
 static void add_thread(void) {
     tx.is_shared = was_used(&tx.stack) || was_used(&tx.tls);
     tx.next = first_thread;
     first_thread = &tx;
+    pthread_setspecific(leaving, &tx);
 }
 
 void take_handle(void) {
-    static pthread_once_t once = PTHREAD_ONCE_INIT;
     bool is_new = !tx.stack.size;
-    pthread_once(&once, open_engine);
     if (is_new) find_own_memory();
     pthread_mutex_lock(&threads_lock);
+    if (!words.at) open_engine();
     if (is_new) add_thread();
     while (!(tx.engine = find_handle())) pthread_cond_wait(&handle_is_free, &threads_lock);
     pthread_mutex_unlock(&threads_lock);
@@ -194,14 +194,18 @@ static void leave(void *none) {
     tx = (struct tx){0};
 }
 
-/* -- fork: while the clock is held no commit of another thread is under way, so the child's memory is whole -- */
+/* -- fork: while the clock is held no commit of another thread is under way, so the child's memory is whole. Without an
+ * engine there is none either, and none is opened under the lock. -- */
 
 static __thread bool holds_clock __attribute__((tls_model("initial-exec")));
 
 static void before_fork(void) {
+    pthread_mutex_lock(&threads_lock);
     holds_clock = words.at && !tx.depth;
-    if (holds_clock && !tx.engine) take_handle();
-    while (holds_clock && itm_c_begin(tx.engine, false, false, true, false) != ITM_C_ENTERED) sched_yield();
+    if (!holds_clock) return;
+    pthread_mutex_unlock(&threads_lock);
+    if (!tx.engine) take_handle();
+    while (itm_c_begin(tx.engine, false, false, true, false) != ITM_C_ENTERED) sched_yield();
     pthread_mutex_lock(&threads_lock);
 }
 

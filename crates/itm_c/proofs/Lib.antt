@@ -1,4 +1,5 @@
 pub mod Steps
+pub mod Fitted
 pub mod KeptBoxes
 pub mod Comings
 pub mod Numbers

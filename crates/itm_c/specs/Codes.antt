@@ -38,6 +38,9 @@ no_seat = 69
 abbrev pub is_held : ℕ
 is_held = 70
 
+abbrev pub still_entered : ℕ
+still_entered = 71
+
 abbrev pub is_refused : ℕ
 is_refused = 80
 

@@ -19,11 +19,13 @@ IsSeated r = Owns (arc_value r.words) r.pass × ((view_of r.pass).holds ≡ fals
 abbrev pub KeepsRoot : (Root → Type 0) → Kept → Type 0
 KeepsRoot P (kept.Root r) = P r
 KeepsRoot P (kept.Client c) = ⊥
+KeepsRoot P kept.Closed = ⊥
 
 -- it is a thread, of which this holds
 abbrev pub KeepsClient : (Client → Type 0) → Kept → Type 0
 KeepsClient P (kept.Root r) = ⊥
 KeepsClient P (kept.Client c) = P c
+KeepsClient P kept.Closed = ⊥
 
 -- a handle holds words, of which this holds
 abbrev pub HoldsRoot : (Root → Type 0) → Option Kept → Type 0

@@ -1,8 +1,9 @@
 -- How words are opened, and how threads enter and leave.
-use Rattle.std.specs.Prelude.{◌≡◌, ◌-◌, [], ◌∷◌, length, Option, None, Some}
+use Rattle.std.specs.Prelude.{◌≡◌, ◌-◌, [], ◌∷◌, length, drop, slice_index, Option, None, Some}
 use Rattle.std.specs.Arc.{arc_value}
 use Rattle.itm_types.specs.declared.limits.TheConstants.{MAX_COMMITS, MAX_DEPTH}
 use Rattle.norec_core.specs.Core.{opening as fresh}
+use Rattle.shared_words.specs.Good.{Ends}
 use Rattle.shared_words.specs.Passes.{view_of, cells_of, place_of}
 use Rattle.shared_words.specs.Views.{opening, cut_left, cut_right}
 use Rattle.shared_words.specs.declared.view.View.{View}
@@ -34,6 +35,13 @@ pub record Leaves (old : Root) (c : Client) (new : Root) : Type 0 where
   pub seated : IsSeated new
   pub words : arc_value new.words ≡ arc_value old.words
   pub joined : Joined (view_of old.pass) (view_of c.thread.pass) (view_of new.pass)
+
+-- no thread is in any more, and the cells are what all commits have left, where they lie
+pub record Closes (r : Root) (cells : Cells) : Type 0 where
+  pub whole : (view_of r.pass).share ≡ 128
+  pub place : cells.at ≡ place_of (arc_value r.words)
+  pub count : length cells.items ≡ cells_of (arc_value r.words)
+  pub ends : Ends (view_of r.pass) (slice_index cells.items 0) (drop 1 cells.items)
 
 -- no step was made with a pass, and it has all its seats: where one was cut from it and joined again, `shorter` alone tells of that
 abbrev pub IsUnused : View → View → Type 0

@@ -22,7 +22,7 @@ pub extern "C" fn itm_c_read8(thread: &mut Handle, at: u64) -> Number
 {
     match thread.kept_mut() {
         Kept::Client(client) => client.read8(at),
-        Kept::Root(_) => unreachable!(),
+        _ => unreachable!(),
     }
 }
 
@@ -35,7 +35,7 @@ pub extern "C" fn itm_c_read4(thread: &mut Handle, at: u64) -> Number
 {
     match thread.kept_mut() {
         Kept::Client(client) => client.read(Width::U4, at),
-        Kept::Root(_) => unreachable!(),
+        _ => unreachable!(),
     }
 }
 
@@ -48,7 +48,7 @@ pub extern "C" fn itm_c_read2(thread: &mut Handle, at: u64) -> Number
 {
     match thread.kept_mut() {
         Kept::Client(client) => client.read(Width::U2, at),
-        Kept::Root(_) => unreachable!(),
+        _ => unreachable!(),
     }
 }
 
@@ -61,7 +61,7 @@ pub extern "C" fn itm_c_read1(thread: &mut Handle, at: u64) -> Number
 {
     match thread.kept_mut() {
         Kept::Client(client) => client.read(Width::U1, at),
-        Kept::Root(_) => unreachable!(),
+        _ => unreachable!(),
     }
 }
 
@@ -74,7 +74,7 @@ pub extern "C" fn itm_c_write8(thread: &mut Handle, at: u64, value: u64) -> u32
 {
     match thread.kept_mut() {
         Kept::Client(client) => client.write8(at, value),
-        Kept::Root(_) => unreachable!(),
+        _ => unreachable!(),
     }
 }
 
@@ -87,7 +87,7 @@ pub extern "C" fn itm_c_write4(thread: &mut Handle, at: u64, value: u32) -> u32
 {
     match thread.kept_mut() {
         Kept::Client(client) => client.write4(at, value),
-        Kept::Root(_) => unreachable!(),
+        _ => unreachable!(),
     }
 }
 
@@ -100,7 +100,7 @@ pub extern "C" fn itm_c_write2(thread: &mut Handle, at: u64, value: u16) -> u32
 {
     match thread.kept_mut() {
         Kept::Client(client) => client.write2(at, value),
-        Kept::Root(_) => unreachable!(),
+        _ => unreachable!(),
     }
 }
 
@@ -113,7 +113,7 @@ pub extern "C" fn itm_c_write1(thread: &mut Handle, at: u64, value: u8) -> u32
 {
     match thread.kept_mut() {
         Kept::Client(client) => client.write1(at, value),
-        Kept::Root(_) => unreachable!(),
+        _ => unreachable!(),
     }
 }
 
@@ -133,7 +133,7 @@ pub extern "C" fn itm_c_copy(thread: &mut Handle, to: u64, from: u64, size: u64,
     };
     match thread.kept_mut() {
         Kept::Client(client) => client.call(&Call::Copy(copying)),
-        Kept::Root(_) => unreachable!(),
+        _ => unreachable!(),
     }
 }
 
@@ -152,6 +152,6 @@ pub extern "C" fn itm_c_fill(thread: &mut Handle, to: u64, byte: u64, size: u64)
     };
     match thread.kept_mut() {
         Kept::Client(client) => client.call(&fill),
-        Kept::Root(_) => unreachable!(),
+        _ => unreachable!(),
     }
 }

@@ -28,7 +28,7 @@ pub extern "C" fn itm_c_begin(
     };
     match thread.kept_mut() {
         Kept::Client(client) => client.begin(props, again),
-        Kept::Root(_) => unreachable!(),
+        _ => unreachable!(),
     }
 }
 
@@ -41,7 +41,7 @@ pub extern "C" fn itm_c_commit(thread: &mut Handle) -> u32
 {
     match thread.kept_mut() {
         Kept::Client(client) => client.commit(),
-        Kept::Root(_) => unreachable!(),
+        _ => unreachable!(),
     }
 }
 
@@ -54,7 +54,7 @@ pub extern "C" fn itm_c_cancel(thread: &mut Handle, outer: bool) -> u32
 {
     match thread.kept_mut() {
         Kept::Client(client) => client.cancel(outer),
-        Kept::Root(_) => unreachable!(),
+        _ => unreachable!(),
     }
 }
 
@@ -67,6 +67,6 @@ pub extern "C" fn itm_c_irrevocable(thread: &mut Handle) -> u32
 {
     match thread.kept_mut() {
         Kept::Client(client) => client.call(&Call::Mode { room: 0 }),
-        Kept::Root(_) => unreachable!(),
+        _ => unreachable!(),
     }
 }

@@ -10,6 +10,7 @@ use std_alloc::vec::{Lodged, lodge};
 
 /// So many cells of 8 bytes, one after the other, which nothing else can reach while they are out as words.
 #[repr(C)]
+#[derive(Drop)]
 pub struct Cells {
     pub(crate) at: *mut u64,
     pub(crate) count: usize,
@@ -29,5 +30,21 @@ impl Cells {
     {
         let Cells { at, count } = self;
         unsafe { lodge(at, count, count) }
+    }
+
+    /// The cells of a vector, where they lie.
+    pub fn of_vec(mut vec: Vec<u64, Lodged>) -> Cells
+        ensures { (result.items ≡ vec.items) × (result.at ≡ vec_ptr vec) }
+    {
+        let at = vec.as_mut_ptr();
+        Cells::lying_at(at, vec)
+    }
+
+    fn lying_at(at: *mut u64, vec: Vec<u64, Lodged>) -> Cells
+        requires { vec_ptr vec ≡ at }
+        ensures { (result.items ≡ vec.items) × (result.at ≡ at) }
+    {
+        let count = vec.dislodge();
+        Cells { at, count }
     }
 }

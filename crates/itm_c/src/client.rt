@@ -143,7 +143,10 @@ impl Client {
         ensures tied { IsTied self.new }
         ensures told { Told self.old (Call.Write WriteHint.W at value.now) false result self.new }
     {
-        told_if(self.thread.write(&*self.words, WriteHint::W, at, value))
+        match self.thread.write_value(&*self.words, at, value) {
+            Ok(()) => DONE,
+            Err(stop) => told_stop(stop),
+        }
     }
 
     /// Reads a value of at most 8 bytes.

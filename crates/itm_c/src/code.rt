@@ -39,6 +39,9 @@ pub const NO_SEAT: u32 = 69;
 /// The transaction is irrevocable, and has to commit before its thread leaves.
 pub const HELD: u32 = 70;
 
+/// A thread that has entered has not left.
+pub const STILL_ENTERED: u32 = 71;
+
 /// The call is refused: this and the refusal's number.
 pub const REFUSED: u32 = 80;
 

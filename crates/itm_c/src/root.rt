@@ -38,7 +38,7 @@ pub struct Root {
 
 impl Root {
     ghost use Rattle.itm_c.specs.Kept.{IsSeated, IsTied, KeepsClient};
-    ghost use Rattle.itm_c.specs.Seats.{Enters, IsOpened, IsUnused, Leaves};
+    ghost use Rattle.itm_c.specs.Seats.{Closes, Enters, IsOpened, IsUnused, Leaves};
 
     /// The words in these cells, where they lie.
     pub fn open(alloc: Global, cells: Cells) -> Result<Root, u32>
@@ -105,6 +105,22 @@ impl Root {
         }
     }
 
+    /// The cells, once each thread that entered has left. Else all stays as it was.
+    pub fn close(self) -> Result<Cells, Root>
+        requires seated { IsSeated self }
+        ensures ok { IfOk result (Closes self) }
+        ensures err { IfErr result (λ r. r ≡ self) }
+    {
+        if self.pass.left() != 127 {
+            return Err(self);
+        }
+        let Root { words, pass } = self;
+        match Arc::try_unwrap(words) {
+            Ok(words) => Ok(Cells::of_vec(words.close_in_place(pass).into_cells())),
+            Err(words) => Err(Root { words, pass }),
+        }
+    }
+
     /// The same of a thread that was put by, which does not hold the clock.
     pub fn take_back(&mut self, kept: Kept)
         requires seated { IsSeated self.old }
@@ -116,7 +132,7 @@ impl Root {
                 Ok(()) => {}
                 Err(_) => unreachable!(),
             },
-            Kept::Root(_) => unreachable!(),
+            _ => unreachable!(),
         }
     }
 }

@@ -3,12 +3,12 @@
 ghost use Rattle.std.specs.Prelude.{◌≡◌, ◌≢◌, ◌⊎◌, ◌↔◌, true, None, IsSome, IfSome, length, slice_index};
 ghost use Rattle.std.specs.Arc.{arc_value};
 ghost use Rattle.shared_words.specs.Passes.{IsWrongCount, view_of};
-ghost use Rattle.itm_c.specs.Codes.{is_done, is_held, is_out_of_range, no_memory, no_seat};
+ghost use Rattle.itm_c.specs.Codes.{is_done, is_held, is_out_of_range, no_memory, no_seat, still_entered};
 ghost use Rattle.itm_c.specs.Kept.{HoldsClient, HoldsRoot, IsThread, IsWords, KeepsClient, KeepsRoot};
-ghost use Rattle.itm_c.specs.Seats.{Enters, IsOpened, IsRefused, Leaves};
+ghost use Rattle.itm_c.specs.Seats.{Closes, Enters, IsOpened, IsRefused, Leaves};
 
 use crate::cells::Cells;
-use crate::code::{DONE, HELD, MEMORY};
+use crate::code::{DONE, HELD, MEMORY, STILL_ENTERED};
 use crate::handle::Handle;
 use crate::kept::Kept;
 use crate::root::Root;
@@ -63,7 +63,7 @@ pub extern "C" fn itm_c_enter(alloc: Global, words: &mut Handle, out: &mut Handl
             },
             Err(code) => code,
         },
-        Kept::Client(_) => unreachable!(),
+        _ => unreachable!(),
     }
 }
 
@@ -85,18 +85,28 @@ pub extern "C" fn itm_c_leave(alloc: Global, words: &mut Handle, thread: &mut Ha
     let kept = Box::into_inner(thread.take(alloc));
     match words.kept_mut() {
         Kept::Root(root) => root.take_back(kept),
-        Kept::Client(_) => unreachable!(),
+        _ => unreachable!(),
     }
     DONE
 }
 
-/// Gives the words' memory back, and leaves the cells as they are.
+/// Gives the words up, and the cells are C's again where they lie, once each thread that entered has left. Else nothing is
+/// changed.
 #[unsafe(no_mangle)]
-pub extern "C" fn itm_c_close(alloc: Global, words: &mut Handle)
+pub extern "C" fn itm_c_close(alloc: Global, words: &mut Handle, out: &mut Cells) -> u32
     requires words { IsWords words.old.kept }
-    ensures { words.new.kept ≡ None }
+    ensures codes { (result ≡ is_done) ⊎ (result ≡ still_entered) }
+    ensures closed { result ≡ is_done → (words.new.kept ≡ None) × HoldsRoot (λ r. Closes r out.new) words.old.kept }
+    ensures stays { result ≡ still_entered → (words.new.kept ≡ words.old.kept) × (out.new ≡ out.old) }
 {
-    drop(words.take(alloc));
+    match words.kept_mut().close() {
+        Some(cells) => {
+            *out = cells;
+            drop(words.take(alloc));
+            DONE
+        }
+        None => STILL_ENTERED,
+    }
 }
 
 /// The thread's transaction is irrevocable.
@@ -107,6 +117,6 @@ fn holds_clock(thread: &mut Handle) -> bool
 {
     match thread.kept_mut() {
         Kept::Client(client) => client.holds_clock(),
-        Kept::Root(_) => unreachable!(),
+        _ => unreachable!(),
     }
 }
