@@ -2,7 +2,7 @@
 use Rattle.std.proofs.Common.{◌≡◌, ℕ, zero, suc, ◌-◌, ◌<◌, ◌≤◌, Bool, true, false, List, slice_get, Option, None, Some, sym, ap, subst, arith}
 use Rattle.std.specs.Prelude.{if◌then◌else◌, nat_lt}
 use Rattle.step_picture.specs.declared.mark.Mark.{Mark}
-use Rattle.step_picture.specs.Walks.{back_by, back_in, calls_of, is_thread, known_in, lane_in, look_of, or_else}
+use Rattle.step_picture.specs.Walks.{back_by, back_in, calls_of, known_in, look_of, or_else}
 
 before_suc : (k : ℕ) → k ≡ suc k - 1
 before_suc k = omega arith
@@ -18,12 +18,6 @@ reply_back marks thread calls zero best h e = absurd (omega (arith, h))
 reply_back marks thread calls (suc k) best h e =
     subst (λ (m : ℕ). calls_of thread (slice_get marks m) ≡ None → back_in marks thread calls m best ≡ back_in marks thread calls (suc k) best) (before_suc k)
     (λ e. sym (ap (λ (o : Option ℕ). back_by o calls k best (back_in marks thread calls k)) e)) e
-
-pub lane_back : (columns : List ℕ) (thread n : ℕ) → 0 < n → is_thread thread (slice_get columns (n - 1)) ≡ false → lane_in columns thread (n - 1) ≡ lane_in columns thread n
-lane_back columns thread zero h e = absurd (omega (arith, h))
-lane_back columns thread (suc k) h e =
-    subst (λ (m : ℕ). is_thread thread (slice_get columns m) ≡ false → lane_in columns thread m ≡ lane_in columns thread (suc k)) (before_suc k)
-    (λ e. sym (ap (λ (b : Bool). if b then k else lane_in columns thread k) e)) e
 
 -- ## No place lies behind the one at which the search begins
 

@@ -1,27 +1,18 @@
 -- The text of a picture: SVG, in which an event is one unit wide, and a lane ten high.
-use Rattle.std.specs.Prelude.{ℕ, zero, suc, ◌+◌, ◌-◌, ◌%◌, ◌==◌, if◌then◌else◌, List, [], ◌++◌, length, decimal, codes, slice_get, Option, None, Some}
+use Rattle.std.specs.Prelude.{ℕ, ◌+◌, ◌-◌, ◌%◌, ◌==◌, if◌then◌else◌, List, [], ◌++◌, length, decimal, codes, slice_get, Option, None, Some}
+use Rattle.picture_parts.specs.Lanes.{lane_in, lanes_text}
+use Rattle.picture_parts.specs.Looks.{front_text, look_text}
+use Rattle.picture_parts.specs.Texts.{first_texts}
 use Rattle.step_picture.specs.declared.mark.Came.{Came}
 use Rattle.step_picture.specs.declared.mark.Came.TheVariants.{GoesOn, Begun, NotBegun, Replied, Restarted, Ended}
 use Rattle.step_picture.specs.declared.mark.Mark.{Mark}
 use Rattle.step_picture.specs.Shapes.{shape_of}
 use Rattle.step_picture.specs.Styles.{looks_text}
-use Rattle.step_picture.specs.Walks.{back_in, begun_in, known_in, lane_in}
+use Rattle.step_picture.specs.Walks.{back_in, begun_in, known_in}
 use Rattle.step_table.specs.Came.{end_text}
 use Rattle.step_table.specs.Table.{operation_text}
-use Rattle.tx_attempts.specs.declared.attempt.Outcome.{Outcome}
-use Rattle.tx_attempts.specs.declared.attempt.Outcome.TheVariants.{Committed, ReadOnly, Cancelled, Conflict, Full, NoMemory, Unfinished}
 
 -- ## An attempt
-
--- how its bar looks, by how it ended
-unfoldable pub look_text : Outcome → List ℕ
-look_text Committed = codes "committed"
-look_text ReadOnly = codes "readonly"
-look_text Cancelled = codes "cancelled"
-look_text Conflict = codes "conflict"
-look_text Full = codes "broken"
-look_text NoMemory = codes "broken"
-look_text Unfinished = codes "unfinished"
 
 -- a bar from the one place to the other, with these words
 unfoldable pub bar_front : ℕ → ℕ → ℕ → List ℕ → List ℕ
@@ -94,24 +85,7 @@ abbrev pub mark_at : List ℕ → List Mark → ℕ → Option Mark → List ℕ
 mark_at columns marks i None = []
 mark_at columns marks i (Some m) = mark_text columns marks i m
 
--- ## The lanes
-
-unfoldable pub lane_text : ℕ → ℕ → ℕ → List ℕ
-lane_text events j thread =
-    codes "<g transform=\"translate(0 " ++ decimal j ++ codes "0)\"><text x=\"-4.7\" y=\".85\">thread " ++ decimal thread
-    ++ codes "</text><path class=\"lane\" d=\"M0 2.9H" ++ decimal events ++ codes "\"/></g>\n"
-
-abbrev pub lane_at : ℕ → ℕ → Option ℕ → List ℕ
-lane_at events j None = []
-lane_at events j (Some thread) = lane_text events j thread
-
 -- ## The whole
-
--- so wide, with so many lanes
-unfoldable pub front_text : ℕ → ℕ → List ℕ
-front_text wide lanes =
-    codes "<svg xmlns=\"http://www.w3.org/2000/svg\" font-family=\"monospace\" font-size=\"16\" width=\"" ++ decimal wide ++ codes "em\" height=\"" ++ decimal lanes
-    ++ codes "4em\" viewBox=\"-5 -1 " ++ decimal wide ++ codes " " ++ decimal lanes ++ codes "4\">\n"
 
 abbrev pub head_text : ℕ → ℕ → List ℕ
 head_text wide lanes = front_text wide lanes ++ looks_text
@@ -119,14 +93,6 @@ head_text wide lanes = front_text wide lanes ++ looks_text
 unfoldable pub foot_text : ℕ → List ℕ
 foot_text lanes =
     codes "<g transform=\"translate(0 " ++ decimal lanes ++ codes "0)\"><text x=\"-4.7\" y=\".7\">clock</text><text x=\"-4.7\" y=\"2.2\">event</text></g>\n</svg>\n"
-
--- the first ones of these texts, one after the other
-abbrev pub first_texts : (ℕ → List ℕ) → ℕ → List ℕ
-first_texts text zero = []
-first_texts text (suc n) = first_texts text n ++ text n
-
-abbrev pub lanes_text : List ℕ → ℕ → List ℕ
-lanes_text columns events = first_texts (λ j. lane_at events j (slice_get columns j)) (length columns)
 
 abbrev pub marks_text : List ℕ → List Mark → List ℕ
 marks_text columns marks = first_texts (λ i. mark_at columns marks i (slice_get marks i)) (length marks)

@@ -1,13 +1,6 @@
 -- What stands in each picture.
 use Rattle.std.specs.Prelude.{ℕ, List, ◌++◌, codes}
-
--- how texts and lines look
-unfoldable pub style_text : List ℕ
-style_text = codes "<style>\ntext{font-size:.6px}\npath,circle{fill:none;stroke:#000;stroke-width:.07}\nrect{stroke:#000;stroke-width:.06}\n.ink{fill:#000}\n.note{text-anchor:middle}\n.page{fill:#fff;stroke:none}\n.lane{stroke:#aaa}\n.clear{fill:#fff;stroke:#aaa}\n.held{fill:#aaa;stroke:#aaa}\n.committed{fill:#7fc49b}\n"
-
--- how bars look, by how their attempts ended
-unfoldable pub colours_text : List ℕ
-colours_text = codes ".readonly{fill:#d5efdf}\n.cancelled{fill:#ddd;stroke-dasharray:.4 .1}\n.conflict{fill:#fff;stroke-dasharray:.2 .15}\n.broken{fill:#f3d9b0;stroke-dasharray:.2 .15}\n.unfinished{fill:#eef;stroke-dasharray:.06 .15}\n</style>\n"
+use Rattle.picture_parts.specs.Looks.{colours_text, style_text}
 
 -- the shapes of events
 unfoldable pub shapes_text : List ℕ

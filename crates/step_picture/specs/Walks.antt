@@ -61,14 +61,3 @@ back_by (Some c) calls n best on = if nat_lt c calls then best else on n
 abbrev pub back_in : List Mark → ℕ → ℕ → ℕ → ℕ → ℕ
 back_in marks thread calls zero best = best
 back_in marks thread calls (suc n) best = back_by (calls_of thread (slice_get marks n)) calls n best (back_in marks thread calls n)
-
--- ## Lanes
-
-abbrev pub is_thread : ℕ → Option ℕ → Bool
-is_thread thread None = false
-is_thread thread (Some column) = column == thread
-
--- the place of the thread's lane
-abbrev pub lane_in : List ℕ → ℕ → ℕ → ℕ
-lane_in columns thread zero = 0
-lane_in columns thread (suc n) = if is_thread thread (slice_get columns n) then n else lane_in columns thread n

@@ -3,10 +3,12 @@
 ghost use Rattle.std.specs.Prelude.{◌≡◌, ◌<◌, ◌^◌, flat_map};
 ghost use Rattle.tx_history.specs.Spelling.{Puts, spelled};
 ghost use Rattle.step_table.specs.Came.{end_text};
-ghost use Rattle.step_picture.specs.Picture.{bar_front, bar_text, ended_bar, look_text, start_of};
+ghost use Rattle.picture_parts.specs.Looks.{look_text};
+ghost use Rattle.step_picture.specs.Picture.{bar_front, bar_text, ended_bar, start_of};
 
 use crate::mark::{Came, Mark};
 use crate::walks::begun_in;
+use picture_parts::look_of;
 use std::io;
 use std::io::Write;
 use step_table::{end_words, put_three};
@@ -15,22 +17,6 @@ use tx_history::Piece;
 
 /// No text.
 pub(crate) const NOTHING: Piece<'static> = Piece::Text(b"");
-
-/// How a bar looks, by how its attempt ended.
-#[tactic(auto, unfolding(crate::specs::Picture::look_text))]
-fn look_of(outcome: Outcome) -> &'static [u8]
-    ensures { result.now ≡ look_text outcome }
-{
-    match outcome {
-        Outcome::Committed => b"committed",
-        Outcome::ReadOnly => b"readonly",
-        Outcome::Cancelled => b"cancelled",
-        Outcome::Conflict => b"conflict",
-        Outcome::Full => b"broken",
-        Outcome::NoMemory => b"broken",
-        Outcome::Unfinished => b"unfinished",
-    }
-}
 
 /// What stands before the words of a bar from the one place to the other.
 #[tactic(auto, unfolding(crate::specs::Picture::bar_front))]

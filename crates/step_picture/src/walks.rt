@@ -2,7 +2,7 @@
 
 ghost use Rattle.std.specs.Prelude.{◌≡◌, slice_get};
 ghost use Rattle.std.specs.Option.{option_copied};
-ghost use Rattle.step_picture.specs.Walks.{back_in, begins, begun_in, calls_of, is_look, is_thread, known_in, lane_in, look_of, opens};
+ghost use Rattle.step_picture.specs.Walks.{back_in, begins, begun_in, calls_of, is_look, known_in, look_of, opens};
 
 use crate::mark::{Came, Mark};
 use itm_types::Step;
@@ -112,28 +112,4 @@ pub(crate) fn back_in(marks: &[Mark], thread: u8, calls: usize, end: usize) -> u
         }
     }
     best
-}
-
-/// Whether the lane at this place is the thread's.
-fn is_lane(columns: &[u8], at: usize, thread: u8) -> bool
-    ensures { result ≡ is_thread thread (slice_get columns.now at) }
-{
-    match columns.get(at) {
-        Some(column) => *column == thread,
-        None => false,
-    }
-}
-
-/// The place of the thread's lane.
-pub(crate) fn lane_in(columns: &[u8], thread: u8, end: usize) -> usize
-    ensures { result ≡ lane_in columns.now thread end }
-{
-    let mut at = end;
-    while at > 0 {
-        at -= 1;
-        if is_lane(columns, at, thread) {
-            return at;
-        }
-    }
-    0
 }

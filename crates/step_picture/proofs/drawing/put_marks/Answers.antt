@@ -3,7 +3,7 @@ use Rattle.std.proofs.KnownBytes.{Appends-nil}
 use Rattle.std.proofs.lemmas.Result.{err_from_is_err_and}
 use Rattle.std.specs.Prelude.{slice_get}
 use Rattle.step_picture.specs.Picture.{mark_at}
-use Rattle.step_picture.proofs.Texts.{more_texts, texts_stop}
+use Rattle.picture_parts.proofs.Texts.{more_texts, texts_stop}
 use Rattle.step_picture.proofs.drawing.put_marks.Goals as goal
 
 pub loop-at-init : goal.loop-at-init

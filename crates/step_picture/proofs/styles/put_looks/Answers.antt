@@ -1,5 +1,6 @@
 use Rattle.std.proofs.Common.{append_assoc, append-nil, sym}
-use Rattle.step_picture.specs.Styles.{colours_text, shapes_text, style_text}
+use Rattle.picture_parts.specs.Looks.{colours_text, style_text}
+use Rattle.step_picture.specs.Styles.{shapes_text}
 use Rattle.tx_history.proofs.TextPieces.{put_as}
 use Rattle.step_picture.proofs.styles.put_looks.Goals as goal
 

@@ -1,0 +1,7 @@
+use Rattle.std.proofs.Common.{append_assoc, append-nil}
+use Rattle.history_picture.specs.Picture.{bar_front}
+use Rattle.history_picture.proofs.bars.bar_front.Goals as goal
+
+pub returns : goal.returns
+unfolding bar_front
+returns c = simp (append_assoc, append-nil)

@@ -1,0 +1,21 @@
+use Rattle.std.proofs.lemmas.Result.{err_from_is_err_and}
+use Rattle.picture_parts.proofs.Texts.{three, three_cut_first, three_cut_second}
+use Rattle.picture_parts.specs.Looks.{front_text}
+use Rattle.history_picture.specs.Picture.{looks_text, note_text, width_of}
+use Rattle.history_picture.proofs.drawing.put_head.Goals as goal
+
+pub returns-in_err-put_front : goal.returns-in_err-put_front
+returns-in_err-put_front g c =
+    let p = err_from_is_err_and c.from_residual.result c.from_residual.ensures.1 in
+    rw p.1 (three_cut_first _ _ (front_text (width_of c.args.seats) c.args.lanes) looks_text (note_text c.args.attempts.now c.args.note.now) (rw c.width_of.ensures at c.in_err-put_front.ensures))
+
+pub returns-in_err-put_looks : goal.returns-in_err-put_looks
+returns-in_err-put_looks g c =
+    let p = err_from_is_err_and c.from_residual-in_err-put_looks.result c.from_residual-in_err-put_looks.ensures.1 in
+    rw p.1
+    (three_cut_second _ _ _ (front_text (width_of c.args.seats) c.args.lanes) looks_text (note_text c.args.attempts.now c.args.note.now) (rw c.width_of.ensures at c.in_ok-put_front.ensures) c.in_err-put_looks.ensures)
+
+pub returns : goal.returns
+returns g c =
+    three _ _ _ _ (front_text (width_of c.args.seats) c.args.lanes) looks_text (note_text c.args.attempts.now c.args.note.now) c.put_note.result
+    (rw c.width_of.ensures at c.in_ok-put_front.ensures) c.in_ok-put_looks.ensures c.put_note.ensures

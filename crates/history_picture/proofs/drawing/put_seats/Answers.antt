@@ -1,0 +1,18 @@
+use Rattle.std.proofs.Common.{ℕ, length}
+use Rattle.std.proofs.KnownBytes.{Appends-nil}
+use Rattle.std.proofs.lemmas.Result.{err_from_is_err_and}
+use Rattle.std.specs.Prelude.{slice_get}
+use Rattle.picture_parts.proofs.Texts.{more_texts, texts_stop}
+use Rattle.history_picture.specs.Picture.{seat_at}
+use Rattle.history_picture.proofs.drawing.put_seats.Goals as goal
+
+pub loop-at-init : goal.loop-at-init
+loop-at-init g c = Appends-nil _
+
+pub loop-at-preserved : goal.loop-at-preserved
+loop-at-preserved g c = more_texts (λ (i : ℕ). seat_at c.args.attempts.now c.args.columns.now c.args.flawed i (slice_get c.args.seats.now i)) _ _ _ c.loop-at.at c.loop-at.invariant c.in_ok-put_seat.ensures
+
+pub returns-in_err-put_seat : goal.returns-in_err-put_seat
+returns-in_err-put_seat g c =
+    let p = err_from_is_err_and c.from_residual.result c.from_residual.ensures.1 in
+    rw p.1 (texts_stop (λ (i : ℕ). seat_at c.args.attempts.now c.args.columns.now c.args.flawed i (slice_get c.args.seats.now i)) _ _ _ c.loop-at.at (length c.args.seats.now) c.loop-at-test.true c.loop-at.invariant c.in_err-put_seat.ensures)

@@ -1,0 +1,14 @@
+use Rattle.std.proofs.lemmas.Result.{err_from_is_err_and}
+use Rattle.picture_parts.proofs.Texts.{puts_then, two_cut_first}
+use Rattle.history_picture.specs.Picture.{told_text}
+use Rattle.history_picture.proofs.words.put_told.Goals as goal
+
+pub returns-in_err-put_text : goal.returns-in_err-put_text
+unfolding told_text
+returns-in_err-put_text g c =
+    let p = err_from_is_err_and c.from_residual.result c.from_residual.ensures.1 in
+    rw p.1 (two_cut_first _ _ _ _ c.in_err-put_text.ensures)
+
+pub returns : goal.returns
+unfolding told_text
+returns g c = puts_then _ _ _ _ _ c.put_pair.result c.in_ok-put_text.ensures (rw c.body_of.ensures at rw c.told_reply.ensures at c.put_pair.ensures)

@@ -1,0 +1,3 @@
+pub mod Seats
+pub mod Columns
+pub mod Picture

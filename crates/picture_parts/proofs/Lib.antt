@@ -1,0 +1,2 @@
+mod Backs
+pub mod Texts

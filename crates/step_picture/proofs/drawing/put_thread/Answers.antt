@@ -1,8 +1,0 @@
-use Rattle.std.proofs.Common.{append_assoc, append-nil, refl}
-use Rattle.step_picture.specs.Picture.{lane_text}
-use Rattle.tx_history.proofs.TextPieces.{put_as}
-use Rattle.step_picture.proofs.drawing.put_thread.Goals as goal
-
-pub returns : goal.returns
-unfolding lane_text
-returns g c = put_as _ _ _ _ _ c.put_pieces.ensures (simp (append_assoc, append-nil, c.from.ensures) refl)

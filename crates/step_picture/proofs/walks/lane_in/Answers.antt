@@ -1,6 +1,0 @@
-use Rattle.std.proofs.Common.{sym, ◌∙◌}
-use Rattle.step_picture.proofs.Backs.{lane_back}
-use Rattle.step_picture.proofs.walks.lane_in.Goals as goal
-
-pub loop-at-preserved : goal.loop-at-preserved
-loop-at-preserved c = lane_back c.args.columns.now c.args.thread c.loop-at.at c.loop-at-test.true (sym c.is_lane.ensures ∙ c.if-is_lane.false) ∙ c.loop-at.invariant
