@@ -12,10 +12,10 @@
 #   CFLAGS    for both, -O2 where it is not set
 #   LIBS      for the linker, such as -lm
 #   RUNTIME   another library with the same entry points, instead of GCC's libitm: METHOD is handed to it unchecked
-#   WRITES    `buffered` where RUNTIME keeps what a try writes elsewhere up to its commit, as this repository's own does;
-#             `in_place`, which is the default, where it is written to memory at once
+#   WRITES    `buffered` where RUNTIME keeps what an attempt writes elsewhere up to its commit, as this repository's own
+#             does; `in_place`, which is the default, where it is written to memory at once
 #   ORDER     how the order of the commits becomes known: `outside` (the default) or `inside`
-#   PAUSES    one call in about so many sleeps first, so that tries meet: 60 where it is not set, 0 for none
+#   PAUSES    one call in about so many sleeps first, so that attempts meet: 60 where it is not set, 0 for none
 #   LIMIT     seconds after which the program is ended: 60 where it is not set
 #   CALLS     calls after which it is ended: 2000000 where it is not set, which are judged within a minute or two
 #   ARGS      further arguments of the program

@@ -69,7 +69,7 @@ tells() {
     result "it has to tell: $1" $?
 }
 
-# narrow RUN OUTCOMES: no try of these outcomes has a range open
+# narrow RUN OUTCOMES: no attempt of these outcomes has a range open
 narrow() {
     awk -v outcomes="$2" '$1 == "attempt" && $6 ~ outcomes { n++; wide += $4 != $5 } END { exit !n || wide }' \
         "$WORK/$1.recording"
@@ -206,7 +206,7 @@ result 'what the program wrote has to be kept without WORK' $?
 case $kept in */plain.1.ml_wt.out) rm -rf "$(dirname "$kept")" ;; esac
 gives 'no transaction' 1 'no transaction was recorded' printed none 4 ml_wt tests
 printf 'itm-recording 1\nprogram 0\nunfinished 1\n' >"$WORK/none.recording"
-gives 'a recording without tries' 1 'nothing to judge' python3 "$here/settle/settle.py" "$WORK/none.recording" \
+gives 'a recording without attempts' 1 'nothing to judge' python3 "$here/settle/settle.py" "$WORK/none.recording" \
     "$WORK/none.history" "$WORK/empty"
 gives 'a crash' 4 'stopped: signal 4' printed crash 1 ml_wt tests
 gives 'a large status' 0 'the program ended with status 200' printed status 1 ml_wt tests
@@ -238,7 +238,7 @@ judge_long() {
         >"$WORK/printed"
 }
 judge_long 0.05
-tells '^judge: [0-9]* s: [0-9]* tries are read$'
+tells '^judge: [0-9]* s: [0-9]* attempts are read$'
 tells '^judge: [0-9]* s: [0-9]* of [0-9]* commits have found a place$'
 judge_long 600
 [ ! -s "$WORK/told" ] && grep -q '^legal' "$WORK/printed"

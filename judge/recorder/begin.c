@@ -14,7 +14,7 @@ static void open_try(struct thread *t, uint32_t props, int number) {
     t->block[0].begin = note(t, TRY, 0, props, number, 0, 0);
 }
 
-/* While the recording is written, no try begins. */
+/* While the recording is written, no attempt begins. */
 static void wait_while_stopping(void) {
     while (stopping) usleep(1000);
 }

@@ -1,4 +1,4 @@
-/* Commits and aborts, and the calls by which a try becomes irrevocable. */
+/* Commits and aborts, and the calls by which an attempt becomes irrevocable. */
 #include "recorder.h"
 
 static struct thread *before_commit(void) {
@@ -54,7 +54,7 @@ ENTRY void _ITM_changeTransactionMode(int mode) {
     irrevocable_now(t);
 }
 
-/* A function that has no clone is run as it is, and the try is irrevocable. */
+/* A function that has no clone is run as it is, and the attempt is irrevocable. */
 ENTRY void *_ITM_getTMCloneOrIrrevocable(void *function) {
     NEXT(_ITM_getTMCloneOrIrrevocable);
     struct thread *t = before();

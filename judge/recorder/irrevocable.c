@@ -1,4 +1,4 @@
-/* Irrevocable tries. They run alone, and GCC lets them store without the ABI. So the bytes that transactions have
+/* Irrevocable attempts. They run alone, and GCC lets them store without the ABI. So the bytes that transactions have
  * touched are compared before each call, and what has changed is noted as writes. What they read without the ABI is not
  * seen. */
 #include "recorder.h"

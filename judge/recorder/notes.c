@@ -34,7 +34,7 @@ static size_t event_size(size_t data) {
 }
 
 /* A thread takes so many at once that threads seldom meet here, and few are left over. While the recording is written,
- * tries under way may end. */
+ * attempts under way may end. */
 __attribute__((noinline, cold)) static void take_share(struct thread *t, uint64_t calls) {
     uint64_t share = most_calls / THREADS + 1;
     while (t->share < calls) {

@@ -2,13 +2,13 @@
  *
  * outside  Nothing is added to the transactions. A commit comes behind those that had returned when it was called, and
  *          before those that were called after it returned. That is a range of positions; settle/ searches an order.
- * inside   Each try ends with a read of a hidden counter by the runtime's own barrier, and where it wrote it writes one
- *          more there: what it read is its position. That is exact, but each writer now conflicts with all others, so
+ * inside   Each attempt ends with a read of a hidden counter by the runtime's own barrier, and where it wrote it writes
+ *          one more there: what it read is its position. That is exact, but each writer now conflicts with all others, so
  *          that faults in the validation of a commit are hidden.
  *
- * A try that did not commit, or has not ended, comes behind the commits that had returned before it began, and before
- * those that were called after it ended. The runtime restarts a try without telling when: such a one comes behind those
- * that had returned before the try before it began. */
+ * An attempt that did not commit, or has not ended, comes behind the commits that had returned before it began, and
+ * before those that were called after it ended. The runtime restarts an attempt without telling when: such a one comes
+ * behind those that had returned before the attempt before it began. */
 #include "recorder.h"
 #include <stdlib.h>
 

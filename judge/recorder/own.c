@@ -1,6 +1,6 @@
-/* What a try logged of its thread's own memory (_ITM_L*): GCC has it restored where a block is rolled back. These bytes
- * are the try's arena. What the program stored there, without the ABI, is noted before an inner block is cancelled, and
- * what is there afterwards is noted as loads. */
+/* What an attempt logged of its thread's own memory (_ITM_L*): GCC has it restored where a block is rolled back. These
+ * bytes are the attempt's arena. What the program stored there, without the ABI, is noted before an inner block is
+ * cancelled, and what is there afterwards is noted as loads. */
 #include "recorder.h"
 
 static const size_t stack_size = 8 << 20;

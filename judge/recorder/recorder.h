@@ -6,8 +6,8 @@
  * RECORD_TO      the file of the recording; nothing is written where it is not set
  * RECORD_CALLS   so many calls are noted at most, then the program is ended; all are where it is not set
  * RECORD_ORDER   how the order of the commits becomes known, `outside` or `inside` (order.c)
- * RECORD_PAUSES  N: one call in about N sleeps first, up to 64 us, so that short tries of several threads meet
- * RECORD_WRITES  where what a try wrote is found up to its commit: `in_place`, or `buffered` by the runtime */
+ * RECORD_PAUSES  N: one call in about N sleeps first, up to 64 us, so that short attempts of several threads meet
+ * RECORD_WRITES  where what an attempt wrote is found up to its commit: `in_place`, or `buffered` by the runtime */
 #ifndef RECORDER_H
 #define RECORDER_H
 #define _GNU_SOURCE
@@ -48,7 +48,7 @@ void *next(const char *name);
 
 struct word {
     uint64_t opening;     /* its bytes as transactions first touched them */
-    uint64_t known;       /* its bytes as the try that is irrevocable left them (irrevocable.c) */
+    uint64_t known;       /* its bytes as the attempt that is irrevocable left them (irrevocable.c) */
     uint32_t number;      /* among the words that are told, by address (tell_words.c) */
     bool told;            /* whether it is one of them */
     _Atomic byte touched; /* a bit for each byte */
@@ -140,11 +140,11 @@ struct thread {
     } block[BLOCKS];
     int reason, target; /* of the abort under way: the block that it cancels, from 0 */
     bool wrote, irrevocable, committing;
-    uint64_t low;           /* so many commits had returned before this try began, */
+    uint64_t low;           /* so many commits had returned before this attempt began, */
     uint64_t seen;          /* and before the next one will begin */
     uint64_t position;      /* of the commit under way, or the least that it may have */
     uint64_t elsewhere;     /* accesses outside the space */
-    struct own own[LOGS];   /* the memory of its own that the try logged */
+    struct own own[LOGS];   /* the memory of its own that the attempt logged */
     size_t own_count, arena;
     bool mixed; /* two logs have some bytes in common, and not all */
     byte *told; /* the end of what is told of its events */
@@ -170,13 +170,13 @@ uint64_t commits_so_far(void);
 void commit_called(struct thread *);
 void try_ended(struct thread *, const char *outcome);
 
-/* -- irrevocable.c: tries that store without the ABI. -- */
+/* -- irrevocable.c: attempts that store without the ABI. -- */
 
 void become_irrevocable(struct thread *);
 void note_stores(struct thread *);
 void note_known(struct thread *, size_t place, size_t size);
 
-/* -- own.c: what a try logged of its thread's own memory. -- */
+/* -- own.c: what an attempt logged of its thread's own memory. -- */
 
 void logged(struct thread *, const char *name, const void *p, size_t size);
 void note_own(struct thread *, enum kind, const byte *stack);

@@ -5,12 +5,12 @@
  *     program ADDRESS                             where it was loaded
  *     word ADDRESS OPENING FINAL KEPT             a word; KEPT is 0 where it was freed: its final bytes tell nothing
  *     block ADDRESS SIZE CALLER                   memory that the program asked for, if a word of it is told
- *     attempt THREAD TRY LOW HIGH OUTCOME PROPS   a try with the range of its position
+ *     attempt THREAD TRY LOW HIGH OUTCOME PROPS   an attempt with the range of its position
  *     call NAME DEST SOURCE SIZE = HEX            a copy, with its bytes
- *     unfinished N                                in place of the final line: so many tries have not ended
+ *     unfinished N                                in place of the final line: so many attempts have not ended
  *
- * Tries stand in the order in which they ended, and then those that have not: `unfinished` ones, and `committing` ones,
- * whose commit was called and has not returned, so that it may be done or not. An irrevocable one is left out. */
+ * Attempts stand in the order in which they ended, and then those that have not: `unfinished` ones, and `committing`
+ * ones, whose commit was called and has not returned, so that it may be done or not. An irrevocable one is left out. */
 #include "tell.h"
 #include <link.h>
 #include <signal.h>
@@ -27,7 +27,7 @@ void tell_hex(const void *bytes, size_t size) {
 }
 
 /* A moment at which no commit returns, with what each thread had done by then. Commits that are under way are given
- * some time to return; no try begins any more. How many have not ended. */
+ * some time to return; no attempt begins any more. How many have not ended. */
 static int stop_tries(void) {
     int open = 1;
     stopping = true;
@@ -56,8 +56,8 @@ static struct try ended(const struct event *from, const struct event *end, int t
     return (struct try){from, end, thread, key, end->a, end->b, end->name};
 }
 
-/* Up to where the calls of a try are told that has not ended: its outermost block is open there still, also where its
- * thread was stopped just after it had noted the last call. */
+/* Up to where the calls of an attempt are told that has not ended: its outermost block is open there still, also where
+ * its thread was stopped just after it had noted the last call. */
 static const struct event *open_end(const struct event *from, const struct event *end) {
     int depth = 1;
     for (const struct event *e = event_after(from); e != end; e = event_after(e)) {
@@ -79,7 +79,7 @@ static struct try unfinished(const struct event *from, const struct thread *t, i
     return try;
 }
 
-/* A thread's tries, or just their number. */
+/* A thread's attempts, or just their number. */
 static size_t tries_of(int number, struct try *tries) {
     const struct thread *t = threads[number];
     const struct event *from = 0;

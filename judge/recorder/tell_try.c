@@ -1,4 +1,4 @@
-/* A try, as the recording has it: lines of a history, but for the range of its position. */
+/* An attempt, as the recording has it: lines of a history, but for the range of its position. */
 #include "tell.h"
 
 static unsigned long long numbered(size_t place) {

@@ -43,7 +43,7 @@ static void find_words(size_t place, size_t size) {
     }
 }
 
-/* The words that the calls of these tries name, by address, get their numbers. */
+/* The words that the calls of these attempts name, by address, get their numbers. */
 void tell_words(const struct try *tries, size_t count) {
     told_words = reserve(space / 8 * sizeof *told_words);
     for (const struct try *try = tries; try < tries + count; try++)

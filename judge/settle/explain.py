@@ -1,5 +1,5 @@
 """What is wrong with a history, for who knows the runtime and not the judge: what was read and what the plain machine
-has, whose try it was, and where in the program."""
+has, whose attempt it was, and where in the program."""
 
 import machine
 from private import FREED
@@ -8,8 +8,8 @@ from recording import WORD
 CALLS = 6  # so many are shown up to the one that is wrong
 PLAIN = "if the program stores here without a transaction, that is out of scope"
 FILLED = "that is what the judge fills memory with as it is freed"
-REACHED = "this try had read a pointer to it: the runtime freed it too early, or the program what others still reach"
-KEPT = "this try had read no pointer to it: a program that kept one past the transaction that took it out is wrong"
+REACHED = "this attempt had read a pointer to it: the runtime freed it early, or the program what others still reach"
+KEPT = "this attempt had read no pointer to it: a program that kept one past the transaction that took it out is wrong"
 
 
 def ordinal(number):
@@ -23,7 +23,7 @@ def whose(one):
     range_ = f"{one.low} to {one.high}" if one.low != one.high else f"{one.low}"
     outcome = "committed" if one.may_commit else one.outcome
     return [
-        f"thread {one.thread}, {ordinal(one.number)} try of its block, {outcome}",
+        f"thread {one.thread}, {ordinal(one.number)} attempt at its block, {outcome}",
         f"it stands after {one.at} commits; by its time that may be {range_}",
     ]
 
@@ -46,7 +46,7 @@ class Explanation:
 
     def __init__(self, run, names, texts):
         self.run, self.names, self.texts = run, names, texts
-        placed = [(one, text.path, line) for text in texts for one, line in zip(text.piece.tries, text.heads)]
+        placed = [(one, text.path, line) for text in texts for one, line in zip(text.piece.attempts, text.heads)]
         self.line_of = {id(one): (path, line) for one, path, line in placed}
         self.order = sorted((one for one, _, _ in placed if one.commits), key=lambda one: one.at)
 
@@ -76,7 +76,7 @@ class Explanation:
         return memory
 
     def _read(self, one, lines):
-        """Lines on a read of a try that does not fit, the last of these of its calls."""
+        """Lines on a read of an attempt that does not fit, the last of these of its calls."""
         calls = [call for call in (machine.parse(line.split()) for line in lines) if call]
         if not calls or calls[-1][0] != machine.READ:
             return ["the plain machine answers that call otherwise"]
@@ -96,7 +96,7 @@ class Explanation:
         by = f"written by {self._commit(writers[-1])}" if writers else "as at the start"
         if own:
             cancelled = ", of which a block was cancelled" if (machine.CANCEL,) in calls else ""
-            by = f"by this try itself{cancelled}"
+            by = f"by this attempt itself{cancelled}"
         lines = [f"the plain machine has {due.hex()} there: {by}", f"place {start} is {self._spread(start, stop)}"]
         if had:
             lines.append(f"{told.hex()} stood there last before {self._commit(had[-1])}")
@@ -107,14 +107,14 @@ class Explanation:
         return lines
 
     def _freed(self, place, calls):
-        """Lines on a read of freed memory, by a try with these calls before it."""
+        """Lines on a read of freed memory, by an attempt with these calls before it."""
         block = self.names.block(self.run.words[place // WORD].address)
         pointed = block and any(0 <= address - block.address < block.size for address in pointers(calls))
         return [FILLED, REACHED if pointed else KEPT]
 
     def _returned_before(self, commit, one):
-        """Whether a commit had returned before all that the range of a try tells of its begin."""
-        return sum(other.commits and other.ended <= commit.ended for other in self.run.tries) <= one.low
+        """Whether a commit had returned before all that the range of an attempt tells of its begin."""
+        return sum(other.commits and other.ended <= commit.ended for other in self.run.attempts) <= one.low
 
     def _commit(self, one):
         path, line = self.line_of[id(one)]

@@ -1,5 +1,5 @@
-"""Histories from tries that have their positions. A history holds 65,536 bytes. A run that touched more is told in
-pieces: each begins with the bytes that the one before it left, and has the words that its own tries touched."""
+"""Histories from attempts that have their positions. A history holds 65,536 bytes. A run that touched more is told in
+pieces: each begins with the bytes that the one before it left, and has the words that its own attempts touched."""
 
 import bisect
 import collections
@@ -10,13 +10,13 @@ from recording import WORD
 MOST_WORDS = 65_536 // WORD
 THREADS = 32
 
-# the tries in the order in which they ended; how many commits came before; the words that it tells, by their numbers,
+# the attempts in the order in which they ended; how many commits came before; the words that it tells, by number,
 # or None for all; the memory before and after, and whether that is known
-Piece = collections.namedtuple("Piece", "tries first words opening final known")
+Piece = collections.namedtuple("Piece", "attempts first words opening final known")
 
 
 class TooLarge(Exception):
-    """One try touched more than a history holds."""
+    """One attempt touched more than a history holds."""
 
 
 def _touched(one):
@@ -27,10 +27,10 @@ def _touched(one):
     return words
 
 
-def _cut(tries):
-    """The tries of each piece, and its words."""
+def _cut(attempts):
+    """The attempts of each piece, and its words."""
     ordered, words = [], set()
-    for one in sorted(tries, key=lambda one: (one.at, one.commits, one.ended)):
+    for one in sorted(attempts, key=lambda one: (one.at, one.commits, one.ended)):
         touched = _touched(one)
         if len(touched) > MOST_WORDS:
             raise TooLarge
@@ -42,14 +42,14 @@ def _cut(tries):
     yield ordered, words
 
 
-def pieces(recording, tries, memory, known):
+def pieces(recording, attempts, memory, known):
     """The histories of a run that left this memory; `known` tells whether its last bytes are."""
     final = recording.told_final(memory) if known else memory
     if len(recording.words) <= MOST_WORDS:
         words = None if recording.words else [0]
-        return [Piece(tries, 0, words, recording.opening, final, known)]
+        return [Piece(attempts, 0, words, recording.opening, final, known)]
     told, memory, first = [], bytearray(recording.opening), 0
-    for ordered, words in _cut(tries):
+    for ordered, words in _cut(attempts):
         opening = bytes(memory)
         commits = [one for one in ordered if one.commits]
         for one in commits:
@@ -62,7 +62,7 @@ def pieces(recording, tries, memory, known):
 
 
 class Text:
-    """The text of a piece; `heads` has the line of each try's head."""
+    """The text of a piece; `heads` has the line of each attempt's head."""
 
     def __init__(self, piece):
         self.piece, self.heads = piece, []
@@ -76,7 +76,7 @@ class Text:
     def _place(self, place):
         return WORD * self.numbers[place // WORD] + place % WORD
 
-    def _try(self, one):
+    def _attempt(self, one):
         at, outcome = one.at - self.piece.first, "committed" if one.may_commit else one.outcome
         yield f"attempt {one.thread % THREADS} {one.number} {at} {outcome} {one.props}\n"
         if self.numbers is None:
@@ -88,20 +88,20 @@ class Text:
 
     def write(self, path):
         piece, line = self.piece, 3
-        commits = sum(one.commits for one in piece.tries)
+        commits = sum(one.commits for one in piece.attempts)
         with open(path, "w") as text:
             text.write(f"itm-history 1\nmemory {self._bytes(piece.opening)}\n")
-            for one in piece.tries:
+            for one in piece.attempts:
                 self.heads.append(line)
-                text.writelines(self._try(one))
+                text.writelines(self._attempt(one))
                 line += len(one.lines) + 2
             if not piece.known:
                 text.write(f"attempt 0 1 {commits} unfinished -\narena -\nend\n")
             text.write(f"final {2 * commits + (not piece.known)} {self._bytes(piece.final)}\n")
 
     def at_line(self, line):
-        """The try that has this line, and which of its lines it is: 0 is its head."""
+        """The attempt that has this line, and which of its lines it is: 0 is its head."""
         i = bisect.bisect_right(self.heads, line) - 1
-        if i < 0 or line > self.heads[i] + len(self.piece.tries[i].lines):
+        if i < 0 or line > self.heads[i] + len(self.piece.attempts[i].lines):
             return None, None
-        return self.piece.tries[i], line - self.heads[i]
+        return self.piece.attempts[i], line - self.heads[i]

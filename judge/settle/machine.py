@@ -83,7 +83,7 @@ def _written(memory, call):
 
 
 def run(memory, calls):
-    """Runs a try up to the first read that does not fit. How to undo what it did, and how many calls fitted."""
+    """Runs an attempt up to the first read that does not fit. How to undo what it did, and how many calls fitted."""
     undo, blocks = [], [0]
     for done, call in enumerate(calls):
         kind = call[0]
@@ -104,7 +104,7 @@ def run(memory, calls):
 
 
 def fitting(memory, calls):
-    """How many calls of a try fit, up to the first that does not. The memory stays."""
+    """How many calls of an attempt fit, up to the first that does not. The memory stays."""
     undo, done = run(memory, calls)
     roll_back(memory, undo)
     return done
@@ -115,7 +115,7 @@ def fits(memory, calls):
 
 
 def commits(memory, calls):
-    """Runs a try that fits and gives how to undo it, or None where it does not fit."""
+    """Runs an attempt that fits and gives how to undo it, or None where it does not fit."""
     undo, done = run(memory, calls)
     if done == len(calls):
         return undo
@@ -136,7 +136,7 @@ def _on_own(call):
 
 
 def own_due(lines):
-    """What the plain machine has of the thread's own memory at the last of these lines of a try, which loads it."""
+    """What the plain machine has of the thread's own memory at the last of these lines, which loads it."""
     arena = bytearray.fromhex(lines[0].split()[1])
     kept = [{}]  # of each open block what its logs keep
     for line in lines[1:-1]:

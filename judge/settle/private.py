@@ -28,7 +28,7 @@ def _blocks(call, block_of):
 def _owners(run, block_of):
     """Of each block the thread that touched it, or that it cannot be left out."""
     owners = {}
-    for one in run.tries:
+    for one in run.attempts:
         for call in one.calls:
             freed = call[0] == machine.READ and set(call[3]) == {FREED}
             for block in _blocks(call, block_of):
@@ -60,7 +60,7 @@ def leave_out(run):
     def is_private(place):
         return block_of[place // WORD] in private
 
-    for one in run.tries:
+    for one in run.attempts:
         if any(block in private for call in one.calls for block in _blocks(call, block_of)):
             lines = [line for old in one.lines[1:] for line in _without(old, is_private)]
             one.lines[1:] = lines

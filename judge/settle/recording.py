@@ -14,15 +14,15 @@ class Fault(Exception):
     """The recording is none, or ends too early."""
 
 
-class Try:
-    """A try with the range in which its position is; `at` is the one that was chosen."""
+class Attempt:
+    """An attempt with the range in which its position is; `at` is the one that was chosen."""
 
     __slots__ = ("thread", "number", "low", "high", "outcome", "props", "ended", "lines", "calls", "at")
 
     def __init__(self, fields, ended):
         _, thread, number, low, high, self.outcome, self.props = fields
         self.thread, self.number, self.low, self.high = int(thread), int(number), int(low), int(high)
-        self.ended = ended  # how many tries ended before it
+        self.ended = ended  # how many attempts ended before it
         self.lines, self.calls, self.at = [], [], None
 
     @property
@@ -37,8 +37,8 @@ class Try:
 
 class Recording:
     def __init__(self, path, told):
-        told.step = lambda: f"{len(self.tries)} tries are read"
-        self.words, self.blocks, self.tries = [], [], []
+        told.step = lambda: f"{len(self.attempts)} attempts are read"
+        self.words, self.blocks, self.attempts = [], [], []
         self.base = self.unfinished = None
         with open(path) as text:
             for line in text:
@@ -53,15 +53,15 @@ class Recording:
         fields = line.split()
         start = fields[0]
         if start == "call":
-            one = self.tries[-1]
+            one = self.attempts[-1]
             one.lines.append(line)
             call = machine.parse(fields)
             if call:
                 one.calls.append(call)
         elif start == "attempt":
-            self.tries.append(Try(fields, len(self.tries)))
+            self.attempts.append(Attempt(fields, len(self.attempts)))
         elif start == "arena":
-            self.tries[-1].lines.append(line)
+            self.attempts[-1].lines.append(line)
         elif start == "word":
             address, opening, final, kept = fields[1:]
             self.words.append(Word(int(address, 16), bytes.fromhex(opening), bytes.fromhex(final), kept == "1"))

@@ -1,4 +1,4 @@
-"""Finds an order of the commits, and a position for each other try, at which all that they read fits."""
+"""Finds an order of the commits, and a position for each other attempt, at which all that they read fits."""
 
 import hashlib
 
@@ -6,19 +6,19 @@ import machine
 
 
 class Search:
-    """Replays tries on the memory, each thread's in their order.
+    """Replays attempts on the memory, each thread's in their order.
 
-    A try that commits nothing is placed as soon as it fits: that blocks nothing, and frees the next try of its thread.
-    So only commits are chosen among, and only where several threads stand at one that fits: the one that ended first
-    goes first. A state that led nowhere, the tries done and the memory, is not entered again."""
+    An attempt that commits nothing is placed as soon as it fits: that blocks nothing, and frees the next attempt of its
+    thread. So only commits are chosen among, and only where several threads stand at one that fits: the one that ended
+    first goes first. A state that led nowhere, the attempts done and the memory, is not entered again."""
 
-    def __init__(self, opening, tries, ends_well):
+    def __init__(self, opening, attempts, ends_well):
         threads = {}
-        for one in tries:
+        for one in attempts:
             threads.setdefault(one.thread, []).append(one)
         self.threads, self.queues = list(threads), list(threads.values())
         self.opening, self.ends_well = opening, ends_well
-        self.budget = 20 * len(tries) + 500_000  # of steps
+        self.budget = 20 * len(attempts) + 500_000  # of steps
         self._restart()
 
     def _restart(self):
@@ -26,10 +26,10 @@ class Search:
         self.done = [0] * len(self.queues)
         self.levels = []  # of each commit: what else may be chosen in its place, and the way back
         self.chain = None  # the commits in order, the last one first
-        self.failed = {}  # the memories of such states, by the tries done
+        self.failed = {}  # the memories of such states, by the attempts done
 
     def fronts(self):
-        """The next try of each thread that has one, without those that need no place."""
+        """The next attempt of each thread that has one, without those that need no place."""
         fronts = (queue[done] for queue, done in zip(self.queues, self.done) if done < len(queue))
         return [one for one in fronts if not one.may_commit]
 
@@ -43,7 +43,7 @@ class Search:
 
     def _place(self, number, position):
         """Places what a thread has at this position before its next commit. That commit, if it may stand here; whether
-        some try has come too late."""
+        some attempt has come too late."""
         queue = self.queues[number]
         while self.done[number] < len(queue):
             front = queue[self.done[number]]
@@ -73,7 +73,7 @@ class Search:
         return [number for _, number in sorted(choice)]
 
     def _go_on(self, choice):
-        """Commits the first try of the choice that fits, if there is one."""
+        """Commits the first attempt of the choice that fits, if there is one."""
         while choice:
             number = choice.pop()
             one = self.queues[number][self.done[number]]
@@ -94,7 +94,7 @@ class Search:
         return choice
 
     def run(self):
-        """Whether all tries have found a place, or None where too many orders were tried. Where not all have, the
+        """Whether all attempts have found a place, or None where too many orders were tried. Where not all have, the
         search stands where it came farthest."""
         best, best_chain, steps = -1, None, 0
         choice = self._enter()
@@ -125,14 +125,14 @@ class Search:
         return unchained(self.chain)
 
     def last_before(self, one):
-        """The try of its thread that came before, if there is one."""
+        """The attempt of its thread that came before, if there is one."""
         queue = self.queues[self.threads.index(one.thread)]
         i = queue.index(one)
         return queue[i - 1] if i else None
 
     def stuck(self):
-        """The try at which the search stands, the one first that tells most: a try that fitted nowhere in its range, a
-        commit that does not fit here, another try that does not; then those that have no place left or none yet."""
+        """The attempt at which the search stands, the one first that tells most: one that fitted nowhere in its range,
+        a commit that does not fit here, another attempt that does not; then those that have no place left or none yet."""
         position = len(self.levels)
 
         def rank(one):

@@ -26,7 +26,7 @@ LEGAL, FAILED, BAD, UNDECIDED = 0, 1, 3, 4
 
 
 def place_misfit(found, one):
-    """Gives a try that fits nowhere a position, that where most of it fits: behind its thread's last one."""
+    """Gives an attempt that fits nowhere a position, that where most of it fits: behind its thread's last one."""
     position = len(found.levels)
     if one.commits:
         one.at = min(max(position, one.low), one.high)
@@ -44,11 +44,11 @@ def place_misfit(found, one):
 
 
 def settled(run, told):
-    """The tries with their positions, in the order in which they ended; the memory that they left; whether an order was
-    found; and the tries at which the search stands where not. Then the tries are those of the longest order, and the
-    first that fits nowhere behind it."""
-    found = search.Search(run.opening, run.tries, run.ends_well)
-    commits = sum(one.commits for one in run.tries)
+    """The attempts with their positions, in the order in which they ended; the memory that they left; whether an order
+    was found; and the attempts at which the search stands where not. Then the attempts are those of the longest order,
+    and the first that fits nowhere behind it."""
+    found = search.Search(run.opening, run.attempts, run.ends_well)
+    commits = sum(one.commits for one in run.attempts)
     told.step = lambda: f"{len(found.levels)} of {commits} commits have found a place"
     success = found.run()
     stuck = found.stuck()
@@ -68,34 +68,34 @@ def check(path):
 
 
 def summary(run, left_out):
-    counts = collections.Counter(one.outcome for one in run.tries)
+    counts = collections.Counter(one.outcome for one in run.attempts)
     told = ", ".join(f"{count} {outcome}" for outcome, count in sorted(counts.items()))
-    if len({one.thread for one in run.tries}) == 1:
+    if len({one.thread for one in run.attempts}) == 1:
         told += ", by one thread alone"
     blocks = f"\n    {left_out} blocks of the heap, which one thread alone touched, are left out"
     return told + (blocks if left_out else "")
 
 
-def far(tries, run, stuck):
+def far(attempts, run, stuck):
     """A line on how far the search came, where it did not come through."""
     if not stuck:
         return []
-    ordered = sum(one.commits for one in tries if one is not stuck[0])
-    commits = sum(one.commits for one in run.tries)
+    ordered = sum(one.commits for one in attempts if one is not stuck[0])
+    commits = sum(one.commits for one in run.attempts)
     return [f"no order of the commits goes on: the longest has {ordered} of {commits}"]
 
 
 def judge(path, to, program, told):
     run = recording.Recording(path, told)
-    if not run.tries:
+    if not run.attempts:
         print("nothing to judge: no transaction was recorded")
         return FAILED
     told.step = lambda: "what one thread alone touched is left out"
     left_out = private.leave_out(run)
-    tries, memory, success, stuck = settled(run, told)
+    attempts, memory, success, stuck = settled(run, told)
     told.step = lambda: "the history is written and judged"
     known = not stuck and not run.unfinished
-    texts = [history.Text(piece) for piece in history.pieces(run, tries, memory, known)]
+    texts = [history.Text(piece) for piece in history.pieces(run, attempts, memory, known)]
     for number, text in enumerate(texts, 1):
         text.path = to if len(texts) == 1 else f"{to}.{number}"
         text.write(text.path)
@@ -109,7 +109,7 @@ def judge(path, to, program, told):
             print(f"bad {kind}  {summary(run, left_out)}\n    {text.path}, line {line}")
             told.step = lambda: "the verdict is explained"
             lines = explain.Explanation(run, names.Names(program, run), texts).about(text, int(line), kind)
-            print("".join(f"    {line}\n" for line in lines + far(tries, run, stuck)), end="")
+            print("".join(f"    {line}\n" for line in lines + far(attempts, run, stuck)), end="")
             return BAD
     if not success:
         print(f"undecided: no order was found, though all that was read fits  {summary(run, left_out)}")
@@ -126,7 +126,7 @@ def main(words):
         with progress.Progress() as told:
             return judge(*words, told)
     except history.TooLarge:
-        print("undecided: a try touched more than a history holds")
+        print("undecided: an attempt touched more than a history holds")
         return UNDECIDED
     except (OSError, recording.Fault) as fault:
         print(f"settle: {fault}", file=sys.stderr)

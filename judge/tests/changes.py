@@ -19,28 +19,28 @@ import verdict  # noqa: E402
 
 
 class Lines:
-    """The lines of a text with tries in it."""
+    """The lines of a text with attempts in it."""
 
     def __init__(self, text):
         self.lines = text.splitlines()
         self.heads = [i for i, line in enumerate(self.lines) if line.startswith("attempt")]
 
-    def tries(self, outcome):
-        """Where tries of this outcome begin and end."""
+    def attempts(self, outcome):
+        """Where attempts of this outcome begin and end."""
         for i in self.heads:
             if self.lines[i].split()[-2] == outcome:
                 yield i, self.lines.index("end", i)
 
     def one(self, outcome, which):
-        """The try that has so large a part of them before it."""
-        found = list(self.tries(outcome))
+        """The attempt that has so large a part of them before it."""
+        found = list(self.attempts(outcome))
         return found[int(which * len(found))]
 
     def call(self, outcome, which, start):
-        """The first line of a call that begins so, from such a try on."""
+        """The first line of a call that begins so, from such an attempt on."""
         first, _ = self.one(outcome, which)
-        tries = [(begin, end) for begin, end in self.tries(outcome) if begin >= first]
-        return next(i for begin, end in tries for i in range(begin, end) if self.lines[i].startswith(start))
+        attempts = [(begin, end) for begin, end in self.attempts(outcome) if begin >= first]
+        return next(i for begin, end in attempts for i in range(begin, end) if self.lines[i].startswith(start))
 
     def text(self):
         return "".join(f"{line}\n" for line in self.lines)
@@ -78,7 +78,7 @@ def drop(lines):
 
 
 def field(i, new, number):
-    """Another field in the head of a try."""
+    """Another field in the head of an attempt."""
 
     def change(lines):
         begin, _ = lines.one("committed", number)
@@ -90,7 +90,7 @@ def field(i, new, number):
 
 
 def swap(lines):
-    heads = [begin for begin, _ in lines.tries("committed")]
+    heads = [begin for begin, _ in lines.attempts("committed")]
     for here, there in zip(heads[5:], heads[6:]):
         one, other = lines.lines[here].split(), lines.lines[there].split()
         one[3], other[3] = other[3], one[3]
