@@ -5,8 +5,6 @@ mod bytes;
 mod client;
 mod failed;
 mod stopped;
-#[cfg(test)]
-mod tests;
 mod transaction;
 mod tried;
 

@@ -3,16 +3,13 @@
 ghost use Rattle.std.specs.Prelude.{◌≡◌, false};
 ghost use Rattle.shared_words.specs.Passes.{Owns, view_of};
 
-use crate::client::Client;
-use crate::failed::Failed;
-use crate::stopped::Stopped;
-use crate::tried::Done;
 use itm_runtime::Thread;
 use itm_types::{Action, Limits, MAX_COMMITS, Refusal, USUAL_DEPTH};
 use shared_words::{Pass, Words};
 use std::alloc::{AllocError, Global};
 use std::process::Abort;
 use std::sync::Arc;
+use transactions::{Client, Done, Failed, Stopped};
 use undo_log::Arena;
 
 const LIMITS: Limits = Limits {
