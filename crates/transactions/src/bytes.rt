@@ -13,7 +13,7 @@ ghost use Rattle.transactions.specs.Widths.{HasValue, answer_as, number_16, numb
 
 use crate::transaction::Transaction;
 use itm_runtime::Stop;
-use itm_types::{Datum, ReadHint, Reply, Value, Width, WriteHint};
+use itm_types::{Datum, ReadHint, Reply, Value, Width};
 use norec_core::Answer;
 
 /// The bytes that an answer has.
@@ -75,9 +75,7 @@ impl Transaction {
         ensures tells { Tells self.old.words self.old.thread (Call.Write WriteHint.W at value.now) (answer_to_write result) self.new.thread }
         ensures kept { IsKept self.old self.new }
     {
-        let answer = self.thread.write(&*self.words, WriteHint::W, at, value)?;
-        Stop::check(answer)?;
-        Ok(())
+        self.thread.write_value(&*self.words, at, value)
     }
 
     /// Reads a byte.

@@ -77,7 +77,8 @@ impl Transaction {
         Ok(())
     }
 
-    /// Commits. What has not committed is rolled back.
+    /// Commits. What has not committed is rolled back. (In line, so that what it gives need not lie in memory.)
+    #[inline(always)]
     fn ended<R: Drop, E>(&mut self, value: R) -> Tried<R, E>
         ensures closed { in_transaction self.new.thread.engine ≡ false }
         ensures left { IsLeft (mine_then (mine_of self.old) result) self.old self.new }
