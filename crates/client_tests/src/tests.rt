@@ -17,7 +17,7 @@ const LIMITS: Limits = Limits {
     retries: 0,
     max_commits: MAX_COMMITS,
     depth: USUAL_DEPTH,
-    restarts: 0,
+    restarts: 1,
 };
 
 /// A client over words, which are shared, with a pass of them.
@@ -39,9 +39,9 @@ fn add(client: &mut Client, at: u64, more: u64) -> Result<Done<u64>, Failed<()>>
     })
 }
 
-/// Two clients over two words, of which the first one tries so often.
+/// Two clients over three words, of which the first one tries so often.
 fn two(alloc: Global, tries: u64) -> Result<(Client, Client), AllocError> {
-    let Ok((words, pass)) = Words::new(alloc, &[0; 16]) else {
+    let Ok((words, pass)) = Words::new(alloc, &[0; 24]) else {
         return Err(AllocError);
     };
     let mut first = pass;
@@ -123,7 +123,7 @@ fn gives_up(rt: HostRuntime) -> Result<(), AllocError> {
 fn refuses_a_place(rt: HostRuntime) -> Result<(), AllocError> {
     let (mut one, _other) = two(rt.alloc(), 1)?;
     assert_eq!(&rt;
-        add(&mut one, 9, 1),
+        add(&mut one, 17, 1),
         Err(Failed::Refused(Refusal::OutOfRange))
     );
     Ok(())
@@ -146,5 +146,79 @@ fn actions_are_due(rt: HostRuntime) -> Result<(), AllocError> {
     );
     assert!(&rt; one.due().len() == 1);
     assert!(&rt; one.due()[0].action == Action { fun: 3, arg: 4 });
+    Ok(())
+}
+
+/// A block that is taken back alone leaves what the transaction wrote before it, and the transaction goes on.
+#[test]
+fn takes_a_block_back(rt: HostRuntime) -> Result<(), AllocError> {
+    let (mut one, _other) = two(rt.alloc(), 1)?;
+    let told = one.atomically(|tx| -> Result<Result<(), u64>, Stopped<()>> {
+        tx.write_u64(0, 7)?;
+        let inner = tx.block(|tx| -> Result<(), Stopped<u64>> {
+            tx.write_u64(0, 8)?;
+            tx.write_u64(8, 9)?;
+            let found = tx.read_u64(0)?;
+            Err(Stopped::Cancelled(found))
+        })?;
+        let _ = tx.block(|tx| -> Result<(), Stopped<()>> {
+            let found = tx.read_u64(0)?;
+            tx.write_u64(8, found)?;
+            Ok(())
+        })?;
+        Ok(inner)
+    });
+    assert_eq!(&rt;
+        told,
+        Ok(Done {
+            value: Err(8),
+            at: 0,
+            wrote: true
+        })
+    );
+    let done = Ok(Done {
+        value: 7,
+        at: 1,
+        wrote: true,
+    });
+    assert_eq!(&rt; add(&mut one, 8, 1), done);
+    Ok(())
+}
+
+/// What another thread commits of a word that the block alone has read is met by the block alone, and what its first run wrote
+/// is gone.
+#[test]
+fn runs_a_block_again(rt: HostRuntime) -> Result<(), AllocError> {
+    let (mut one, mut other) = two(rt.alloc(), 1)?;
+    let mut runs = 0u8;
+    let sum = one.atomically(|tx| -> Result<u64, Stopped<()>> {
+        let first = tx.read_u64(0)?;
+        let inner = tx.block(|tx| -> Result<u64, Stopped<()>> {
+            let low = tx.read_u64(8)?;
+            if runs == 0 {
+                runs = 1;
+                tx.write_u64(0, 9)?;
+                let _ = add(&mut other, 8, 5);
+            }
+            let high = tx.read_u64(16)?;
+            tx.write_u64(16, 1)?;
+            Ok(low.wrapping_add(high))
+        })?;
+        Ok(inner.unwrap_or(0).wrapping_add(first))
+    });
+    assert_eq!(&rt;
+        sum,
+        Ok(Done {
+            value: 5,
+            at: 1,
+            wrote: true
+        })
+    );
+    let done = Ok(Done {
+        value: 0,
+        at: 2,
+        wrote: true,
+    });
+    assert_eq!(&rt; add(&mut one, 0, 1), done);
     Ok(())
 }

@@ -3,4 +3,10 @@ mod Kept
 mod Looks
 mod Tries
 mod WidthReads
+pub mod LastEngines
+pub mod Within
+mod InnerBlocks
+mod BlockOutcomes
+mod BlockRuns
+mod PlainBlocks
 pub mod Plain

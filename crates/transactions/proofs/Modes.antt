@@ -1,10 +1,10 @@
 -- No call of a body takes the clock for good.
 use Rattle.std.proofs.Common.{◌≡◌, ◌∙◌, if◌then◌else◌, ℕ, Bool, true, false, List, [], ◌∷◌, Option, None, Some, ap, refl, sym, true≢false}
 use Rattle.itm_types.specs.declared.call.Call.{Call}
-use Rattle.itm_types.specs.declared.call.Call.TheVariants.{Begin, Commit}
+use Rattle.itm_types.specs.declared.call.Call.TheVariants.{Abort, Begin, Commit}
 use Rattle.itm_types.specs.declared.call.Refusal.{Refusal}
-use Rattle.itm_model.specs.Machine.{after, after_unless, closed_irrevocable, effect, entered, is_open, opened, refusal}
-use Rattle.itm_model.specs.State.{Block, State}
+use Rattle.itm_model.specs.Machine.{after, after_unless, back_from, closed_irrevocable, effect, entered, is_open, opened, refusal, rolled_back}
+use Rattle.itm_model.specs.State.{Block, Saved, State}
 use Rattle.norec_core.specs.declared.answer.Answer.{Answer}
 use Rattle.norec_core.specs.declared.answer.Answer.TheVariants.{Reply, Committed, Conflict, Restarted, Busy, Full}
 use Rattle.norec_core.specs.Core.{Core, in_transaction}
@@ -25,7 +25,7 @@ mode_after deepest s call keeps is = by_refusal (refusal deepest s call)
     by_refusal None = keeps s is
     by_refusal (Some refusal) = is
 
-stands_mode : (c : Core) (m : List ℕ) → (stands_for c m).irrevocable ≡ c.irrevocable
+pub stands_mode : (c : Core) (m : List ℕ) → (stands_for c m).irrevocable ≡ c.irrevocable
 stands_mode c m = by_mode c.irrevocable
   where
     by_mode : (b : Bool) → (state_in b c.writes c.blocks c.arena c.actions m).irrevocable ≡ b
@@ -62,6 +62,18 @@ keeps_begin s is = by_open (is_open s)
     by_open : (b : Bool) → (if b then entered s usual else opened s.memory s.arena usual).irrevocable ≡ false
     by_open true = is
     by_open false = refl
+
+-- the state with blocks rolled back
+pub rolled_mode : (s : State) (rest : List Block) (o : Option Saved) → s.irrevocable ≡ false → (rolled_back s rest o).irrevocable ≡ false
+rolled_mode s rest None is = is
+rolled_mode s rest (Some saved) is = is
+
+pub back_mode : (s : State) (bs : List Block) → s.irrevocable ≡ false → (back_from s bs).irrevocable ≡ false
+back_mode s [] is = is
+back_mode s (b ∷ bs) is = rolled_mode s bs b.saved is
+
+pub keeps_abort : KeepsMode (Abort false)
+keeps_abort s is = back_mode s s.blocks is
 
 -- no call but a commit adds to the pass's own positions
 pub mine_kept : (s : Start) (a : Answer) (v : View) (e : Core) → Served s a v e → (s.call ≡ Commit → ⊥) → v.mine ≡ s.view.mine

@@ -13,9 +13,9 @@ use Rattle.itm_types.specs.declared.copy.CopyPair.{CopyPair}
 use Rattle.itm_types.specs.declared.copy.CopyPair.TheVariants.{Out, In, Within}
 use Rattle.itm_types.specs.Calls.{is_abort}
 use Rattle.itm_types.specs.Memory.{Agrees, IsMemory, bytes_of}
-use Rattle.itm_model.specs.Machine.{after, after_unless, back, back_from, effect, entered, irrevocable_from, is_open, opened, outside, pushed, refusal, reply, reply_unless, rolled_back, source_bytes, target_written, undone, undone_from, with_action}
+use Rattle.itm_model.specs.Machine.{after, after_unless, back, effect, entered, irrevocable_from, is_open, opened, outside, pushed, refusal, reply, reply_unless, rolled_back, source_bytes, target_written, undone, undone_from, with_action}
 use Rattle.itm_model.specs.Runs.{replies, state_after}
-use Rattle.itm_model.specs.State.{Block, Saved, State}
+use Rattle.itm_model.specs.State.{Block, State}
 use Rattle.norec_core.specs.declared.answer.Answer.{Answer}
 use Rattle.norec_core.specs.declared.answer.Answer.TheVariants as answers
 use Rattle.norec_core.specs.declared.answer.Answer.TheVariants.{Reply}
@@ -47,20 +47,12 @@ use Rattle.transactions.specs.declared.stopped.Stopped.{Stopped}
 use Rattle.transactions.specs.declared.stopped.Stopped.TheVariants.{Engine, Cancelled}
 use Rattle.transactions.specs.Runs.{EndsBy, HasBegun, KeepsBody, KeepsLent, LeftBy, Tells, cancel_told, commit_told, stop_told, usual}
 use Rattle.transactions.proofs.Looks.{engine_open}
-use Rattle.transactions.proofs.Modes.{KeepsMode, keeps_begin, keeps_commit, shut_revocable, stays_revocable}
+use Rattle.transactions.proofs.Modes.{KeepsMode, back_mode, keeps_begin, keeps_commit, rolled_mode, shut_revocable, stays_revocable}
 
 -- ## The mode
 
 entered_mode : (s : State) (p : Props) → p.goes_irrevocable ≡ false → s.irrevocable ≡ false → (entered s p).irrevocable ≡ false
 entered_mode s p stays is = ap (λ (b : Bool). (if b then irrevocable_from (pushed s p) else pushed s p).irrevocable) stays ∙ is
-
-rolled_mode : (s : State) (rest : List Block) (o : Option Saved) → s.irrevocable ≡ false → (rolled_back s rest o).irrevocable ≡ false
-rolled_mode s rest None is = is
-rolled_mode s rest (Some saved) is = is
-
-back_mode : (s : State) (bs : List Block) → s.irrevocable ≡ false → (back_from s bs).irrevocable ≡ false
-back_mode s [] is = is
-back_mode s (b ∷ bs) is = rolled_mode s bs b.saved is
 
 undone_mode : (s : State) (bs : List Block) → s.irrevocable ≡ false → (undone_from s bs).irrevocable ≡ false
 undone_mode s [] is = is

@@ -1,4 +1,5 @@
 pub mod Lent
 pub mod Runs
+pub mod Blocks
 pub mod Plain
 pub mod Widths

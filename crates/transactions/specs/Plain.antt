@@ -1,10 +1,11 @@
 -- What the calls of a transaction come to: those of the plain machine, on the bytes that some first commits have left.
-use Rattle.std.specs.Prelude.{◌≡◌, ℕ, suc, ◌<◌, ◌≤◌, Bool, true, false, List, [], ◌∷◌, length, map, Result, Ok}
+use Rattle.std.specs.Prelude.{◌≡◌, ℕ, suc, ◌<◌, ◌≤◌, Bool, true, false, List, [], ◌∷◌, ◌++◌, length, map, Result, Ok}
 use Rattle.std.specs.Borrow.{MutBor}
 use Rattle.std.specs.Fn.{CalledAtMut, Mut}
 use Rattle.itm_types.specs.declared.call.Call.{Call}
 use Rattle.itm_types.specs.declared.call.Call.TheVariants.{Begin, Commit, Abort, Mode}
 use Rattle.itm_types.specs.declared.call.Reply.{Reply as Replied}
+use Rattle.itm_types.specs.declared.call.Reply.TheVariants.{Code, Done}
 use Rattle.itm_types.specs.Memory.{bytes_of}
 use Rattle.itm_model.specs.Machine.{after, opened}
 use Rattle.itm_model.specs.Runs.{replies, state_after}
@@ -19,7 +20,9 @@ use Rattle.itm_runtime.specs.Standing.{Standing, start_of}
 use Rattle.itm_runtime.specs.Ties.{memory_of}
 use Rattle.transactions.specs.declared.stopped.Stopped.{Stopped}
 use Rattle.transactions.specs.declared.tried.Done.{Done as Value}
+use Rattle.itm_runtime.specs.declared.stop.Stop.{Stop}
 use Rattle.transactions.specs.Lent.{Lent}
+use Rattle.transactions.specs.Blocks.{IsTakenBack}
 use Rattle.transactions.specs.Runs.{KeepsBody, usual}
 
 -- the call leaves a transaction open and revocable: of an abort its caller says that some block is open still
@@ -72,3 +75,20 @@ module _ {F R E : Type 0} (fn : Mut F (MutBor Lent × Unit {0}) (Result R (Stopp
     pub here : began.words ≡ words
     pub runs : CalledAtMut fn body began (Ok done.value) body' last
     pub plain : IsPlain began.thread.engine.depth began.thread.engine.arena (makings body began done.value body' last runs).0 done.at done.wrote new
+
+  -- a block's value was given by a run whose calls are, with the begin before them and the commit after them, those of the thread: it began where nothing of the runs before it is left
+  pub record IsPlainBlock (makings : Makings) (old : Lent) (value : R) (new : Lent) : Type 0 where
+    pub from : Lent
+    pub fresh : IsTakenBack old.thread from.thread
+    pub here : from.words ≡ old.words
+    pub body : F
+    pub body' : F
+    pub began : Lent
+    pub last : Lent
+    pub runs : CalledAtMut fn body began (Ok value) body' last
+    pub makes : Makes old.words from.thread ((Begin usual 0, Code 5) ∷ ((makings body began value body' last runs).0 ++ (Commit, Done) ∷ [])) new.thread
+
+  -- where the block gave a value
+  abbrev pub IsPlainIn : Makings → Lent → Result (Result R E) Stop → Lent → Type 0
+  IsPlainIn makings old (Ok (Ok value)) new = IsPlainBlock makings old value new
+  IsPlainIn makings old told new = Unit {0}

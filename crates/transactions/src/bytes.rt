@@ -57,6 +57,7 @@ fn word_of(bytes: &[u8]) -> u32
 }
 
 impl Transaction {
+    ghost use Rattle.transactions.specs.Blocks.{StaysWithin};
     ghost use Rattle.transactions.specs.Lent.{IsKept};
 
     /// Reads the bytes of a value of this width, in memory order.
@@ -64,6 +65,7 @@ impl Transaction {
         ensures tells { Tells self.old.words self.old.thread (Call.Read ReadHint.R width at) (answer_as (λ value. value.items) result) self.new.thread }
         ensures sized { IfOk result (λ value. length value.items ≡ size_of width) }
         ensures kept { IsKept self.old self.new }
+        ensures within { StaysWithin self.old self.new }
     {
         let answer = self.thread.read(&*self.words, ReadHint::R, width, at)?;
         let checked = Stop::check(answer)?;
@@ -74,6 +76,7 @@ impl Transaction {
     pub fn write(&mut self, at: u64, value: &Datum) -> Result<(), Stop>
         ensures tells { Tells self.old.words self.old.thread (Call.Write WriteHint.W at value.now) (answer_to_write result) self.new.thread }
         ensures kept { IsKept self.old self.new }
+        ensures within { StaysWithin self.old self.new }
     {
         self.thread.write_value(&*self.words, at, value)
     }
@@ -82,6 +85,7 @@ impl Transaction {
     pub fn read_u8(&mut self, at: u64) -> Result<u8, Stop>
         ensures tells { Tells self.old.words self.old.thread (Call.Read ReadHint.R Width.U1 at) (answer_as (λ n. n ∷ []) result) self.new.thread }
         ensures kept { IsKept self.old self.new }
+        ensures within { StaysWithin self.old self.new }
     {
         let value = self.read(Width::U1, at)?;
         Ok(byte_of(value.as_slice()))
@@ -91,6 +95,7 @@ impl Transaction {
     pub fn read_u16(&mut self, at: u64) -> Result<u16, Stop>
         ensures tells { Tells self.old.words self.old.thread (Call.Read ReadHint.R Width.U2 at) (answer_as (to_le_bytes w16) result) self.new.thread }
         ensures kept { IsKept self.old self.new }
+        ensures within { StaysWithin self.old self.new }
     {
         let value = self.read(Width::U2, at)?;
         Ok(half_of(value.as_slice()))
@@ -100,6 +105,7 @@ impl Transaction {
     pub fn read_u32(&mut self, at: u64) -> Result<u32, Stop>
         ensures tells { Tells self.old.words self.old.thread (Call.Read ReadHint.R Width.U4 at) (answer_as (to_le_bytes w32) result) self.new.thread }
         ensures kept { IsKept self.old self.new }
+        ensures within { StaysWithin self.old self.new }
     {
         let value = self.read(Width::U4, at)?;
         Ok(word_of(value.as_slice()))
@@ -109,6 +115,7 @@ impl Transaction {
     pub fn write_u8(&mut self, at: u64, value: u8) -> Result<(), Stop>
         ensures tells { Tells self.old.words self.old.thread (Call.Write WriteHint.W at (number_8 value)) (answer_to_write result) self.new.thread }
         ensures kept { IsKept self.old self.new }
+        ensures within { StaysWithin self.old self.new }
     {
         let datum = Datum::new(Width::U1, &[value]);
         self.write(at, &datum)
@@ -118,6 +125,7 @@ impl Transaction {
     pub fn write_u16(&mut self, at: u64, value: u16) -> Result<(), Stop>
         ensures tells { Tells self.old.words self.old.thread (Call.Write WriteHint.W at (number_16 value)) (answer_to_write result) self.new.thread }
         ensures kept { IsKept self.old self.new }
+        ensures within { StaysWithin self.old self.new }
     {
         let datum = Datum::new(Width::U2, &value.to_le_bytes());
         self.write(at, &datum)
@@ -127,6 +135,7 @@ impl Transaction {
     pub fn write_u32(&mut self, at: u64, value: u32) -> Result<(), Stop>
         ensures tells { Tells self.old.words self.old.thread (Call.Write WriteHint.W at (number_32 value)) (answer_to_write result) self.new.thread }
         ensures kept { IsKept self.old self.new }
+        ensures within { StaysWithin self.old self.new }
     {
         let datum = Datum::new(Width::U4, &value.to_le_bytes());
         self.write(at, &datum)

@@ -1,6 +1,7 @@
 //! Transactions as closures: a body is run as one transaction, and tried again until it ends.
 #![tactic(auto)]
 
+mod block;
 mod bytes;
 mod client;
 mod failed;

@@ -35,6 +35,7 @@ impl Model for Transaction {
 }
 
 impl Transaction {
+    ghost use Rattle.transactions.specs.Blocks.{StaysWithin};
     ghost use Rattle.transactions.specs.Lent.{IsKept};
 
     pub(crate) fn new(words: Arc<Words>, thread: Thread) -> Transaction
@@ -50,6 +51,7 @@ impl Transaction {
     pub fn read_u64(&mut self, at: u64) -> Result<u64, Stop>
         ensures tells { Tells self.old.words self.old.thread (Call.Read ReadHint.R Width.U8 at) (answer_to_read result) self.new.thread }
         ensures kept { IsKept self.old self.new }
+        ensures within { StaysWithin self.old self.new }
     {
         self.thread.read_u64(&*self.words, at)
     }
@@ -58,6 +60,7 @@ impl Transaction {
     pub fn write_u64(&mut self, at: u64, value: u64) -> Result<(), Stop>
         ensures tells { Tells self.old.words self.old.thread (Call.Write WriteHint.W at (number value)) (answer_to_write result) self.new.thread }
         ensures kept { IsKept self.old self.new }
+        ensures within { StaysWithin self.old self.new }
     {
         self.thread.write_u64(&*self.words, at, value)
     }
@@ -66,6 +69,7 @@ impl Transaction {
     pub fn on_commit(&mut self, action: Action) -> Result<(), Stop>
         ensures tells { Tells self.old.words self.old.thread (Call.CommitAction action) (answer_to_write result) self.new.thread }
         ensures kept { IsKept self.old self.new }
+        ensures within { StaysWithin self.old self.new }
     {
         let answer = self.thread.call(&*self.words, &Call::CommitAction(action))?;
         Stop::check(answer)?;
@@ -76,6 +80,7 @@ impl Transaction {
     pub fn on_undo(&mut self, action: Action) -> Result<(), Stop>
         ensures tells { Tells self.old.words self.old.thread (Call.UndoAction action) (answer_to_write result) self.new.thread }
         ensures kept { IsKept self.old self.new }
+        ensures within { StaysWithin self.old self.new }
     {
         let answer = self.thread.call(&*self.words, &Call::UndoAction(action))?;
         Stop::check(answer)?;

@@ -7,6 +7,7 @@ use Rattle.itm_runtime.specs.Standing.{start_of}
 use Rattle.itm_runtime.proofs.Calls.NumberAnswers.{told_of}
 use Rattle.transactions.specs.Widths.{HasValue}
 use Rattle.transactions.proofs.WidthReads.{read_value}
+use Rattle.transactions.proofs.Within.{lent_within}
 use Rattle.transactions.proofs.transaction.Transaction.read.Goals as goal
 
 pub value_in-requires : goal.value_in-requires
@@ -24,3 +25,11 @@ returns-clause-tells c =
     let new = c.read.new.self in
     let answered : IsAnswered w (start_of t (Read R c.args.width c.args.at) false) c.in_ok-answer.answer new.pass new.engine = search rules in
     told_of _ c.in_ok-answer.answer w t (Read R c.args.width c.args.at) new (c.value_in.ensures.told ∙ ap Some c.in_ok-checked.ensures.ok) answered
+
+pub returns-clause-within : goal.returns-clause-within
+returns-clause-within c =
+    lent_within (record { words = c.self.inside.words.value; thread = c.self.inside.thread }) c.args.self.now c.deref.result.now (Read R c.args.width c.args.at) tt c.self.view_is (Some c.in_ok-answer.answer) c.read.new.self c.in_ok-answer.ensures c.self.invariant.revocable
+
+pub returns-in_err-checked-clause-within : goal.returns-in_err-checked-clause-within
+returns-in_err-checked-clause-within c =
+    lent_within (record { words = c.self.inside.words.value; thread = c.self.inside.thread }) c.args.self.now c.deref.result.now (Read R c.args.width c.args.at) tt c.self.view_is (Some c.in_ok-answer.answer) c.read.new.self c.in_ok-answer.ensures c.self.invariant.revocable

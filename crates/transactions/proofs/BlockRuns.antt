@@ -1,0 +1,114 @@
+-- What the runs of a block come to.
+use Rattle.std.proofs.Common.{◌≡◌, ◌∙◌, inl, inr, Result, Ok, Err, ap, refl, subst, sym, true≢false, arith}
+use Rattle.std.specs.Borrow.{MutBor}
+use Rattle.std.specs.Fn.{CalledAtMut, Mut}
+use Rattle.norec_core.specs.Core.{in_transaction}
+use Rattle.shared_words.specs.Passes.{view_of}
+use Rattle.itm_types.specs.declared.call.Call.TheVariants.{Begin, Commit}
+use Rattle.itm_runtime.specs.CallResults.{Tells}
+use Rattle.itm_runtime.specs.Standing.{Standing}
+use Rattle.itm_runtime.specs.Stops.{answer_of}
+use Rattle.itm_runtime.specs.declared.stop.Stop.{Stop}
+use Rattle.itm_runtime.specs.declared.stop.Stop.TheVariants as stops
+use Rattle.transactions.specs.declared.stopped.Stopped.{Stopped}
+use Rattle.transactions.specs.declared.stopped.Stopped.TheVariants.{Engine, Cancelled}
+use Rattle.transactions.specs.Lent.{IsKept, Lent}
+use Rattle.transactions.specs.Blocks.{EndsBlockBy, EntersNot, HasRunBlock, IsAsBefore, IsToldAgain, IsUndoneUnless, KeepsBlocks, Leaves, StaysWithin, TellsBlock, block_told}
+use Rattle.transactions.specs.Runs.{KeepsBody, KeepsLent, usual}
+use Rattle.transactions.proofs.BlockOutcomes.{abort_back, abort_kept, back_self, before_twice, before_within, commit_failed, commit_kept, commit_within, not_entered}
+
+-- nothing is changed
+same_kept : (from new : Lent) → new.words ≡ from.words → new.thread ≡ from.thread → IsKept from new
+same_kept from new words same = record { words = words; mine_is = ap (λ (t : Standing). (view_of t.pass).mine) same; looks = omega (arith, ap (λ (t : Standing). (view_of t.pass).looks) same) }
+
+module _ {F R E : Type 0} (fn : Mut F (MutBor Lent × Unit {0}) (Result R (Stopped E) × (MutBor Lent × Unit {0}))) (lent : KeepsLent fn) (blocks : KeepsBlocks fn) (first : F) (from new : Lent) where
+  pub record RunsTo (told : Result (Result R E) Stop) : Type 0 where
+    pub kept : IsKept from new
+    pub within : StaysWithin from new
+    pub undone : IsUndoneUnless told from new
+
+  -- nothing is left of it
+  nothing : (told : Result (Result R E) Stop) → IsKept from new → IsAsBefore from new → IsUndoneUnless told from new → RunsTo told
+  nothing told kept back undone = record { kept = kept; within = before_within from new back; undone = undone }
+
+  told_back : (why : E) (left : Result (Unit {0}) Stop) → IsAsBefore from new → IsUndoneUnless (block_told {R = R} (Err why) left) from new
+  told_back why (Ok done) back = back
+  told_back why (Err stop) back = back
+
+  ran : (told : Result (Result R E) Stop) (r : HasRunBlock fn first from told new) → RunsTo told
+  ran told r = by_end r.gives r.runs r.ends
+    where
+      by_end : (gives : Result R (Stopped E)) → CalledAtMut fn r.body r.began gives r.body' r.last → EndsBlockBy gives r.last told new → RunsTo told
+      by_end (Ok value) runs ends =
+          let kept = lent r.body r.began (Ok value) r.body' r.last runs in
+          let within = blocks r.body r.began (Ok value) r.body' r.last runs in
+          record {
+            kept = commit_kept from r.began r.last new r.enters kept within ends.0 ends.1;
+            within = commit_within from r.began r.last new r.enters kept within ends.0 ends.1;
+            undone = subst (λ (x : Result (Result R E) Stop). IsUndoneUnless x from new) (sym ends.2) (by_left ends.0 ends.1 (commit_failed from r.began r.last new r.enters kept within));
+          }
+        where
+          by_left : (left : Result (Unit {0}) Stop) → Leaves Commit r.last left new → ((stop : Stop) → Leaves Commit r.last (Err stop) new → IsAsBefore from new) → IsUndoneUnless (block_told {E = E} (Ok value) left) from new
+          by_left (Ok done) ends failed = tt
+          by_left (Err stop) ends failed = failed stop ends
+      by_end (Err (Cancelled why)) runs ends =
+          let kept = lent r.body r.began (Err (Cancelled why)) r.body' r.last runs in
+          let within = blocks r.body r.began (Err (Cancelled why)) r.body' r.last runs in
+          let back = abort_back from r.began r.last new r.enters kept within ends.0 ends.1 in
+          nothing told (abort_kept from r.began r.last new r.enters kept within ends.0 ends.1) back (subst (λ (x : Result (Result R E) Stop). IsUndoneUnless x from new) (sym ends.2) (told_back why ends.0 back))
+      by_end (Err (Engine stop)) runs ends =
+          let kept = lent r.body r.began (Err (Engine stop)) r.body' r.last runs in
+          let within = blocks r.body r.began (Err (Engine stop)) r.body' r.last runs in
+          let back = abort_back from r.began r.last new r.enters kept within ends.0 ends.1 in
+          nothing told (abort_kept from r.began r.last new r.enters kept within ends.0 ends.1) back (subst (λ (x : Result (Result R E) Stop). IsUndoneUnless x from new) (sym ends.2) back)
+
+  -- ## A block that did not begin
+
+  begin_kept : (stop : Stop) → Tells from.words from.thread (Begin usual 0) (answer_of stop) new.thread → new.words ≡ from.words → IsKept from new
+  begin_kept (stops.Refused why) a words = record { words = words; mine_is = a.served.mine; looks = a.served.went.looks }
+  begin_kept (stops.Conflict clock word) a words = record { words = words; mine_is = a.served.mine; looks = a.served.went.looks }
+  begin_kept (stops.Restarted clock word) a words = record { words = words; mine_is = a.served.mine; looks = a.served.went.looks }
+  begin_kept (stops.Busy clock) a words = record { words = words; mine_is = a.served.mine; looks = a.served.went.looks }
+  begin_kept (stops.Full at) a words = record { words = words; mine_is = a.served.mine; looks = a.served.went.looks }
+  begin_kept stops.Memory a words = same_kept from new words a.err
+
+  stood : (stop : Stop) → EntersNot from stop new → IsKept from new × IsAsBefore from new
+  stood stop e = elim e.why [
+    | inl shut ↦ (same_kept from new e.words shut.1, λ o. absurd (true≢false (sym o ∙ ap (λ (t : Standing). in_transaction t.engine) shut.1 ∙ shut.0)))
+    | inr told ↦ (begin_kept stop told.1 e.words, not_entered from.words from.thread new.thread e.revocable told.0 stop told.1)
+  ]
+
+  pub runs_to : (told : Result (Result R E) Stop) → TellsBlock fn first from told new → RunsTo told
+  runs_to told (inl r) = ran told r
+  runs_to told (inr none) =
+      let s = stood none.stop none.enters_not in
+      nothing told s.0 s.1 (subst (λ (x : Result (Result R E) Stop). IsUndoneUnless x from new) (sym none.told_is) s.1)
+
+-- ## One run after another
+
+module _ {F R E : Type 0} (fn : Mut F (MutBor Lent × Unit {0}) (Result R (Stopped E) × (MutBor Lent × Unit {0}))) (body passed : F) (same : KeepsBody fn → body ≡ passed) (from new : Lent) where
+  -- told of the body that was passed
+  pub rebased_block : (told : Result (Result R E) Stop) → TellsBlock fn body from told new → TellsBlock fn passed from told new
+  rebased_block told (inl r) = inl (record { began = r.began; enters = r.enters; body = r.body; same = λ steady. r.same steady ∙ same steady; body' = r.body'; gives = r.gives; last = r.last; runs = r.runs; ends = r.ends })
+  rebased_block told (inr none) = inr (record { stop = none.stop; enters_not = none.enters_not; told_is = none.told_is })
+
+module _ {R E : Type 0} (old from new : Lent) where
+  -- where it goes back to its begin nothing of it is left
+  pub again_back : (told : Result (Result R E) Stop) → IsToldAgain told → IsUndoneUnless told from new → IsAsBefore from new
+  again_back (Ok (Ok value)) again undone = absurd again
+  again_back (Ok (Err why)) again undone = undone
+  again_back (Err stop) again undone = undone
+
+  pub undone_on : (told : Result (Result R E) Stop) → IsAsBefore old from → IsUndoneUnless told from new → IsUndoneUnless told old new
+  undone_on (Ok (Ok value)) back undone = tt
+  undone_on (Ok (Err why)) back undone = before_twice old from new back undone
+  undone_on (Err stop) back undone = before_twice old from new back undone
+
+pub within_on : (old from new : Lent) → IsAsBefore old from → StaysWithin from new → StaysWithin old new
+within_on old from new back within first fresh w = within first fresh (before_within old from back first fresh w)
+
+pub before_self : (l : Lent) → IsAsBefore l l
+before_self l o = back_self l.thread
+
+pub kept_self : (l : Lent) → IsKept l l
+kept_self l = same_kept l l refl refl

@@ -1,0 +1,182 @@
+-- How a block within a transaction begins and ends.
+use Rattle.std.proofs.Common.{◌≡◌, ◌∙◌, ℕ, not, Bool, true, false, List, [], ◌∷◌, ◌++◌, drop, length, map, reverse, Option, None, Some, ap, refl, subst, sym, true≢false, append-nil, if◌then◌else◌}
+use Rattle.itm_types.specs.declared.call.Call.{Call}
+use Rattle.itm_types.specs.declared.call.Call.TheVariants.{Abort, Begin, Commit}
+use Rattle.itm_types.specs.declared.call.Refusal.{Refusal}
+use Rattle.itm_types.specs.declared.call.Refusal.TheVariants.{IsIrrevocable, NoAbort, Outside}
+use Rattle.itm_types.specs.declared.call.Reply.{Reply as Replied}
+use Rattle.itm_types.specs.declared.call.Reply.TheVariants.{Code, Done}
+use Rattle.itm_model.specs.Machine.{is_open, keeps_innermost, or_else, refusal, reply, reply_unless, unless}
+use Rattle.itm_model.specs.State.{State}
+use Rattle.user_actions.specs.Actions.{Actions, as_undo}
+use Rattle.undo_log.specs.Rollback.{Old, put_back}
+use Rattle.nest_frames.specs.Nest.{Frame, actions_cancelled, actions_closed, begun, closed, log_of, rows_of}
+use Rattle.norec_core.specs.declared.answer.Answer.{Answer}
+use Rattle.norec_core.specs.declared.answer.Answer.TheVariants as answers
+use Rattle.norec_core.specs.declared.answer.Answer.TheVariants.{Reply}
+use Rattle.norec_core.specs.Core.{Core, in_transaction, irrevocable_room, is_inside}
+use Rattle.norec_core.specs.Effects.{actions_after, arena_after, blocks_after, writes_after}
+use Rattle.norec_core.specs.Stands.{stands_for, state_in}
+use Rattle.shared_words.specs.declared.view.View.{View}
+use Rattle.shared_words.specs.Commits.{StartsWith}
+use Rattle.shared_words.specs.InGlobal.{Words}
+use Rattle.shared_words.specs.Passes.{view_of}
+use Rattle.itm_runtime.specs.CallResults.{IsAnswered}
+use Rattle.itm_runtime.specs.Served.{Served, came_over}
+use Rattle.itm_runtime.specs.Standing.{Standing, start_of}
+use Rattle.itm_runtime.specs.Stops.{GoesOn}
+use Rattle.itm_runtime.specs.declared.stop.Stop.TheVariants as stops
+use Rattle.transactions.specs.Blocks.{IsFresh, IsTakenBack, IsWithin}
+use Rattle.transactions.specs.Runs.{usual}
+use Rattle.transactions.proofs.LastEngines.{arena_left, last, m, replied, writes_left}
+use Rattle.transactions.proofs.Looks.{engine_open}
+use Rattle.transactions.proofs.Modes.{stands_mode}
+use Rattle.transactions.proofs.Within.{begins, begins_more, cut}
+
+-- ## Its begin
+
+abbrev NoCommit : Call → Type 0
+NoCommit Commit = ⊥
+NoCommit call = Unit {0}
+
+coded : (why : Option Refusal) (r : Replied) → r ≡ reply_unless why (Code 5) → GoesOn (Reply r) → Reply r ≡ Reply (Code 5)
+coded (Some why) r e on = absurd (on (stops.Refused why) (ap (λ (x : Replied). Some (Reply x)) (sym e)))
+coded None r e on = ap Reply e
+
+pub begin_coded : (t : Standing) (a : Answer) (v : View) (e : Core) → Served (start_of t (Begin usual 0) false) a v e → GoesOn a → a ≡ Reply (Code 5)
+begin_coded t (Reply r) v e served on = coded (refusal t.engine.depth (stands_for t.engine (came_over (start_of t (Begin usual 0) false) v e)) (Begin usual 0)) r served.tells.here.reply_is on
+begin_coded t (answers.Committed at wrote) v e served on = absurd (subst NoCommit served.tells.call tt)
+begin_coded t (answers.Conflict clock word) v e served on = absurd (on (stops.Conflict clock word) refl)
+begin_coded t (answers.Restarted clock word) v e served on = absurd (on (stops.Restarted clock word) refl)
+begin_coded t (answers.Busy clock) v e served on = absurd (on (stops.Busy clock) refl)
+begin_coded t (answers.Full at) v e served on = absurd (on (stops.Full at) refl)
+
+-- the block that has begun goes back to what was written and registered
+pub record HasEntered (t e : Core) : Type 0 where
+  pub reads : ℕ
+  pub blocks : e.blocks ≡ begun usual t.writes t.actions reads ∷ t.blocks
+  pub arena : e.arena ≡ t.arena
+  pub actions : e.actions ≡ t.actions
+
+goes_begin : (c : Core) → irrevocable_room c (Begin usual 0) ≡ None
+goes_begin c = refl
+
+acts_begun : (c : Core) → in_transaction c ≡ true → actions_after c (Begin usual 0) (Code 5) ≡ c.actions
+acts_begun c o = ap (λ (b : Bool). if b then c.actions else record c.actions { ran = [] }) o
+
+pub has_entered : (words : Words) (t new : Standing) → IsAnswered words (start_of t (Begin usual 0) false) (Reply (Code 5)) new.pass new.engine → t.engine.irrevocable ≡ false → in_transaction t.engine ≡ true → HasEntered t.engine new.engine
+has_entered words t new a is inside =
+    let l = last words t new (Begin usual 0) false (Code 5) a is goes_begin in
+    let c = l.mid in
+    let k = l.kept in
+    let g = replied words t new (Begin usual 0) false (Code 5) a is goes_begin in
+    let blocks : new.engine.blocks ≡ begun usual t.engine.writes t.engine.actions (length c.log) ∷ t.engine.blocks = g.blocks ∙ (λ i. begun usual (k.writes i) (k.actions i) (length c.log) ∷ k.blocks i) in
+    record {
+      reads = length c.log;
+      blocks = blocks;
+      arena = arena_left words t new (Begin usual 0) false (Code 5) a is goes_begin (ap is_inside blocks) ∙ k.arena is;
+      actions = g.actions ∙ acts_begun c (ap is_inside k.blocks ∙ inside) ∙ k.actions;
+    }
+
+pub fresh_begun : (t e : Core) → HasEntered t e → IsFresh e.blocks e.actions
+fresh_begun t e h = subst (λ (x : List Frame × Actions). IsFresh x.0 x.1) (λ i. (sym h.blocks i, sym h.actions i)) (refl, refl, refl)
+
+pub within_self : (e : Core) → IsWithin e e
+within_self e = record { blocks = refl; arena = refl; commits = begins _; undos = begins _; ran = begins _ }
+
+-- ## Its end
+
+commit_done : (d : ℕ) (s : State) → is_open s ≡ true → reply d s Commit ≡ Done
+commit_done d s e = ap (λ (b : Bool). reply_unless (or_else (unless b Outside) None) Done) e
+
+cancel_coded : (d : ℕ) (s : State) → is_open s ≡ true → s.irrevocable ≡ false → keeps_innermost s.blocks ≡ false → reply d s (Abort false) ≡ Code 24
+cancel_coded d s e r k = λ i. reply_unless (or_else (or_else (unless (e i) Outside) (or_else (unless (not (k i)) NoAbort) (unless (not (r i)) IsIrrevocable))) None) (Code 24)
+
+pub goes_commit : (c : Core) → irrevocable_room c Commit ≡ None
+goes_commit c = refl
+
+pub goes_abort : (c : Core) → irrevocable_room c (Abort false) ≡ None
+goes_abort c = refl
+
+closed_around : (b p : Frame) (bs : List Frame) → b.log ≡ [] → closed (b ∷ p ∷ bs) ≡ p ∷ bs
+closed_around b p bs e = λ i. record p { log = (ap (λ (l : List Old). p.log ++ l) e ∙ append-nil p.log) i } ∷ bs
+
+-- the innermost block is one that has begun so, and blocks are open around it
+module _ (words : Words) (t l new : Standing) (began : Core) (h : HasEntered t.engine began) (is : l.engine.irrevocable ≡ false) (inside : in_transaction t.engine ≡ true) where
+  abbrev b : Frame
+  b = begun usual t.engine.writes t.engine.actions h.reads
+
+  -- ## A commit
+
+  abbrev Commits : Answer → Type 0
+  Commits a = IsAnswered words (start_of l Commit false) a new.pass new.engine
+
+  module _ (w : IsWithin began l.engine) where
+    blocks_are : l.engine.blocks ≡ b ∷ t.engine.blocks
+    blocks_are = w.blocks ∙ h.blocks
+
+    l_open : in_transaction l.engine ≡ true
+    l_open = ap is_inside blocks_are
+
+    commits_in : StartsWith l.engine.actions.commits t.engine.actions.commits
+    commits_in = subst (λ (x : Actions). StartsWith l.engine.actions.commits x.commits) h.actions w.commits
+
+    undos_in : StartsWith l.engine.actions.undos t.engine.actions.undos
+    undos_in = subst (λ (x : Actions). StartsWith l.engine.actions.undos x.undos) h.actions w.undos
+
+    ran_in : StartsWith l.engine.actions.ran t.engine.actions.ran
+    ran_in = subst (λ (x : Actions). StartsWith l.engine.actions.ran x.ran) h.actions w.ran
+
+    -- what the commit of it leaves
+    pub committed : (r : Replied) → Commits (Reply r) → IsWithin t.engine new.engine × (r ≡ Done)
+    committed r a =
+        let last = last words l new Commit false r a is goes_commit in
+        let c = last.mid in
+        let k = last.kept in
+        let g = replied words l new Commit false r a is goes_commit in
+        let here = a.served.tells.here in
+        let s = stands_for l.engine (came_over (start_of l Commit false) (view_of new.pass) new.engine) in
+        let done : r ≡ Done = here.reply_is ∙ commit_done l.engine.depth s (engine_open l.engine _ is ∙ l_open) in
+        let mid_blocks : c.blocks ≡ b ∷ t.engine.blocks = k.blocks ∙ blocks_are in
+        let blocks = by_around t.engine.blocks inside in
+        let left : new.engine.blocks ≡ t.engine.blocks = g.blocks ∙ ap (blocks_after c Commit) done ∙ ap closed mid_blocks ∙ blocks.0 in
+        let acts : new.engine.actions ≡ l.engine.actions = g.actions ∙ ap (actions_after c Commit) done ∙ (λ i. actions_closed (mid_blocks i) (k.actions i)) ∙ blocks.1 l.engine.actions in (
+          record {
+            blocks = left;
+            arena = arena_left words l new Commit false r a is goes_commit (ap is_inside left ∙ inside) ∙ k.arena is ∙ w.arena ∙ h.arena;
+            commits = subst (λ (x : Actions). StartsWith x.commits t.engine.actions.commits) (sym acts) commits_in;
+            undos = subst (λ (x : Actions). StartsWith x.undos t.engine.actions.undos) (sym acts) undos_in;
+            ran = subst (λ (x : Actions). StartsWith x.ran t.engine.actions.ran) (sym acts) ran_in;
+          },
+          done,
+        )
+      where
+        by_around : (bs : List Frame) → is_inside bs ≡ true → (closed (b ∷ bs) ≡ bs) × ((x : Actions) → actions_closed (b ∷ bs) x ≡ x)
+        by_around [] o = absurd (true≢false (sym o))
+        by_around (p ∷ bs) o = (closed_around b p bs refl, λ x. refl)
+
+    -- what a rollback of it leaves: nothing
+    pub taken_back : (r : Replied) → IsAnswered words (start_of l (Abort false) false) (Reply r) new.pass new.engine → IsTakenBack t new × (r ≡ Code 24)
+    taken_back r a =
+        let last = last words l new (Abort false) false r a is goes_abort in
+        let c = last.mid in
+        let k = last.kept in
+        let g = replied words l new (Abort false) false r a is goes_abort in
+        let here = a.served.tells.here in
+        let m' = came_over (start_of l (Abort false) false) (view_of new.pass) new.engine in
+        let innermost : keeps_innermost (stands_for l.engine m').blocks ≡ false = λ i. keeps_innermost (state_in (is i) l.engine.writes (blocks_are i) l.engine.arena l.engine.actions m').blocks in
+        let done : r ≡ Code 24 = here.reply_is ∙ cancel_coded l.engine.depth (stands_for l.engine m') (engine_open l.engine m' is ∙ l_open) (stands_mode l.engine m' ∙ is) innermost in
+        let mid_blocks : c.blocks ≡ b ∷ t.engine.blocks = k.blocks ∙ blocks_are in
+        let left : new.engine.blocks ≡ t.engine.blocks = g.blocks ∙ ap (blocks_after c (Abort false)) done ∙ ap (drop 1) mid_blocks in
+        let o : in_transaction new.engine ≡ true = ap is_inside left ∙ inside in
+        let acts : new.engine.actions ≡ actions_cancelled (b ∷ t.engine.blocks) l.engine.actions = g.actions ∙ ap (actions_after c (Abort false)) done ∙ (λ i. actions_cancelled (mid_blocks i) (k.actions i)) in (
+          record {
+            writes = writes_left words l new (Abort false) false r a is goes_abort o ∙ ap (writes_after c (m words l new (Abort false) false r a is goes_abort) (Abort false)) done ∙ ap rows_of mid_blocks;
+            blocks = left;
+            arena = arena_left words l new (Abort false) false r a is goes_abort o ∙ ap (arena_after c (m words l new (Abort false) false r a is goes_abort) (Abort false)) done ∙ (λ i. put_back (log_of (mid_blocks i)) (k.arena is i)) ∙ w.arena ∙ h.arena;
+            commits = ap (λ (x : Actions). x.commits) acts ∙ cut (length t.engine.actions.commits) _ _ refl commits_in;
+            undos = ap (λ (x : Actions). x.undos) acts ∙ cut (length t.engine.actions.undos) _ _ refl undos_in;
+            ran = subst (λ (x : Actions). StartsWith x.ran t.engine.actions.ran) (sym acts) (begins_more _ _ _ _ (map as_undo (reverse (drop (length t.engine.actions.undos) l.engine.actions.undos)), refl) refl ran_in);
+          },
+          done,
+        )

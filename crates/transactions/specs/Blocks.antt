@@ -1,0 +1,145 @@
+-- Blocks within a transaction.
+use Rattle.std.specs.Prelude.{◌≡◌, ◌⊎◌, ◌≤◌, true, false, List, [], ◌∷◌, length, Some, Result, Ok, Err}
+use Rattle.std.specs.Borrow.{MutBor}
+use Rattle.std.specs.Fn.{CalledAtMut, Mut}
+use Rattle.itm_types.specs.declared.call.Call.{Call}
+use Rattle.itm_types.specs.declared.call.Call.TheVariants.{Abort, Begin, Commit}
+use Rattle.itm_types.specs.declared.call.Refusal.TheVariants.{Outside}
+use Rattle.itm_types.specs.declared.call.Reply.TheVariants.{Code}
+use Rattle.user_actions.specs.Actions.{Actions}
+use Rattle.nest_frames.specs.Nest.{Frame}
+use Rattle.norec_core.specs.declared.answer.Answer.{Answer}
+use Rattle.norec_core.specs.declared.answer.Answer.TheVariants.{Reply}
+use Rattle.norec_core.specs.Core.{Core, in_transaction}
+use Rattle.shared_words.specs.Commits.{StartsWith}
+use Rattle.itm_runtime.specs.CallResults.{IsAnswered, Tells}
+use Rattle.itm_runtime.specs.Standing.{Standing, start_of}
+use Rattle.itm_runtime.specs.Stops.{GoesOn, answer_of}
+use Rattle.itm_runtime.specs.declared.stop.Stop.{Stop}
+use Rattle.itm_runtime.specs.declared.stop.Stop.TheVariants.{Refused, Restarted}
+use Rattle.transactions.specs.declared.stopped.Stopped.{Stopped}
+use Rattle.transactions.specs.declared.stopped.Stopped.TheVariants.{Engine, Cancelled}
+use Rattle.transactions.specs.Lent.{IsKept, Lent}
+use Rattle.transactions.specs.Runs.{KeepsBody, KeepsLent, usual}
+
+-- ## What stays while a block is open
+
+-- the innermost of these blocks has just begun, with these actions registered
+abbrev pub IsFresh : List Frame → Actions → Type 0
+IsFresh [] actions = ⊥
+IsFresh (b ∷ bs) actions = (b.log ≡ []) × (b.commits ≡ length actions.commits) × (b.undos ≡ length actions.undos)
+
+-- the blocks that were open then are the open ones still, each goes back to what it went back to, and actions were added alone
+pub record IsWithin (then now : Core) : Type 0 where
+  pub blocks : now.blocks ≡ then.blocks
+  pub arena : now.arena ≡ then.arena
+  pub commits : StartsWith now.actions.commits then.actions.commits
+  pub undos : StartsWith now.actions.undos then.actions.undos
+  pub ran : StartsWith now.actions.ran then.actions.ran
+
+-- or no transaction is open
+abbrev pub IsWithinStill : Core → Core → Type 0
+IsWithinStill then now = IsWithin then now ⊎ (in_transaction now ≡ false)
+
+-- a call ends no block alone that was open: whichever it was that began last, and whenever
+abbrev pub StaysWithin : Lent → Lent → Type 0
+StaysWithin old new = (then : Core) → IsFresh then.blocks then.actions → IsWithinStill then old.thread.engine → IsWithinStill then new.thread.engine
+
+-- ## What is left of a block that is taken back
+
+-- nothing: the same words are written and with the same values, the same blocks are open, the arena is the same, and so are the actions that are registered; but undo actions may have come to run
+pub record IsTakenBack (old new : Standing) : Type 0 where
+  pub writes : new.engine.writes ≡ old.engine.writes
+  pub blocks : new.engine.blocks ≡ old.engine.blocks
+  pub arena : new.engine.arena ≡ old.engine.arena
+  pub commits : new.engine.actions.commits ≡ old.engine.actions.commits
+  pub undos : new.engine.actions.undos ≡ old.engine.actions.undos
+  pub ran : StartsWith new.engine.actions.ran old.engine.actions.ran
+
+-- so it is, unless the transaction is over
+abbrev pub IsAsBefore : Lent → Lent → Type 0
+IsAsBefore old new = in_transaction new.thread.engine ≡ true → IsTakenBack old.thread new.thread
+
+-- ## One run of a block
+
+-- the block began within the transaction
+pub record Enters (old began : Lent) : Type 0 where
+  pub words : began.words ≡ old.words
+  pub revocable : old.thread.engine.irrevocable ≡ false
+  pub inside : in_transaction old.thread.engine ≡ true
+  pub answered : IsAnswered old.words (start_of old.thread (Begin usual 0) false) (Reply (Code 5)) began.thread.pass began.thread.engine
+
+-- or it did not, and this is why: no transaction is open, or the begin was answered so
+pub record EntersNot (old : Lent) (stop : Stop) (new : Lent) : Type 0 where
+  pub words : new.words ≡ old.words
+  pub revocable : old.thread.engine.irrevocable ≡ false
+  pub why : ((in_transaction old.thread.engine ≡ false) × (new.thread ≡ old.thread) × (stop ≡ Refused Outside))
+      ⊎ ((in_transaction old.thread.engine ≡ true) × Tells old.words old.thread (Begin usual 0) (answer_of stop) new.thread)
+
+-- what a call came to that gives no value
+abbrev pub IsChecked : Answer → Result (Unit {0}) Stop → Type 0
+IsChecked answer (Ok done) = GoesOn answer
+IsChecked answer (Err stop) = answer_of stop ≡ Some answer
+
+-- the call that ends the innermost block came to this
+pub record Leaves (call : Call) (old : Lent) (left : Result (Unit {0}) Stop) (new : Lent) : Type 0 where
+  pub words : new.words ≡ old.words
+  pub revocable : old.thread.engine.irrevocable ≡ false
+  pub answer : Answer
+  pub answered : IsAnswered old.words (start_of old.thread call false) answer new.thread.pass new.thread.engine
+  pub checked : IsChecked answer left
+
+-- a block's own value or error, where the call that ends it is served
+abbrev pub block_told : {R E : Type 0} → Result R E → Result (Unit {0}) Stop → Result (Result R E) Stop
+block_told gives (Ok done) = Ok gives
+block_told gives (Err stop) = Err stop
+
+-- the block has gone back to its begin
+abbrev pub IsToldAgain : {R E : Type 0} → Result (Result R E) Stop → Type 0
+IsToldAgain (Err (Restarted clock word)) = Unit {0}
+IsToldAgain told = ⊥
+
+-- unless the block gave a value, nothing of it is left
+abbrev pub IsUndoneUnless : {R E : Type 0} → Result (Result R E) Stop → Lent → Lent → Type 0
+IsUndoneUnless (Ok (Ok value)) old new = Unit {0}
+IsUndoneUnless told old new = IsAsBefore old new
+
+-- how a block ends whose body gave this: it commits, or is rolled back
+abbrev pub EndsBlockBy : {R E : Type 0} → Result R (Stopped E) → Lent → Result (Result R E) Stop → Lent → Type 0
+EndsBlockBy (Ok value) last told new = (left : Result (Unit {0}) Stop) × Leaves Commit last left new × (told ≡ block_told (Ok value) left)
+EndsBlockBy (Err (Cancelled why)) last told new = (left : Result (Unit {0}) Stop) × Leaves (Abort false) last left new × (told ≡ block_told (Err why) left)
+EndsBlockBy (Err (Engine stop)) last told new = (left : Result (Unit {0}) Stop) × Leaves (Abort false) last left new × (told ≡ Err stop)
+
+module _ {F R E : Type 0} (fn : Mut F (MutBor Lent × Unit {0}) (Result R (Stopped E) × (MutBor Lent × Unit {0}))) where
+  -- a body ends no block alone that was open
+  abbrev pub KeepsBlocks : Type 0
+  KeepsBlocks = (f : F) (x : Lent) (r : Result R (Stopped E)) (f' : F) (x' : Lent) → CalledAtMut fn f x r f' x' → StaysWithin x x'
+
+  -- the block began, its body was run in it, the first one where bodies are left as they were, and it ended by what that gave
+  pub record HasRunBlock (first : F) (from : Lent) (told : Result (Result R E) Stop) (new : Lent) : Type 0 where
+    pub began : Lent
+    pub enters : Enters from began
+    pub body : F
+    pub same : KeepsBody fn → body ≡ first
+    pub body' : F
+    pub gives : Result R (Stopped E)
+    pub last : Lent
+    pub runs : CalledAtMut fn body began gives body' last
+    pub ends : EndsBlockBy gives last told new
+
+  -- it did not begin
+  pub record HasNotEntered (from : Lent) (told : Result (Result R E) Stop) (new : Lent) : Type 0 where
+    pub stop : Stop
+    pub enters_not : EntersNot from stop new
+    pub told_is : told ≡ Err stop
+
+  abbrev pub TellsBlock : F → Lent → Result (Result R E) Stop → Lent → Type 0
+  TellsBlock first from told new = HasRunBlock first from told new ⊎ HasNotEntered from told new
+
+  -- its last run, of which this is told, began where nothing of the runs before it is left; where the block has gone back to its begin it was run again, unless the thread reads where it read before
+  pub record BlockComesTo (first : F) (old : Lent) (told : Result (Result R E) Stop) (new : Lent) : Type 0 where
+    pub from : Lent
+    pub kept : KeepsLent fn → KeepsBlocks → IsKept old from
+    pub fresh : KeepsLent fn → KeepsBlocks → IsAsBefore old from
+    pub tells : TellsBlock first from told new
+    pub again : IsToldAgain told → new.thread.engine.snapshot ≤ from.thread.engine.snapshot
