@@ -19,11 +19,8 @@ cd "$work/crates/memory_tests"
 
 scripts=${SCRIPTS:-all}
 case $scripts in
-few) engines=read_and_write plains=calls worlds=inner_cancel ;;
-all)
-    engines='log read_and_write copies_and_fills beyond_room actions' plains='calls begins'
-    worlds='outer_cancel inner_cancel mode every_call cancels'
-    ;;
+few) engines=read_and_write plains=calls ;;
+all) engines='log read_and_write copies_and_fills beyond_room actions' plains='calls begins' ;;
 *) echo "SCRIPTS is all or few, and not $scripts" >&2 && exit 1 ;;
 esac
 
@@ -43,7 +40,7 @@ make() {
 }
 
 {
-    echo 'use super::{again, engine, frames, plain, worlds};'
+    echo 'use super::{engine, frames, plain};'
     echo 'use std::alloc::{AllocError, Global};'
     echo 'use std::test::Fail;'
     echo 'fn take(alloc: Global, times: usize) -> Result<(), AllocError> {'
@@ -57,14 +54,6 @@ make() {
     for name in $plains; do
         make "plain_$name" "plain::expect_$name(&rt, rt.alloc())?"
     done
-    for name in $worlds; do
-        case=$(echo $name | tr a-z A-Z)
-        make "worlds_$name" "worlds::expect_case(&rt, rt.alloc(), &worlds::$case)"
-    done
-    if [ "$scripts" = all ]; then
-        make worlds_beyond_room 'worlds::expect_beyond_room(&rt, rt.alloc())'
-        make worlds_again 'again::expect_again(&rt, rt.alloc())'
-    fi
 } >src/tests/refused.rt
 sed -i '0,/^mod /s//mod refused;\nmod /' src/tests.rt
 

@@ -8,7 +8,7 @@
 # - `stops`: under `sched` a thread that stops for ever, after each of its events.
 # - `cuts`: each proper beginning of a history.
 # - `files`: under each command each read and each write that fails, and such that move one byte.
-# - `engines`: tests/refused.sh, whose tests call engines, worlds and the plain machine with each allocation refused.
+# - `engines`: tests/refused.sh, whose tests call engines, their parts and the plain machine with each allocation refused.
 #
 # All sweeps, or those that are named, over all scripts, or with SCRIPTS=few over some; what each answer has to be is said in
 # tests/sweeps/. Something is refused by a library before the C library's (tests/sweeps/refuse.c). JOBS=N takes so many

@@ -1,6 +1,7 @@
 """Texts through each command with each read and each write failing in turn, and with one byte moved by each.
 
-After a read that failed nothing is written, and after a write that failed a beginning of the text, and not all of it.
+After a read that failed nothing is written, and after a write that failed, or took nothing, a beginning of the text, and
+not all of it.
 """
 
 import collections
@@ -9,7 +10,7 @@ from driver import made
 from worked import each, expect, refusing
 
 READING, WRITING = ((f"itmrun: {what} failed\n".encode(), 5) for what in ("reading", "writing"))
-BYTEWISE = "counter"  # the script of which each byte is lost in turn
+BYTEWISE = "lost_update"  # the script of which each byte is lost in turn
 
 
 def failing(setup, command, text, ample, **how):
@@ -18,10 +19,11 @@ def failing(setup, command, text, ample, **how):
     for number, answer in each(setup, command, text, "REFUSE_READ", **how):
         expect(answer == (b"", *READING), command, "read", number, "failed: the answer is", answer)
         counts["a read failed"] += 1
-    for number, (output, *rest) in each(setup, command, text, "REFUSE_WRITE", **how):
-        begins = ample is None or ample[0].startswith(output) and output != ample[0]
-        expect(begins and tuple(rest) == WRITING, command, "write", number, "failed: the answer is", output, *rest)
-        counts["a write failed"] += 1
+    for name, kind in (("REFUSE_WRITE", "failed"), ("TAKE_NOTHING", "took nothing")):
+        for number, (output, *rest) in each(setup, command, text, name, **how):
+            begins = ample is None or ample[0].startswith(output) and output != ample[0]
+            expect(begins and tuple(rest) == WRITING, command, "write", number, kind + ": the answer is", output, *rest)
+            counts["a write " + kind] += 1
     for number, (output, errors, status) in each(setup, command, text, "REFUSE_ERROR", **how):
         begins = ample is None or ample[0] == output and ample[1].startswith(errors) and errors != ample[1]
         expect(begins and status == 5, command, "error", number, "failed: the answer is", output, errors, status)

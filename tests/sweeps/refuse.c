@@ -4,6 +4,7 @@
  * REFUSE_THREAD=N   the thread of this number
  * REFUSE_READ=N     the read of this number
  * REFUSE_WRITE=N    the write of this number to the standard output, REFUSE_ERROR=N to the standard error
+ * TAKE_NOTHING=N    the write of this number to the standard output takes none of its bytes, and is no error
  * ONE_BYTE          each read and each write moves one byte
  *
  * Each of the numbers counts from 1. REFUSED is a file that is made where something was refused. */
@@ -21,7 +22,7 @@ typedef int create(pthread_t *, const pthread_attr_t *, void *(*)(void *), void 
 extern void *__libc_malloc(size_t);
 extern void *__libc_realloc(void *, size_t);
 
-static atomic_long allocations, threads, reads, writes, errors;
+static atomic_long allocations, threads, reads, writes, takes, errors;
 
 static int refuses(const char *name, atomic_long *count, int later) {
     const char *number = getenv(name);
@@ -68,5 +69,6 @@ ssize_t write(int file, const void *bytes, size_t size) {
         errno = EIO;
         return -1;
     }
+    if (file == 1 && refuses("TAKE_NOTHING", &takes, 0)) return 0;
     return syscall(SYS_write, file, bytes, part(size));
 }

@@ -19,7 +19,8 @@ MOST = 20_000  # nothing here is refused so often
 
 # those of a short sweep: each kind of call, and each end that a try or a text may have
 FEW = """lost_update transfers recount logger actions_of_a_full_try arena_copies copy_runs_again crossing_ends irrevocable_actions
-irrevocable_nested outer_abort restart_told_by_the_third_version two_gave_up undo_actions_of_an_impatient_commit""".split()
+irrevocable_calls_of_each_kind irrevocable_nested outer_abort restart_told_by_the_third_version two_gave_up
+undo_actions_around_an_inner_cancel undo_actions_of_an_impatient_commit""".split()
 
 
 class Worked:

@@ -1,54 +1,8 @@
-//! Readers and writers that fail.
+//! Writers that fail.
 
 use std::alloc::AllocError;
 use std::io;
-use std::io::{Read, Write};
-
-/// Gives so many bytes of a comment, fails once, and then is at its end.
-#[derive(Drop)]
-pub struct Comment {
-    pub left: usize,
-    pub failed: bool,
-}
-
-impl Read for Comment {
-    fn read(&mut self, buf: &mut [u8]) -> io::Result<usize> {
-        if self.left == 0 && !self.failed {
-            self.failed = true;
-            return Err(io::ErrorKind::Other.into());
-        }
-        let n = buf.len().min(self.left);
-        for byte in buf.iter_mut() {
-            *byte = b';';
-        }
-        self.left -= n;
-        Ok(n)
-    }
-}
-
-/// Gives a text, at most `most` bytes a read, so many reads. The read after them fails, and only that one.
-#[derive(Drop)]
-pub struct Halting<'a> {
-    pub left: &'a [u8],
-    pub reads: usize,
-    pub most: usize,
-}
-
-impl<'a> Read for Halting<'a> {
-    fn read(&mut self, buf: &mut [u8]) -> io::Result<usize> {
-        if self.reads == 0 {
-            self.reads = usize::MAX;
-            return Err(io::ErrorKind::Other.into());
-        }
-        let n = buf.len().min(self.left.len()).min(self.most);
-        let (part, _) = buf.split_at_mut(n);
-        let (front, rest) = self.left.split_at(n);
-        part.copy_from_slice(front);
-        self.left = rest;
-        self.reads -= 1;
-        Ok(n)
-    }
-}
+use std::io::Write;
 
 /// Takes at most `most` bytes a write, so many writes. The write after them fails or takes nothing, and only that one;
 /// so does a flush in its place.

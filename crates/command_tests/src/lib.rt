@@ -1,9 +1,7 @@
-//! Tests of what no file or terminal does at will: readers and writers that fail, or take less than they are given, and a
-//! writer that knows how far a run has come.
+//! Tests of what no file or terminal does at will: writers that take less than they are given, or nothing, or whose flush
+//! fails; and of what faults say.
 #![tactic(auto)]
 
-#[cfg(test)]
-mod counted;
 #[cfg(test)]
 mod fakes;
 #[cfg(test)]

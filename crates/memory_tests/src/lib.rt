@@ -1,5 +1,5 @@
-//! Tests of what no script shows: what is left where memory is refused, and calls and texts that the program has no
-//! use for.
+//! Tests of what no script shows: an engine, its parts and the plain machine, whose calls are served again where memory
+//! was refused.
 #![tactic(auto)]
 
 #[cfg(test)]

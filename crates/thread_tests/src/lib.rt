@@ -1,5 +1,5 @@
-//! Tests of threads: of transactions over shared words by turns and beside a commit that never ends, of an engine that is
-//! driven by hand, and of scripts on threads, one after the other where a gate says so, and at once.
+//! Tests of threads: of transactions over shared words by turns and beside one that holds the clock, of an engine that is
+//! driven by hand, and of scripts on threads, in an order that a gate makes.
 #![tactic(auto)]
 
 #[cfg(test)]

@@ -66,7 +66,7 @@ pub(super) fn engine(alloc: Global, words: u32) -> Result<Engine, AllocError>
 }
 
 /// What an engine shows of what it did.
-#[derive(Clone, Copy)]
+#[derive(Clone, Copy, PartialEq, Eq)]
 struct State {
     open: bool,
     snapshot: u64,
@@ -83,15 +83,6 @@ fn shown(engine: &Engine) -> State {
         actions: engine.actions(),
         due: engine.due().len(),
     }
-}
-
-/// It shows the same as before.
-fn same(rt: &impl Abort, now: State, before: State) {
-    assert_eq!(rt; now.open, before.open);
-    assert_eq!(rt; now.snapshot, before.snapshot);
-    assert_eq!(rt; now.spent, before.spent);
-    assert_eq!(rt; now.actions, before.actions);
-    assert_eq!(rt; now.due, before.due);
 }
 
 /// What a call gives.
@@ -112,7 +103,7 @@ pub(super) fn asked(rt: &impl Abort, engine: &mut Engine, call: &Call, gives: &N
         }
         Err(_) => {
             assert!(rt; !engine.waits());
-            same(rt, shown(engine), before);
+            assert!(rt; shown(engine) == before);
             false
         }
     }

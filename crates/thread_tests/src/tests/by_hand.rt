@@ -4,7 +4,7 @@ use crate::tests::helpers::{BEGIN, BEGIN_IRREVOCABLE, DONE, IN, engine, read, wo
 use itm_types::{Call, CopyPair, Copying, MAX_WORDS, Refusal, Reply, SharedSide, Step};
 use norec_core::{Answer, Next};
 use norec_engine::Engine;
-use std::alloc::{AllocError, Global};
+use std::alloc::AllocError;
 use std::process::Abort;
 
 /// More steps than any call of the test takes.
@@ -19,7 +19,7 @@ fn place_of(cell: u32) -> usize {
 }
 
 /// Does a step on the clock and the words, which follow it in order; the value that it found.
-pub(super) fn step_on(rt: &impl Abort, cells: &mut [u64], step: Step) -> u64 {
+fn step_on(rt: &impl Abort, cells: &mut [u64], step: Step) -> u64 {
     let (Step::Load(cell) | Step::Store(cell, _) | Step::Cas(cell, _, _)) = step;
     let cell = place_of(cell);
     assert!(rt; cell < cells.len());
@@ -71,9 +71,7 @@ fn ask(
 }
 
 /// A transaction adds 1 to the second of two words.
-fn add_one(rt: &impl Abort, alloc: Global, cells: &mut [u64; 3]) -> Result<(), AllocError> {
-    let mut engine = engine(alloc, 2, 0, 8, 0)?;
-    let engine = &mut engine;
+fn add_one(rt: &impl Abort, engine: &mut Engine, cells: &mut [u64; 3]) -> Result<(), AllocError> {
     ask(rt, engine, cells, &BEGIN, &IN)?;
     ask(rt, engine, cells, &read(8), &word(41))?;
     ask(rt, engine, cells, &write(8, 42), &DONE)?;
@@ -85,7 +83,8 @@ fn add_one(rt: &impl Abort, alloc: Global, cells: &mut [u64; 3]) -> Result<(), A
 fn by_hand(rt: HostRuntime) {
     // three have committed before
     let mut cells = [6, 40, 41];
-    assert!(rt; add_one(&rt, rt.alloc(), &mut cells).is_ok());
+    let mut engine = engine(rt.alloc(), 2, 0, 8, 0).expect(&rt, "memory");
+    add_one(&rt, &mut engine, &mut cells).expect(&rt, "memory");
     assert_eq!(rt; cells, [8, 40, 42]);
 }
 
@@ -153,9 +152,11 @@ fn irrevocable_at_the_end(
 }
 
 /// One of each kind, over the largest memory.
-fn at_the_end(rt: &impl Abort, alloc: Global, cells: &mut [u64; 3]) -> Result<(), AllocError> {
-    let mut engine = engine(alloc, LAST_CELL, 0, 8, 0)?;
-    let engine = &mut engine;
+fn at_the_end(
+    rt: &impl Abort,
+    engine: &mut Engine,
+    cells: &mut [u64; 3],
+) -> Result<(), AllocError> {
     revocable_at_the_end(rt, engine, cells)?;
     assert_eq!(rt; *cells, [8, 42, 42]);
     irrevocable_at_the_end(rt, engine, cells)
@@ -164,6 +165,7 @@ fn at_the_end(rt: &impl Abort, alloc: Global, cells: &mut [u64; 3]) -> Result<()
 #[test]
 fn largest_memory(rt: HostRuntime) {
     let mut cells = [6, 40, 41];
-    assert!(rt; at_the_end(&rt, rt.alloc(), &mut cells).is_ok());
+    let mut engine = engine(rt.alloc(), LAST_CELL, 0, 8, 0).expect(&rt, "memory");
+    at_the_end(&rt, &mut engine, &mut cells).expect(&rt, "memory");
     assert_eq!(rt; cells, [10, 43, 43]);
 }

@@ -1,4 +1,4 @@
-//! Threads that run at once, and a gate that shuts.
+//! What a sink is told, and a gate that shuts.
 
 use crate::tests::gates::ShutsAt;
 use crate::tests::sinks::Digits;
@@ -8,74 +8,7 @@ use std::test::Fail;
 use tx_attempts::Outcome;
 use tx_host::Report;
 use tx_runs::End;
-use tx_worker::{Open, Quiet};
-
-const COUNTER: &str = ".memory 8
-.patience 1000
-.retries 10000
-.thread 4
-set r1 1
-_ITM_beginTransaction r0 -
-_ITM_RU8 r2 0
-add r2 r2 r1
-_ITM_WU8 0 r2
-_ITM_commitTransaction
-";
-
-/// How many of the attempts committed.
-fn committed(report: &Report) -> usize {
-    let attempts = report.history.attempts.as_slice();
-    attempts
-        .iter()
-        .filter(|a| a.outcome == Outcome::Committed)
-        .count()
-}
-
-/// The clock and the memory at the end.
-fn expect_left(rt: &impl Abort, report: &Report, clock: u64, bytes: &[u8]) {
-    assert_eq!(rt; report.history.clock, clock);
-    assert_eq!(rt; report.history.bytes.as_slice(), bytes);
-}
-
-/// Each thread adds one, whatever the order of their steps. So many tries are not used up while one that holds the clock is
-/// put aside.
-#[test]
-fn four_count(rt: HostRuntime) -> Result<(), Fail> {
-    let report = report_of(&rt, COUNTER, &Open, &Quiet)?;
-    expect_left(&rt, &report, 8, &[4, 0, 0, 0, 0, 0, 0, 0]);
-    expect_ends(&rt, &report, &[End::Finished; 4]);
-    assert_eq!(rt; committed(&report), 4);
-    Ok(())
-}
-
-/// How many of the threads gave up.
-fn gave_up(report: &Report) -> usize {
-    let ends = report.ends.as_slice();
-    ends.iter().filter(|end| **end == End::GaveUp).count()
-}
-
-const LIMITED: &str = ".memory 8
-.patience 1000
-.retries 10000
-.commits 2
-.thread 3
-set r1 1
-_ITM_beginTransaction r0 -
-_ITM_RU8 r2 0
-add r2 r2 r1
-_ITM_WU8 0 r2
-_ITM_commitTransaction
-";
-
-/// Of three threads two commit, whatever the order of their steps, and the third one gives up.
-#[test]
-fn two_commits_are_the_limit(rt: HostRuntime) -> Result<(), Fail> {
-    let report = report_of(&rt, LIMITED, &Open, &Quiet)?;
-    expect_left(&rt, &report, 4, &[2, 0, 0, 0, 0, 0, 0, 0]);
-    assert_eq!(rt; committed(&report), 2);
-    assert_eq!(rt; gave_up(&report), 1);
-    Ok(())
-}
+use tx_worker::Open;
 
 const CANCELLED: &str = ".memory 8
 .thread

@@ -1,11 +1,11 @@
-//! Two threads by turns.
+//! Two threads by turns, and one beside another that holds the clock.
 
 ghost use Rattle.std.specs.Prelude.{◌≡◌, ◌*◌, ◌<◌, ◌≤◌, false};
 ghost use Rattle.shared_words.specs.Passes.{Owns, view_of, cells_of};
 
 use crate::tests::helpers::{
-    BEGIN, BEGIN_IRREVOCABLE, DONE, IN, Row, cut, keep, opened, part, read, thread, walk, word,
-    write,
+    BEGIN, BEGIN_IRREVOCABLE, DONE, IN, Row, code, cut, keep, opened, part, read, thread, walk,
+    word, write,
 };
 use itm_runtime::Thread;
 use itm_types::Call;
@@ -176,4 +176,87 @@ fn irrevocable_by_turns(rt: HostRuntime) -> Result<(), Fail> {
     let (first, second) = cut(&words, pass);
     irrevocable_first(&rt, rt.alloc(), words, first, second);
     Ok(())
+}
+
+/// A thread is answered so before another one takes the clock, and so while that one holds it and takes no step.
+fn beside(
+    rt: &impl Abort,
+    alloc: Global,
+    words: &Words,
+    first: Pass,
+    second: Pass,
+    before: &[Row],
+    after: &[Row],
+)
+    requires own { Owns words.now first × Owns words.now second }
+    requires idle { ((view_of first).holds ≡ false) × ((view_of second).holds ≡ false) }
+{
+    let a = begun(rt, alloc, words, first, 8);
+    let mut b = begun(rt, alloc, words, second, 3);
+    walks(rt, words, &mut b, before);
+    let _held = take(rt, words, a);
+    walks(rt, words, &mut b, after);
+}
+
+/// The same over words of their own.
+fn beside_a_holder(
+    rt: &impl Abort,
+    alloc: Global,
+    before: &[Row],
+    after: &[Row],
+) -> Result<(), Fail> {
+    let (words, pass) = opened(alloc, &EMPTY)?;
+    let (first, second) = cut(&words, pass);
+    beside(rt, alloc, &words, first, second, before, after);
+    Ok(())
+}
+
+/// The clock was odd at each try of a begin.
+const BUSY: Answer = Answer::Busy { clock: 1 };
+
+/// It was odd in each round of a call.
+const CONFLICT: Answer = Answer::Conflict {
+    clock: 1,
+    word: None,
+};
+
+#[test]
+fn begins_beside_a_holder(rt: HostRuntime) -> Result<(), Fail> {
+    let after = [
+        (Call::InTransaction, code(0), 0),
+        (BEGIN, BUSY, 3),
+        (BEGIN_IRREVOCABLE, BUSY, 3),
+        (Call::InTransaction, code(0), 0),
+    ];
+    beside_a_holder(&rt, rt.alloc(), &[], &after)
+}
+
+/// A read of a word that the log has, and of one that it has not: the word, the clock, and the clock in each round.
+#[test]
+fn reads_beside_a_holder(rt: HostRuntime) -> Result<(), Fail> {
+    let before = [(BEGIN, IN, 1), (read(8), word(0), 2)];
+    let after = [(read(8), word(0), 0), (read(0), CONFLICT, 5)];
+    beside_a_holder(&rt, rt.alloc(), &before, &after)
+}
+
+/// The exchange, and the clock in each round.
+#[test]
+fn commits_beside_a_holder(rt: HostRuntime) -> Result<(), Fail> {
+    let before = [(BEGIN, IN, 1), (write(0, 1), DONE, 0)];
+    let commits = [(Call::Commit, CONFLICT, 4)];
+    beside_a_holder(&rt, rt.alloc(), &before, &commits)?;
+    let goes = [(Call::Mode { room: 1 }, CONFLICT, 4)];
+    beside_a_holder(&rt, rt.alloc(), &before, &goes)
+}
+
+/// A commit that has written nothing takes no step.
+#[test]
+fn a_reader_commits_beside_a_holder(rt: HostRuntime) -> Result<(), Fail> {
+    let before = [(BEGIN, IN, 1), (read(0), word(0), 2)];
+    let committed = Answer::Committed {
+        at: 0,
+        wrote: false,
+    };
+    let after = [(Call::Commit, committed, 0), (BEGIN, BUSY, 3)];
+    beside_a_holder(&rt, rt.alloc(), &before, &after)
 }
