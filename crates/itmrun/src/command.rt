@@ -210,23 +210,3 @@ pub fn run<T: Env + Files + Input + Print + AllocGlobal + Threads + Wait, E: Wri
         Err(fault) => tell(errors, fault),
     }
 }
-
-#[cfg(test)]
-mod tests {
-    use super::*;
-    use std::test::*;
-
-    #[test]
-    fn texts(rt: HostRuntime) -> Result<(), Fail> {
-        for (fault, text) in [
-            (
-                CommandFault::Usage,
-                "usage: itmrun asm|sched|threads|check FILE",
-            ),
-            (CommandFault::Memory, "no memory"),
-        ] {
-            assert_eq!(rt; fault.to_string(rt.alloc())?.as_str(), text);
-        }
-        Ok(())
-    }
-}
