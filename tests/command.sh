@@ -37,6 +37,12 @@ want_line() {
 # builds the program, if it has to be, before its standard error is looked at
 "$program" sched "$root/examples/counter.itm" >/dev/null || exit 1
 
+# What compiles tests takes one processor and minutes: it runs beside all that follows, and is counted at the end.
+sh "$root/tests/planted.sh" >"$work/planted" 2>&1 &
+planted=$!
+env SCRIPTS=few sh "$root/tests/sweeps.sh" engines >"$work/engines" 2>&1 &
+engines=$!
+
 : >"$work/input"
 want_line 'itmrun: usage: itmrun asm|sched|threads|check FILE'
 run
@@ -337,13 +343,10 @@ check 'a history in which an update is lost' 3
 . "$root/tests/large_words.sh"
 . "$root/tests/steps.sh"
 
-# count NAME WORD..: runs these words, whose last line counts what passed and what failed
-count() {
-    name=$1
-    shift
-    "$@" >"$work/told" 2>&1
-    sed '$d' "$work/told"
-    last=$(tail -n 1 "$work/told")
+# counted NAME FILE: the last line of the file counts what passed and what failed
+counted() {
+    sed '$d' "$2"
+    last=$(tail -n 1 "$2")
     case $last in
     *' passed, '*' failed')
         passed=$((passed + ${last%% *}))
@@ -352,17 +355,28 @@ count() {
         ;;
     *)
         failed=$((failed + 1))
-        echo "failed: $name: $last"
+        echo "failed: $1: $last"
         ;;
     esac
+}
+
+# count NAME WORD..: runs these words, whose last line counts
+count() {
+    name=$1
+    shift
+    "$@" >"$work/told" 2>&1
+    counted "$name" "$work/told"
 }
 
 count 'the documents' python3 -B "$root/tests/documents.py"
 count 'the tables' sh "$root/tests/tables.sh"
 count 'threads that stop' sh "$root/tests/sweeps.sh" stops
 count 'plain data beside parts of words' sh "$root/tests/neighbours.sh"
-count 'what is refused or cut off' env SCRIPTS=few sh "$root/tests/sweeps.sh" sched asm check threads cuts files engines
-count 'bodies that only tests refuse' sh "$root/tests/planted.sh"
+count 'what is refused or cut off' env SCRIPTS=few sh "$root/tests/sweeps.sh" sched asm check threads cuts files
+wait $planted
+counted 'bodies that only tests refuse' "$work/planted"
+wait $engines
+counted 'memory refused to engines' "$work/engines"
 count 'compiled programs' sh "$root/compiled/test.sh" few
 
 echo "$passed passed, $failed failed"
