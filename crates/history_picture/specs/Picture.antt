@@ -108,7 +108,7 @@ note_text attempts n = judgement_text n.judgement ++ call_text (call_at attempts
 
 -- how the mark of what is wrong looks, and the page
 unfoldable pub page_text : List ℕ
-page_text = codes "<style>.bad{fill:none;stroke-width:.25}</style>\n<rect class=\"page\" x=\"-5\" y=\"-1\" width=\"100%\" height=\"100%\"/>\n<text x=\"-4.7\" y=\"-.2\">"
+page_text = codes "<style>.bad{fill:none;stroke-width:.25}</style>\n<rect class=\"page\" x=\"-5\" y=\"-1\" width=\"100%\" height=\"100%\"/>\n<text x=\"-4.7\" y=\"-.4\">"
 
 abbrev pub looks_text : List ℕ
 looks_text = style_text ++ colours_text ++ page_text

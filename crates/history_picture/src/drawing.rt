@@ -15,7 +15,7 @@ use tx_attempts::Attempt;
 use tx_history::{Piece, put_pieces};
 
 const PAGE: &[u8] =
-    b"<style>.bad{fill:none;stroke-width:.25}</style>\n<rect class=\"page\" x=\"-5\" y=\"-1\" width=\"100%\" height=\"100%\"/>\n<text x=\"-4.7\" y=\"-.2\">";
+    b"<style>.bad{fill:none;stroke-width:.25}</style>\n<rect class=\"page\" x=\"-5\" y=\"-1\" width=\"100%\" height=\"100%\"/>\n<text x=\"-4.7\" y=\"-.4\">";
 
 /// How the mark of what is wrong looks, and the page.
 #[tactic(auto, unfolding(crate::specs::Picture::page_text))]
