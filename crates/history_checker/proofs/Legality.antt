@@ -6,3 +6,4 @@ pub mod Replays
 pub mod Ends
 pub mod Verdicts
 pub mod Restarts
+pub mod Reasons

@@ -1,4 +1,5 @@
 -- How far the checker has come: one call, one attempt, one fault after the other.
+pub mod Answers
 pub mod Calls
 pub mod Ends
 pub mod Faults

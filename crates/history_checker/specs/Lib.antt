@@ -4,3 +4,4 @@ pub mod Replays
 pub mod Verdicts
 pub mod EarlyVerdicts
 pub mod Tables
+pub mod Answers

@@ -2,6 +2,7 @@
 //! attempt alone on what so many first ones leave. An inner block that ran again goes on from the arena that is told.
 #![tactic(auto)]
 
+mod answers;
 mod endings;
 mod equality;
 mod matches;
@@ -13,5 +14,5 @@ mod verdict;
 mod walk;
 mod whole;
 
-pub use verdict::{BadKind, Verdict};
-pub use whole::{check, early_versions};
+pub use verdict::{BadKind, Fault, Finding, Spot, Verdict};
+pub use whole::{check, early_versions, explain};

@@ -7,6 +7,7 @@ ghost use Rattle.tx_attempts.specs.Attempts.{alone, is_committed};
 ghost use Rattle.tx_attempts.specs.Restarts.{again_at, breaks_of};
 ghost use Rattle.tx_history.specs.Legal.{is_unfinished};
 ghost use Rattle.history_checker.specs.Replays.{are_again, calls_fault, came_irrevocable, end_fault, ends_by_abort, ends_by_commit, fault_in, fits, is_abort_done, is_cancelled, is_commit_done, may_stand};
+ghost use Rattle.history_checker.specs.Answers.{answer_at, answer_on};
 ghost use Rattle.history_checker.specs.Tables.{ended, told_on, unless_fault};
 
 use crate::matches::{same_ran, same_reply};
@@ -26,11 +27,13 @@ pub(crate) struct Told {
 }
 
 /// What the calls of an attempt came to.
-#[derive(Clone, Copy, Debug)]
+#[derive(Debug, Drop)]
 struct Called {
     fault: Option<Fault>,
     /// Whether the transaction was irrevocable as the last one came.
     late: bool,
+    /// What the machine answers to the call at which the fault is.
+    answer: Option<Reply>,
 }
 
 /// Makes the calls, up to the first one that is wrong, and sets the arena where a block ran again.
@@ -45,6 +48,7 @@ fn replay_calls(
         → plain.new.state ≡ state_through plain.old.deepest (breaks_of restarts.now) plain.old.state (map (λ e. e.call) calls.now)) }
     ensures late { IfOk result (λ r. r.fault ≡ None
         → r.late ≡ (state_through plain.old.deepest (breaks_of restarts.now) plain.old.state (map (λ e. e.call) (take (length calls.now - 1) calls.now))).irrevocable) }
+    ensures answer { IfOk result (λ r. r.answer ≡ answer_at plain.old.deepest restarts.now plain.old.state calls.now r.fault) }
     ensures before { OnOk result (plain.new.before ≡ plain.old.before) }
     ensures deepest { plain.new.deepest ≡ plain.old.deepest }
 {
@@ -63,6 +67,7 @@ fn replay_calls(
                     kind: BadKind::Reply,
                 }),
                 late,
+                answer: Some(reply),
             });
         }
         if is_due(restarts, next, place + 1) {
@@ -73,17 +78,23 @@ fn replay_calls(
             next += 1;
         }
     }
-    Ok(Called { fault: None, late })
+    Ok(Called {
+        fault: None,
+        late,
+        answer: None,
+    })
 }
 
 /// The calls came to a fault that is told at the head.
 fn told_head(kind: BadKind, late: bool) -> Called
     ensures fault { result.fault ≡ Some (record { call = None; kind = kind }) }
     ensures late { result.late ≡ late }
+    ensures answer { result.answer ≡ None }
 {
     Called {
         fault: Some(head(kind)),
         late,
+        answer: None,
     }
 }
 
@@ -249,6 +260,24 @@ fn replay(
         return Ok(called.fault);
     }
     Ok(replay_end(plain, base, attempt, called.late))
+}
+
+/// What the machine answers to the first call of an attempt that has another reply, on the memory that is there.
+pub(crate) fn replay_answer(
+    alloc: Global,
+    plain: &mut Plain,
+    attempt: &Attempt,
+) -> Result<Option<Reply>, AllocError>
+    requires { length attempt.now.arena ≤ MAX_ARENA }
+    ensures { IfOk result (λ answer. answer ≡ answer_on plain.old.deepest plain.old.state.memory attempt.now) }
+{
+    if !may_stand(attempt) {
+        return Ok(None);
+    }
+    plain.again_with(alloc, attempt.arena.as_slice(), attempt.props)?;
+    let restarts = attempt.restarts.as_slice();
+    let called = replay_calls(plain, attempt.calls.as_slice(), restarts)?;
+    Ok(called.answer)
 }
 
 /// Replays an attempt, and takes back what it did.

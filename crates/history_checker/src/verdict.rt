@@ -4,6 +4,8 @@ ghost use Rattle.std.specs.Prelude.{◌≡◌};
 ghost use Rattle.history_checker.specs.Texts.{kind_text};
 ghost use Rattle.history_checker.specs.Verdicts.{at_place};
 
+use itm_types::Reply;
+
 /// What is wrong with a line.
 #[derive(Clone, Copy, Debug, PartialEq, Eq)]
 pub enum BadKind {
@@ -48,18 +50,28 @@ impl BadKind {
 
 /// What is wrong with an attempt: at a call, or at its head.
 #[derive(Clone, Copy, Debug, PartialEq, Eq)]
-pub(crate) struct Fault {
+pub struct Fault {
     /// Which of its calls, counted from 0; none for its head.
-    pub(crate) call: Option<usize>,
-    pub(crate) kind: BadKind,
+    pub call: Option<usize>,
+    pub kind: BadKind,
 }
 
 /// What is wrong with one of the attempts.
 #[derive(Clone, Copy, Debug, PartialEq, Eq)]
-pub(crate) struct Spot {
+pub struct Spot {
     /// Which attempt, counted from 0.
-    pub(crate) attempt: usize,
-    pub(crate) fault: Fault,
+    pub attempt: usize,
+    pub fault: Fault,
+}
+
+/// A verdict with its reason.
+#[derive(Debug, Drop)]
+pub struct Finding {
+    pub verdict: Verdict,
+    /// The attempt that is wrong, where one is.
+    pub spot: Option<Spot>,
+    /// What the plain machine answers to the call of it that has another reply.
+    pub answer: Option<Reply>,
 }
 
 /// The attempt at this place has the fault, if there is one.

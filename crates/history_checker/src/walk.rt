@@ -5,6 +5,7 @@ ghost use Rattle.tx_attempts.specs.Counts.{count_committed};
 ghost use Rattle.tx_history.specs.Legal.{memory_at};
 ghost use Rattle.tx_history.specs.Versions.{depth_of};
 ghost use Rattle.history_checker.specs.Verdicts.{committed_fault, fault_at};
+ghost use Rattle.history_checker.specs.Answers.{Reaches};
 ghost use Rattle.history_checker.specs.Tables.{AreLinks, AreSlots, AreTold, IsRest, first_at};
 
 use crate::replays::{Told, replay_committed, replay_other};
@@ -116,6 +117,46 @@ pub(crate) fn walk_all(
     }
     walk_others(alloc, &mut walk, history, links, slots.len())?;
     Ok(ended(walk, None))
+}
+
+/// The machine of a walk.
+fn plain_of(walk: Walk) -> Plain
+    ensures { result ≡ walk.plain }
+{
+    let Walk {
+        plain,
+        base: _,
+        told: _,
+    } = walk;
+    plain
+}
+
+/// The plain machine on the memory that so many commits leave; none, where there are fewer, or one of these is wrong.
+pub(crate) fn reach(
+    alloc: Global,
+    history: &History,
+    slots: &[Option<usize>],
+    at: u64,
+) -> Result<Option<Plain>, AllocError>
+    requires some { WORD ≤ length history.now.memory }
+    requires room { length history.now.memory ≤ MAX_MEMORY }
+    requires words { length history.now.memory % WORD ≡ 0 }
+    requires arenas { All (λ a. length a.arena ≤ MAX_ARENA) history.now.attempts }
+    requires slots { AreSlots (count_committed history.now.attempts) history.now.attempts slots.now }
+    ensures { IfOk result (λ reached. Reaches history.now at reached) }
+{
+    if at > slots.len() as u64 {
+        return Ok(None);
+    }
+    let mut walk = start(alloc, history)?;
+    for position in 0..at as usize {
+        let slot = lookup(slots, position);
+        let wrong = walk_committed(alloc, &mut walk, history, position, slot)?;
+        if wrong.is_some() {
+            return Ok(None);
+        }
+    }
+    Ok(Some(plain_of(walk)))
 }
 
 /// What an attempt told is kept.

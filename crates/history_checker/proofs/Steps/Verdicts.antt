@@ -1,11 +1,11 @@
 -- The verdict, by what is found first.
-use Rattle.std.proofs.Common.{◌≡◌, ℕ, List, [], ap, sym, ◌∙◌, Option, None, Some}
+use Rattle.std.proofs.Common.{◌≡◌, ℕ, List, [], refl, ap, sym, ◌∙◌, Option, None, Some}
 use Rattle.tx_attempts.specs.declared.attempt.Attempt.{Attempt}
 use Rattle.tx_attempts.specs.Counts.{count_committed}
 use Rattle.tx_history.specs.declared.history.History.{History}
 use Rattle.history_checker.specs.declared.verdict.Spot.{Spot}
 use Rattle.history_checker.specs.Replays.{first_of}
-use Rattle.history_checker.specs.Verdicts.{at_fault, bad, committed_fault, final_verdict, others_fault, position_fault, verdict_of, verdict_on}
+use Rattle.history_checker.specs.Verdicts.{at_fault, bad, committed_fault, final_verdict, first_fault, others_fault, position_fault, verdict_of, verdict_on}
 
 pub record Found (h : History) (ts : List Attempt) (n : ℕ) (p b c o : Option Spot) : Type 0 where
   pub attempts : ts ≡ h.attempts
@@ -18,7 +18,7 @@ pub record Found (h : History) (ts : List Attempt) (n : ℕ) (p b c o : Option S
 count_is : (h : History) (ts : List Attempt) (n : ℕ) → ts ≡ h.attempts → n ≡ count_committed ts → n ≡ count_committed h.attempts
 count_is h ts n e f = f ∙ ap count_committed e
 
-place_is : (h : History) (ts : List Attempt) (n : ℕ) (p : Option Spot) → ts ≡ h.attempts → n ≡ count_committed ts → p ≡ position_fault n [] ts → p ≡ position_fault (count_committed h.attempts) [] h.attempts
+pub place_is : (h : History) (ts : List Attempt) (n : ℕ) (p : Option Spot) → ts ≡ h.attempts → n ≡ count_committed ts → p ≡ position_fault n [] ts → p ≡ position_fault (count_committed h.attempts) [] h.attempts
 place_is h ts n p e f g = g ∙ (ap (λ (m : ℕ). position_fault m [] ts) (count_is h ts n e f) ∙ ap (λ (xs : List Attempt). position_fault (count_committed h.attempts) [] xs) e)
 
 pub beyond_is : (h : History) (ts : List Attempt) (n : ℕ) (b : Option Spot) → ts ≡ h.attempts → n ≡ count_committed ts → b ≡ at_fault n 0 ts → b ≡ at_fault (count_committed h.attempts) 0 h.attempts
@@ -34,33 +34,56 @@ verdict_from h ts n p b c o f =
     let oo = f.others in
     (λ i. verdict_on h (count_committed h.attempts) (first_of (pp i) (first_of (bb i) (first_of (kept i) (oo i)))))
 
-pub bad_position : (h : History) (ts : List Attempt) (n : ℕ) (s : Spot) → ts ≡ h.attempts → n ≡ count_committed ts → position_fault n [] ts ≡ Some s → bad h.version ts s ≡ verdict_of h
-bad_position h ts n s e f g =
-    let found : Found h ts n (Some s) (at_fault n 0 ts) (committed_fault h (count_committed h.attempts)) (others_fault h 0 h.attempts) =
-    record { attempts = e; count = f; position = sym g; beyond = λ i. at_fault n 0 ts; committed = λ i. committed_fault h (count_committed h.attempts); others = λ i. others_fault h 0 h.attempts } in
-    ap (λ (xs : List Attempt). bad h.version xs s) e ∙ verdict_from h ts n (Some s) (at_fault n 0 ts) (committed_fault h (count_committed h.attempts)) (others_fault h 0 h.attempts) found
+-- the first of these is the first fault
+first_from : (h : History) (ts : List Attempt) (n : ℕ) (p b c o : Option Spot) → Found h ts n p b c o → first_of p (first_of b (first_of c o)) ≡ first_fault h (count_committed h.attempts)
+first_from h ts n p b c o f =
+    let pp = place_is h ts n p f.attempts f.count f.position in
+    let bb = beyond_is h ts n b f.attempts f.count f.beyond in
+    let kept = f.committed in
+    let oo = f.others in
+    (λ i. first_of (pp i) (first_of (bb i) (first_of (kept i) (oo i))))
 
-pub bad_beyond : (h : History) (ts : List Attempt) (n : ℕ) (s : Spot) → ts ≡ h.attempts → n ≡ count_committed ts → position_fault n [] ts ≡ None → at_fault n 0 ts ≡ Some s → bad h.version ts s ≡ verdict_of h
-bad_beyond h ts n s e f g k =
-    let found : Found h ts n None (Some s) (committed_fault h (count_committed h.attempts)) (others_fault h 0 h.attempts) =
-    record { attempts = e; count = f; position = sym g; beyond = sym k; committed = λ i. committed_fault h (count_committed h.attempts); others = λ i. others_fault h 0 h.attempts } in
-    ap (λ (xs : List Attempt). bad h.version xs s) e ∙ verdict_from h ts n None (Some s) (committed_fault h (count_committed h.attempts)) (others_fault h 0 h.attempts) found
+-- ## By what was found
 
-pub bad_committed : (h : History) (ts : List Attempt) (n : ℕ) (s : Spot) → ts ≡ h.attempts → n ≡ count_committed ts → position_fault n [] ts ≡ None → at_fault n 0 ts ≡ None
-    → committed_fault h (count_committed h.attempts) ≡ Some s → bad h.version ts s ≡ verdict_of h
-bad_committed h ts n s e f g k c =
-    let found : Found h ts n None None (Some s) (others_fault h 0 h.attempts) =
-    record { attempts = e; count = f; position = sym g; beyond = sym k; committed = sym c; others = λ i. others_fault h 0 h.attempts } in
-    ap (λ (xs : List Attempt). bad h.version xs s) e ∙ verdict_from h ts n None None (Some s) (others_fault h 0 h.attempts) found
+module _ (h : History) (ts : List Attempt) (n : ℕ) (e : ts ≡ h.attempts) (f : n ≡ count_committed ts) where
+  by_position : (s : Spot) → position_fault n [] ts ≡ Some s → Found h ts n (Some s) (at_fault n 0 ts) (committed_fault h (count_committed h.attempts)) (others_fault h 0 h.attempts)
+  by_position s g = record { attempts = e; count = f; position = sym g; beyond = λ i. at_fault n 0 ts; committed = λ i. committed_fault h (count_committed h.attempts); others = λ i. others_fault h 0 h.attempts }
 
-pub bad_other : (h : History) (ts : List Attempt) (n : ℕ) (s : Spot) → ts ≡ h.attempts → n ≡ count_committed ts → position_fault n [] ts ≡ None → at_fault n 0 ts ≡ None
-    → committed_fault h (count_committed h.attempts) ≡ None → others_fault h 0 h.attempts ≡ Some s → bad h.version ts s ≡ verdict_of h
-bad_other h ts n s e f g k c o =
-    let found : Found h ts n None None None (Some s) = record { attempts = e; count = f; position = sym g; beyond = sym k; committed = sym c; others = sym o } in
-    ap (λ (xs : List Attempt). bad h.version xs s) e ∙ verdict_from h ts n None None None (Some s) found
+  by_beyond : (s : Spot) → position_fault n [] ts ≡ None → at_fault n 0 ts ≡ Some s → Found h ts n None (Some s) (committed_fault h (count_committed h.attempts)) (others_fault h 0 h.attempts)
+  by_beyond s g k = record { attempts = e; count = f; position = sym g; beyond = sym k; committed = λ i. committed_fault h (count_committed h.attempts); others = λ i. others_fault h 0 h.attempts }
 
-pub told_final : (h : History) (ts : List Attempt) (n : ℕ) → ts ≡ h.attempts → n ≡ count_committed ts → position_fault n [] ts ≡ None → at_fault n 0 ts ≡ None
-    → committed_fault h (count_committed h.attempts) ≡ None → others_fault h 0 h.attempts ≡ None → final_verdict h n ≡ verdict_of h
-told_final h ts n e f g k c o =
-    let found : Found h ts n None None None None = record { attempts = e; count = f; position = sym g; beyond = sym k; committed = sym c; others = sym o } in
-    ap (final_verdict h) (count_is h ts n e f) ∙ verdict_from h ts n None None None None found
+  by_committed : (s : Spot) → position_fault n [] ts ≡ None → at_fault n 0 ts ≡ None → committed_fault h (count_committed h.attempts) ≡ Some s → Found h ts n None None (Some s) (others_fault h 0 h.attempts)
+  by_committed s g k c = record { attempts = e; count = f; position = sym g; beyond = sym k; committed = sym c; others = λ i. others_fault h 0 h.attempts }
+
+  by_others : (o : Option Spot) → position_fault n [] ts ≡ None → at_fault n 0 ts ≡ None → committed_fault h (count_committed h.attempts) ≡ None → others_fault h 0 h.attempts ≡ o → Found h ts n None None None o
+  by_others o g k c x = record { attempts = e; count = f; position = sym g; beyond = sym k; committed = sym c; others = sym x }
+
+  bad_as : (s : Spot) (p b c o : Option Spot) → Found h ts n p b c o → first_of p (first_of b (first_of c o)) ≡ Some s → bad h.version ts s ≡ verdict_of h
+  bad_as s p b c o found is = ap (λ (xs : List Attempt). bad h.version xs s) e ∙ (ap (verdict_on h (count_committed h.attempts)) (sym is) ∙ verdict_from h ts n p b c o found)
+
+  pub bad_position : (s : Spot) → position_fault n [] ts ≡ Some s → bad h.version ts s ≡ verdict_of h
+  bad_position s g = bad_as s _ _ _ _ (by_position s g) refl
+
+  pub bad_beyond : (s : Spot) → position_fault n [] ts ≡ None → at_fault n 0 ts ≡ Some s → bad h.version ts s ≡ verdict_of h
+  bad_beyond s g k = bad_as s _ _ _ _ (by_beyond s g k) refl
+
+  pub bad_committed : (s : Spot) → position_fault n [] ts ≡ None → at_fault n 0 ts ≡ None → committed_fault h (count_committed h.attempts) ≡ Some s → bad h.version ts s ≡ verdict_of h
+  bad_committed s g k c = bad_as s _ _ _ _ (by_committed s g k c) refl
+
+  pub bad_other : (s : Spot) → position_fault n [] ts ≡ None → at_fault n 0 ts ≡ None → committed_fault h (count_committed h.attempts) ≡ None → others_fault h 0 h.attempts ≡ Some s → bad h.version ts s ≡ verdict_of h
+  bad_other s g k c o = bad_as s _ _ _ _ (by_others (Some s) g k c o) refl
+
+  pub told_final : position_fault n [] ts ≡ None → at_fault n 0 ts ≡ None → committed_fault h (count_committed h.attempts) ≡ None → others_fault h 0 h.attempts ≡ None → final_verdict h n ≡ verdict_of h
+  told_final g k c o = ap (final_verdict h) (count_is h ts n e f) ∙ verdict_from h ts n None None None None (by_others None g k c o)
+
+  pub first_position : (s : Spot) → position_fault n [] ts ≡ Some s → Some s ≡ first_fault h (count_committed h.attempts)
+  first_position s g = first_from h ts n _ _ _ _ (by_position s g)
+
+  pub first_beyond : (s : Spot) → position_fault n [] ts ≡ None → at_fault n 0 ts ≡ Some s → Some s ≡ first_fault h (count_committed h.attempts)
+  first_beyond s g k = first_from h ts n _ _ _ _ (by_beyond s g k)
+
+  pub first_committed : (s : Spot) → position_fault n [] ts ≡ None → at_fault n 0 ts ≡ None → committed_fault h (count_committed h.attempts) ≡ Some s → Some s ≡ first_fault h (count_committed h.attempts)
+  first_committed s g k c = first_from h ts n _ _ _ _ (by_committed s g k c)
+
+  pub first_other : (o : Option Spot) → position_fault n [] ts ≡ None → at_fault n 0 ts ≡ None → committed_fault h (count_committed h.attempts) ≡ None → others_fault h 0 h.attempts ≡ o → o ≡ first_fault h (count_committed h.attempts)
+  first_other o g k c x = first_from h ts n _ _ _ _ (by_others o g k c x)

@@ -8,6 +8,7 @@ use Rattle.tx_attempts.specs.declared.attempt.Again.{Again}
 use Rattle.tx_attempts.specs.declared.attempt.CallRecord.{CallRecord}
 use Rattle.tx_attempts.specs.Restarts.{breaks_of}
 use Rattle.history_checker.specs.Matches.{same_reply}
+use Rattle.history_checker.proofs.Steps.Answers.{answered_there}
 use Rattle.history_checker.proofs.Steps.Calls.{before_stays, made}
 use Rattle.history_checker.proofs.Steps.Restarts.{IsReplayed, as_long, due_within, held_there, replayed_again, replayed_on}
 use Rattle.history_checker.proofs.replays.replay_calls.Goals as goal
@@ -41,6 +42,11 @@ returns-then-not-same_reply-clause-before c =
     let u = c.loop-place.plain in
     let within : is_open u.state ≡ true = lt-ltb 0 (length u.state.blocks) (omega (arith, c.depth.ensures, c.if-depth-eq0.false)) in
     c.in_ok-reply.ensures.before ∙ (before_stays u.deepest u c.index-calls-place.result.call within ∙ c.loop-place.invariant.before)
+
+pub returns-then-not-same_reply-clause-answer : goal.returns-then-not-same_reply-clause-answer
+returns-then-not-same_reply-clause-answer c =
+    answered_there c.args.plain.now.deepest c.args.restarts.now c.args.plain.now.state c.args.calls.now c.loop-place.place c.index-calls-place.result c.loop-place.plain.deepest c.loop-place.plain.state c.in_ok-reply.reply
+    c.loop-place-test.true c.index-calls-place.is c.loop-place.invariant.deepest c.loop-place.invariant.replayed.state c.in_ok-reply.ensures.reply
 
 -- ## A block ran again
 
