@@ -1,4 +1,7 @@
 mod Drawings
+mod DrawnHistories
+mod Refused
 pub mod Tables
 mod Texts
 mod Threads
+mod Written

@@ -1,5 +1,5 @@
 -- What the program writes, says and answers.
-use Rattle.std.specs.Prelude.{◌≡◌, ◌⊎◌, ℕ, false, List, [], ◌++◌, length, take, decimal, codes, Option, Result, Ok, Err}
+use Rattle.std.specs.Prelude.{◌≡◌, ◌⊎◌, ℕ, Bool, true, false, List, [], length, take, codes, Option, Result, Ok, Err}
 use Rattle.std.specs.Io.KnownBytes.{Appends}
 use Rattle.norec_world.specs.World.{World}
 use Rattle.run_commands.specs.Scheduled.{Begins, schedule_of}
@@ -17,6 +17,8 @@ use Rattle.itmsteps.specs.declared.choice.Choice.{Choice}
 use Rattle.itmsteps.specs.declared.command.CommandFault.{CommandFault}
 use Rattle.itmsteps.specs.declared.command.CommandFault.TheVariants as faults
 use Rattle.itmsteps.specs.Choices.{shown_text, view_of}
+use Rattle.itmsteps.specs.Faults.{fault_text}
+use Rattle.itmsteps.specs.Histories.{Drawn}
 
 -- ## What is written
 
@@ -52,10 +54,6 @@ showing choice = record {
 
 -- ## What is said
 
--- the line on a script's fault
-unfoldable pub fault_text : ℕ → List ℕ → List ℕ
-fault_text line words = codes "itmsteps: line " ++ decimal line ++ codes ": " ++ words ++ codes "\n"
-
 abbrev pub failure_line : Failure AsmFault → List ℕ
 failure_line (Faulty f) = fault_text f.line (kind_text f.kind)
 failure_line NoMemory = codes "itmsteps: no memory\n"
@@ -73,12 +71,17 @@ abbrev pub Answered : Choice → List ℕ → ℕ → Option (List ℕ) → Opti
 Answered choice text status old new errors_old errors_new =
     (done : Result (Unit {0}) (Failure AsmFault)) × Outputs (showing choice) done (program_of text) old new × Ends done status errors_old errors_new
 
+-- what the choice says is done with this text: a history is drawn, and a script's run is shown
+abbrev pub Done : Bool → Choice → List ℕ → ℕ → Option (List ℕ) → Option (List ℕ) → Option (List ℕ) → Option (List ℕ) → Type 0
+Done true choice text status old new errors_old errors_new = Drawn text status old new errors_old errors_new
+Done false choice text status old new errors_old errors_new = Answered choice text status old new errors_old errors_new
+
 abbrev pub Does : Choice → List ℕ → ℕ → Option (List ℕ) → Option (List ℕ) → Type 0
-Does choice text status old new = (before after : Option (List ℕ)) × Answered choice text status before after old new
+Does choice text status old new = (before after : Option (List ℕ)) × Done choice.history choice text status before after old new
 
 -- how the program is used
 abbrev pub usage_line : List ℕ
-usage_line = codes "itmsteps: usage: itmsteps [--threads N,N..] [--from N] [--to N] [--svg] FILE\n"
+usage_line = codes "itmsteps: usage: itmsteps [--threads N,N..] [--from N] [--to N] [--svg] FILE, or itmsteps --history --svg FILE\n"
 
 -- why the words say nothing that can be done
 unfoldable pub fault_line : CommandFault → List ℕ
@@ -89,6 +92,6 @@ abbrev pub fault_status : CommandFault → ℕ
 fault_status faults.Usage = 1
 fault_status faults.Memory = failure_status {F = AsmFault} NoMemory
 
--- a run is shown, or it is told why none is
+-- a run is shown or a history drawn, or it is told why nothing is
 abbrev pub Runs : ℕ → Option (List ℕ) → Option (List ℕ) → Type 0
 Runs status old new = ((choice : Choice) × (text : List ℕ) × Does choice text status old new) ⊎ ((fault : CommandFault) × Says (fault_line fault) (fault_status fault) status old new)

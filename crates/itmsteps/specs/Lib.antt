@@ -1,3 +1,5 @@
 pub mod Choices
 pub mod Doing
+pub mod Faults
+pub mod Histories
 pub mod Told

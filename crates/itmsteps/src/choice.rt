@@ -18,6 +18,8 @@ pub(crate) struct Choice {
     pub(crate) to: u64,
     /// A picture, and no table.
     pub(crate) svg: bool,
+    /// The file is a history, and no script.
+    pub(crate) history: bool,
 }
 
 /// All threads of a program, by number.
@@ -53,6 +55,7 @@ pub(crate) fn view_of(choice: Choice, threads: usize) -> View
         from,
         to,
         svg: _,
+        history: _,
     } = choice;
     View {
         columns: columns_of(named, threads),

@@ -5,10 +5,11 @@ ghost use Rattle.text_commands.specs.Answers.{Says};
 ghost use Rattle.text_commands.specs.Lines.{failure_status};
 ghost use Rattle.tx_history.specs.Spelling.{Puts};
 ghost use Rattle.itmsteps.specs.declared.choice.Choice.{Choice};
-ghost use Rattle.itmsteps.specs.Doing.{Does, Runs, failure_line, fault_line, fault_status, usage_line};
+ghost use Rattle.itmsteps.specs.Doing.{Does, Done, Runs, failure_line, fault_line, fault_status, usage_line};
 
 use crate::choice::Choice;
 use crate::failure::tell as tell_failure;
+use crate::histories::draw_text;
 use crate::showing::steps;
 use clap::error::ErrorKind;
 use clap::{Arg, ArgAction, ArgMatches, Command};
@@ -26,7 +27,7 @@ use tx_history::{Piece, put_pieces};
 #[derive(Clone, Copy, Debug, Error)]
 enum CommandFault {
     /// They are not one file with these options.
-    #[error("usage: itmsteps [--threads N,N..] [--from N] [--to N] [--svg] FILE")]
+    #[error("usage: itmsteps [--threads N,N..] [--from N] [--to N] [--svg] FILE, or itmsteps --history --svg FILE")]
     Usage,
     /// Memory was refused.
     #[error("no memory")]
@@ -40,7 +41,7 @@ fn put_usage<E: Write>(errors: &mut E) -> io::Result<()>
     put_pieces(
         errors,
         &[Piece::Text(
-            b"itmsteps: usage: itmsteps [--threads N,N..] [--from N] [--to N] [--svg] FILE\n",
+            b"itmsteps: usage: itmsteps [--threads N,N..] [--from N] [--to N] [--svg] FILE, or itmsteps --history --svg FILE\n",
         )],
     )
 }
@@ -85,6 +86,11 @@ fn option<'a>(alloc: Global, name: &'a str) -> Arg<'a> {
     Arg::new(alloc, name).long(name).action(ArgAction::Set)
 }
 
+/// An option with no word of its own.
+fn flag<'a>(alloc: Global, name: &'a str) -> Arg<'a> {
+    Arg::new(alloc, name).long(name).action(ArgAction::SetTrue)
+}
+
 /// The options, and the place for a file.
 fn command_line<'a>(alloc: Global) -> Result<Command<'a>, AllocError> {
     Command::new(alloc, "itmsteps")
@@ -93,11 +99,8 @@ fn command_line<'a>(alloc: Global) -> Result<Command<'a>, AllocError> {
         .arg(option(alloc, "threads"))?
         .arg(option(alloc, "from"))?
         .arg(option(alloc, "to"))?
-        .arg(
-            Arg::new(alloc, "svg")
-                .long("svg")
-                .action(ArgAction::SetTrue),
-        )?
+        .arg(flag(alloc, "svg"))?
+        .arg(flag(alloc, "history"))?
         .arg(
             Arg::new(alloc, "file")
                 .required(true)
@@ -140,6 +143,21 @@ fn threads_of(word: &str) -> Result<Columns, CommandFault> {
     Ok(threads)
 }
 
+/// Whether the file is a history. Of one there is a picture of all of it.
+fn is_history(places: &ArgMatches<'_>) -> Result<bool, CommandFault> {
+    if !places.get_flag("history") {
+        return Ok(false);
+    }
+    let whole = places.get_str("threads").is_none()
+        && places.get_str("from").is_none()
+        && places.get_str("to").is_none();
+    if whole && places.get_flag("svg") {
+        Ok(true)
+    } else {
+        Err(CommandFault::Usage)
+    }
+}
+
 /// What is chosen, and the file.
 fn order_of<'a>(alloc: Global, words: &'a [String]) -> Result<(Choice, &'a str), CommandFault> {
     let places = places_of(alloc, words)?;
@@ -151,18 +169,37 @@ fn order_of<'a>(alloc: Global, words: &'a [String]) -> Result<(Choice, &'a str),
     let to = number_of(places.get_str("to"), u64::MAX)?;
     let file = places.get_str("file").ok_or(CommandFault::Usage)?;
     let svg = places.get_flag("svg");
+    let history = is_history(&places)?;
     Ok((
         Choice {
             threads,
             from,
             to,
             svg,
+            history,
         },
         file,
     ))
 }
 
-/// Writes the table or picture of a reader's script to standard output.
+/// Writes what is chosen: the picture of a reader's history, or the table or picture of its script.
+fn show_text<R: Read, W: Write, E: Write>(
+    alloc: Global,
+    choice: Choice,
+    reader: &mut R,
+    writer: &mut W,
+    errors: &mut E,
+) -> u8
+    ensures { (text : List ℕ) × IfSome (R.remaining reader.old) (λ all. text ≡ all)
+        × Done choice.history choice text result (W.contents writer.old) (W.contents writer.new) (E.contents errors.old) (E.contents errors.new) }
+{
+    if choice.history {
+        return draw_text(alloc, reader, writer, errors);
+    }
+    steps(alloc, reader, choice, writer, errors)
+}
+
+/// Writes what is chosen of a reader's text to standard output.
 fn do_text<T: Print + AllocGlobal, R: Read, E: Write>(
     rt: &T,
     choice: Choice,
@@ -174,10 +211,10 @@ fn do_text<T: Print + AllocGlobal, R: Read, E: Write>(
     let Ok(mut writer) = BufWriter::new(rt.alloc(), io::writer(rt)) else {
         return tell_no_text(errors, Failure::NoMemory);
     };
-    steps(rt.alloc(), reader, choice, &mut writer, errors)
+    show_text(rt.alloc(), choice, reader, &mut writer, errors)
 }
 
-/// Writes the table or picture of the script in a file, or of the input.
+/// Writes what is chosen of the text in a file, or of the input.
 fn do_file<T: Files + Input + Print + AllocGlobal, E: Write>(
     rt: &T,
     choice: Choice,

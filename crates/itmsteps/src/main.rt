@@ -1,9 +1,10 @@
-//! The program `itmsteps`: the steps of a script's run, as a table or a picture.
+//! The program `itmsteps`: the steps of a script's run, as a table or a picture, or the picture of a history.
 #![tactic(auto)]
 
 mod choice;
 mod command;
 mod failure;
+mod histories;
 mod showing;
 
 use std::process::ExitCode;

@@ -41,7 +41,7 @@ fn history_of(alloc: Global, text: &[u8]) -> Result<History, Failure<ReadFault>>
 }
 
 /// Reads a history. Of its text no more is read than decides that it is too long.
-fn read_history<R: Read>(alloc: Global, reader: &mut R) -> Result<History, Failure<ReadFault>>
+pub fn read_history<R: Read>(alloc: Global, reader: &mut R) -> Result<History, Failure<ReadFault>>
     ensures read { (text : List ℕ) × IfSome (R.remaining reader.old) (λ all. text ≡ all) × Reads result (read_of text) }
     ensures history { IfOk result (λ h. IsHistory h) }
     ensures few { IsFront (R.remaining reader.old) (R.remaining reader.new) (MAX_HISTORY + 1) }

@@ -12,6 +12,6 @@ mod programs;
 
 pub use failure::{Failure, status_after};
 pub use fault::Fault;
-pub use judging::{MAX_HISTORY, check, largest_history};
+pub use judging::{MAX_HISTORY, check, largest_history, read_history};
 pub use printing::asm;
 pub use programs::read_program;

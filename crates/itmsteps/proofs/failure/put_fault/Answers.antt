@@ -1,5 +1,5 @@
 use Rattle.std.proofs.Common.{append_assoc, append-nil}
-use Rattle.itmsteps.specs.Doing.{fault_text}
+use Rattle.itmsteps.specs.Faults.{fault_text}
 use Rattle.tx_history.proofs.TextPieces.{put_as}
 use Rattle.itmsteps.proofs.failure.put_fault.Goals as goal
 

@@ -1,5 +1,3 @@
-use Rattle.step_picture.specs.Picture.{picture_text}
-use Rattle.tx_history.specs.Spelling.{Writes}
 use Rattle.itmsteps.proofs.Drawings.{drawn}
 use Rattle.itmsteps.proofs.showing.draw.Goals as goal
 

@@ -1,5 +1,5 @@
 use Rattle.std.proofs.lemmas.Result.{err_from_is_err_and}
-use Rattle.itmsteps.proofs.Drawings.{cut_written, flushed}
+use Rattle.itmsteps.proofs.Written.{cut_written, flushed}
 use Rattle.itmsteps.proofs.showing.put_drawing.Goals as goal
 
 pub returns-in_err-put_picture : goal.returns-in_err-put_picture

@@ -1,4 +1,4 @@
-use Rattle.itmsteps.proofs.Drawings.{writes_as}
+use Rattle.itmsteps.proofs.Written.{writes_as}
 use Rattle.itmsteps.proofs.showing.write_picture.Goals as goal
 
 pub returns-clause-drawn : goal.returns-clause-drawn

@@ -1,0 +1,5 @@
+use Rattle.itmsteps.proofs.Written.{writes_as}
+use Rattle.itmsteps.proofs.histories.write_drawing.Goals as goal
+
+pub returns-clause-drawn : goal.returns-clause-drawn
+returns-clause-drawn g c = writes_as _ _ _ c.put_drawing.result c.map_err.result c.map_err.ensures.variant c.put_drawing.ensures
