@@ -16,8 +16,9 @@ use std::hint::spin_loop;
 use std::sync::atomic::{AtomicBool, Ordering};
 use undo_log::Arena;
 
+/// Few looks at the clock, for one takes longer here than in the programs that this one is compared with.
 const LIMITS: Limits = Limits {
-    patience: 8,
+    patience: 3,
     retries: 0,
     max_commits: MAX_COMMITS,
     depth: USUAL_DEPTH,
