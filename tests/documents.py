@@ -42,7 +42,7 @@ LINK = re.compile(r"\]\(([^)#]+)[^)]*\)")
 THREADS = re.compile(r"\b(?:std|core)\s*(?:::\s*(?:sync\b|thread\b|\*|\{[^;]*\b(?:sync|thread)\b)|\s+as\b)")
 
 # the crates that start threads or wait for them, and those of the kit that share nothing between threads
-THREADED = {"tx_host", "run_commands", "itmrun", "bank", "bench_loads", "large_words", "thread_tests", "client_tests", "itm_c", "transactions", "tx_threads"}
+THREADED = {"tx_host", "run_commands", "itmrun", "bank", "tx_map", "bench_loads", "large_words", "thread_tests", "client_tests", "itm_c", "transactions", "tx_threads"}
 UNSHARED = {"arrayvec", "clap", "hex", "indexmap", "itoa", "smallvec", "std_alloc", "thiserror"}
 
 HINTS = {"R": ["R", "RaR", "RaW", "RfW"], "W": ["W", "WaR", "WaW"]}

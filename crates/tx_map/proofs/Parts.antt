@@ -1,0 +1,89 @@
+-- Parts of a transaction, one after the other.
+use Rattle.std.proofs.Common.{◌≡◌, ◌∙◌, ℕ, ◌+◌, ◌*◌, ◌/◌, ◌^◌, ◌<◌, List, [], ◌∷◌, ◌++◌, Result, Ok, Err, ap, refl, subst, sym, arith}
+use Rattle.std.specs.Int.{w64, to_le_bytes}
+use Rattle.itm_types.specs.declared.access.ReadHint.TheVariants.{R}
+use Rattle.itm_types.specs.declared.access.WriteHint.TheVariants.{W}
+use Rattle.itm_types.specs.declared.access.Width.TheVariants.{U8}
+use Rattle.itm_types.specs.declared.call.Call.TheVariants.{Read, Write}
+use Rattle.itm_types.specs.declared.call.Call.{Call}
+use Rattle.itm_types.specs.declared.call.Reply.{Reply as Replied}
+use Rattle.itm_types.specs.declared.call.Reply.TheVariants.{Done}
+use Rattle.itm_types.specs.Slices.{slice, with_slice}
+use Rattle.itm_model.specs.Machine.{bytes_reply}
+use Rattle.itm_model.specs.Runs.{state_after}
+use Rattle.itm_model.specs.State.{State}
+use Rattle.shared_words.specs.InGlobal.{Words}
+use Rattle.itm_runtime.specs.CallResults.{Tells}
+use Rattle.itm_runtime.specs.Standing.{Standing}
+use Rattle.itm_runtime.specs.Stops.{answer_to_read, answer_to_write, bytes_of_number, number}
+use Rattle.itm_runtime.specs.declared.stop.Stop.{Stop}
+use Rattle.transactions.specs.Plain.{Makes, calls_of}
+use Rattle.typed_cells.specs.Reads.{read_as}
+use Rattle.tx_map.specs.Plainly.{Does, Goes}
+use Rattle.tx_map.specs.Tables.{pair_of}
+use Rattle.tx_map.proofs.Bytes.{pair_read}
+use Rattle.tx_map.proofs.Finds.{Reads}
+use Rattle.tx_map.proofs.Machines.{goes_by_read, goes_by_write, goes_nowhere, parted}
+
+pub goes_weaker : (So Then : List ℕ → List ℕ → Type 0) (s t : State) → ((m n : List ℕ) → So m n → Then m n) → Goes So s t → Goes Then s t
+goes_weaker So Then s t by g = record { so = by s.memory t.memory g.so; still = g.still }
+
+goes_on : (So Then All : List ℕ → List ℕ → Type 0) (s t u : State) → ((m n o : List ℕ) → So m n → Then n o → All m o) → Goes So s t → Goes Then t u → Goes All s u
+goes_on So Then All s t u by g h = record {
+  so = by s.memory t.memory u.memory g.so h.so;
+  still = λ w. let second = h.still w in let first = g.still second.0 in (first.0, second.1 ∙ first.1);
+}
+
+makes_more : (words : Words) (a b c : Standing) (xs ys : List (Call × Replied)) → Makes words a xs b → Makes words b ys c → Makes words a (xs ++ ys) c
+makes_more words a b c [] ys first second = subst (λ (t : Standing). Makes words t ys c) first second
+makes_more words a b c (x ∷ xs) ys first second = (first.0, first.1, first.2, makes_more words first.0 b c xs ys first.3 second)
+
+module _ (words : Words) where
+  pub does_nothing : (t : Standing) (So : List ℕ → List ℕ → Type 0) → ((m : List ℕ) → So m m) → Does words t t So
+  does_nothing t So so = record { made = []; makes = refl; plainly = λ d s e. goes_nowhere So s s refl (so s.memory) }
+
+  pub does_then : (a b c : Standing) (So Then All : List ℕ → List ℕ → Type 0) → ((m n o : List ℕ) → So m n → Then n o → All m o) → Does words a b So → Does words b c Then → Does words a c All
+  does_then a b c So Then All by x y = record {
+    made = x.made ++ y.made;
+    makes = makes_more words a b c x.made y.made x.makes y.makes;
+    plainly = λ d s e.
+        let p = parted d s x.made y.made e in
+        let t = state_after d s (calls_of x.made) in
+        let u = state_after d t (calls_of y.made) in
+        subst (λ (v : State). Goes All s v) (sym p.state) (goes_on So Then All s t u by (x.plainly d s p.first) (y.plainly d t p.second));
+  }
+
+  pub does_so : (a b : Standing) (So Then : List ℕ → List ℕ → Type 0) → ((m n : List ℕ) → So m n → Then m n) → Does words a b So → Does words a b Then
+  does_so a b So Then by x = record { made = x.made; makes = x.makes; plainly = λ d s e. goes_weaker So Then s (state_after d s (calls_of x.made)) by (x.plainly d s e) }
+
+  -- ## One call
+
+  pub does_write : (a b : Standing) (at n : ℕ) → Tells words a (Write W at (number n)) (answer_to_write (Ok tt)) b → Does words a b (λ old new. new ≡ with_slice old at (to_le_bytes w64 n))
+  does_write a b at n tells = record { made = (Write W at (number n), Done) ∷ []; makes = (b, tt, tells, refl); plainly = λ d s e. goes_by_write d s at n e }
+
+  read_so : (a b : Standing) (first i place n : ℕ) → place ≡ first + 8 * i → n < 2 ^ 64 → Tells words a (Read R U8 place) (answer_to_read (Ok n)) b → Does words a b (Reads first i (pair_of n))
+  read_so a b first i place n at fits tells = record {
+    made = (Read R U8 place, bytes_reply (bytes_of_number n)) ∷ [];
+    makes = (b, tt, tells, refl);
+    plainly = λ d s e. goes_weaker (λ old new. (new ≡ old) × (slice old place 8 ≡ bytes_of_number n)) (Reads first i (pair_of n)) s (state_after d s (Read R U8 place ∷ []))
+        (λ old new r. record { same = r.0; pair_is = pair_read old first i n fits (ap (λ k. slice old k 8) (sym at) ∙ r.1) })
+        (goes_by_read d s place (bytes_of_number n) e);
+  }
+
+  abbrev is_read : Result (ℕ × ℕ) Stop → Type 0
+  is_read (Ok pair) = Unit {0}
+  is_read (Err stop) = ⊥
+
+  abbrev pair_in : ℕ × ℕ → Result (ℕ × ℕ) Stop → ℕ × ℕ
+  pair_in other (Ok pair) = pair
+  pair_in other (Err stop) = other
+
+  pub does_read : (a b : Standing) (first i place : ℕ) (pair : ℕ × ℕ) → place ≡ first + 8 * i → (pair.0 < 2 ^ 32) × (pair.1 < 2 ^ 32) → (read : Result ℕ Stop) × Tells words a (Read R U8 place) (answer_to_read read) b × (Ok pair ≡ read_as pair_of read) → Does words a b (Reads first i pair)
+  does_read a b first i place pair at fits told = by told.0 told.1 told.2
+    where
+      by : (read : Result ℕ Stop) → Tells words a (Read R U8 place) (answer_to_read read) b → Ok pair ≡ read_as pair_of read → Does words a b (Reads first i pair)
+      by (Ok n) tells e =
+          let same : pair ≡ pair_of n = ap (pair_in pair) e in
+          let high : n / 2 ^ 32 < 2 ^ 32 = subst (λ (k : ℕ). k < 2 ^ 32) (ap (λ (x : ℕ × ℕ). x.1) same) fits.1 in
+          subst (λ (x : ℕ × ℕ). Does words a b (Reads first i x)) (sym same) (read_so a b first i place n at (omega arith) tells)
+      by (Err stop) tells e = absurd (subst is_read e tt)
