@@ -33,7 +33,8 @@ if [ -z "$engine" ]; then
     [ -d "$crate" ] || stop "there is no crates/itm_c"
     # a check takes a processor and up to 4 GB
     jobs=${RT_JOBS:-$(awk -v most="$(nproc)" '/^MemAvailable:/ { n = int($2 / 4000000) } END { print n < 1 ? 1 : n < most ? n : most }' /proc/meminfo)}
-    (cd "$crate" && rt lib --jobs "$jobs") || stop "the engine could not be proved and built"
+    sh "$here/../tools/archive.sh" itm_c >/dev/null 2>&1 || (cd "$crate" && rt lib --jobs "$jobs") ||
+        stop "the engine could not be proved and built"
     engine=$crate/out/libitm_c.a
 fi
 [ -f "$engine" ] || stop "there is no $engine"

@@ -37,11 +37,20 @@ want_line() {
 # builds the program, if it has to be, before its standard error is looked at
 "$program" sched "$root/examples/counter.itm" >/dev/null || exit 1
 
-# What compiles tests takes one processor and minutes: it runs beside all that follows, and is counted at the end.
-sh "$root/tests/planted.sh" >"$work/planted" 2>&1 &
-planted=$!
-env SCRIPTS=few sh "$root/tests/sweeps.sh" engines >"$work/engines" 2>&1 &
-engines=$!
+# What needs no file of this script's runs beside all that follows, and is counted at the end: start NAME WORD..
+mkdir "$work/beside" || exit 1
+start() {
+    name=$1
+    shift
+    "$@" >"$work/beside/$name" 2>&1 &
+}
+start 'bodies that only tests refuse' sh "$root/tests/planted.sh"
+start 'memory refused to engines' env SCRIPTS=few sh "$root/tests/sweeps.sh" engines
+start 'compiled programs' sh "$root/compiled/test.sh" few
+start 'what is refused or cut off' env JOBS=2 SCRIPTS=few sh "$root/tests/sweeps.sh" sched asm check threads cuts files
+start 'threads that stop' env JOBS=2 sh "$root/tests/sweeps.sh" stops
+start 'the tables' sh "$root/tests/tables.sh"
+start 'the documents' python3 -B "$root/tests/documents.py"
 
 : >"$work/input"
 want_line 'itmrun: usage: itmrun asm|sched|threads|check FILE'
@@ -343,10 +352,14 @@ check 'a history in which an update is lost' 3
 . "$root/tests/large_words.sh"
 . "$root/tests/steps.sh"
 
-# counted NAME FILE: the last line of the file counts what passed and what failed
-counted() {
-    sed '$d' "$2"
-    last=$(tail -n 1 "$2")
+# (its threads are to run at once, so nothing beside them)
+wait
+sh "$root/tests/neighbours.sh" >"$work/beside/plain data beside parts of words" 2>&1
+
+# the last line of each counts what passed and what failed
+for told in "$work/beside/"*; do
+    sed '$d' "$told"
+    last=$(tail -n 1 "$told")
     case $last in
     *' passed, '*' failed')
         passed=$((passed + ${last%% *}))
@@ -355,29 +368,10 @@ counted() {
         ;;
     *)
         failed=$((failed + 1))
-        echo "failed: $1: $last"
+        echo "failed: $(basename "$told"): $last"
         ;;
     esac
-}
-
-# count NAME WORD..: runs these words, whose last line counts
-count() {
-    name=$1
-    shift
-    "$@" >"$work/told" 2>&1
-    counted "$name" "$work/told"
-}
-
-count 'the documents' python3 -B "$root/tests/documents.py"
-count 'the tables' sh "$root/tests/tables.sh"
-count 'threads that stop' sh "$root/tests/sweeps.sh" stops
-count 'plain data beside parts of words' sh "$root/tests/neighbours.sh"
-count 'what is refused or cut off' env SCRIPTS=few sh "$root/tests/sweeps.sh" sched asm check threads cuts files
-wait $planted
-counted 'bodies that only tests refuse' "$work/planted"
-wait $engines
-counted 'memory refused to engines' "$work/engines"
-count 'compiled programs' sh "$root/compiled/test.sh" few
+done
 
 echo "$passed passed, $failed failed"
 [ "$failed" = 0 ]

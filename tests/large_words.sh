@@ -2,12 +2,15 @@
 # lie: that it gets by with 10 seconds, and with less room than a second copy would take, and what it says of words that it
 # cannot take. It is read by that script, and uses its functions and variables.
 
-# proves and builds the program, if it has to be
-(cd "$root/crates/large_words" && rt run -- 1) >"$work/told" 2>&1 || cat "$work/told"
+# proves and builds the program, where it is not there or a source is newer (rt itself would build its libraries anew, as
+# `rt ci` has left them)
+large_words=$root/crates/large_words/out/large_words
+newer=$(find "$root/crates.txt" "$root"/crates/*/src "$root"/crates/*/specs "$root"/crates/*/proofs -newer "$large_words" 2>&1 | head -n 1)
+[ -z "$newer" ] || (cd "$root/crates/large_words" && rt run -- 1) >"$work/told" 2>&1 || cat "$work/told"
 
 # large WORD..: the program, with so much time and room
 large() {
-    (ulimit -v 500000 && exec timeout 10 "$root/crates/large_words/out/large_words" "$@") >"$work/output" 2>"$work/errors"
+    (ulimit -v 500000 && exec timeout 10 "$large_words" "$@") >"$work/output" 2>"$work/errors"
     status=$?
 }
 

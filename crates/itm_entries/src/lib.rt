@@ -5,6 +5,7 @@ mod entries;
 mod entry;
 mod equality;
 mod names;
+mod places;
 
 pub use entries::all_entries;
 pub use entry::{Control, Entry};
