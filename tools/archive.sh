@@ -17,7 +17,7 @@ named_by() {
 # the crates of the repository that the crate stands on
 below() {
     for it in $(named_by "$1"); do
-        [ ! -d "$crates/$it" ] || { below "$it" && echo "$it"; }
+        [ ! -d "$crates/$it" ] || { (below "$it") && echo "$it"; }
     done
 }
 
