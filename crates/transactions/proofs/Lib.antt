@@ -10,3 +10,4 @@ mod BlockOutcomes
 mod BlockRuns
 mod PlainBlocks
 pub mod Plain
+mod Came

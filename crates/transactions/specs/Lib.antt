@@ -3,3 +3,4 @@ pub mod Runs
 pub mod Blocks
 pub mod Plain
 pub mod Widths
+pub mod Folds

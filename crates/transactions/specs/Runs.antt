@@ -56,9 +56,10 @@ stop_told (stops.Busy clock) was_open = Busy
 stop_told (stops.Full at) was_open = Fails failures.Full
 stop_told stops.Memory was_open = Fails failures.Memory
 
--- after such a try comes another one
+-- after such a try comes another one, or its body took it back
 abbrev pub GoesAgain : {R E : Type 0} → Tried R E → Type 0
 GoesAgain (Done done) = ⊥
+GoesAgain (Fails (failures.Cancelled why)) = Unit {0}
 GoesAgain (Fails why) = ⊥
 GoesAgain Conflict = Unit {0}
 GoesAgain Busy = Unit {0}
@@ -72,6 +73,12 @@ mine_then mine _ = mine
 abbrev pub mine_left : {R E : Type 0} → List ℕ → Result (Value R) (Failed E) → List ℕ
 mine_left mine (Ok done) = mine_if done.wrote mine done.at
 mine_left mine (Err why) = mine
+
+-- the body took the last one back
+abbrev pub IsCancelled : {R E : Type 0} → Result (Value R) (Failed E) → Type 0
+IsCancelled (Ok done) = ⊥
+IsCancelled (Err (failures.Cancelled why)) = Unit {0}
+IsCancelled (Err why) = ⊥
 
 -- ## One try
 

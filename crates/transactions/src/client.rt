@@ -1,6 +1,6 @@
 //! A thread of a program, and the transactions that it makes.
 
-ghost use Rattle.std.specs.Prelude.{◌≡◌, ◌+◌, ◌≤◌, false, IfErr, IfOk};
+ghost use Rattle.std.specs.Prelude.{◌≡◌, ◌+◌, ◌<◌, ◌≤◌, false, IfErr, IfOk};
 ghost use Rattle.norec_core.specs.Core.{in_transaction};
 ghost use Rattle.shared_words.specs.Passes.{Owns};
 
@@ -26,7 +26,7 @@ impl Client {
     ghost use Rattle.transactions.specs.Lent.{IsLeft, looks_of, mine_of};
     ghost use Rattle.transactions.specs.declared.failed.Failed.TheVariants.{Tries};
     ghost use Rattle.transactions.specs.Plain.{IsPlainRun, Makings};
-    ghost use Rattle.transactions.specs.Runs.{ComesTo, KeepsLent, mine_left};
+    ghost use Rattle.transactions.specs.Runs.{ComesTo, IsCancelled, KeepsBody, KeepsLent, mine_left};
 
     /// A thread outside a transaction, over the words that own its pass. Each body is tried as often as `tries` says.
     pub fn new(words: Arc<Words>, thread: Thread, tries: u64) -> Client
@@ -76,9 +76,26 @@ impl Client {
         // It gives up for want of tries after so many looks at the clock, one for each.
         ensures tried { KeepsLent F.FnMut → IfErr result (λ why. why ≡ Tries → looks_of self.old.transaction + self.old.tries ≤ looks_of self.new.transaction) }
     {
+        self.run(&mut body)
+    }
+
+    /// The same, of a body that can be run again.
+    pub(crate) fn run<R: Drop, E: Drop, F: FnMut(&mut Transaction) -> Result<R, Stopped<E>>>(
+        &mut self,
+        body: &mut F,
+    ) -> Result<Done<R>, Failed<E>>
+        requires callable { F.IsAlwaysCallable body.old }
+        ensures callable { F.IsAlwaysCallable body.new }
+        ensures same { KeepsBody F.FnMut → body.new ≡ body.old }
+        ensures tries { self.new.tries ≡ self.old.tries }
+        ensures comes { ComesTo F.FnMut body.old self.old.transaction.words result self.new.transaction.thread }
+        ensures left { KeepsLent F.FnMut → IsLeft (mine_left (mine_of self.old.transaction) result) self.old.transaction self.new.transaction }
+        ensures tried { KeepsLent F.FnMut → IfErr result (λ why. why ≡ Tries → looks_of self.old.transaction + self.old.tries ≤ looks_of self.new.transaction) }
+        ensures cancelled { KeepsLent F.FnMut → IsCancelled result → looks_of self.old.transaction < looks_of self.new.transaction }
+    {
         let mut again = false;
         for _ in 0..self.tries {
-            match self.transaction.attempt(&mut body, again) {
+            match self.transaction.attempt(body, again) {
                 Tried::Done(done) => return Ok(done),
                 Tried::Failed(why) => return Err(why),
                 Tried::Conflict => again = true,

@@ -5,9 +5,11 @@ mod block;
 mod bytes;
 mod client;
 mod failed;
+mod folding;
 mod stopped;
 mod transaction;
 mod tried;
+mod waiting;
 
 pub use client::Client;
 pub use failed::Failed;

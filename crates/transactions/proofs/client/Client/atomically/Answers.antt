@@ -1,53 +1,5 @@
-use Rattle.std.proofs.Common.{◌∙◌, ap, arith, refl}
-use Rattle.itm_runtime.specs.Served.{mine_if}
-use Rattle.transactions.proofs.Plain.{plain_run}
-use Rattle.transactions.proofs.Tries.{came_failed, rebased}
+use Rattle.transactions.proofs.Came.{plain_of}
 use Rattle.transactions.proofs.client.Client.atomically.Goals as goal
-use Rattle.transactions.proofs.client.Client.atomically.Goals.{in-Conflict, in-Busy}
 
-pub returns-in-Done-clause-comes : goal.returns-in-Done-clause-comes
-returns-in-Done-clause-comes g c = rebased g.F.FnMut c.loop.self.transaction.words c.args.self.now.transaction.words (λ keeps. (c.loop.invariant.1 keeps).0.words) c.loop.body c.args.body c.loop.invariant.4 _ c.attempt.new.self.thread c.in-Done.ensures.tells
-
-pub returns-in-Failed-clause-comes : goal.returns-in-Failed-clause-comes
-returns-in-Failed-clause-comes g c = came_failed g.F.FnMut c.loop.self.transaction.words c.args.self.now.transaction.words (λ keeps. (c.loop.invariant.1 keeps).0.words) c.loop.body c.args.body c.loop.invariant.4 c.in-Failed.why c.attempt.new.self.thread c.in-Failed.ensures.tells
-
-pub returns-in-Done-clause-plain : goal.returns-in-Done-clause-plain
-returns-in-Done-clause-plain g c keeps makings = plain_run g.F.FnMut makings c.args.body c.args.self.now.transaction.words _ c.attempt.new.self.thread c.loop.self.transaction.words (c.loop.invariant.1 keeps).0.words c.loop.body c.loop.invariant.4 keeps c.in-Done.ensures.tells
-
-pub returns-in-Done-clause-left : goal.returns-in-Done-clause-left
-returns-in-Done-clause-left g c keeps =
-    let was = (c.loop.invariant.1 keeps).0 in
-    let now = c.in-Done.ensures.left keeps in
-    record { words = now.words ∙ was.words; mine_is = now.mine_is ∙ ap (λ m. mine_if c.in-Done.done.wrote m c.in-Done.done.at) was.mine_is; looks = omega (arith, was.looks, now.looks) }
-
-pub returns-in-Failed-clause-left : goal.returns-in-Failed-clause-left
-returns-in-Failed-clause-left g c keeps =
-    let was = (c.loop.invariant.1 keeps).0 in
-    let now = c.in-Failed.ensures.left keeps in
-    record { words = now.words ∙ was.words; mine_is = now.mine_is ∙ was.mine_is; looks = omega (arith, was.looks, now.looks) }
-
-pub loop-preserved : goal.loop-preserved
-loop-preserved g c = elim c.match-attempt.branch [
-  | in-Conflict w ↦ (
-    c.attempt.ensures.callable,
-    λ keeps.
-        let was = c.loop.invariant.1 keeps in
-        let now = w.in-Conflict.ensures.left keeps in
-        let more = w.in-Conflict.ensures.looks keeps tt in
-        (record { words = now.words ∙ was.0.words; mine_is = now.mine_is ∙ was.0.mine_is; looks = omega (arith, was.0.looks, now.looks) }, omega (arith, was.1, more)),
-    refl,
-    omega (arith, c.loop-test.true),
-    λ steady. c.attempt.ensures.same steady ∙ c.loop.invariant.4 steady,
-  )
-  | in-Busy w ↦ (
-    c.attempt.ensures.callable,
-    λ keeps.
-        let was = c.loop.invariant.1 keeps in
-        let now = w.in-Busy.ensures.left keeps in
-        let more = w.in-Busy.ensures.looks keeps tt in
-        (record { words = now.words ∙ was.0.words; mine_is = now.mine_is ∙ was.0.mine_is; looks = omega (arith, was.0.looks, now.looks) }, omega (arith, was.1, more)),
-    refl,
-    omega (arith, c.loop-test.true),
-    λ steady. c.attempt.ensures.same steady ∙ c.loop.invariant.4 steady,
-  )
-]
+pub returns-clause-plain : goal.returns-clause-plain
+returns-clause-plain g c keeps makings = plain_of g.F.FnMut makings c.args.body c.args.self.now.transaction.words keeps c.run.result c.run.new.self.transaction.thread c.run.ensures.comes

@@ -1,0 +1,50 @@
+use Rattle.std.proofs.Common.{◌∙◌, arith, rules}
+use Rattle.transactions.proofs.Came.{came_first, kept_cancelled, left_after, plain_of, tried_after}
+use Rattle.transactions.proofs.BlockOutcomes.{kept_twice}
+use Rattle.transactions.proofs.client.Client.retry.Goals as goal
+
+pub returns-then-not-is_cancelled-clause-comes : goal.returns-then-not-is_cancelled-clause-comes
+returns-then-not-is_cancelled-clause-comes g c = came_first g.F.FnMut c.loop.self.transaction.words c.args.self.now.transaction.words (λ keeps. (c.loop.invariant.1 keeps).0.words) c.loop.body c.args.body c.loop.invariant.4 c.run-told.result c.run-told.new.self.transaction.thread c.run-told.ensures.comes
+
+pub returns-then-not-is_cancelled-clause-plain : goal.returns-then-not-is_cancelled-clause-plain
+returns-then-not-is_cancelled-clause-plain g c keeps makings = plain_of g.F.FnMut makings c.args.body c.args.self.now.transaction.words keeps c.run-told.result c.run-told.new.self.transaction.thread (came_first g.F.FnMut c.loop.self.transaction.words c.args.self.now.transaction.words (λ keeps. (c.loop.invariant.1 keeps).0.words) c.loop.body c.args.body c.loop.invariant.4 c.run-told.result c.run-told.new.self.transaction.thread c.run-told.ensures.comes)
+
+pub returns-then-not-is_cancelled-clause-left : goal.returns-then-not-is_cancelled-clause-left
+returns-then-not-is_cancelled-clause-left g c keeps = left_after c.args.self.now.transaction c.loop.self.transaction c.run-told.new.self.transaction c.run-told.result (c.loop.invariant.1 keeps).0 (c.run-told.ensures.left keeps)
+
+pub returns-then-not-is_cancelled-clause-tried : goal.returns-then-not-is_cancelled-clause-tried
+returns-then-not-is_cancelled-clause-tried g c keeps = tried_after c.run-told.result _ _ _ _ _ (c.run-told.ensures.tried keeps) (c.loop.invariant.1 keeps).0.looks c.loop.invariant.2
+
+pub returns-then-not-is_cancelled-clause-waited : goal.returns-then-not-is_cancelled-clause-waited
+returns-then-not-is_cancelled-clause-waited g c keeps is = absurd (c.is_cancelled.ensures.no (search rules) is)
+
+pub returns-clause-comes : goal.returns-clause-comes
+returns-clause-comes g c = came_first g.F.FnMut c.loop.self.transaction.words c.args.self.now.transaction.words (λ keeps. (c.loop.invariant.1 keeps).0.words) c.loop.body c.args.body c.loop.invariant.4 c.run.result c.run.new.self.transaction.thread c.run.ensures.comes
+
+pub returns-clause-plain : goal.returns-clause-plain
+returns-clause-plain g c keeps makings = plain_of g.F.FnMut makings c.args.body c.args.self.now.transaction.words keeps c.run.result c.run.new.self.transaction.thread (came_first g.F.FnMut c.loop.self.transaction.words c.args.self.now.transaction.words (λ keeps. (c.loop.invariant.1 keeps).0.words) c.loop.body c.args.body c.loop.invariant.4 c.run.result c.run.new.self.transaction.thread c.run.ensures.comes)
+
+pub returns-clause-left : goal.returns-clause-left
+returns-clause-left g c keeps = left_after c.args.self.now.transaction c.loop.self.transaction c.run.new.self.transaction c.run.result (c.loop.invariant.1 keeps).0 (c.run.ensures.left keeps)
+
+pub returns-clause-tried : goal.returns-clause-tried
+returns-clause-tried g c keeps = tried_after c.run.result _ _ _ _ _ (c.run.ensures.tried keeps) (c.loop.invariant.1 keeps).0.looks c.loop.invariant.2
+
+pub returns-clause-waited : goal.returns-clause-waited
+returns-clause-waited g c keeps is =
+    let was = c.loop.invariant.1 keeps in
+    let now = c.run.ensures.cancelled keeps is in
+    omega (arith, was.1, now)
+
+pub loop-preserved : goal.loop-preserved
+loop-preserved g c = (
+  c.run-told.ensures.callable,
+  λ keeps.
+      let was = c.loop.invariant.1 keeps in
+      let is = c.is_cancelled.ensures.yes (search rules) in
+      let more = c.run-told.ensures.cancelled keeps is in
+      (kept_twice c.args.self.now.transaction c.loop.self.transaction c.run-told.new.self.transaction was.0 (kept_cancelled _ _ c.run-told.result is (c.run-told.ensures.left keeps)), omega (arith, was.1, more)),
+  c.run-told.ensures.tries ∙ c.loop.invariant.2,
+  omega (arith, c.loop-test.true),
+  λ steady. c.run-told.ensures.same steady ∙ c.loop.invariant.4 steady,
+)

@@ -1,0 +1,59 @@
+//! A transaction that waits for others.
+
+ghost use Rattle.std.specs.Prelude.{◌≡◌, ◌+◌, ◌<◌, ◌≤◌, true, false, IfErr, IfOk};
+ghost use Rattle.transactions.specs.Runs.{IsCancelled};
+
+use crate::client::Client;
+use crate::failed::Failed;
+use crate::stopped::Stopped;
+use crate::transaction::Transaction;
+use crate::tried::Done;
+use std::hint::spin_loop;
+
+impl Client {
+    ghost use Rattle.transactions.specs.Lent.{IsLeft, looks_of, mine_of};
+    ghost use Rattle.transactions.specs.declared.failed.Failed.TheVariants.{Tries};
+    ghost use Rattle.transactions.specs.Plain.{IsPlainRun, Makings};
+    ghost use Rattle.transactions.specs.Runs.{ComesTo, KeepsLent, mine_left};
+
+    /// Runs the body as `atomically` does, and, where the body has cancelled it, as a new transaction, at most so many times
+    /// more. So a body waits for what other threads are to commit: it cancels until it finds that. It tells what the last
+    /// transaction came to.
+    pub fn retry<R: Drop, E: Drop, F: FnMut(&mut Transaction) -> Result<R, Stopped<E>>>(
+        &mut self,
+        retries: u64,
+        mut body: F,
+    ) -> Result<Done<R>, Failed<E>>
+        requires callable { F.IsAlwaysCallable body }
+        ensures comes { ComesTo F.FnMut body self.old.transaction.words result self.new.transaction.thread }
+
+        // Where each run's calls are known, those of the run that gave the value are the plain machine's at the position told.
+        ensures plain { KeepsLent F.FnMut → (makings : Makings F.FnMut) → IfOk result (λ done. IsPlainRun F.FnMut makings body self.old.transaction.words done self.new.transaction.thread) }
+
+        // The body hands back what it was lent: the words are the same, and the pass's own commits are those told.
+        ensures left { KeepsLent F.FnMut → IsLeft (mine_left (mine_of self.old.transaction) result) self.old.transaction self.new.transaction }
+
+        // It gives up for want of tries after so many looks at the clock, one for each.
+        ensures tried { KeepsLent F.FnMut → IfErr result (λ why. why ≡ Tries → looks_of self.old.transaction + self.old.tries ≤ looks_of self.new.transaction) }
+
+        // It tells of one that the body cancelled once there were so many more of them, each with a look at the clock.
+        ensures waited { KeepsLent F.FnMut → IsCancelled result → looks_of self.old.transaction + retries < looks_of self.new.transaction }
+    {
+        for _ in 0..retries {
+            let told = self.run(&mut body);
+            if !is_cancelled(&told) {
+                return told;
+            }
+            spin_loop();
+        }
+        self.run(&mut body)
+    }
+}
+
+/// Whether the body has cancelled it.
+fn is_cancelled<R, E>(told: &Result<Done<R>, Failed<E>>) -> bool
+    ensures yes { result ≡ true → IsCancelled told.now }
+    ensures no { result ≡ false → IsCancelled told.now → ⊥ }
+{
+    matches!(told, Err(Failed::Cancelled(_)))
+}
