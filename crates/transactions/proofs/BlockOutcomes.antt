@@ -32,6 +32,7 @@ use Rattle.transactions.specs.Lent.{IsKept, Lent}
 use Rattle.transactions.specs.Blocks.{Enters, IsAsBefore, IsTakenBack, IsWithin, IsWithinStill, Leaves, StaysWithin}
 use Rattle.transactions.specs.Runs.{usual}
 use Rattle.transactions.proofs.InnerBlocks.{HasEntered, committed, fresh_begun, goes_abort, goes_commit, has_entered, taken_back, within_self}
+use Rattle.transactions.proofs.LaterViews.{went_on}
 use Rattle.transactions.proofs.Looks.{engine_open}
 use Rattle.transactions.proofs.LastEngines.{arena_left, last, mid, replied, writes_left}
 use Rattle.transactions.proofs.Within.{begins, begins_more}
@@ -80,7 +81,7 @@ before_within old new back first fresh w = by_open (in_transaction new.thread.en
     ]
 
 pub kept_twice : (a b c : Lent) → IsKept a b → IsKept b c → IsKept a c
-kept_twice a b c s t = record { words = t.words ∙ s.words; mine_is = t.mine_is ∙ s.mine_is; looks = omega (arith, s.looks, t.looks) }
+kept_twice a b c s t = record { words = t.words ∙ s.words; mine_is = t.mine_is ∙ s.mine_is; went = went_on (view_of a.thread.pass) (view_of b.thread.pass) (view_of c.thread.pass) s.went t.went }
 
 -- ## A begin that is refused, or for which there is no memory
 
@@ -216,7 +217,7 @@ module _ (from began last new : Lent) (e : Enters from began) (kept : IsKept beg
   kept_so call left ends mine = record {
     words = ends.words ∙ kept.words ∙ e.words;
     mine_is = mine ∙ kept.mine_is ∙ e.answered.served.mine;
-    looks = (let a = e.answered.served.went.looks in let b = kept.looks in let c = ends.answered.served.went.looks in omega arith);
+    went = went_on (view_of from.thread.pass) (view_of last.thread.pass) (view_of new.thread.pass) (went_on (view_of from.thread.pass) (view_of began.thread.pass) (view_of last.thread.pass) e.answered.served.went kept.went) ends.answered.served.went;
   }
 
   pub commit_kept : (left : Result (Unit {0}) Stop) → Leaves Commit last left new → IsKept from new

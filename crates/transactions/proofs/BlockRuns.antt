@@ -1,11 +1,12 @@
 -- What the runs of a block come to.
-use Rattle.std.proofs.Common.{◌≡◌, ◌∙◌, inl, inr, Result, Ok, Err, ap, refl, subst, sym, true≢false, arith}
+use Rattle.std.proofs.Common.{◌≡◌, ◌∙◌, inl, inr, Result, Ok, Err, ap, refl, subst, sym, true≢false}
 use Rattle.std.specs.Borrow.{MutBor}
 use Rattle.std.specs.Fn.{CalledAtMut, Mut}
 use Rattle.norec_core.specs.Core.{in_transaction}
 use Rattle.shared_words.specs.Passes.{view_of}
 use Rattle.itm_types.specs.declared.call.Call.TheVariants.{Begin, Commit}
 use Rattle.itm_runtime.specs.CallResults.{Tells}
+use Rattle.itm_runtime.specs.Served.{Went}
 use Rattle.itm_runtime.specs.Standing.{Standing}
 use Rattle.itm_runtime.specs.Stops.{answer_of}
 use Rattle.itm_runtime.specs.declared.stop.Stop.{Stop}
@@ -15,11 +16,12 @@ use Rattle.transactions.specs.declared.stopped.Stopped.TheVariants.{Engine, Canc
 use Rattle.transactions.specs.Lent.{IsKept, Lent}
 use Rattle.transactions.specs.Blocks.{EndsBlockBy, EntersNot, HasRunBlock, IsAsBefore, IsToldAgain, IsUndoneUnless, KeepsBlocks, Leaves, StaysWithin, TellsBlock, block_told}
 use Rattle.transactions.specs.Runs.{KeepsBody, KeepsLent, usual}
+use Rattle.transactions.proofs.LaterViews.{went_self}
 use Rattle.transactions.proofs.BlockOutcomes.{abort_back, abort_kept, back_self, before_twice, before_within, commit_failed, commit_kept, commit_within, not_entered}
 
 -- nothing is changed
 same_kept : (from new : Lent) → new.words ≡ from.words → new.thread ≡ from.thread → IsKept from new
-same_kept from new words same = record { words = words; mine_is = ap (λ (t : Standing). (view_of t.pass).mine) same; looks = omega (arith, ap (λ (t : Standing). (view_of t.pass).looks) same) }
+same_kept from new words same = record { words = words; mine_is = ap (λ (t : Standing). (view_of t.pass).mine) same; went = subst (λ (t : Standing). Went (view_of from.thread.pass) (view_of t.pass)) (sym same) (went_self (view_of from.thread.pass)) }
 
 module _ {F R E : Type 0} (fn : Mut F (MutBor Lent × Unit {0}) (Result R (Stopped E) × (MutBor Lent × Unit {0}))) (lent : KeepsLent fn) (blocks : KeepsBlocks fn) (first : F) (from new : Lent) where
   pub record RunsTo (told : Result (Result R E) Stop) : Type 0 where
@@ -65,11 +67,11 @@ module _ {F R E : Type 0} (fn : Mut F (MutBor Lent × Unit {0}) (Result R (Stopp
   -- ## A block that did not begin
 
   begin_kept : (stop : Stop) → Tells from.words from.thread (Begin usual 0) (answer_of stop) new.thread → new.words ≡ from.words → IsKept from new
-  begin_kept (stops.Refused why) a words = record { words = words; mine_is = a.served.mine; looks = a.served.went.looks }
-  begin_kept (stops.Conflict clock word) a words = record { words = words; mine_is = a.served.mine; looks = a.served.went.looks }
-  begin_kept (stops.Restarted clock word) a words = record { words = words; mine_is = a.served.mine; looks = a.served.went.looks }
-  begin_kept (stops.Busy clock) a words = record { words = words; mine_is = a.served.mine; looks = a.served.went.looks }
-  begin_kept (stops.Full at) a words = record { words = words; mine_is = a.served.mine; looks = a.served.went.looks }
+  begin_kept (stops.Refused why) a words = record { words = words; mine_is = a.served.mine; went = a.served.went }
+  begin_kept (stops.Conflict clock word) a words = record { words = words; mine_is = a.served.mine; went = a.served.went }
+  begin_kept (stops.Restarted clock word) a words = record { words = words; mine_is = a.served.mine; went = a.served.went }
+  begin_kept (stops.Busy clock) a words = record { words = words; mine_is = a.served.mine; went = a.served.went }
+  begin_kept (stops.Full at) a words = record { words = words; mine_is = a.served.mine; went = a.served.went }
   begin_kept stops.Memory a words = same_kept from new words a.err
 
   stood : (stop : Stop) → EntersNot from stop new → IsKept from new × IsAsBefore from new

@@ -3,6 +3,7 @@ use Rattle.std.proofs.Common.{◌≡◌, ◌∙◌, ◌+◌, ◌≤◌, ℕ, Lis
 use Rattle.std.specs.Borrow.{MutBor}
 use Rattle.std.specs.Fn.{Mut}
 use Rattle.shared_words.specs.InGlobal.{Words}
+use Rattle.shared_words.specs.Passes.{view_of}
 use Rattle.itm_runtime.specs.Standing.{Standing}
 use Rattle.transactions.specs.declared.failed.Failed.{Failed}
 use Rattle.transactions.specs.declared.failed.Failed.TheVariants as failures
@@ -12,6 +13,7 @@ use Rattle.transactions.specs.declared.tried.Tried.TheVariants.{Failed as Fails}
 use Rattle.transactions.specs.Lent.{IsKept, IsLeft, Lent, mine_of}
 use Rattle.transactions.specs.Plain.{IsPlainRun, Makings}
 use Rattle.transactions.specs.Runs.{ComesTo, GoesAgain, IsCancelled, KeepsBody, KeepsLent, mine_left}
+use Rattle.transactions.proofs.LaterViews.{went_on}
 use Rattle.transactions.proofs.Plain.{plain_run}
 use Rattle.transactions.proofs.Tries.{rebased}
 
@@ -40,7 +42,7 @@ cancelled_goes R failures.Tries is = absurd is
 module _ {R E : Type 0} where
   -- after transactions that left nothing
   pub left_after : (old mid new : Lent) (told : Result (Value R) (Failed E)) → IsKept old mid → IsLeft (mine_left (mine_of mid) told) mid new → IsLeft (mine_left (mine_of old) told) old new
-  left_after old mid new told was now = record { words = now.words ∙ was.words; mine_is = now.mine_is ∙ ap (λ (m : List ℕ). mine_left m told) was.mine_is; looks = omega (arith, was.looks, now.looks) }
+  left_after old mid new told was now = record { words = now.words ∙ was.words; mine_is = now.mine_is ∙ ap (λ (m : List ℕ). mine_left m told) was.mine_is; went = went_on (view_of old.thread.pass) (view_of mid.thread.pass) (view_of new.thread.pass) was.went now.went }
 
   pub tried_after : (told : Result (Value R) (Failed E)) (looked looks left tries tried : ℕ) → IfErr told (λ why. why ≡ failures.Tries → looks + tries ≤ left) → looked ≤ looks → tries ≡ tried → IfErr told (λ why. why ≡ failures.Tries → looked + tried ≤ left)
   tried_after (Ok done) looked looks left tries tried t more same = tt

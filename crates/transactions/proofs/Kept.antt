@@ -1,5 +1,5 @@
 -- What a call of a body keeps.
-use Rattle.std.proofs.Common.{◌≡◌, ℕ, false, Option, None, Some, Result, Ok, Err, ap, refl, subst, sym}
+use Rattle.std.proofs.Common.{◌≡◌, ◌∙◌, ℕ, false, Option, None, Some, Result, Ok, Err, ap, refl, subst, sym}
 use Rattle.itm_types.specs.declared.call.Action.{Action}
 use Rattle.itm_types.specs.declared.call.Call.{Call}
 use Rattle.itm_types.specs.declared.call.Call.TheVariants.{Commit, CommitAction, UndoAction}
@@ -17,10 +17,12 @@ use Rattle.shared_words.specs.InGlobal.{Words}
 use Rattle.shared_words.specs.Passes.{Owns, view_of}
 use Rattle.itm_runtime.specs.CallResults.{Tells}
 use Rattle.itm_runtime.specs.Standing.{Standing, start_of}
-use Rattle.itm_runtime.specs.Served.{Served, came_over}
+use Rattle.itm_runtime.specs.Served.{Served, Went, came_over}
 use Rattle.itm_runtime.specs.Stops.{GoesOn, answer_to_read, answer_to_write}
 use Rattle.itm_runtime.specs.declared.stop.Stop.{Stop}
 use Rattle.itm_runtime.specs.declared.stop.Stop.TheVariants.{Refused, Conflict, Restarted, Busy, Full, Memory}
+use Rattle.transactions.specs.Lent.{IsKept, Lent, mine_of}
+use Rattle.transactions.proofs.LaterViews.{went_self}
 use Rattle.transactions.proofs.Modes.{KeepsMode, stays_revocable}
 
 module _ (words : Words) (old : Standing) (call : Call) (new : Standing) where
@@ -50,6 +52,25 @@ module _ (words : Words) (old : Standing) (call : Call) (new : Standing) where
   pub mine_of_write : (r : Result (Unit {0}) Stop) → Tells words old call (answer_to_write r) new → IsMine
   mine_of_write (Ok done) t = t.served.mine
   mine_of_write (Err stop) t = mine_at stop t
+
+  went_by : (told : Option Answer) → Tells words old call told new → Went (view_of old.pass) (view_of new.pass)
+  went_by (Some a) t = t.served.went
+  went_by None t = subst (λ (s : Standing). Went (view_of old.pass) (view_of s.pass)) (sym t.err) (went_self (view_of old.pass))
+
+-- the same of a transaction as it was lent
+module _ (inside now : Lent) (words : Words) (call : Call) (is : inside ≡ now) (new : Standing) where
+  kept_by : (told : Option Answer) → Tells words inside.thread call told new → (view_of new.pass).mine ≡ (view_of inside.thread.pass).mine → IsKept now (record { words = inside.words; thread = new })
+  kept_by told t mine = record {
+    words = ap (λ (l : Lent). l.words) is;
+    mine_is = mine ∙ ap mine_of is;
+    went = subst (λ (l : Lent). Went (view_of l.thread.pass) (view_of new.pass)) is (went_by words inside.thread call new told t);
+  }
+
+  pub kept_by_read : (r : Result ℕ Stop) → Tells words inside.thread call (answer_to_read r) new → IsKept now (record { words = inside.words; thread = new })
+  kept_by_read r t = kept_by (answer_to_read r) t (mine_of_read words inside.thread call new r t)
+
+  pub kept_by_write : (r : Result (Unit {0}) Stop) → Tells words inside.thread call (answer_to_write r) new → IsKept now (record { words = inside.words; thread = new })
+  kept_by_write r t = kept_by (answer_to_write r) t (mine_of_write words inside.thread call new r t)
 
 -- an action that was registered, where the transaction goes on
 registered : (r : Replied) (why : Option Refusal) → r ≡ reply_unless why Done → GoesOn (Reply r) → Reply r ≡ Reply Done

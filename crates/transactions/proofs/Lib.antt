@@ -4,6 +4,7 @@ mod Looks
 mod Tries
 mod WidthReads
 pub mod LastEngines
+pub mod LaterViews
 pub mod Within
 mod InnerBlocks
 mod BlockOutcomes

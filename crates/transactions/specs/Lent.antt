@@ -1,7 +1,8 @@
 -- What a body is lent, and leaves.
-use Rattle.std.specs.Prelude.{◌≡◌, ◌≤◌, ℕ, false, List}
+use Rattle.std.specs.Prelude.{◌≡◌, ℕ, false, List}
 use Rattle.shared_words.specs.InGlobal.{Words}
 use Rattle.shared_words.specs.Passes.{Owns, view_of}
+use Rattle.itm_runtime.specs.Served.{Went}
 use Rattle.itm_runtime.specs.Standing.{Standing}
 
 -- the words, and the thread whose transaction is open
@@ -22,11 +23,11 @@ mine_of l = (view_of l.thread.pass).mine
 abbrev pub looks_of : Lent → ℕ
 looks_of l = (view_of l.thread.pass).looks
 
--- the same words; the pass's own commits are these, and it has looked at the clock no fewer times
+-- the same words; the pass's own commits are these, and what it knows of all commits has only grown
 pub record IsLeft (mine : List ℕ) (old new : Lent) : Type 0 where
   pub words : new.words ≡ old.words
   pub mine_is : mine_of new ≡ mine
-  pub looks : looks_of old ≤ looks_of new
+  pub went : Went (view_of old.thread.pass) (view_of new.thread.pass)
 
 -- the same words, and the pass has made no commit
 abbrev pub IsKept : Lent → Lent → Type 0

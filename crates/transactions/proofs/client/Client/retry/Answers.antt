@@ -13,7 +13,7 @@ pub returns-then-not-is_cancelled-clause-left : goal.returns-then-not-is_cancell
 returns-then-not-is_cancelled-clause-left g c keeps = left_after c.args.self.now.transaction c.loop.self.transaction c.run-told.new.self.transaction c.run-told.result (c.loop.invariant.1 keeps).0 (c.run-told.ensures.left keeps)
 
 pub returns-then-not-is_cancelled-clause-tried : goal.returns-then-not-is_cancelled-clause-tried
-returns-then-not-is_cancelled-clause-tried g c keeps = tried_after c.run-told.result _ _ _ _ _ (c.run-told.ensures.tried keeps) (c.loop.invariant.1 keeps).0.looks c.loop.invariant.2
+returns-then-not-is_cancelled-clause-tried g c keeps = tried_after c.run-told.result _ _ _ _ _ (c.run-told.ensures.tried keeps) (c.loop.invariant.1 keeps).0.went.looks c.loop.invariant.2
 
 pub returns-then-not-is_cancelled-clause-waited : goal.returns-then-not-is_cancelled-clause-waited
 returns-then-not-is_cancelled-clause-waited g c keeps is = absurd (c.is_cancelled.ensures.no (search rules) is)
@@ -28,7 +28,7 @@ pub returns-clause-left : goal.returns-clause-left
 returns-clause-left g c keeps = left_after c.args.self.now.transaction c.loop.self.transaction c.run.new.self.transaction c.run.result (c.loop.invariant.1 keeps).0 (c.run.ensures.left keeps)
 
 pub returns-clause-tried : goal.returns-clause-tried
-returns-clause-tried g c keeps = tried_after c.run.result _ _ _ _ _ (c.run.ensures.tried keeps) (c.loop.invariant.1 keeps).0.looks c.loop.invariant.2
+returns-clause-tried g c keeps = tried_after c.run.result _ _ _ _ _ (c.run.ensures.tried keeps) (c.loop.invariant.1 keeps).0.went.looks c.loop.invariant.2
 
 pub returns-clause-waited : goal.returns-clause-waited
 returns-clause-waited g c keeps is =

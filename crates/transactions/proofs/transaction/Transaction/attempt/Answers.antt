@@ -2,9 +2,11 @@ use Rattle.std.proofs.Common.{◌∙◌, inl, inr, ap, Result, Ok, Err, refl, su
 use Rattle.std.specs.Fn.{CalledAtMut}
 use Rattle.shared_words.specs.Passes.{view_of}
 use Rattle.shared_words.specs.declared.pass.Pass.{Pass}
+use Rattle.itm_runtime.specs.Served.{Went}
 use Rattle.transactions.specs.declared.stopped.Stopped.{Stopped}
 use Rattle.transactions.specs.declared.stopped.Stopped.TheVariants.{Engine, Cancelled}
 use Rattle.transactions.specs.Runs.{mine_then, stop_told}
+use Rattle.transactions.proofs.LaterViews.{went_on}
 use Rattle.transactions.proofs.Looks.{or_not, or_so, stopped_looks}
 use Rattle.transactions.proofs.Tries.{cancelled_mine, stopped_mine}
 use Rattle.transactions.proofs.transaction.Transaction.attempt.Goals as goal
@@ -21,7 +23,7 @@ returns-in-Ok-body-clause-left g c keeps =
     record {
       words = c.ended.ensures.left.words ∙ kept.words ∙ c.begun.ensures.kept.words;
       mine_is = c.ended.ensures.left.mine_is ∙ ap (λ m. mine_then m c.ended.result) (kept.mine_is ∙ c.begun.ensures.kept.mine_is);
-      looks = omega (arith, c.begun.ensures.kept.looks, kept.looks, c.ended.ensures.left.looks);
+      went = went_on (view_of c.args.self.now.thread.pass) (view_of c.begun.new.self.thread.pass) (view_of c.ended.new.self.thread.pass) c.begun.ensures.kept.went (went_on (view_of c.begun.new.self.thread.pass) (view_of c.body.new.arg2.thread.pass) (view_of c.ended.new.self.thread.pass) kept.went c.ended.ensures.left.went);
     }
 
 pub returns-in-Err-Engine-clause-tells : goal.returns-in-Err-Engine-clause-tells
@@ -36,7 +38,7 @@ returns-in-Err-Engine-clause-left g c keeps =
     record {
       words = c.stopped.ensures.words ∙ kept.words ∙ c.begun.ensures.kept.words;
       mine_is = ap (λ (p : Pass). (view_of p).mine) c.stopped.ensures.given_up.pass ∙ kept.mine_is ∙ c.begun.ensures.kept.mine_is ∙ sym (stopped_mine _ c.stopped.result c.in-Err-Engine.why _ c.stopped.ensures.told);
-      looks = omega (arith, c.begun.ensures.kept.looks, kept.looks, ap (λ (p : Pass). (view_of p).looks) c.stopped.ensures.given_up.pass);
+      went = subst (λ (p : Pass). Went (view_of c.args.self.now.thread.pass) (view_of p)) (sym c.stopped.ensures.given_up.pass) (went_on (view_of c.args.self.now.thread.pass) (view_of c.begun.new.self.thread.pass) (view_of c.body.new.arg2.thread.pass) c.begun.ensures.kept.went kept.went);
     }
 
 pub returns-in-Err-Cancelled-clause-tells : goal.returns-in-Err-Cancelled-clause-tells
@@ -51,7 +53,7 @@ returns-in-Err-Cancelled-clause-left g c keeps =
     record {
       words = c.cancelled.ensures.words ∙ kept.words ∙ c.begun.ensures.kept.words;
       mine_is = ap (λ (p : Pass). (view_of p).mine) c.cancelled.ensures.given_up.pass ∙ kept.mine_is ∙ c.begun.ensures.kept.mine_is ∙ sym (cancelled_mine _ c.cancelled.result c.in-Err-Cancelled.why _ c.cancelled.ensures.told);
-      looks = omega (arith, c.begun.ensures.kept.looks, kept.looks, ap (λ (p : Pass). (view_of p).looks) c.cancelled.ensures.given_up.pass);
+      went = subst (λ (p : Pass). Went (view_of c.args.self.now.thread.pass) (view_of p)) (sym c.cancelled.ensures.given_up.pass) (went_on (view_of c.args.self.now.thread.pass) (view_of c.begun.new.self.thread.pass) (view_of c.body.new.arg2.thread.pass) c.begun.ensures.kept.went kept.went);
     }
 
 pub returns-in-Err-clause-tells : goal.returns-in-Err-clause-tells
@@ -62,23 +64,23 @@ pub returns-in-Err-clause-left : goal.returns-in-Err-clause-left
 returns-in-Err-clause-left g c keeps = record {
   words = c.stopped-in-Err.ensures.words ∙ c.begun.ensures.kept.words;
   mine_is = ap (λ (p : Pass). (view_of p).mine) c.stopped-in-Err.ensures.given_up.pass ∙ c.begun.ensures.kept.mine_is ∙ sym (stopped_mine _ c.stopped-in-Err.result _ _ c.stopped-in-Err.ensures.told);
-  looks = omega (arith, c.begun.ensures.kept.looks, ap (λ (p : Pass). (view_of p).looks) c.stopped-in-Err.ensures.given_up.pass);
+  went = subst (λ (p : Pass). Went (view_of c.args.self.now.thread.pass) (view_of p)) (sym c.stopped-in-Err.ensures.given_up.pass) c.begun.ensures.kept.went;
 }
 
 pub returns-in-Ok-body-clause-looks : goal.returns-in-Ok-body-clause-looks
 returns-in-Ok-body-clause-looks g c keeps goes =
     let kept = keeps _ _ _ _ _ (record { shown = _; shows = refl; left = _; called = c.body.ensures; leaves = refl }) in
-    omega (arith, c.in-Ok.ensures.looks, kept.looks, c.ended.ensures.left.looks)
+    omega (arith, c.in-Ok.ensures.looks, kept.went.looks, c.ended.ensures.left.went.looks)
 
 pub returns-in-Err-Engine-clause-looks : goal.returns-in-Err-Engine-clause-looks
 returns-in-Err-Engine-clause-looks g c keeps goes =
     let kept = keeps _ _ _ _ _ (record { shown = _; shows = refl; left = _; called = c.body.ensures; leaves = refl }) in
-    omega (arith, c.in-Ok.ensures.looks, kept.looks, ap (λ (p : Pass). (view_of p).looks) c.stopped.ensures.given_up.pass)
+    omega (arith, c.in-Ok.ensures.looks, kept.went.looks, ap (λ (p : Pass). (view_of p).looks) c.stopped.ensures.given_up.pass)
 
 pub returns-in-Err-Cancelled-clause-looks : goal.returns-in-Err-Cancelled-clause-looks
 returns-in-Err-Cancelled-clause-looks g c keeps goes =
     let kept = keeps _ _ _ _ _ (record { shown = _; shows = refl; left = _; called = c.body.ensures; leaves = refl }) in
-    omega (arith, c.in-Ok.ensures.looks, kept.looks, ap (λ (p : Pass). (view_of p).looks) c.cancelled.ensures.given_up.pass)
+    omega (arith, c.in-Ok.ensures.looks, kept.went.looks, ap (λ (p : Pass). (view_of p).looks) c.cancelled.ensures.given_up.pass)
 
 pub returns-in-Err-clause-looks : goal.returns-in-Err-clause-looks
 returns-in-Err-clause-looks g c keeps goes =

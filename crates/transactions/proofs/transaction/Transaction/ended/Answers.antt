@@ -1,4 +1,4 @@
-use Rattle.std.proofs.Common.{◌≡◌, ◌≤◌, ◌∙◌, inl, ap, false, refl, subst, sym}
+use Rattle.std.proofs.Common.{◌≡◌, ◌∙◌, inl, ap, false, refl, subst, sym}
 use Rattle.itm_types.specs.declared.call.Call.TheVariants.{Commit}
 use Rattle.norec_core.specs.declared.answer.Answer.{Answer}
 use Rattle.norec_core.specs.Core.{Core}
@@ -6,8 +6,9 @@ use Rattle.shared_words.specs.InGlobal.{Words}
 use Rattle.shared_words.specs.Passes.{Owns, view_of}
 use Rattle.shared_words.specs.declared.pass.Pass.{Pass}
 use Rattle.itm_runtime.specs.CallResults.{IsAnswered}
+use Rattle.itm_runtime.specs.Served.{Went}
 use Rattle.itm_runtime.specs.Standing.{Standing, start_of}
-use Rattle.transactions.specs.Lent.{Lent, looks_of, mine_of}
+use Rattle.transactions.specs.Lent.{Lent, mine_of}
 use Rattle.transactions.specs.Runs.{LeftBy, commit_told}
 use Rattle.transactions.proofs.Tries.{again_told, gave_up}
 use Rattle.transactions.proofs.Modes.{keeps_commit, mine_stays, stays_revocable}
@@ -34,7 +35,7 @@ returns-in_default g c = record {
   left = record {
     words = c.give_up.ensures.words ∙ ap (λ (l : Lent). l.words) c.self.view_is;
     mine_is = ap (λ (p : Pass). (view_of p).mine) c.give_up.ensures.given_up.pass ∙ c.commit.ensures.answered.served.mine ∙ mine_stays c.commit.result _ c.in_default.not-Committed ∙ ap mine_of c.self.view_is;
-    looks = subst (λ (l : Lent). looks_of l ≤ looks_of c.give_up.new.self) c.self.view_is (subst (λ (p : Pass). (view_of c.self.inside.thread.pass).looks ≤ (view_of p).looks) (sym c.give_up.ensures.given_up.pass) c.commit.ensures.answered.served.went.looks);
+    went = subst (λ (l : Lent). Went (view_of l.thread.pass) (view_of c.give_up.new.self.thread.pass)) c.self.view_is (subst (λ (p : Pass). Went (view_of c.self.inside.thread.pass) (view_of p)) (sym c.give_up.ensures.given_up.pass) c.commit.ensures.answered.served.went);
   };
   ends = record {
     answer = c.commit.result;

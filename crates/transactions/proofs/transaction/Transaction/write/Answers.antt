@@ -1,9 +1,14 @@
 use Rattle.itm_types.specs.declared.access.WriteHint.TheVariants.{W}
 use Rattle.itm_types.specs.declared.call.Call.TheVariants.{Write}
 use Rattle.itm_runtime.specs.Stops.{answer_to_write}
+use Rattle.transactions.proofs.Kept.{kept_by_write}
 use Rattle.transactions.proofs.Within.{lent_within}
 use Rattle.transactions.proofs.transaction.Transaction.write.Goals as goal
 
 pub returns-clause-within : goal.returns-clause-within
 returns-clause-within c =
     lent_within (record { words = c.self.inside.words.value; thread = c.self.inside.thread }) c.args.self.now c.deref.result.now (Write W c.args.at c.args.value.now) tt c.self.view_is (answer_to_write c.write_value.result) c.write_value.new.self c.write_value.ensures c.self.invariant.revocable
+
+pub returns-clause-kept : goal.returns-clause-kept
+returns-clause-kept c =
+    kept_by_write (record { words = c.self.inside.words.value; thread = c.self.inside.thread }) c.args.self.now c.deref.result.now (Write W c.args.at c.args.value.now) c.self.view_is c.write_value.new.self c.write_value.result c.write_value.ensures
