@@ -36,40 +36,41 @@ module _ {F T : Type 0} (fn : Shared F (ℕ × (MutBor Client × Unit {0})) (T �
   abbrev pub KeepsWords : Type 0
   KeepsWords = (n : ℕ) (lent left : MutBor Client) (r : T) → fn.post f (n, (lent, tt)) (r, (left, tt)) → left.now.transaction.words ≡ lent.now.transaction.words
 
-  -- as the thread of this number the body was lent a client over these words that had committed nothing, gave this, and handed it back with what its pass then knew
-  pub record HasRun (words : Words) (n : ℕ) (r : T) (v : View) : Type 0 where
+  -- as the thread of this number the body was lent a client over these words, whose commits begin from this memory, and that had committed nothing; it gave this, and handed the client back with what its pass then knew
+  pub record HasRun (words : Words) (base : List ℕ) (n : ℕ) (r : T) (v : View) : Type 0 where
     pub lent : MutBor Client
     pub left : MutBor Client
     pub here : lent.now.transaction.words ≡ words
+    pub base_is : (view_of lent.now.transaction.thread.pass).base ≡ base
     pub new : (view_of lent.now.transaction.thread.pass).mine ≡ []
     pub runs : fn.post f (n, (lent, tt)) (r, (left, tt))
     pub ends : v ≡ view_of left.now.transaction.thread.pass
 
   -- so of each thread from this number on
-  abbrev pub EachHasRun : Words → ℕ → List T → List View → Type 0
-  EachHasRun words n [] [] = Unit {0}
-  EachHasRun words n (r ∷ rs) (v ∷ vs) = HasRun words n r v × EachHasRun words (suc n) rs vs
-  EachHasRun words n [] (v ∷ vs) = ⊥
-  EachHasRun words n (r ∷ rs) [] = ⊥
+  abbrev pub EachHasRun : Words → List ℕ → ℕ → List T → List View → Type 0
+  EachHasRun words base n [] [] = Unit {0}
+  EachHasRun words base n (r ∷ rs) (v ∷ vs) = HasRun words base n r v × EachHasRun words base (suc n) rs vs
+  EachHasRun words base n [] (v ∷ vs) = ⊥
+  EachHasRun words base n (r ∷ rs) [] = ⊥
 
   -- what so many threads from this number on gave; their commits are those of the pass that they came back as, which has seen what each of them has
-  pub record AreServed (words : Words) (n count : ℕ) (values : List T) (pass : Pass) : Type 0 where
+  pub record AreServed (words : Words) (base : List ℕ) (n count : ℕ) (values : List T) (pass : Pass) : Type 0 where
     pub own : Owns words pass
     pub idle : (view_of pass).holds ≡ false
     pub count_is : length values ≡ count
     pub views : List View
-    pub each : EachHasRun words n values views
+    pub each : EachHasRun words base n values views
     pub mine : (view_of pass).mine ≡ flat_map (λ (v : View). v.mine) views
     pub begin : AllBegin (view_of pass).seen views
 
-  -- so many threads ran the body over words of these bytes and gave these values. All commits are theirs, each position that of one thread; each thread has seen first ones of them, and the clock and the bytes are as all commits have left them
+  -- so many threads ran the body over words of these bytes and gave these values. All commits begin from these bytes and are theirs, each position that of one thread; each thread has seen first ones of them, and the clock and the bytes are as all commits have left them
   pub record HaveRun (count : ℕ) (old : List ℕ) (values : List T) (clock : ℕ) (new : List ℕ) : Type 0 where
     pub words : Words
     pub count_is : length values ≡ count
     pub views : List View
-    pub each : EachHasRun words 0 values views
     pub whole : View
     pub bytes : bytes_of whole.base ≡ old
+    pub each : EachHasRun words whole.base 0 values views
     pub mine : whole.mine ≡ flat_map (λ (v : View). v.mine) views
     pub begin : AllBegin whole.seen views
     pub ends : EndsWith whole clock new

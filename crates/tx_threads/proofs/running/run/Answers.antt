@@ -1,5 +1,6 @@
-use Rattle.std.proofs.Common.{◌≡◌, ◌∙◌, ◌+◌, ◌-◌, ℕ, ap, arith, subst}
+use Rattle.std.proofs.Common.{◌≡◌, ◌∙◌, ◌+◌, ◌-◌, ℕ, ap, arith, subst, sym}
 use Rattle.itm_types.specs.Memory.{bytes_of}
+use Rattle.shared_words.specs.Passes.{view_of}
 use Rattle.shared_words.specs.declared.view.View.{View}
 use Rattle.tx_threads.specs.Threads.{HaveRun}
 use Rattle.tx_threads.proofs.Runs.{all_run}
@@ -11,5 +12,6 @@ returns-clause-run g c =
     let clock = c.in_ok-clock.clock in
     let trunk = c.split-trunk.ensures.second in
     let count : c.args.threads - 1 + 1 ≡ c.args.threads = omega (arith, c.requires.some) in
-    let bytes = ap (λ (v : View). bytes_of v.base) trunk ∙ c.in_ok-words.ensures.bytes in
-    subst (λ (n : ℕ). HaveRun g.F.Fn c.args.body.now n c.args.bytes.now values clock c.closed.new.bytes) count (all_run g.F.Fn c.args.body.now c.in-Ok.words.value (c.args.threads - 1 + 1) clock values c.split-trunk.result c.in_ok-served.served.pass c.args.bytes.now c.closed.new.bytes c.in_ok-served.ensures (ap (λ (v : View). v.mine) trunk) bytes c.in_ok-clock.ensures.ends)
+    let rest = ap (λ (v : View). v.base) c.split-trunk.ensures.first in
+    let bytes = ap bytes_of rest ∙ c.in_ok-words.ensures.bytes in
+    subst (λ (n : ℕ). HaveRun g.F.Fn c.args.body.now n c.args.bytes.now values clock c.closed.new.bytes) count (all_run g.F.Fn c.args.body.now c.in-Ok.words.value (view_of c.split-trunk.new.pass).base (c.args.threads - 1 + 1) clock values c.split-trunk.result c.in_ok-served.served.pass c.args.bytes.now c.closed.new.bytes c.in_ok-served.ensures (ap (λ (v : View). v.mine) trunk) (ap (λ (v : View). v.base) trunk ∙ sym rest) bytes c.in_ok-clock.ensures.ends)

@@ -12,5 +12,6 @@ returns g c =
     let kept = c.requires.keeps _ _ _ _ c.body-value.ensures in
     let thread = c.into_parts-words.ensures.thread in
     let pass = c.in_ok-served.ensures.pass ∙ c.in-Ok-into_parts.ensures.pass in
+    let lent = c.new-client.ensures.thread in
     let own = subst (λ (w : Words). Owns w c.into_parts-words.result.1.pass) (c.into_parts-words.ensures.words ∙ kept ∙ here) c.into_parts-words.ensures.own in
-    one_served g.F.Fn c.args.body.now c.args.words.now.value _ _ c.body-value.ensures here (ap (λ (t : Standing). (view_of t.pass).mine) c.new-client.ensures.thread ∙ ap (λ (p : Pass). (view_of p).mine) c.in-Ok.ensures.pass ∙ c.requires.new.mine) (pass ∙ ap (λ (t : Standing). t.pass) thread) (subst (λ (p : Pass). Owns c.args.words.now.value p) (sym pass) own) (ap (λ (p : Pass). (view_of p).holds) c.in_ok-served.ensures.pass ∙ c.in-Ok-into_parts.ensures.idle) c.in_ok-served.ensures.values
+    one_served g.F.Fn c.args.body.now c.args.words.now.value (view_of c.args.pass).base _ _ c.body-value.ensures here (ap (λ (t : Standing). (view_of t.pass).base) lent ∙ ap (λ (p : Pass). (view_of p).base) c.in-Ok.ensures.pass) (ap (λ (t : Standing). (view_of t.pass).mine) lent ∙ ap (λ (p : Pass). (view_of p).mine) c.in-Ok.ensures.pass ∙ c.requires.new.mine) (pass ∙ ap (λ (t : Standing). t.pass) thread) (subst (λ (p : Pass). Owns c.args.words.now.value p) (sym pass) own) (ap (λ (p : Pass). (view_of p).holds) c.in_ok-served.ensures.pass ∙ c.in-Ok-into_parts.ensures.idle) c.in_ok-served.ensures.values
