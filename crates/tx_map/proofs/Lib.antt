@@ -1,8 +1,11 @@
 mod Bytes
 mod Examples
 mod Finds
+mod Histories
 mod Leads
 mod Machines
+mod Pairs
 mod Parts
-mod Ranges
 mod Searches
+mod Threads
+mod Written

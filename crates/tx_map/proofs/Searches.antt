@@ -4,7 +4,7 @@ use Rattle.std.proofs.lemmas.Bool.{cases_lt, cases_order}
 use Rattle.std.proofs.lemmas.Nat.{mod-mul-add, mod_below, div-add-mod'}
 use Rattle.tx_map.specs.Slots.{HasNo, Holds, IsMap, IsPut, Passes, Reaches, Slots, slot_of}
 
-either : (a b : ℕ) → (a ≡ b) ⊎ (a ≢ b)
+pub either : (a b : ℕ) → (a ≡ b) ⊎ (a ≢ b)
 either a b = by (cases_order a b)
   where
     by : (a ≡ b) ⊎ ((a < b) ⊎ (b < a)) → (a ≡ b) ⊎ (a ≢ b)
@@ -34,9 +34,6 @@ comes_by count key i h = by (cases_lt i home)
         let n : ℕ = i + count - home in
         let e : key + n ≡ (key / count + 1) * count + i = omega (arith, split) in
         (n, omega (arith, low), ap (λ k. k % count) e ∙ mod-mul-add (key / count + 1) count i h)
-
-pub held_at : (count : ℕ) (slots : Slots) (pair : ℕ × ℕ) (i : ℕ) → i < count → slots i ≡ pair → Holds count slots pair.0 pair.1
-held_at count slots pair i few is = record { at = i; within = few; key_is = ap (λ (x : ℕ × ℕ). x.0) is; value_is = ap (λ (x : ℕ × ℕ). x.1) is }
 
 pub slot_below : (count key n : ℕ) → n < count → slot_of count key n < count
 slot_below count key n h = mod_below (key + n) count (omega arith)

@@ -1,5 +1,5 @@
 -- Puts into a map, and looks at it.
-use Rattle.std.specs.Prelude.{◌≡◌, ℕ, ◌+◌, ◌*◌, ◌<◌, List, Option}
+use Rattle.std.specs.Prelude.{◌≡◌, ℕ, List, Option}
 use Rattle.tx_map.specs.declared.table.Put.{Put}
 use Rattle.tx_map.specs.declared.table.Put.TheVariants.{Added, Again, Full}
 use Rattle.tx_map.specs.Slots.{HasNo, Holds, IsGot, IsPut}
@@ -24,7 +24,3 @@ HasPut first count key value put old new = HasMap first count old → IsPutIn fi
 pub record HasGot (first count key : ℕ) (got : Option ℕ) (old new : List ℕ) : Type 0 where
   pub same : new ≡ old
   pub told : HasMap first count old → IsGot count (slots_in old first) key got
-
--- each key that is put has its value
-abbrev pub HasPairs : ℕ → ℕ → ℕ → List ℕ → Type 0
-HasPairs first count keys bytes = (n : ℕ) → n < keys → Holds count (slots_in bytes first) (8 * n + 1) (n + 1_000)

@@ -1,14 +1,18 @@
 -- What a transaction that is told of has done to the bytes.
-use Rattle.std.specs.Prelude.{ℕ, suc, ◌≤◌, if◌then◌else◌, List, length}
+use Rattle.std.specs.Prelude.{ℕ, suc, ◌<◌, ◌≤◌, if◌then◌else◌, List, length, Option, None, IsSome, slice_index_or}
 use Rattle.itm_types.specs.Memory.{bytes_of}
+use Rattle.shared_words.specs.declared.view.View.{View}
 use Rattle.shared_words.specs.Passes.{view_of}
 use Rattle.itm_runtime.specs.Standing.{Standing}
 use Rattle.itm_runtime.specs.Ties.{memory_of}
 use Rattle.transactions.specs.declared.tried.Done.{Done}
 
 -- the bytes that so many first commits have left
+abbrev pub bytes_in : View → ℕ → List ℕ
+bytes_in v n = bytes_of (memory_of v n)
+
 abbrev pub bytes_at : Standing → ℕ → List ℕ
-bytes_at t n = bytes_of (memory_of (view_of t.pass) n)
+bytes_at t n = bytes_in (view_of t.pass) n
 
 -- how many commits there are with the one that is told, if it wrote
 abbrev pub commits_with : {R : Type 0} → Done R → ℕ
@@ -18,3 +22,7 @@ commits_with done = if done.wrote then suc done.at else done.at
 pub record HasLed {R : Type 0} (So : R → List ℕ → List ℕ → Type 0) (done : Done R) (new : Standing) : Type 0 where
   pub seen : commits_with done ≤ length (view_of new.pass).seen
   pub so : So done.value (bytes_at new done.at) (bytes_at new (commits_with done))
+
+-- each thread tells something
+abbrev pub AllTell : List (Option ℕ) → Type 0
+AllTell told = (k : ℕ) → k < length told → IsSome (slice_index_or told k None)

@@ -1,18 +1,21 @@
 //! A hash map that four threads write at once. Proved: at its place among all commits, each put that is told of leaves bytes
-//! of a map with that put done, if it found a map there, and each look tells what is there. Tested: at the end all is there.
+//! of a map with that put done, if it found a map there, and each look tells what is there; where each thread finds what it
+//! has put, all commits leave a map of all keys, each with its value, and of no other key.
 #![tactic(auto)]
 
-ghost use Rattle.std.specs.Prelude.{◌≡◌, ◌+◌, ◌*◌, ◌≤◌, ◌<◌, IfOk, IsTrue};
+ghost use Rattle.std.specs.Prelude.{◌≡◌, ◌+◌, ◌*◌, ◌%◌, ◌≤◌, ◌<◌, IfOk, IfSome};
 ghost use Rattle.transactions.specs.Lent.{IsLeft, mine_of};
 ghost use Rattle.transactions.specs.Runs.{mine_left};
-ghost use Rattle.tx_map.specs.Puts.{HasGot, HasPairs, HasPut};
+ghost use Rattle.tx_map.specs.Pairs.{HasAllPairs};
+ghost use Rattle.tx_map.specs.Puts.{HasGot, HasPut};
 ghost use Rattle.tx_map.specs.Tables.{IsEmpty};
-ghost use Rattle.tx_map.specs.Told.{HasLed};
+ghost use Rattle.tx_map.specs.Told.{AllTell, HasLed};
+ghost use Rattle.tx_map.specs.Written.{HasWritten};
 
 mod table;
 
 use crate::table::{Pair, Put, Table};
-use anyhow::{Context, Result, ensure};
+use anyhow::{Context, Result};
 use std::alloc::{AllocError, Global};
 use std::thread::Threads;
 use transactions::{Client, Done, Failed};
@@ -50,18 +53,41 @@ fn pair_of(number: u32) -> Pair
     (8 * number + 1, number + 1000)
 }
 
-/// What a thread does: it puts its keys and looks for each. It tells how many were new, or nothing where one is not found.
+/// Puts the pair of this number and looks for it. Tells what came of the put, or nothing where the pair is not found.
+fn put_pair(client: &mut Client, table: &Table, number: u32) -> Option<Put>
+    requires { number < KEYS }
+    ensures words { client.new.transaction.words ≡ client.old.transaction.words }
+    ensures written { IfSome result (λ _. HasWritten table.now.slots.first table.now.slots.count KEYS number 1 client.old.transaction client.new.transaction) }
+{
+    let (key, value) = pair_of(number);
+    let told = put(client, table, key, value).ok()?;
+    let found = get(client, table, key).ok()?;
+    if found.value != Some(value) {
+        return None;
+    }
+    Some(told.value)
+}
+
+/// What a thread does: it puts its pairs and looks for each. It tells how many were new, or nothing where one is not found.
 fn write_all(client: &mut Client, table: &Table, thread: usize) -> Option<u64>
-    ensures { client.new.transaction.words ≡ client.old.transaction.words }
+    ensures words { client.new.transaction.words ≡ client.old.transaction.words }
+    ensures written { IfSome result (λ _. HasWritten table.now.slots.first table.now.slots.count KEYS (32 * (thread % 4)) 64 client.old.transaction client.new.transaction) }
 {
     let mut added = 0u64;
     for n in 0..64 {
-        let (key, value) = pair_of(32 * (thread % 4) as u32 + n);
-        let told = put(client, table, key, value).ok()?;
-        if get(client, table, key).ok()?.value != Some(value) {
-            return None;
-        }
-        added = added.saturating_add(u64::from(told.value == Put::Added));
+        let told = put_pair(client, table, 32 * (thread % 4) as u32 + n)?;
+        added = added.saturating_add(u64::from(told == Put::Added));
+    }
+    Some(added)
+}
+
+/// How many puts of all threads were of new keys, or nothing where a thread tells nothing.
+fn added_by(told: &[Option<u64>]) -> Option<u64>
+    ensures { IfSome result (λ _. AllTell told.now) }
+{
+    let mut added = 0u64;
+    for by_one in told {
+        added = added.saturating_add((*by_one)?);
     }
     Some(added)
 }
@@ -74,34 +100,28 @@ fn empty(alloc: Global, table: &Table, size: usize) -> Result<Vec<u8>, AllocErro
     vec![in alloc; 0u8; size]
 }
 
-/// Whether the bytes have each key with its value.
-fn has_all(bytes: &[u8], table: &Table) -> bool
-    ensures { IsTrue result → HasPairs table.now.slots.first table.now.slots.count KEYS bytes.now }
+/// Four threads write into the bytes. Tells how many puts were of a new key, and how many transactions wrote.
+fn write_together<R: Threads + Sync>(
+    rt: &R,
+    alloc: Global,
+    table: &Table,
+    bytes: &mut [u8],
+) -> Result<(u64, u64)>
+    requires { IsEmpty table.now.slots.first table.now.slots.count bytes.old }
+    ensures { IfOk result (λ _. HasAllPairs table.now.slots.first table.now.slots.count KEYS bytes.new) }
 {
-    (0..KEYS).all(|number| table.has(bytes, pair_of(number)))
-}
-
-/// Four threads write. Tells how many puts were of a new key, and how many transactions wrote.
-fn write_together<R: Threads + AllocGlobal + Sync>(rt: &R) -> Result<(u64, u64)> {
-    let alloc = rt.alloc();
-    let mut places = Places::new();
-    let table = Table::new(&mut places, 256).context("no room for the map")?;
-    let mut bytes = empty(alloc, &table, places.size())?;
-    let write = |thread, client: &mut Client| write_all(client, &table, thread);
-    let joined = run(rt, alloc, bytes.as_mut_slice(), 4, u64::MAX, &write)?;
-    let mut added = 0u64;
-    for told in &joined.values {
-        added = added.saturating_add((*told).context("a key is lost")?);
-    }
-    ensure!(
-        has_all(bytes.as_slice(), &table),
-        "a key is not in the bytes"
-    );
+    let write = |thread, client: &mut Client| write_all(client, table, thread);
+    let joined = run(rt, alloc, bytes, 4, u64::MAX, &write)?;
+    let added = added_by(joined.values.as_slice()).context("a key is lost")?;
     Ok((added, joined.clock / 2))
 }
 
 fn main(rt: HostRuntime) -> Result<()> {
-    let (added, commits) = write_together(&rt)?;
+    let alloc = rt.alloc();
+    let mut places = Places::new();
+    let table = Table::new(&mut places, 256).context("no room for the map")?;
+    let mut bytes = empty(alloc, &table, places.size())?;
+    let (added, commits) = write_together(&rt, alloc, &table, bytes.as_mut_slice())?;
     println!(rt; "{added} of {commits} puts were of new keys, {KEYS} are in the bytes")?;
     Ok(())
 }

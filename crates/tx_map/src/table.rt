@@ -1,12 +1,10 @@
 //! A hash map in transactional memory.
 
-ghost use Rattle.std.specs.Prelude.{◌≡◌, ◌+◌, ◌*◌, ◌%◌, ◌<◌, IfOk, IfSome, IsTrue};
+ghost use Rattle.std.specs.Prelude.{◌≡◌, ◌+◌, ◌*◌, ◌%◌, ◌<◌, IfOk, IfSome};
 ghost use Rattle.transactions.specs.Lent.{IsKept};
 ghost use Rattle.tx_map.specs.Finds.{HasFound};
 ghost use Rattle.tx_map.specs.Plainly.{Does};
 ghost use Rattle.tx_map.specs.Puts.{HasGot, HasPut};
-ghost use Rattle.tx_map.specs.Slots.{Holds};
-ghost use Rattle.tx_map.specs.Tables.{HasMap, slots_in};
 
 use itm_runtime::Stop;
 use transactions::Transaction;
@@ -79,13 +77,5 @@ impl Table {
             Some((_, pair)) if pair.0 == key => Ok(Some(pair.1)),
             _ => Ok(None),
         }
-    }
-
-    /// Whether some slot has the pair in these bytes.
-    pub fn has(&self, bytes: &[u8], pair: Pair) -> bool
-        ensures sound { IsTrue result → Holds self.now.slots.count (slots_in bytes.now self.now.slots.first) pair.0 pair.1 }
-        ensures whole { HasMap self.now.slots.first self.now.slots.count bytes.now → Holds self.now.slots.count (slots_in bytes.now self.now.slots.first) pair.0 pair.1 → IsTrue result }
-    {
-        (0..self.slots.count()).any(|number| self.slots.at(number).get(bytes) == Some(pair))
     }
 }
