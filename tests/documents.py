@@ -43,7 +43,7 @@ THREADS = re.compile(r"\b(?:std|core)\s*(?:::\s*(?:sync\b|thread\b|\*|\{[^;]*\b(
 
 # the crates that start threads or wait for them, and those of the kit that share nothing between threads
 THREADED = {"tx_host", "run_commands", "itmrun", "bank", "tx_map", "bench_loads", "large_words", "thread_tests", "client_tests", "itm_c", "transactions", "tx_threads"}
-UNSHARED = {"arrayvec", "clap", "hex", "indexmap", "itoa", "smallvec", "std_alloc", "thiserror"}
+UNSHARED = {"anyhow", "arrayvec", "clap", "hex", "indexmap", "itoa", "smallvec", "std_alloc", "thiserror"}
 
 HINTS = {"R": ["R", "RaR", "RaW", "RfW"], "W": ["W", "WaR", "WaW"]}
 TYPES = ["U1", "U2", "U4", "U8", "F", "D", "M64", "M128", "M256", "CF", "CD"]
