@@ -1,5 +1,5 @@
 -- A transfer's calls, by what each of them tells.
-use Rattle.std.proofs.Common.{◌≡◌, ℕ, ◌+◌, ◌-◌, Result, Ok, Err, false, ap, refl, subst, sym}
+use Rattle.std.proofs.Common.{◌≡◌, ℕ, ◌-◌, ◌<◌, ◌≤◌, ◌^◌, [], ◌∷◌, Result, Ok, Err, false, ap, refl, subst, sym}
 use Rattle.itm_types.specs.declared.access.ReadHint.TheVariants.{R}
 use Rattle.itm_types.specs.declared.access.WriteHint.TheVariants.{W}
 use Rattle.itm_types.specs.declared.access.Width.TheVariants.{U8}
@@ -17,7 +17,9 @@ use Rattle.itm_runtime.specs.declared.stop.Stop.{Stop}
 use Rattle.typed_cells.specs.Reads.{read_as}
 use Rattle.bank.specs.declared.transfer.Transfer.{Transfer}
 use Rattle.bank.specs.declared.transfer.TheConstants.{RECEIPT}
-use Rattle.bank.specs.Transfers.{CanMove, IsMade}
+use Rattle.transactions.specs.Plain.{Calls, block_of}
+use Rattle.transactions.proofs.Deeds.{makes_then}
+use Rattle.bank.specs.Transfers.{HasPaidIn, IsMade, deeds_of_payment}
 
 -- the call was answered by this reply
 abbrev pub Replies : Words → Standing → Call → Replied → Standing → Type 0
@@ -45,12 +47,21 @@ over w words old new call r e a = subst (λ (v : Words). Replies v old call r ne
 pub write_replied : (w words : Words) (old new : Standing) (at n m : ℕ) → w ≡ words → n ≡ m → Replies w old (Write W at (number n)) Done new → Replies words old (Write W at (number m)) Done new
 write_replied w words old new at n m e is a = subst (λ (k : ℕ). Replies words old (Write W at (number k)) Done new) is (over w words old new (Write W at (number n)) Done e a)
 
-pub made_by : (t : Transfer) (words : Words) (old a b d e new : Standing) (had has : ℕ) → CanMove t.amount had has
+pub made_by : (t : Transfer) (words : Words) (old a b e new : Standing) (had : ℕ) → had < 2 ^ 64 → t.amount ≤ had
     → Replies words old (Read R U8 t.from.place) (bytes_reply (bytes_of_number had)) a
     → Replies words a (Write W t.from.place (number (had - t.amount))) Done b
-    → Replies words b (Read R U8 t.to.place) (bytes_reply (bytes_of_number has)) d
-    → Replies words d (Write W t.to.place (number (has + t.amount))) Done e
+    → HasPaidIn t.to.place t.amount words b e
     → Replies words e (CommitAction (record { fun = RECEIPT; arg = t.amount })) Done new
     → IsMade t words old new
-made_by t words old a b d e new had has can r1 w1 r2 w2 last =
-    record { had = had; has = has; can = can; makes = (a, tt, r1, (b, tt, w1, (d, tt, r2, (e, tt, w2, (new, tt, last, refl))))) }
+made_by t words old a b e new had known enough r1 w1 paid last = record {
+  had = had;
+  has = paid.has;
+  can = record { known = known; enough = enough; room = paid.room };
+  gone = paid.gone;
+  makes = (
+    a,
+    tt,
+    r1,
+    (b, tt, w1, makes_then words b e new (block_of paid.gone (deeds_of_payment t.to.place t.amount paid.has)) (Calls (CommitAction (record { fun = RECEIPT; arg = t.amount })) Done ∷ []) paid.makes (new, tt, last, refl)),
+  );
+}

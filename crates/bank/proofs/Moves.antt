@@ -9,13 +9,13 @@ use Rattle.itm_types.specs.declared.access.Width.TheVariants.{U8}
 use Rattle.itm_types.specs.declared.call.Action.{Action}
 use Rattle.itm_types.specs.declared.call.ActionKind.TheVariants as kinds
 use Rattle.itm_types.specs.declared.call.Call.{Call}
-use Rattle.itm_types.specs.declared.call.Call.TheVariants.{Commit, CommitAction, Read, Write}
+use Rattle.itm_types.specs.declared.call.Call.TheVariants.{Begin, Commit, CommitAction, Read, Write}
 use Rattle.itm_types.specs.declared.call.Refusal.{Refusal}
 use Rattle.itm_types.specs.declared.call.Reply.{Reply}
 use Rattle.itm_types.specs.declared.call.Reply.TheVariants.{Done, Bytes, Code, Refused}
 use Rattle.itm_types.specs.declared.datum.Datum.{Datum}
 use Rattle.itm_types.specs.Slices.{slice}
-use Rattle.itm_model.specs.Machine.{after, after_unless, bytes_reply, refusal, reply_unless, with_action, written}
+use Rattle.itm_model.specs.Machine.{after, after_unless, bytes_reply, closed, effect, refusal, reply_unless, with_action, written}
 use Rattle.itm_model.specs.Runs.{replies, state_after}
 use Rattle.itm_model.specs.State.{State}
 use Rattle.shared_words.specs.InGlobal.{Words}
@@ -24,14 +24,14 @@ use Rattle.itm_runtime.specs.Standing.{Standing}
 use Rattle.itm_runtime.specs.Stops.{bytes_of_number, number}
 use Rattle.transactions.specs.Plain.{IsPlain, IsPlainRun, Makings, begun_at}
 use Rattle.transactions.specs.Lent.{Lent}
-use Rattle.transactions.specs.Runs.{KeepsBody}
+use Rattle.transactions.specs.Runs.{KeepsBody, usual}
 use Rattle.transactions.specs.declared.failed.Failed.{Failed}
 use Rattle.transactions.specs.declared.stopped.Stopped.{Stopped}
 use Rattle.transactions.specs.declared.tried.Done.{Done as Value}
 use Rattle.bank.specs.declared.transfer.Transfer.{Transfer}
 use Rattle.bank.specs.declared.transfer.Unmade.{Unmade}
 use Rattle.bank.specs.declared.transfer.TheConstants.{RECEIPT}
-use Rattle.bank.specs.Transfers.{CanMove, HasMoved, IsMade, calls_of_transfer}
+use Rattle.bank.specs.Transfers.{CanMove, HasMoved, IsMade, deeds_of_transfer}
 
 abbrev bytes_in : Reply → List ℕ
 bytes_in (Bytes value) = value.items
@@ -57,6 +57,10 @@ done_by : (o : Option Refusal) (s t : State) → Done ≡ reply_unless o Done �
 done_by None s t e = refl
 done_by (Some why) s t e = absurd (subst serves e tt)
 
+code_by : (o : Option Refusal) (s t : State) → Code 5 ≡ reply_unless o (Code 5) → after_unless o s t ≡ t
+code_by None s t e = refl
+code_by (Some why) s t e = absurd (subst serves e tt)
+
 module _ (d : ℕ) (s : State) (calls : List Call) (rs : List Reply) where
   pub read_first : (at : ℕ) (xs : List ℕ) → bytes_reply xs ∷ rs ≡ replies d s (Read R U8 at ∷ calls) → (slice s.memory at 8 ≡ xs) × (rs ≡ replies d s calls) × (state_after d s (Read R U8 at ∷ calls) ≡ state_after d s calls)
   read_first at xs e =
@@ -73,26 +77,42 @@ module _ (d : ℕ) (s : State) (calls : List Call) (rs : List Reply) where
       let by = done_by (refusal d s (CommitAction action)) s (with_action s kinds.Commit action) (ap (first_of (Code 0)) e) in
       (ap rest_of e ∙ ap (λ (t : State). replies d t calls) by, ap (λ (t : State). state_after d t calls) by)
 
-pub has_moved : (d : ℕ) (arena : List ℕ) (t : Transfer) (had has : ℕ) (done : Value (Unit {0})) (new : Standing) → CanMove t.amount had has → IsPlain d arena (calls_of_transfer t had has) done.at done.wrote new → HasMoved t done new
-has_moved d arena t had has done new can plain =
+  pub begin_first : Code 5 ∷ rs ≡ replies d s (Begin usual 0 ∷ calls) → (rs ≡ replies d (effect s (Begin usual 0)) calls) × (state_after d s (Begin usual 0 ∷ calls) ≡ state_after d (effect s (Begin usual 0)) calls)
+  begin_first e =
+      let by = code_by (refusal d s (Begin usual 0)) s (effect s (Begin usual 0)) (ap (first_of Done) e) in
+      (ap rest_of e ∙ ap (λ (t : State). replies d t calls) by, ap (λ (t : State). state_after d t calls) by)
+
+  pub commit_first : Done ∷ rs ≡ replies d s (Commit ∷ calls) → (rs ≡ replies d (closed s) calls) × (state_after d s (Commit ∷ calls) ≡ state_after d (closed s) calls)
+  commit_first e =
+      let by = done_by (refusal d s Commit) s (closed s) (ap (first_of (Code 0)) e) in
+      (ap rest_of e ∙ ap (λ (t : State). replies d t calls) by, ap (λ (t : State). state_after d t calls) by)
+
+pub has_moved : (d : ℕ) (arena : List ℕ) (t : Transfer) (had has : ℕ) (gone : List Action) (done : Value (Unit {0})) (new : Standing) → CanMove t.amount had has → IsPlain d arena (deeds_of_transfer t had has gone) done.at done.wrote new → HasMoved t done new
+has_moved d arena t had has gone done new can plain =
     let s = begun_at (view_of new.pass) done.at arena in
     let less = number (had - t.amount) in
     let more = number (has + t.amount) in
     let receipt : Action = record { fun = RECEIPT; arg = t.amount } in
     let last = CommitAction receipt ∷ [] in
-    let a = read_first d s (Write W t.from.place less ∷ Read R U8 t.to.place ∷ Write W t.to.place more ∷ last) (Done ∷ bytes_reply (bytes_of_number has) ∷ Done ∷ Done ∷ []) t.from.place (bytes_of_number had) plain.replied in
-    let b = write_first d s (Read R U8 t.to.place ∷ Write W t.to.place more ∷ last) (bytes_reply (bytes_of_number has) ∷ Done ∷ Done ∷ []) t.from.place less a.1 in
+    let paid = Read R U8 t.to.place ∷ Write W t.to.place more ∷ Commit ∷ last in
+    let told = bytes_reply (bytes_of_number has) ∷ Done ∷ Done ∷ Done ∷ [] in
+    let a = read_first d s (Write W t.from.place less ∷ Begin usual 0 ∷ paid) (Done ∷ Code 5 ∷ told) t.from.place (bytes_of_number had) plain.replied in
+    let b = write_first d s (Begin usual 0 ∷ paid) (Code 5 ∷ told) t.from.place less a.1 in
     let s' = written s t.from.place less.bytes.items in
-    let c = read_first d s' (Write W t.to.place more ∷ last) (Done ∷ Done ∷ []) t.to.place (bytes_of_number has) b.0 in
-    let e = write_first d s' last (Done ∷ []) t.to.place more c.1 in
-    let f = action_first d (written s' t.to.place more.bytes.items) [] [] receipt e.0 in
-    let state = a.2 ∙ b.1 ∙ c.2 ∙ e.1 ∙ f.1 in
-    let wrote : done.wrote ≡ true = plain.wrote_is ∙ ap (λ (u : State). (after d u Commit).wrote) state in
+    let begins = begin_first d s' paid told b.0 in
+    let u = effect s' (Begin usual 0) in
+    let c = read_first d u (Write W t.to.place more ∷ Commit ∷ last) (Done ∷ Done ∷ Done ∷ []) t.to.place (bytes_of_number has) begins.0 in
+    let e = write_first d u (Commit ∷ last) (Done ∷ Done ∷ []) t.to.place more c.1 in
+    let u' = written u t.to.place more.bytes.items in
+    let ends = commit_first d u' last (Done ∷ []) e.0 in
+    let f = action_first d (closed u') [] [] receipt ends.0 in
+    let state = a.2 ∙ b.1 ∙ begins.1 ∙ c.2 ∙ e.1 ∙ ends.1 ∙ f.1 in
+    let wrote : done.wrote ≡ true = plain.wrote_is ∙ ap (λ (v : State). (after d v Commit).wrote) state in
     let next = plain.next wrote in
     record {
       wrote = wrote;
       seen = next.0;
-      moved = record { had = had; has = has; can = can; had_is = a.0; less = _; less_is = refl; has_is = c.0; new_is = next.1 ∙ ap (λ (u : State). (after d u Commit).memory) state };
+      moved = record { had = had; has = has; can = can; had_is = a.0; less = _; less_is = refl; has_is = c.0; new_is = next.1 ∙ ap (λ (v : State). (after d v Commit).memory) state };
     }
 
 module _ {F : Type 0} (fn : Mut F (MutBor Lent × Unit {0}) (Result (Unit {0}) (Stopped Unmade) × (MutBor Lent × Unit {0}))) (transfer_of : F → Transfer) where
@@ -106,10 +126,10 @@ module _ {F : Type 0} (fn : Mut F (MutBor Lent × Unit {0}) (Result (Unit {0}) (
       (subst (λ (l : Lent). IsMade (transfer_of f) l.words l.thread run.left.now.thread) run.shows (made f run.shown run.left value f' run.called))
 
   makings_of : Made → Makings fn
-  makings_of made f x value f' x' run = let m = made_at made f x value f' x' run in (calls_of_transfer (transfer_of f) m.had m.has, m.makes)
+  makings_of made f x value f' x' run = let m = made_at made f x value f' x' run in (deeds_of_transfer (transfer_of f) m.had m.has m.gone, m.makes)
 
   pub all_moved : Made → KeepsBody fn → (first : F) (words : Words) (r : Result (Value (Unit {0})) (Failed Unmade)) (new : Standing) → ((makings : Makings fn) → IfOk r (λ done. IsPlainRun fn makings first words done new)) → IfOk r (λ done. HasMoved (transfer_of first) done new)
   unfolding makings_of
   all_moved made steady first words r new plain =
       IfOk-weaker r _ _ (λ done run. let m = made_at made run.body run.began done.value run.body' run.last run.runs in
-      subst (λ (f : F). HasMoved (transfer_of f) done new) (run.same steady) (has_moved run.began.thread.engine.depth run.began.thread.engine.arena (transfer_of run.body) m.had m.has done new m.can run.plain)) (plain (makings_of made))
+      subst (λ (f : F). HasMoved (transfer_of f) done new) (run.same steady) (has_moved run.began.thread.engine.depth run.began.thread.engine.arena (transfer_of run.body) m.had m.has m.gone done new m.can run.plain)) (plain (makings_of made))

@@ -1,11 +1,10 @@
 -- What a transfer that is made comes to.
-use Rattle.std.specs.Prelude.{◌≡◌, ℕ, suc, ◌+◌, ◌-◌, ◌<◌, ◌≤◌, ◌^◌, true, List, [], ◌∷◌, length}
+use Rattle.std.specs.Prelude.{◌≡◌, ℕ, suc, ◌+◌, ◌-◌, ◌<◌, ◌≤◌, ◌^◌, true, List, [], ◌∷◌, ◌++◌, length}
 use Rattle.itm_types.specs.declared.access.ReadHint.TheVariants.{R}
 use Rattle.itm_types.specs.declared.access.WriteHint.TheVariants.{W}
 use Rattle.itm_types.specs.declared.access.Width.TheVariants.{U8}
-use Rattle.itm_types.specs.declared.call.Call.{Call}
+use Rattle.itm_types.specs.declared.call.Action.{Action}
 use Rattle.itm_types.specs.declared.call.Call.TheVariants.{CommitAction, Read, Write}
-use Rattle.itm_types.specs.declared.call.Reply.{Reply}
 use Rattle.itm_types.specs.declared.call.Reply.TheVariants.{Done}
 use Rattle.itm_types.specs.Memory.{bytes_of}
 use Rattle.itm_types.specs.Slices.{slice, with_slice}
@@ -15,7 +14,9 @@ use Rattle.shared_words.specs.Passes.{view_of}
 use Rattle.itm_runtime.specs.Standing.{Standing}
 use Rattle.itm_runtime.specs.Stops.{bytes_of_number, number}
 use Rattle.itm_runtime.specs.Ties.{memory_of}
-use Rattle.transactions.specs.Plain.{Makes}
+use Rattle.transactions.specs.Blocks.{StaysWithin}
+use Rattle.transactions.specs.Lent.{Lent}
+use Rattle.transactions.specs.Plain.{Calls, Deed, Makes, block_of}
 use Rattle.transactions.specs.declared.tried.Done.{Done as Value}
 use Rattle.bank.specs.declared.transfer.Transfer.{Transfer}
 use Rattle.bank.specs.declared.transfer.TheConstants.{RECEIPT}
@@ -26,22 +27,44 @@ pub record CanMove (amount had has : ℕ) : Type 0 where
   pub enough : amount ≤ had
   pub room : has + amount < 2 ^ 64
 
--- the calls of a transfer that is made, with their replies
-abbrev pub calls_of_transfer : Transfer → ℕ → ℕ → List (Call × Reply)
-calls_of_transfer t had has =
-    (Read R U8 t.from.place, bytes_reply (bytes_of_number had))
-    ∷ (Write W t.from.place (number (had - t.amount)), Done)
-    ∷ (Read R U8 t.to.place, bytes_reply (bytes_of_number has))
-    ∷ (Write W t.to.place (number (has + t.amount)), Done)
-    ∷ (CommitAction (record { fun = RECEIPT; arg = t.amount }), Done)
+-- the deeds of the second account's part, which has this place
+abbrev pub deeds_of_payment : ℕ → ℕ → ℕ → List Deed
+deeds_of_payment place amount has =
+    Calls (Read R U8 place) (bytes_reply (bytes_of_number has))
+    ∷ Calls (Write W place (number (has + amount))) Done
     ∷ []
 
--- they led a thread from the one standing to the other
+-- the deeds of a transfer that is made: the second account's part is a block of its own
+abbrev pub deeds_of_transfer : Transfer → ℕ → ℕ → List Action → List Deed
+deeds_of_transfer t had has gone =
+    Calls (Read R U8 t.from.place) (bytes_reply (bytes_of_number had))
+    ∷ Calls (Write W t.from.place (number (had - t.amount))) Done
+    ∷ (block_of gone (deeds_of_payment t.to.place t.amount has) ++ Calls (CommitAction (record { fun = RECEIPT; arg = t.amount })) Done ∷ [])
+
+-- they led a thread from the one standing to the other: those of the part
+pub record IsPaidIn (place amount : ℕ) (words : Words) (old new : Standing) : Type 0 where
+  pub has : ℕ
+  pub room : has + amount < 2 ^ 64
+  pub makes : Makes words old (deeds_of_payment place amount has) new
+
+-- the part ends no block alone that was open
+pub record EndsNoBlock (old new : Lent) : Type 0 where
+  pub within : StaysWithin old new
+
+-- those of the part as a block
+pub record HasPaidIn (place amount : ℕ) (words : Words) (old new : Standing) : Type 0 where
+  pub has : ℕ
+  pub room : has + amount < 2 ^ 64
+  pub gone : List Action
+  pub makes : Makes words old (block_of gone (deeds_of_payment place amount has)) new
+
+-- those of the transfer
 pub record IsMade (t : Transfer) (words : Words) (old new : Standing) : Type 0 where
   pub had : ℕ
   pub has : ℕ
   pub can : CanMove t.amount had has
-  pub makes : Makes words old (calls_of_transfer t had has) new
+  pub gone : List Action
+  pub makes : Makes words old (deeds_of_transfer t had has gone) new
 
 -- of these bytes the amount has gone from the first account to the second one, and nothing else is changed
 pub record IsMoved (t : Transfer) (old new : List ℕ) : Type 0 where

@@ -2,7 +2,7 @@
 
 ghost use Rattle.std.specs.Prelude.{◌≡◌, IfOk};
 ghost use Rattle.transactions.specs.Lent.{IsKept};
-ghost use Rattle.bank.specs.Transfers.{HasMoved, IsMade};
+ghost use Rattle.bank.specs.Transfers.{EndsNoBlock, HasMoved, IsMade, IsPaidIn};
 
 use itm_types::Action;
 use transactions::{Client, Done, Failed, Stopped, Transaction};
@@ -23,7 +23,20 @@ pub struct Transfer {
 #[derive(Clone, Copy, Debug, Drop)]
 pub struct Unmade;
 
-/// The transfer within a transaction.
+/// The second account's part.
+fn pay_in(tx: &mut Transaction, to: Cell<u64>, amount: u64) -> Result<(), Stopped<Unmade>>
+    ensures kept { IsKept tx.old tx.new }
+    ensures ends { EndsNoBlock tx.old tx.new }
+    ensures made { IfOk result (λ _. IsPaidIn to.place amount tx.old.words tx.old.thread tx.new.thread) }
+{
+    let has = to.read(tx)?;
+    let more = has.checked_add(amount).ok_or(Stopped::Cancelled(Unmade))?;
+    to.write(tx, more)?;
+    Ok(())
+}
+
+/// The transfer within a transaction. The second account's part is a block of its own: where the limits allow it and another
+/// commit came between at that account alone, it alone is made again.
 fn move_amount(tx: &mut Transaction, transfer: Transfer) -> Result<(), Stopped<Unmade>>
     ensures kept { IsKept tx.old tx.new }
     ensures made { IfOk result (λ _. IsMade transfer tx.old.words tx.old.thread tx.new.thread) }
@@ -32,9 +45,9 @@ fn move_amount(tx: &mut Transaction, transfer: Transfer) -> Result<(), Stopped<U
     let had = from.read(tx)?;
     let less = had.checked_sub(amount).ok_or(Stopped::Cancelled(Unmade))?;
     from.write(tx, less)?;
-    let has = to.read(tx)?;
-    let more = has.checked_add(amount).ok_or(Stopped::Cancelled(Unmade))?;
-    to.write(tx, more)?;
+    if let Err(why) = tx.block(|tx| pay_in(tx, to, amount))? {
+        return Err(Stopped::Cancelled(why));
+    }
     let fun = RECEIPT;
     tx.on_commit(Action { fun, arg: amount })?;
     Ok(())

@@ -1,12 +1,12 @@
 -- What a block within a transaction comes to.
-use Rattle.std.proofs.Common.{◌≡◌, ◌∙◌, ◌⊎◌, inl, inr, ℕ, Bool, true, false, List, [], ◌∷◌, drop, length, None, Some, Result, Ok, Err, ap, refl, subst, sym, true≢false, arith, if◌then◌else◌}
+use Rattle.std.proofs.Common.{◌≡◌, ◌∙◌, ◌⊎◌, inl, inr, ℕ, Bool, true, false, List, [], ◌∷◌, ◌++◌, drop, length, None, Some, Result, Ok, Err, ap, refl, subst, sym, true≢false, arith}
 use Rattle.itm_types.specs.declared.call.Call.{Call}
 use Rattle.itm_types.specs.declared.call.Call.TheVariants.{Abort, Begin, Commit}
 use Rattle.itm_types.specs.declared.call.Refusal.{Refusal}
 use Rattle.itm_types.specs.declared.call.Refusal.TheVariants.{Outside}
 use Rattle.itm_types.specs.declared.call.Reply.{Reply as Replied}
 use Rattle.itm_types.specs.declared.call.Reply.TheVariants.{Code, Done, Refused}
-use Rattle.itm_model.specs.Machine.{is_open, or_else, reply, reply_unless, unless}
+use Rattle.itm_model.specs.Machine.{abort_for, is_open, or_else, reply, reply_unless, unless}
 use Rattle.itm_model.specs.State.{State}
 use Rattle.user_actions.specs.Actions.{Actions}
 use Rattle.nest_frames.specs.Nest.{Frame, closed}
@@ -15,8 +15,6 @@ use Rattle.norec_core.specs.declared.answer.Answer.TheVariants as answers
 use Rattle.norec_core.specs.declared.answer.Answer.TheVariants.{Reply}
 use Rattle.norec_core.specs.Core.{Core, in_transaction, irrevocable_room, is_inside}
 use Rattle.norec_core.specs.Effects.{blocks_after}
-use Rattle.norec_core.specs.Order.{stage_at}
-use Rattle.norec_core.specs.Phases.{Idle, Phase}
 use Rattle.norec_core.specs.Stands.{stands_for}
 use Rattle.shared_words.specs.Commits.{StartsWith}
 use Rattle.shared_words.specs.InGlobal.{Words}
@@ -29,13 +27,13 @@ use Rattle.itm_runtime.specs.declared.stop.Stop.{Stop}
 use Rattle.itm_runtime.specs.declared.stop.Stop.TheVariants as stops
 use Rattle.itm_runtime.proofs.Calls.Restarts.{cancel_whole, commit_whole}
 use Rattle.transactions.specs.Lent.{IsKept, Lent}
-use Rattle.transactions.specs.Blocks.{Enters, IsAsBefore, IsTakenBack, IsWithin, IsWithinStill, Leaves, StaysWithin}
+use Rattle.transactions.specs.Blocks.{Enters, HasGoneBack, IsAsBefore, IsWithin, IsWithinStill, Leaves, StaysWithin}
 use Rattle.transactions.specs.Runs.{usual}
-use Rattle.transactions.proofs.InnerBlocks.{HasEntered, committed, fresh_begun, goes_abort, goes_commit, has_entered, taken_back, within_self}
+use Rattle.transactions.proofs.InnerBlocks.{HasEntered, committed, fresh_begun, goes_abort, goes_commit, has_entered, taken_back, within_self, begin_idle}
 use Rattle.transactions.proofs.LaterViews.{went_on}
 use Rattle.transactions.proofs.Looks.{engine_open}
 use Rattle.transactions.proofs.LastEngines.{arena_left, last, mid, replied, writes_left}
-use Rattle.transactions.proofs.Within.{begins, begins_more}
+use Rattle.transactions.proofs.Within.{begins, begins_more, on_self, on_twice, ran_more, ran_none, ran_twice, replied_on}
 
 -- ## As before
 
@@ -45,30 +43,35 @@ within_twice first old new a b = record {
   arena = b.arena ∙ a.arena;
   commits = begins_more _ _ _ _ b.commits refl a.commits;
   undos = begins_more _ _ _ _ b.undos refl a.undos;
-  ran = begins_more _ _ _ _ b.ran refl a.ran;
+  ran = ran_twice _ _ _ a.ran b.ran;
+  on = on_twice first old new a.on b.on;
 }
 
 starts_same : {A : Type 0} {xs ys : List A} → xs ≡ ys → StartsWith xs ys
 starts_same {xs = xs} e = subst (StartsWith xs) e (begins xs)
 
-pub back_within : (old new : Standing) → IsTakenBack old new → IsWithin old.engine new.engine
-back_within old new t = record { blocks = t.blocks; arena = t.arena; commits = starts_same t.commits; undos = starts_same t.undos; ran = t.ran }
+pub back_within : (old new : Standing) → HasGoneBack old new → IsWithin old.engine new.engine
+back_within old new b = (let t = b.1 in record { blocks = t.blocks; arena = t.arena; commits = starts_same t.commits; undos = starts_same t.undos; ran = (b.0, t.ran); on = t.on })
 
-pub back_twice : (a b c : Standing) → IsTakenBack a b → IsTakenBack b c → IsTakenBack a c
-back_twice a b c s t = record {
-  writes = t.writes ∙ s.writes;
-  blocks = t.blocks ∙ s.blocks;
-  arena = t.arena ∙ s.arena;
-  commits = t.commits ∙ s.commits;
-  undos = t.undos ∙ s.undos;
-  ran = begins_more _ _ _ _ t.ran refl s.ran;
-}
+pub back_twice : (a b c : Standing) → HasGoneBack a b → HasGoneBack b c → HasGoneBack a c
+back_twice a b c f g = (let s = f.1 in let t = g.1 in (
+  f.0 ++ g.0,
+  record {
+    writes = t.writes ∙ s.writes;
+    blocks = t.blocks ∙ s.blocks;
+    arena = t.arena ∙ s.arena;
+    commits = t.commits ∙ s.commits;
+    undos = t.undos ∙ s.undos;
+    ran = ran_more _ _ _ f.0 g.0 s.ran t.ran;
+    on = on_twice a.engine b.engine c.engine s.on t.on;
+  },
+))
 
-pub back_self : (t : Standing) → IsTakenBack t t
-back_self t = record { writes = refl; blocks = refl; arena = refl; commits = refl; undos = refl; ran = begins _ }
+pub back_self : (t : Standing) → HasGoneBack t t
+back_self t = ([], record { writes = refl; blocks = refl; arena = refl; commits = refl; undos = refl; ran = ran_none _ _ refl; on = on_self t.engine })
 
 pub before_twice : (a b c : Lent) → IsAsBefore a b → IsAsBefore b c → IsAsBefore a c
-before_twice a b c s t o = (let u = t o in back_twice a.thread b.thread c.thread (s (ap is_inside (sym u.blocks) ∙ o)) u)
+before_twice a b c s t o = (let u = t o in back_twice a.thread b.thread c.thread (s (ap is_inside (sym u.1.blocks) ∙ o)) u)
 
 pub before_within : (old new : Lent) → IsAsBefore old new → StaysWithin old new
 before_within old new back first fresh w = by_open (in_transaction new.thread.engine) refl
@@ -77,7 +80,7 @@ before_within old new back first fresh w = by_open (in_transaction new.thread.en
     by_open false shut = inr shut
     by_open true o = elim w [
       | inl within ↦ inl (within_twice first old.thread.engine new.thread.engine within (back_within old.thread new.thread (back o)))
-      | inr shut ↦ absurd (true≢false (sym o ∙ ap is_inside (back o).blocks ∙ shut))
+      | inr shut ↦ absurd (true≢false (sym o ∙ ap is_inside (back o).1.blocks ∙ shut))
     ]
 
 pub kept_twice : (a b c : Lent) → IsKept a b → IsKept b c → IsKept a c
@@ -85,37 +88,33 @@ kept_twice a b c s t = record { words = t.words ∙ s.words; mine_is = t.mine_is
 
 -- ## A begin that is refused, or for which there is no memory
 
-picked : (b : Bool) (x y : Phase) → b ≡ true → (if b then x else y) ≡ x
-picked true x y e = refl
-picked false x y e = absurd (true≢false (sym e))
-
-begin_idle : (c : Core) → in_transaction c ≡ true → stage_at c (Begin usual 0) false ≡ Idle
-begin_idle c o = picked (in_transaction c) Idle _ o
-
 module _ (words : Words) (t new : Standing) (is : t.engine.irrevocable ≡ false) (inside : in_transaction t.engine ≡ true) where
-  refused_back : (why : Refusal) → IsAnswered words (start_of t (Begin usual 0) false) (Reply (Refused why)) new.pass new.engine → in_transaction new.engine ≡ true → IsTakenBack t new
+  refused_back : (why : Refusal) → IsAnswered words (start_of t (Begin usual 0) false) (Reply (Refused why)) new.pass new.engine → in_transaction new.engine ≡ true → HasGoneBack t new
   refused_back why a o =
       let goes : (c : Core) → irrevocable_room c (Begin usual 0) ≡ None = λ c. refl in
       let c = mid words t new (Begin usual 0) false (Refused why) a is goes in
       let k = (last words t new (Begin usual 0) false (Refused why) a is goes).kept in
       let g = replied words t new (Begin usual 0) false (Refused why) a is goes in
-      let acts : new.engine.actions ≡ t.engine.actions = g.actions ∙ k.actions in
-      record {
-        writes = writes_left words t new (Begin usual 0) false (Refused why) a is goes o ∙ k.writes;
-        blocks = g.blocks ∙ k.blocks;
-        arena = arena_left words t new (Begin usual 0) false (Refused why) a is goes o ∙ k.arena is;
-        commits = ap (λ (x : Actions). x.commits) acts;
-        undos = ap (λ (x : Actions). x.undos) acts;
-        ran = starts_same (ap (λ (x : Actions). x.ran) acts);
-      }
+      let acts : new.engine.actions ≡ t.engine.actions = g.actions ∙ k.actions in (
+        [],
+        record {
+          writes = writes_left words t new (Begin usual 0) false (Refused why) a is goes o ∙ k.writes;
+          blocks = g.blocks ∙ k.blocks;
+          arena = arena_left words t new (Begin usual 0) false (Refused why) a is goes o ∙ k.arena is;
+          commits = ap (λ (x : Actions). x.commits) acts;
+          undos = ap (λ (x : Actions). x.undos) acts;
+          ran = ran_none _ _ (ap (λ (x : Actions). x.ran) acts);
+          on = replied_on words t new (Begin usual 0) false (Refused why) goes a is inside o;
+        },
+      )
 
-  pub not_entered : (stop : Stop) → Tells words t (Begin usual 0) (answer_of stop) new → in_transaction new.engine ≡ true → IsTakenBack t new
+  pub not_entered : (stop : Stop) → Tells words t (Begin usual 0) (answer_of stop) new → in_transaction new.engine ≡ true → HasGoneBack t new
   not_entered (stops.Refused why) a o = refused_back why a o
   not_entered (stops.Conflict clock word) a o = absurd (true≢false (sym o ∙ a.served.tells.closes.closed))
   not_entered (stops.Restarted clock word) a o = (let same = ap (λ v. v.looks) (a.served.at_once (begin_idle t.engine inside)).0 in let looks = a.served.tells.looks in absurd (omega arith))
   not_entered (stops.Busy clock) a o = absurd (true≢false (sym o ∙ a.served.tells.closes.closed))
   not_entered (stops.Full at) a o = absurd (true≢false (sym o ∙ a.served.tells.closes.closed))
-  not_entered stops.Memory a o = subst (IsTakenBack t) (sym a.err) (back_self t)
+  not_entered stops.Memory a o = subst (HasGoneBack t) (sym a.err) (back_self t)
 
 -- ## The call that ends it
 
@@ -138,6 +137,9 @@ shut_abort r c shut = shut
 
 commit_refused : (d : ℕ) (s : State) → is_open s ≡ false → reply d s Commit ≡ Refused Outside
 commit_refused d s e = ap (λ (b : Bool). reply_unless (or_else (unless b Outside) None) Done) e
+
+abort_refused : (d : ℕ) (s : State) → is_open s ≡ false → reply d s (Abort false) ≡ Refused Outside
+abort_refused d s e = ap (λ (b : Bool). reply_unless (or_else (or_else (unless b Outside) (abort_for s false)) None) (Code 24)) e
 
 abbrev NoAbort : Call → Type 0
 NoAbort Commit = ⊥
@@ -190,13 +192,26 @@ module _ (words : Words) (t l new : Standing) (began : Core) (h : HasEntered t.e
   served_done (answers.Busy clock) a on = absurd (on (stops.Busy clock) refl)
   served_done (answers.Full at) a on = absurd (on (stops.Full at) refl)
 
-  abort_reply : (r : Replied) → IsAnswered words (start_of l (Abort false) false) (Reply r) new.pass new.engine → Over ⊎ IsTakenBack t new
+  abort_reply : (r : Replied) → IsAnswered words (start_of l (Abort false) false) (Reply r) new.pass new.engine → Over ⊎ HasGoneBack t new
   abort_reply r a = elim w [
     | inl within ↦ inr (taken_back words t l new began h is inside within r a).0
     | inr shut ↦ inl (let k = (last words l new (Abort false) false r a is goes_abort).kept in let c = mid words l new (Abort false) false r a is goes_abort in ap is_inside (replied words l new (Abort false) false r a is goes_abort).blocks ∙ shut_abort r c (ap is_inside k.blocks ∙ shut))
   ]
 
-  pub abort_out : (a : Answer) → IsAnswered words (start_of l (Abort false) false) a new.pass new.engine → (Over ⊎ IsTakenBack t new) × Same l new
+  -- one that is served
+  pub served_back : (a : Answer) → IsAnswered words (start_of l (Abort false) false) a new.pass new.engine → GoesOn a → HasGoneBack t new
+  served_back (Reply r) a on = elim w [
+    | inl within ↦ (taken_back words t l new began h is inside within r a).0
+    | inr shut ↦ (let m = came_over (start_of l (Abort false) false) (view_of new.pass) new.engine in
+        absurd (on (stops.Refused Outside) (ap (λ (x : Replied). Some (Reply x)) (sym (a.served.tells.here.reply_is ∙ abort_refused l.engine.depth (stands_for l.engine m) (engine_open l.engine m is ∙ shut))))))
+  ]
+  served_back (answers.Committed at wrote) a on = absurd (subst NoAbort a.served.tells.call tt)
+  served_back (answers.Conflict clock word) a on = absurd (on (stops.Conflict clock word) refl)
+  served_back (answers.Restarted clock word) a on = absurd (on (stops.Restarted clock word) refl)
+  served_back (answers.Busy clock) a on = absurd (on (stops.Busy clock) refl)
+  served_back (answers.Full at) a on = absurd (on (stops.Full at) refl)
+
+  pub abort_out : (a : Answer) → IsAnswered words (start_of l (Abort false) false) a new.pass new.engine → (Over ⊎ HasGoneBack t new) × Same l new
   abort_out (Reply r) a = (abort_reply r a, a.served.mine)
   abort_out (answers.Committed at wrote) a = absurd (subst NoAbort a.served.tells.call tt)
   abort_out (answers.Conflict clock word) a = (inl a.served.tells.closes.closed, a.served.mine)
@@ -260,3 +275,9 @@ module _ (from began last new : Lent) (e : Enters from began) (kept : IsKept beg
     | inl shut ↦ absurd (true≢false (sym o ∙ shut))
     | inr back ↦ back
   ]
+
+  -- a rollback of it that is served leaves the transaction open
+  pub back_served : (done : Unit {0}) → Leaves (Abort false) last (Ok done) new → (in_transaction new.thread.engine ≡ true) × HasGoneBack from.thread new.thread
+  back_served done ends =
+      let back = served_back last.words from.thread last.thread new.thread began.thread.engine h ends.revocable e.inside still ends.answer ends.answered ends.checked in
+      (ap is_inside back.1.blocks ∙ e.inside, back)

@@ -1,10 +1,10 @@
 -- What the runs of a block come to.
-use Rattle.std.proofs.Common.{◌≡◌, ◌∙◌, inl, inr, Result, Ok, Err, ap, refl, subst, sym, true≢false}
+use Rattle.std.proofs.Common.{◌≡◌, ◌∙◌, inl, inr, Result, Ok, Err, ap, refl, subst, sym, true≢false, false, true, arith}
 use Rattle.std.specs.Borrow.{MutBor}
 use Rattle.std.specs.Fn.{CalledAtMut, Mut}
 use Rattle.norec_core.specs.Core.{in_transaction}
 use Rattle.shared_words.specs.Passes.{view_of}
-use Rattle.itm_types.specs.declared.call.Call.TheVariants.{Begin, Commit}
+use Rattle.itm_types.specs.declared.call.Call.TheVariants.{Abort, Begin, Commit}
 use Rattle.itm_runtime.specs.CallResults.{Tells}
 use Rattle.itm_runtime.specs.Served.{Went}
 use Rattle.itm_runtime.specs.Standing.{Standing}
@@ -14,10 +14,10 @@ use Rattle.itm_runtime.specs.declared.stop.Stop.TheVariants as stops
 use Rattle.transactions.specs.declared.stopped.Stopped.{Stopped}
 use Rattle.transactions.specs.declared.stopped.Stopped.TheVariants.{Engine, Cancelled}
 use Rattle.transactions.specs.Lent.{IsKept, Lent}
-use Rattle.transactions.specs.Blocks.{EndsBlockBy, EntersNot, HasRunBlock, IsAsBefore, IsToldAgain, IsUndoneUnless, KeepsBlocks, Leaves, StaysWithin, TellsBlock, block_told}
+use Rattle.transactions.specs.Blocks.{EndsBlockBy, EntersNot, HasGoneBack, HasRunBlock, IsAsBefore, IsToldAgain, IsUndoneUnless, KeepsBlocks, Leaves, StaysWithin, TellsBlock, block_told}
 use Rattle.transactions.specs.Runs.{KeepsBody, KeepsLent, usual}
 use Rattle.transactions.proofs.LaterViews.{went_self}
-use Rattle.transactions.proofs.BlockOutcomes.{abort_back, abort_kept, back_self, before_twice, before_within, commit_failed, commit_kept, commit_within, not_entered}
+use Rattle.transactions.proofs.BlockOutcomes.{abort_back, abort_kept, back_self, before_twice, before_within, commit_failed, commit_kept, commit_within, not_entered, back_served}
 
 -- nothing is changed
 same_kept : (from new : Lent) → new.words ≡ from.words → new.thread ≡ from.thread → IsKept from new
@@ -32,10 +32,6 @@ module _ {F R E : Type 0} (fn : Mut F (MutBor Lent × Unit {0}) (Result R (Stopp
   -- nothing is left of it
   nothing : (told : Result (Result R E) Stop) → IsKept from new → IsAsBefore from new → IsUndoneUnless told from new → RunsTo told
   nothing told kept back undone = record { kept = kept; within = before_within from new back; undone = undone }
-
-  told_back : (why : E) (left : Result (Unit {0}) Stop) → IsAsBefore from new → IsUndoneUnless (block_told {R = R} (Err why) left) from new
-  told_back why (Ok done) back = back
-  told_back why (Err stop) back = back
 
   ran : (told : Result (Result R E) Stop) (r : HasRunBlock fn first from told new) → RunsTo told
   ran told r = by_end r.gives r.runs r.ends
@@ -56,8 +52,13 @@ module _ {F R E : Type 0} (fn : Mut F (MutBor Lent × Unit {0}) (Result R (Stopp
       by_end (Err (Cancelled why)) runs ends =
           let kept = lent r.body r.began (Err (Cancelled why)) r.body' r.last runs in
           let within = blocks r.body r.began (Err (Cancelled why)) r.body' r.last runs in
-          let back = abort_back from r.began r.last new r.enters kept within ends.0 ends.1 in
-          nothing told (abort_kept from r.began r.last new r.enters kept within ends.0 ends.1) back (subst (λ (x : Result (Result R E) Stop). IsUndoneUnless x from new) (sym ends.2) (told_back why ends.0 back))
+          nothing told (abort_kept from r.began r.last new r.enters kept within ends.0 ends.1) (abort_back from r.began r.last new r.enters kept within ends.0 ends.1)
+          (subst (λ (x : Result (Result R E) Stop). IsUndoneUnless x from new) (sym ends.2) (by_left ends.0 ends.1 (back_served from r.began r.last new r.enters kept within) (abort_back from r.began r.last new r.enters kept within)))
+        where
+          by_left : (left : Result (Unit {0}) Stop) → Leaves (Abort false) r.last left new → ((done : Unit {0}) → Leaves (Abort false) r.last (Ok done) new → (in_transaction new.thread.engine ≡ true) × HasGoneBack from.thread new.thread)
+              → ((left : Result (Unit {0}) Stop) → Leaves (Abort false) r.last left new → IsAsBefore from new) → IsUndoneUnless (block_told {R = R} (Err why) left) from new
+          by_left (Ok done) ends served back = served done ends
+          by_left (Err stop) ends served back = back (Err stop) ends
       by_end (Err (Engine stop)) runs ends =
           let kept = lent r.body r.began (Err (Engine stop)) r.body' r.last runs in
           let within = blocks r.body r.began (Err (Engine stop)) r.body' r.last runs in
@@ -98,12 +99,12 @@ module _ {R E : Type 0} (old from new : Lent) where
   -- where it goes back to its begin nothing of it is left
   pub again_back : (told : Result (Result R E) Stop) → IsToldAgain told → IsUndoneUnless told from new → IsAsBefore from new
   again_back (Ok (Ok value)) again undone = absurd again
-  again_back (Ok (Err why)) again undone = undone
+  again_back (Ok (Err why)) again undone = absurd again
   again_back (Err stop) again undone = undone
 
   pub undone_on : (told : Result (Result R E) Stop) → IsAsBefore old from → IsUndoneUnless told from new → IsUndoneUnless told old new
   undone_on (Ok (Ok value)) back undone = tt
-  undone_on (Ok (Err why)) back undone = before_twice old from new back undone
+  undone_on (Ok (Err why)) back undone = (undone.0, before_twice old from new back (λ o. undone.1) undone.0)
   undone_on (Err stop) back undone = before_twice old from new back undone
 
 pub within_on : (old from new : Lent) → IsAsBefore old from → StaysWithin from new → StaysWithin old new

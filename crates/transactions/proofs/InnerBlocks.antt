@@ -1,37 +1,41 @@
 -- How a block within a transaction begins and ends.
-use Rattle.std.proofs.Common.{◌≡◌, ◌∙◌, ℕ, not, Bool, true, false, List, [], ◌∷◌, ◌++◌, drop, length, map, reverse, Option, None, Some, ap, refl, subst, sym, true≢false, append-nil, if◌then◌else◌}
+use Rattle.std.proofs.Common.{◌≡◌, ◌∙◌, ℕ, not, Bool, true, false, List, [], ◌∷◌, ◌++◌, drop, length, reverse, Option, None, Some, ap, refl, subst, sym, true≢false, append-nil, if◌then◌else◌}
 use Rattle.itm_types.specs.declared.call.Call.{Call}
 use Rattle.itm_types.specs.declared.call.Call.TheVariants.{Abort, Begin, Commit}
 use Rattle.itm_types.specs.declared.call.Refusal.{Refusal}
 use Rattle.itm_types.specs.declared.call.Refusal.TheVariants.{IsIrrevocable, NoAbort, Outside}
 use Rattle.itm_types.specs.declared.call.Reply.{Reply as Replied}
 use Rattle.itm_types.specs.declared.call.Reply.TheVariants.{Code, Done}
+use Rattle.itm_types.specs.declared.row.LogRow.{LogRow}
 use Rattle.itm_model.specs.Machine.{is_open, keeps_innermost, or_else, refusal, reply, reply_unless, unless}
 use Rattle.itm_model.specs.State.{State}
-use Rattle.user_actions.specs.Actions.{Actions, as_undo}
+use Rattle.user_actions.specs.Actions.{Actions}
 use Rattle.undo_log.specs.Rollback.{Old, put_back}
 use Rattle.nest_frames.specs.Nest.{Frame, actions_cancelled, actions_closed, begun, closed, log_of, rows_of}
 use Rattle.norec_core.specs.declared.answer.Answer.{Answer}
 use Rattle.norec_core.specs.declared.answer.Answer.TheVariants as answers
 use Rattle.norec_core.specs.declared.answer.Answer.TheVariants.{Reply}
-use Rattle.norec_core.specs.Core.{Core, in_transaction, irrevocable_room, is_inside}
+use Rattle.norec_core.specs.Core.{Core, came, in_transaction, irrevocable_room, is_inside}
 use Rattle.norec_core.specs.Effects.{actions_after, arena_after, blocks_after, writes_after}
+use Rattle.norec_core.specs.Order.{stage_at}
+use Rattle.norec_core.specs.Phases.{Idle, Phase}
 use Rattle.norec_core.specs.Stands.{stands_for, state_in}
+use Rattle.norec_core.proofs.Engines.KeptFields.{keeps_self}
 use Rattle.shared_words.specs.declared.view.View.{View}
 use Rattle.shared_words.specs.Commits.{StartsWith}
 use Rattle.shared_words.specs.InGlobal.{Words}
-use Rattle.shared_words.specs.Passes.{view_of}
+use Rattle.shared_words.specs.Passes.{cells_of, view_of}
 use Rattle.itm_runtime.specs.CallResults.{IsAnswered}
 use Rattle.itm_runtime.specs.Served.{Served, came_over}
 use Rattle.itm_runtime.specs.Standing.{Standing, start_of}
 use Rattle.itm_runtime.specs.Stops.{GoesOn}
 use Rattle.itm_runtime.specs.declared.stop.Stop.TheVariants as stops
-use Rattle.transactions.specs.Blocks.{IsFresh, IsTakenBack, IsWithin}
+use Rattle.transactions.specs.Blocks.{HasGoneBack, IsFresh, IsWithin, ReadsOn}
 use Rattle.transactions.specs.Runs.{usual}
-use Rattle.transactions.proofs.LastEngines.{arena_left, last, m, replied, writes_left}
+use Rattle.transactions.proofs.LastEngines.{arena_left, at_once, last, m, replied, replied_of, writes_left}
 use Rattle.transactions.proofs.Looks.{engine_open}
 use Rattle.transactions.proofs.Modes.{stands_mode}
-use Rattle.transactions.proofs.Within.{begins, begins_more, cut}
+use Rattle.transactions.proofs.Within.{RanMore, begins, cut, on_self, on_twice, ran_same, ran_twice, replied_on}
 
 -- ## Its begin
 
@@ -51,12 +55,20 @@ begin_coded t (answers.Restarted clock word) v e served on = absurd (on (stops.R
 begin_coded t (answers.Busy clock) v e served on = absurd (on (stops.Busy clock) refl)
 begin_coded t (answers.Full at) v e served on = absurd (on (stops.Full at) refl)
 
--- the block that has begun goes back to what was written and registered
+-- the block that has begun goes back to what was written, registered and read
 pub record HasEntered (t e : Core) : Type 0 where
-  pub reads : ℕ
-  pub blocks : e.blocks ≡ begun usual t.writes t.actions reads ∷ t.blocks
+  pub blocks : e.blocks ≡ begun usual t.writes t.actions (length t.log) ∷ t.blocks
   pub arena : e.arena ≡ t.arena
   pub actions : e.actions ≡ t.actions
+  pub log : e.log ≡ t.log
+  pub on : ReadsOn t e
+
+picked : (b : Bool) (x y : Phase) → b ≡ true → (if b then x else y) ≡ x
+picked true x y e = refl
+picked false x y e = absurd (true≢false (sym e))
+
+pub begin_idle : (c : Core) → in_transaction c ≡ true → stage_at c (Begin usual 0) false ≡ Idle
+begin_idle c o = picked (in_transaction c) Idle _ o
 
 goes_begin : (c : Core) → irrevocable_room c (Begin usual 0) ≡ None
 goes_begin c = refl
@@ -66,23 +78,25 @@ acts_begun c o = ap (λ (b : Bool). if b then c.actions else record c.actions { 
 
 pub has_entered : (words : Words) (t new : Standing) → IsAnswered words (start_of t (Begin usual 0) false) (Reply (Code 5)) new.pass new.engine → t.engine.irrevocable ≡ false → in_transaction t.engine ≡ true → HasEntered t.engine new.engine
 has_entered words t new a is inside =
-    let l = last words t new (Begin usual 0) false (Code 5) a is goes_begin in
-    let c = l.mid in
-    let k = l.kept in
-    let g = replied words t new (Begin usual 0) false (Code 5) a is goes_begin in
-    let blocks : new.engine.blocks ≡ begun usual t.engine.writes t.engine.actions (length c.log) ∷ t.engine.blocks = g.blocks ∙ (λ i. begun usual (k.writes i) (k.actions i) (length c.log) ∷ k.blocks i) in
+    let here = came t.engine (Begin usual 0) false in
+    let said = at_once (cells_of words) (start_of t (Begin usual 0) false) (Reply (Code 5)) (view_of new.pass) new.engine (begin_idle t.engine inside) a.driven in
+    let g = replied_of words t new (Begin usual 0) false (Code 5) a is goes_begin (record { mid = here; kept = keeps_self here; ends = said.ends }) in
+    let k = (last words t new (Begin usual 0) false (Code 5) a is goes_begin).kept in
+    let o : in_transaction new.engine ≡ true = ap is_inside g.blocks in
+    let log : new.engine.log ≡ t.engine.log = said.stays.log o in
     record {
-      reads = length c.log;
-      blocks = blocks;
-      arena = arena_left words t new (Begin usual 0) false (Code 5) a is goes_begin (ap is_inside blocks) ∙ k.arena is;
-      actions = g.actions ∙ acts_begun c (ap is_inside k.blocks ∙ inside) ∙ k.actions;
+      blocks = g.blocks;
+      arena = arena_left words t new (Begin usual 0) false (Code 5) a is goes_begin o ∙ k.arena is;
+      actions = g.actions ∙ acts_begun here inside;
+      log = log;
+      on = record { words = a.served.words; depth = a.served.limits.2; mode = ap (λ (c : Core). c.irrevocable) g.stays; log = ([], log ∙ sym (append-nil t.engine.log)) };
     }
 
-pub fresh_begun : (t e : Core) → HasEntered t e → IsFresh e.blocks e.actions
-fresh_begun t e h = subst (λ (x : List Frame × Actions). IsFresh x.0 x.1) (λ i. (sym h.blocks i, sym h.actions i)) (refl, refl, refl)
+pub fresh_begun : (t e : Core) → HasEntered t e → IsFresh e.blocks e.actions e.log
+fresh_begun t e h = subst (λ (x : List Frame × Actions × List LogRow). IsFresh x.0 x.1 x.2) (λ i. (sym h.blocks i, sym h.actions i, sym h.log i)) (refl, refl, refl, refl)
 
 pub within_self : (e : Core) → IsWithin e e
-within_self e = record { blocks = refl; arena = refl; commits = begins _; undos = begins _; ran = begins _ }
+within_self e = record { blocks = refl; arena = refl; commits = begins _; undos = begins _; ran = ran_same _ _ refl; on = on_self e }
 
 -- ## Its end
 
@@ -104,7 +118,7 @@ closed_around b p bs e = λ i. record p { log = (ap (λ (l : List Old). p.log ++
 -- the innermost block is one that has begun so, and blocks are open around it
 module _ (words : Words) (t l new : Standing) (began : Core) (h : HasEntered t.engine began) (is : l.engine.irrevocable ≡ false) (inside : in_transaction t.engine ≡ true) where
   abbrev b : Frame
-  b = begun usual t.engine.writes t.engine.actions h.reads
+  b = begun usual t.engine.writes t.engine.actions (length t.engine.log)
 
   -- ## A commit
 
@@ -124,8 +138,11 @@ module _ (words : Words) (t l new : Standing) (began : Core) (h : HasEntered t.e
     undos_in : StartsWith l.engine.actions.undos t.engine.actions.undos
     undos_in = subst (λ (x : Actions). StartsWith l.engine.actions.undos x.undos) h.actions w.undos
 
-    ran_in : StartsWith l.engine.actions.ran t.engine.actions.ran
-    ran_in = subst (λ (x : Actions). StartsWith l.engine.actions.ran x.ran) h.actions w.ran
+    ran_in : RanMore t.engine.actions.ran l.engine.actions.ran
+    ran_in = subst (λ (x : Actions). RanMore x.ran l.engine.actions.ran) h.actions w.ran
+
+    on_in : ReadsOn t.engine l.engine
+    on_in = on_twice t.engine began l.engine h.on w.on
 
     -- what the commit of it leaves
     pub committed : (r : Replied) → Commits (Reply r) → IsWithin t.engine new.engine × (r ≡ Done)
@@ -140,13 +157,15 @@ module _ (words : Words) (t l new : Standing) (began : Core) (h : HasEntered t.e
         let mid_blocks : c.blocks ≡ b ∷ t.engine.blocks = k.blocks ∙ blocks_are in
         let blocks = by_around t.engine.blocks inside in
         let left : new.engine.blocks ≡ t.engine.blocks = g.blocks ∙ ap (blocks_after c Commit) done ∙ ap closed mid_blocks ∙ blocks.0 in
+        let o : in_transaction new.engine ≡ true = ap is_inside left ∙ inside in
         let acts : new.engine.actions ≡ l.engine.actions = g.actions ∙ ap (actions_after c Commit) done ∙ (λ i. actions_closed (mid_blocks i) (k.actions i)) ∙ blocks.1 l.engine.actions in (
           record {
             blocks = left;
-            arena = arena_left words l new Commit false r a is goes_commit (ap is_inside left ∙ inside) ∙ k.arena is ∙ w.arena ∙ h.arena;
+            arena = arena_left words l new Commit false r a is goes_commit o ∙ k.arena is ∙ w.arena ∙ h.arena;
             commits = subst (λ (x : Actions). StartsWith x.commits t.engine.actions.commits) (sym acts) commits_in;
             undos = subst (λ (x : Actions). StartsWith x.undos t.engine.actions.undos) (sym acts) undos_in;
-            ran = subst (λ (x : Actions). StartsWith x.ran t.engine.actions.ran) (sym acts) ran_in;
+            ran = subst (λ (x : Actions). RanMore t.engine.actions.ran x.ran) (sym acts) ran_in;
+            on = on_twice t.engine l.engine new.engine on_in (replied_on words l new Commit false r goes_commit a is l_open o);
           },
           done,
         )
@@ -156,7 +175,7 @@ module _ (words : Words) (t l new : Standing) (began : Core) (h : HasEntered t.e
         by_around (p ∷ bs) o = (closed_around b p bs refl, λ x. refl)
 
     -- what a rollback of it leaves: nothing
-    pub taken_back : (r : Replied) → IsAnswered words (start_of l (Abort false) false) (Reply r) new.pass new.engine → IsTakenBack t new × (r ≡ Code 24)
+    pub taken_back : (r : Replied) → IsAnswered words (start_of l (Abort false) false) (Reply r) new.pass new.engine → HasGoneBack t new × (r ≡ Code 24)
     taken_back r a =
         let last = last words l new (Abort false) false r a is goes_abort in
         let c = last.mid in
@@ -169,14 +188,19 @@ module _ (words : Words) (t l new : Standing) (began : Core) (h : HasEntered t.e
         let mid_blocks : c.blocks ≡ b ∷ t.engine.blocks = k.blocks ∙ blocks_are in
         let left : new.engine.blocks ≡ t.engine.blocks = g.blocks ∙ ap (blocks_after c (Abort false)) done ∙ ap (drop 1) mid_blocks in
         let o : in_transaction new.engine ≡ true = ap is_inside left ∙ inside in
-        let acts : new.engine.actions ≡ actions_cancelled (b ∷ t.engine.blocks) l.engine.actions = g.actions ∙ ap (actions_after c (Abort false)) done ∙ (λ i. actions_cancelled (mid_blocks i) (k.actions i)) in (
-          record {
-            writes = writes_left words l new (Abort false) false r a is goes_abort o ∙ ap (writes_after c (m words l new (Abort false) false r a is goes_abort) (Abort false)) done ∙ ap rows_of mid_blocks;
-            blocks = left;
-            arena = arena_left words l new (Abort false) false r a is goes_abort o ∙ ap (arena_after c (m words l new (Abort false) false r a is goes_abort) (Abort false)) done ∙ (λ i. put_back (log_of (mid_blocks i)) (k.arena is i)) ∙ w.arena ∙ h.arena;
-            commits = ap (λ (x : Actions). x.commits) acts ∙ cut (length t.engine.actions.commits) _ _ refl commits_in;
-            undos = ap (λ (x : Actions). x.undos) acts ∙ cut (length t.engine.actions.undos) _ _ refl undos_in;
-            ran = subst (λ (x : Actions). StartsWith x.ran t.engine.actions.ran) (sym acts) (begins_more _ _ _ _ (map as_undo (reverse (drop (length t.engine.actions.undos) l.engine.actions.undos)), refl) refl ran_in);
-          },
+        let acts : new.engine.actions ≡ actions_cancelled (b ∷ t.engine.blocks) l.engine.actions = g.actions ∙ ap (actions_after c (Abort false)) done ∙ (λ i. actions_cancelled (mid_blocks i) (k.actions i)) in
+        let ran : RanMore t.engine.actions.ran new.engine.actions.ran = subst (λ (x : Actions). RanMore t.engine.actions.ran x.ran) (sym acts) (ran_twice _ _ _ ran_in (reverse (drop (length t.engine.actions.undos) l.engine.actions.undos), refl)) in (
+          (
+            ran.0,
+            record {
+              writes = writes_left words l new (Abort false) false r a is goes_abort o ∙ ap (writes_after c (m words l new (Abort false) false r a is goes_abort) (Abort false)) done ∙ ap rows_of mid_blocks;
+              blocks = left;
+              arena = arena_left words l new (Abort false) false r a is goes_abort o ∙ ap (arena_after c (m words l new (Abort false) false r a is goes_abort) (Abort false)) done ∙ (λ i. put_back (log_of (mid_blocks i)) (k.arena is i)) ∙ w.arena ∙ h.arena;
+              commits = ap (λ (x : Actions). x.commits) acts ∙ cut (length t.engine.actions.commits) _ _ refl commits_in;
+              undos = ap (λ (x : Actions). x.undos) acts ∙ cut (length t.engine.actions.undos) _ _ refl undos_in;
+              ran = ran.1;
+              on = on_twice t.engine l.engine new.engine on_in (replied_on words l new (Abort false) false r goes_abort a is l_open o);
+            },
+          ),
           done,
         )

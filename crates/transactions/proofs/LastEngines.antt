@@ -1,5 +1,5 @@
 -- The engine that a call's answer comes of.
-use Rattle.std.proofs.Common.{◌≡◌, ◌∙◌, inl, inr, ℕ, ◌/◌, Bool, true, false, List, [], ◌∷◌, Option, None, Some, IsSome, ap, subst, sym, true≢false}
+use Rattle.std.proofs.Common.{◌≡◌, ◌∙◌, inl, inr, ℕ, ◌/◌, Bool, true, false, List, [], ◌∷◌, Option, None, Some, IsSome, ap, refl, subst, sym, true≢false}
 use Rattle.itm_types.specs.declared.call.Call.{Call}
 use Rattle.itm_types.specs.declared.call.Reply.{Reply as Replied}
 use Rattle.itm_types.specs.declared.step.Step.{Step}
@@ -11,7 +11,10 @@ use Rattle.norec_core.specs.declared.answer.Next.TheVariants.{Step as Asks, Answ
 use Rattle.norec_core.specs.Core.{Core, came, handed_to, in_transaction, irrevocable_room}
 use Rattle.norec_core.specs.Effects.{arena_after, writes_after}
 use Rattle.norec_core.specs.Keeps.{Keeps}
-use Rattle.norec_core.specs.Proceeds.{Ends, Proceeds, Replies}
+use Rattle.norec_core.specs.Moves.{IsCalled}
+use Rattle.norec_core.specs.Order.{asked_from, stage_at}
+use Rattle.norec_core.specs.Phases.{Idle}
+use Rattle.norec_core.specs.Proceeds.{Ends, Proceeds, Replies, StaysOn}
 use Rattle.norec_core.proofs.Engines.KeptFields.{handed_is, keeps_asked, keeps_self, keeps_twice}
 use Rattle.norec_core.proofs.Replies.ReplyCases.{reply_cases}
 use Rattle.shared_words.specs.declared.view.View.{View}
@@ -54,6 +57,32 @@ module _ (s : Start) where
   pub last_of : (cells : ℕ) (a : Answer) (v : View) (e : Core) → IsDriven cells s a v e → IsLast s a e
   last_of cells a v e d = due_on cells d.steps s.view v d.came e d.first (Answers a) (due_of from d.came d.first (keeps_self from) d.called.proceeds) d.leads
 
+-- ## A call that takes no step
+
+-- it is answered as it comes
+pub record IsSaidAtOnce (s : Start) (a : Answer) (e : Core) : Type 0 where
+  pub ends : Ends (came s.engine s.call s.again) a e
+  pub stays : StaysOn s.engine e
+
+module _ (cells : ℕ) (s : Start) (a : Answer) (v : View) (e : Core) (idle : stage_at s.engine s.call s.again ≡ Idle) where
+  no_step : (step : Step) (c : Core) → IsCalled s.engine s.call s.again (Asks step) c → ⊥
+  no_step step c called =
+      let stage : c.stage ≡ Idle = called.order ∙ idle in
+      let none : c.waits ≡ None = called.asks ∙ ap (asked_from c) stage in
+      let some : c.waits ≡ Some step = ap (λ (x : Core). x.waits) called.proceeds.stays in
+      true≢false (sym (subst IsSome (sym some ∙ none) refl))
+
+  by_first : (first : Next) (c : Core) (steps : List (Step × ℕ)) → IsCalled s.engine s.call s.again first c → LeadsOn cells s.view c first steps v e (Answers a) → IsSaidAtOnce s a e
+  by_first (Asks step) c steps called l = absurd (no_step step c called)
+  by_first (Answers b) c (done ∷ rest) called l = absurd l
+  by_first (Answers b) c [] called l = record {
+    ends = subst (λ (x : Core × Next). Proceeds (came s.engine s.call s.again) x.1 x.0) (λ i. (sym l.1 i, sym l.2 i)) called.proceeds;
+    stays = subst (StaysOn s.engine) (sym l.1) called.stays;
+  }
+
+  pub at_once : IsDriven cells s a v e → IsSaidAtOnce s a e
+  at_once d = by_first d.first d.came d.steps d.called d.leads
+
 -- ## A reply
 
 module _ (words : Words) (t new : Standing) (call : Call) (again : Bool) (r : Replied) (a : IsAnswered words (start_of t call again) (Reply r) new.pass new.engine) (is : t.engine.irrevocable ≡ false) (goes : (c : Core) → irrevocable_room c call ≡ None) where
@@ -72,12 +101,15 @@ module _ (words : Words) (t new : Standing) (call : Call) (again : Bool) (r : Re
   abbrev pub mid : Core
   mid = last.mid
 
-  pub replied : Replies mid call r e
-  replied = elim (reply_cases mid e call r last.kept.doing last.ends) [
+  pub replied_of : (l : IsLast s (Reply r) e) → Replies l.mid call r e
+  replied_of l = elim (reply_cases l.mid e call r l.kept.doing l.ends) [
     | inl g ↦ g
-    | inr (inl g) ↦ absurd (true≢false (sym (subst IsSome (goes mid) g.goes)))
-    | inr (inr g) ↦ absurd (true≢false (sym g.irrevocable ∙ last.kept.irrevocable ∙ is))
+    | inr (inl g) ↦ absurd (true≢false (sym (subst IsSome (goes l.mid) g.goes)))
+    | inr (inr g) ↦ absurd (true≢false (sym g.irrevocable ∙ l.kept.irrevocable ∙ is))
   ]
+
+  pub replied : Replies mid call r e
+  replied = replied_of last
 
   abbrev pub m : List ℕ
   m = memory_of v (e.snapshot / 2)

@@ -9,6 +9,9 @@ pub mod Within
 mod InnerBlocks
 mod BlockOutcomes
 mod BlockRuns
+mod RanActions
+pub mod Deeds
+mod Examples
 mod PlainBlocks
 pub mod Plain
 mod Came

@@ -1,7 +1,8 @@
 -- The calls of a transaction are the plain machine's, on every memory that agrees with what was read.
-use Rattle.std.proofs.Common.{◌≡◌, ◌∙◌, ◌⊎◌, inl, inr, ℕ, ◌/◌, ◌&&◌, not, if◌then◌else◌, Bool, true, false, List, [], ◌∷◌, Option, None, Some, Result, Ok, Err, ap, refl, subst, sym, true≢false}
+use Rattle.std.proofs.Common.{◌≡◌, ◌∙◌, ◌⊎◌, inl, inr, ℕ, ◌/◌, ◌&&◌, not, if◌then◌else◌, Bool, true, false, List, [], ◌∷◌, ◌++◌, map, Option, None, Some, Result, Ok, Err, ap, refl, subst, sym, true≢false}
 use Rattle.std.specs.Borrow.{MutBor}
 use Rattle.std.specs.Fn.{CalledAtMut, Mut}
+use Rattle.itm_types.specs.declared.call.Action.{Action}
 use Rattle.itm_types.specs.declared.call.Call.{Call}
 use Rattle.itm_types.specs.declared.call.Call.TheVariants.{Begin, Commit, Abort, Mode, InTransaction, Read, Write, Log, LogBytes, Copy, Fill, CommitAction, UndoAction, Load, Save}
 use Rattle.itm_types.specs.declared.call.ActionKind.TheVariants as kinds
@@ -16,6 +17,7 @@ use Rattle.itm_types.specs.Memory.{Agrees, IsMemory, bytes_of}
 use Rattle.itm_model.specs.Machine.{after, after_unless, back, effect, entered, irrevocable_from, is_open, opened, outside, pushed, refusal, reply, reply_unless, rolled_back, source_bytes, target_written, undone, undone_from, with_action}
 use Rattle.itm_model.specs.Runs.{replies, state_after}
 use Rattle.itm_model.specs.State.{Block, State}
+use Rattle.user_actions.specs.Actions.{as_undo}
 use Rattle.norec_core.specs.declared.answer.Answer.{Answer}
 use Rattle.norec_core.specs.declared.answer.Answer.TheVariants as answers
 use Rattle.norec_core.specs.declared.answer.Answer.TheVariants.{Reply}
@@ -39,7 +41,8 @@ use Rattle.itm_runtime.specs.declared.stop.Stop.{Stop}
 use Rattle.itm_runtime.specs.declared.stop.Stop.TheVariants as stops
 use Rattle.itm_runtime.proofs.Steps.CallsInHand.{is_memory}
 use Rattle.transactions.specs.Lent.{Lent}
-use Rattle.transactions.specs.Plain.{IsPlain, IsPlainRun, Makes, Makings, Stays, begun_at, calls_of, committed_at, replies_of}
+use Rattle.transactions.specs.Blocks.{IsTakenBack}
+use Rattle.transactions.specs.Plain.{Calls, Deed, IsPlain, IsPlainRun, Makes, Makings, Stays, TakesBack, begun_at, calls_of, committed_at, replies_of, state_with, with_gone}
 use Rattle.transactions.specs.declared.tried.Done.{Done as Value}
 use Rattle.transactions.specs.declared.tried.Tried.{Tried}
 use Rattle.transactions.specs.declared.tried.Tried.TheVariants.{Done}
@@ -47,6 +50,7 @@ use Rattle.transactions.specs.declared.stopped.Stopped.{Stopped}
 use Rattle.transactions.specs.declared.stopped.Stopped.TheVariants.{Engine, Cancelled}
 use Rattle.transactions.specs.Runs.{EndsBy, HasBegun, KeepsBody, KeepsLent, LeftBy, Tells, cancel_told, commit_told, stop_told, usual}
 use Rattle.transactions.proofs.Looks.{engine_open}
+use Rattle.transactions.proofs.RanActions.{ran_as, same_after, same_left, same_replies}
 use Rattle.transactions.proofs.Modes.{KeepsMode, back_mode, keeps_begin, keeps_commit, rolled_mode, shut_revocable, stays_revocable}
 
 -- ## The mode
@@ -112,13 +116,13 @@ module _ (words : Words) (t next : Standing) (call : Call) (r : Replied) (stays 
 
 -- ## All calls
 
--- what the calls come to over this memory
-record Comes (t : Standing) (made : List (Call × Replied)) (last : Standing) (m : List ℕ) : Type 0 where
+-- what the deeds come to over this memory
+record Comes (t : Standing) (made : List Deed) (last : Standing) (m : List ℕ) : Type 0 where
   agrees : Agrees m t.engine.log
-  state : stands_for last.engine m ≡ state_after t.engine.depth (stands_for t.engine m) (calls_of made)
+  state : stands_for last.engine m ≡ state_with t.engine.depth (stands_for t.engine m) made
   replied : replies_of made ≡ replies t.engine.depth (stands_for t.engine m) (calls_of made)
 
-record Leads (t : Standing) (made : List (Call × Replied)) (last : Standing) : Type 0 where
+record Leads (t : Standing) (made : List Deed) (last : Standing) : Type 0 where
   revocable : last.engine.irrevocable ≡ false
   words_are : last.engine.words ≡ t.engine.words
   depth_is : last.engine.depth ≡ t.engine.depth
@@ -128,12 +132,8 @@ none_made : (t last : Standing) → last ≡ t → t.engine.irrevocable ≡ fals
 none_made t last e is =
     subst (λ (l : Standing). Leads t [] l) (sym e) (record { revocable = is; words_are = refl; depth_is = refl; comes = λ m fits agrees. record { agrees = agrees; state = refl; replied = refl } })
 
-leads : (words : Words) (made : List (Call × Replied)) (t last : Standing) → Makes words t made last → t.engine.irrevocable ≡ false → in_transaction t.engine ≡ true → Leads t made last
-leads words [] t last e is inside = none_made t last e is
-leads words (x ∷ rest) t last made is inside =
-    let next = made.0 in
-    let a = made.2 in
-    let on = leads words rest next last made.3 (still_revocable words t next x.0 x.1 made.1 a is inside) (still_open words t next x.0 x.1 made.1 a is inside) in
+call_made : (words : Words) (t next last : Standing) (call : Call) (r : Replied) (rest : List Deed) → Stays call next → IsAnswered words (start_of t call false) (Reply r) next.pass next.engine → t.engine.irrevocable ≡ false → in_transaction t.engine ≡ true → Leads next rest last → Leads t (Calls call r ∷ rest) last
+call_made words t next last call r rest stays a is inside on =
     let deep : next.engine.depth ≡ t.engine.depth = a.served.limits.2 in
     let size : next.engine.words ≡ t.engine.words = a.served.words in
     record {
@@ -142,15 +142,50 @@ leads words (x ∷ rest) t last made is inside =
       depth_is = on.depth_is ∙ deep;
       comes = λ m fits agrees.
           let later = on.comes m (subst (λ n. IsMemory n m) (sym size) fits) agrees in
-          let state = state_then words t next x.0 x.1 made.1 a is inside m fits later.agrees in
+          let state = state_then words t next call r stays a is inside m fits later.agrees in
           let was = stands_for t.engine m in
           record {
-            agrees = agrees_before words t next x.0 x.1 made.1 a is inside m later.agrees;
-            state = later.state ∙ ap (λ d. state_after d (stands_for next.engine m) (calls_of rest)) deep ∙ ap (λ (s : State). state_after t.engine.depth s (calls_of rest)) state;
-            replied = ap (λ (r : Replied). r ∷ replies_of rest) (reply_then words t next x.0 x.1 made.1 a is inside m fits later.agrees)
-                ∙ ap (λ (rs : List Replied). reply t.engine.depth was x.0 ∷ rs) (later.replied ∙ ap (λ d. replies d (stands_for next.engine m) (calls_of rest)) deep ∙ ap (λ (s : State). replies t.engine.depth s (calls_of rest)) state);
+            agrees = agrees_before words t next call r stays a is inside m later.agrees;
+            state = later.state ∙ ap (λ d. state_with d (stands_for next.engine m) rest) deep ∙ ap (λ (s : State). state_with t.engine.depth s rest) state;
+            replied = ap (λ (q : Replied). q ∷ replies_of rest) (reply_then words t next call r stays a is inside m fits later.agrees)
+                ∙ ap (λ (rs : List Replied). reply t.engine.depth was call ∷ rs) (later.replied ∙ ap (λ d. replies d (stands_for next.engine m) (calls_of rest)) deep ∙ ap (λ (s : State). replies t.engine.depth s (calls_of rest)) state);
           };
     }
+
+-- a block that is taken back leaves the actions alone that came to run
+gone_back : (t back : Standing) (gone : List Action) (m : List ℕ) → IsTakenBack t gone back → t.engine.irrevocable ≡ false → stands_for back.engine m ≡ with_gone (stands_for t.engine m) gone
+gone_back t back gone m b is =
+    ap (λ (x : Bool). state_in x back.engine.writes back.engine.blocks back.engine.arena back.engine.actions m) (b.on.mode ∙ is)
+    ∙ (λ i. state_over (b.writes i) (b.blocks i) (b.arena i) (record { commits = b.commits i; undos = b.undos i; ran = b.ran i }) m)
+    ∙ ap (λ (x : Bool). with_gone (state_in x t.engine.writes t.engine.blocks t.engine.arena t.engine.actions m) gone) (sym is)
+
+block_back : (t back last : Standing) (gone : List Action) (rest : List Deed) → IsTakenBack t gone back → t.engine.irrevocable ≡ false → Leads back rest last → Leads t (TakesBack gone ∷ rest) last
+block_back t back last gone rest b is on = record {
+  revocable = on.revocable;
+  words_are = on.words_are ∙ b.on.words;
+  depth_is = on.depth_is ∙ b.on.depth;
+  comes = λ m fits agrees.
+      let later = on.comes m (subst (λ n. IsMemory n m) (sym b.on.words) fits) agrees in
+      let was = stands_for t.engine m in
+      let state = gone_back t back gone m b is in
+      record {
+        agrees = agrees_less m t.engine.log b.on.log.0 (subst (Agrees m) b.on.log.1 later.agrees);
+        state = later.state ∙ ap (λ d. state_with d (stands_for back.engine m) rest) b.on.depth ∙ ap (λ (s : State). state_with t.engine.depth s rest) state;
+        replied = later.replied ∙ ap (λ d. replies d (stands_for back.engine m) (calls_of rest)) b.on.depth ∙ ap (λ (s : State). replies t.engine.depth s (calls_of rest)) state
+            ∙ same_replies t.engine.depth was (was.actions.ran ++ map as_undo gone) (calls_of rest);
+      };
+}
+
+leads : (words : Words) (made : List Deed) (t last : Standing) → Makes words t made last → t.engine.irrevocable ≡ false → in_transaction t.engine ≡ true → Leads t made last
+leads words [] t last e is inside = none_made t last e is
+leads words (Calls call r ∷ rest) t last made is inside =
+    let next = made.0 in
+    let stays = made.1 in
+    let a = made.2 in
+    call_made words t next last call r rest stays a is inside (leads words rest next last made.3 (still_revocable words t next call r stays a is inside) (still_open words t next call r stays a is inside))
+leads words (TakesBack gone ∷ rest) t last made is inside =
+    let b = made.1 in
+    block_back t made.0 last gone rest b is (leads words rest made.0 last made.2 (b.on.mode ∙ is) (ap is_inside b.blocks ∙ inside))
 
 -- ## The begin
 
@@ -215,7 +250,7 @@ state_arena c m = by_mode c.irrevocable
 
 -- ## The commit
 
-pub law : (words : Words) (before : Standing) (began : Lent) (made : List (Call × Replied)) (last : Standing) (at : ℕ) (wrote : Bool) (w : Words) (new : Standing)
+pub law : (words : Words) (before : Standing) (began : Lent) (made : List Deed) (last : Standing) (at : ℕ) (wrote : Bool) (w : Words) (new : Standing)
     → Begins before began → Makes words began.thread made last → IsAnswered w (start_of last Commit false) (answers.Committed at wrote) new.pass new.engine
     → IsPlain began.thread.engine.depth began.thread.engine.arena made at wrote new
 law words before began made last at wrote w new begins makes a =
@@ -233,16 +268,20 @@ law words before began made last at wrote w new begins makes a =
     let begun : stands_for began.thread.engine m ≡ begun_at v at began.thread.engine.arena = opens ∙ ap (λ xs. opened (bytes_of m) xs usual) arena in
     let deepest = began.thread.engine.depth in
     let came : came_over (start_of last Commit false) v e ≡ m = ap (λ (b : Bool). memory_in b (view_of last.pass) v (e.snapshot / 2)) on.revocable ∙ ap (memory_of v) (sym commits.closes.at_is) in
-    let whole : after last.engine.depth (stands_for last.engine (came_over (start_of last Commit false) v e)) Commit ≡ committed_at deepest v at began.thread.engine.arena (calls_of made) =
+    let start = begun_at v at began.thread.engine.arena in
+    let whole : after last.engine.depth (stands_for last.engine (came_over (start_of last Commit false) v e)) Commit ≡ after deepest (state_with deepest start made) Commit =
     ap (λ d. after d (stands_for last.engine (came_over (start_of last Commit false) v e)) Commit) on.depth_is
     ∙ ap (λ x. after deepest (stands_for last.engine x) Commit) came
-    ∙ ap (λ (s : State). after deepest s Commit) (comes.state ∙ ap (λ (s : State). state_after deepest s (calls_of made)) begun) in
+    ∙ ap (λ (s : State). after deepest s Commit) (comes.state ∙ ap (λ (s : State). state_with deepest s made) begun) in
+    let left = same_left deepest start start.actions.ran made in
+    let end = same_after deepest (state_after deepest start (calls_of made)) left.0 Commit in
+    let alone : after last.engine.depth (stands_for last.engine (came_over (start_of last Commit false) v e)) Commit ≡ ran_as end.0 (committed_at deepest v at began.thread.engine.arena (calls_of made)) = whole ∙ ap (λ (s : State). after deepest s Commit) left.1 ∙ end.1 in
     record {
       seen = commits.closes.seen;
       replied = comes.replied ∙ ap (λ (s : State). replies deepest s (calls_of made)) begun;
-      wrote_is = commits.wrote_is ∙ ap (λ (s : State). s.wrote) whole;
-      next = λ is. let n = commits.next is in (n.0, n.1 ∙ ap (λ (s : State). s.memory) whole);
-      arena_is = commits.arena_is ∙ ap (λ (s : State). s.arena) whole;
+      wrote_is = commits.wrote_is ∙ ap (λ (s : State). s.wrote) alone;
+      next = λ is. let n = commits.next is in (n.0, n.1 ∙ ap (λ (s : State). s.memory) alone);
+      arena_is = commits.arena_is ∙ ap (λ (s : State). s.arena) alone;
       actions_are = commits.actions_is ∙ ap (λ (s : State). s.actions) whole;
     }
 

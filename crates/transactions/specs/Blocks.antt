@@ -1,12 +1,15 @@
 -- Blocks within a transaction.
-use Rattle.std.specs.Prelude.{◌≡◌, ◌⊎◌, ◌≤◌, true, false, List, [], ◌∷◌, length, Some, Result, Ok, Err}
+use Rattle.std.specs.Prelude.{◌≡◌, ◌⊎◌, ◌≤◌, true, false, List, [], ◌∷◌, ◌++◌, length, map, Some, Result, Ok, Err}
 use Rattle.std.specs.Borrow.{MutBor}
 use Rattle.std.specs.Fn.{CalledAtMut, Mut}
+use Rattle.itm_types.specs.declared.call.Action.{Action}
 use Rattle.itm_types.specs.declared.call.Call.{Call}
 use Rattle.itm_types.specs.declared.call.Call.TheVariants.{Abort, Begin, Commit}
+use Rattle.itm_types.specs.declared.call.Ran.{Ran}
 use Rattle.itm_types.specs.declared.call.Refusal.TheVariants.{Outside}
 use Rattle.itm_types.specs.declared.call.Reply.TheVariants.{Code}
-use Rattle.user_actions.specs.Actions.{Actions}
+use Rattle.itm_types.specs.declared.row.LogRow.{LogRow}
+use Rattle.user_actions.specs.Actions.{Actions, as_undo}
 use Rattle.nest_frames.specs.Nest.{Frame}
 use Rattle.norec_core.specs.declared.answer.Answer.{Answer}
 use Rattle.norec_core.specs.declared.answer.Answer.TheVariants.{Reply}
@@ -24,18 +27,30 @@ use Rattle.transactions.specs.Runs.{KeepsBody, KeepsLent, usual}
 
 -- ## What stays while a block is open
 
--- the innermost of these blocks has just begun, with these actions registered
-abbrev pub IsFresh : List Frame → Actions → Type 0
-IsFresh [] actions = ⊥
-IsFresh (b ∷ bs) actions = (b.log ≡ []) × (b.commits ≡ length actions.commits) × (b.undos ≡ length actions.undos)
+-- the innermost of these blocks has just begun, with these actions registered and these words read
+abbrev pub IsFresh : List Frame → Actions → List LogRow → Type 0
+IsFresh [] actions log = ⊥
+IsFresh (b ∷ bs) actions log = (b.log ≡ []) × (b.commits ≡ length actions.commits) × (b.undos ≡ length actions.undos) × (b.reads ≡ length log)
 
--- the blocks that were open then are the open ones still, each goes back to what it went back to, and actions were added alone
+-- the sizes and the mode are the same, and what was read then is read still
+pub record ReadsOn (then now : Core) : Type 0 where
+  pub words : now.words ≡ then.words
+  pub depth : now.depth ≡ then.depth
+  pub mode : now.irrevocable ≡ then.irrevocable
+  pub log : StartsWith now.log then.log
+
+-- after those that had come to run these undo actions came to run
+abbrev pub CameToRun : List Ran → List Action → List Ran → Type 0
+CameToRun then gone now = now ≡ then ++ map as_undo gone
+
+-- the blocks that were open then are the open ones still, each goes back to what it went back to, and actions and reads were added alone
 pub record IsWithin (then now : Core) : Type 0 where
   pub blocks : now.blocks ≡ then.blocks
   pub arena : now.arena ≡ then.arena
   pub commits : StartsWith now.actions.commits then.actions.commits
   pub undos : StartsWith now.actions.undos then.actions.undos
-  pub ran : StartsWith now.actions.ran then.actions.ran
+  pub ran : (gone : List Action) × CameToRun then.actions.ran gone now.actions.ran
+  pub on : ReadsOn then now
 
 -- or no transaction is open
 abbrev pub IsWithinStill : Core → Core → Type 0
@@ -43,22 +58,26 @@ IsWithinStill then now = IsWithin then now ⊎ (in_transaction now ≡ false)
 
 -- a call ends no block alone that was open: whichever it was that began last, and whenever
 abbrev pub StaysWithin : Lent → Lent → Type 0
-StaysWithin old new = (then : Core) → IsFresh then.blocks then.actions → IsWithinStill then old.thread.engine → IsWithinStill then new.thread.engine
+StaysWithin old new = (then : Core) → IsFresh then.blocks then.actions then.log → IsWithinStill then old.thread.engine → IsWithinStill then new.thread.engine
 
 -- ## What is left of a block that is taken back
 
--- nothing: the same words are written and with the same values, the same blocks are open, the arena is the same, and so are the actions that are registered; but undo actions may have come to run
-pub record IsTakenBack (old new : Standing) : Type 0 where
+-- nothing: the same words are written and with the same values, the same blocks are open, the arena is the same, and so are the actions that are registered. But these undo actions have come to run, and more may have been read
+pub record IsTakenBack (old : Standing) (gone : List Action) (new : Standing) : Type 0 where
   pub writes : new.engine.writes ≡ old.engine.writes
   pub blocks : new.engine.blocks ≡ old.engine.blocks
   pub arena : new.engine.arena ≡ old.engine.arena
   pub commits : new.engine.actions.commits ≡ old.engine.actions.commits
   pub undos : new.engine.actions.undos ≡ old.engine.actions.undos
-  pub ran : StartsWith new.engine.actions.ran old.engine.actions.ran
+  pub ran : CameToRun old.engine.actions.ran gone new.engine.actions.ran
+  pub on : ReadsOn old.engine new.engine
+
+abbrev pub HasGoneBack : Standing → Standing → Type 0
+HasGoneBack old new = (gone : List Action) × IsTakenBack old gone new
 
 -- so it is, unless the transaction is over
 abbrev pub IsAsBefore : Lent → Lent → Type 0
-IsAsBefore old new = in_transaction new.thread.engine ≡ true → IsTakenBack old.thread new.thread
+IsAsBefore old new = in_transaction new.thread.engine ≡ true → HasGoneBack old.thread new.thread
 
 -- ## One run of a block
 
@@ -99,10 +118,11 @@ abbrev pub IsToldAgain : {R E : Type 0} → Result (Result R E) Stop → Type 0
 IsToldAgain (Err (Restarted clock word)) = Unit {0}
 IsToldAgain told = ⊥
 
--- unless the block gave a value, nothing of it is left
+-- unless the block gave a value, nothing of it is left; where its body took it back, the transaction goes on
 abbrev pub IsUndoneUnless : {R E : Type 0} → Result (Result R E) Stop → Lent → Lent → Type 0
 IsUndoneUnless (Ok (Ok value)) old new = Unit {0}
-IsUndoneUnless told old new = IsAsBefore old new
+IsUndoneUnless (Ok (Err why)) old new = (in_transaction new.thread.engine ≡ true) × HasGoneBack old.thread new.thread
+IsUndoneUnless (Err stop) old new = IsAsBefore old new
 
 -- how a block ends whose body gave this: it commits, or is rolled back
 abbrev pub EndsBlockBy : {R E : Type 0} → Result R (Stopped E) → Lent → Result (Result R E) Stop → Lent → Type 0

@@ -2,6 +2,7 @@
 use Rattle.std.specs.Prelude.{◌≡◌, ℕ, suc, ◌<◌, ◌≤◌, Bool, true, false, List, [], ◌∷◌, ◌++◌, length, map, Result, Ok}
 use Rattle.std.specs.Borrow.{MutBor}
 use Rattle.std.specs.Fn.{CalledAtMut, Mut}
+use Rattle.itm_types.specs.declared.call.Action.{Action}
 use Rattle.itm_types.specs.declared.call.Call.{Call}
 use Rattle.itm_types.specs.declared.call.Call.TheVariants.{Begin, Commit, Abort, Mode}
 use Rattle.itm_types.specs.declared.call.Reply.{Reply as Replied}
@@ -10,6 +11,7 @@ use Rattle.itm_types.specs.Memory.{bytes_of}
 use Rattle.itm_model.specs.Machine.{after, opened}
 use Rattle.itm_model.specs.Runs.{replies, state_after}
 use Rattle.itm_model.specs.State.{State}
+use Rattle.user_actions.specs.Actions.{as_undo}
 use Rattle.norec_core.specs.declared.answer.Answer.TheVariants.{Reply}
 use Rattle.norec_core.specs.Core.{in_transaction}
 use Rattle.shared_words.specs.InGlobal.{Words}
@@ -32,16 +34,40 @@ Stays (Abort outer) new = in_transaction new.engine ≡ true
 Stays (Mode room) new = ⊥
 Stays call new = Unit {0}
 
--- such calls, each answered by its reply, led the thread from the one standing to the other
-abbrev pub Makes : Words → Standing → List (Call × Replied) → Standing → Type 0
+-- what a body does: a call, with its reply; or blocks that it began and that were taken back, with the undo actions that came to run by that
+pub data Deed : Type 0 where
+  Calls : Call → Replied → Deed
+  TakesBack : List Action → Deed
+
+-- such deeds led the thread from the one standing to the other: each call was answered by its reply, and nothing but the undo actions is left of what was taken back
+abbrev pub Makes : Words → Standing → List Deed → Standing → Type 0
 Makes words t [] new = new ≡ t
-Makes words t (made ∷ rest) new = (next : Standing) × Stays made.0 next × IsAnswered words (start_of t made.0 false) (Reply made.1) next.pass next.engine × Makes words next rest new
+Makes words t (Calls call reply ∷ rest) new = (next : Standing) × Stays call next × IsAnswered words (start_of t call false) (Reply reply) next.pass next.engine × Makes words next rest new
+Makes words t (TakesBack gone ∷ rest) new = (back : Standing) × IsTakenBack t gone back × Makes words back rest new
 
-abbrev pub calls_of : List (Call × Replied) → List Call
-calls_of made = map (λ (m : Call × Replied). m.0) made
+abbrev pub calls_of : List Deed → List Call
+calls_of [] = []
+calls_of (Calls call reply ∷ rest) = call ∷ calls_of rest
+calls_of (TakesBack gone ∷ rest) = calls_of rest
 
-abbrev pub replies_of : List (Call × Replied) → List Replied
-replies_of made = map (λ (m : Call × Replied). m.1) made
+abbrev pub replies_of : List Deed → List Replied
+replies_of [] = []
+replies_of (Calls call reply ∷ rest) = reply ∷ replies_of rest
+replies_of (TakesBack gone ∷ rest) = replies_of rest
+
+-- the deeds of a block that gave a value: what its runs before that one left, its begin, what its body did, and its commit
+abbrev pub block_of : List Action → List Deed → List Deed
+block_of gone made = TakesBack gone ∷ Calls (Begin usual 0) (Code 5) ∷ (made ++ Calls Commit Done ∷ [])
+
+-- these undo actions have come to run
+abbrev pub with_gone : State → List Action → State
+with_gone s gone = record s { actions = record s.actions { ran = s.actions.ran ++ map as_undo gone } }
+
+-- the plain machine's state after the calls, where the undo actions come to run between them as they did
+abbrev pub state_with : ℕ → State → List Deed → State
+state_with deepest s [] = s
+state_with deepest s (Calls call reply ∷ rest) = state_with deepest (after deepest s call) rest
+state_with deepest s (TakesBack gone ∷ rest) = state_with deepest (with_gone s gone) rest
 
 -- the plain machine's transaction, begun on the bytes that the first k commits have left
 abbrev pub begun_at : View → ℕ → List ℕ → State
@@ -51,19 +77,19 @@ begun_at v k arena = opened (bytes_of (memory_of v k)) arena usual
 abbrev pub committed_at : ℕ → View → ℕ → List ℕ → List Call → State
 committed_at deepest v k arena calls = after deepest (state_after deepest (begun_at v k arena) calls) Commit
 
--- A transaction of these calls, with these replies, committed at a position. Each reply is the plain machine's on the bytes that the commits before that position have left; just where the machine then has written, the next commit is the transaction's own, and leaves the machine's bytes. The arena and the actions are the machine's.
-pub record IsPlain (deepest : ℕ) (arena : List ℕ) (made : List (Call × Replied)) (at : ℕ) (wrote : Bool) (new : Standing) : Type 0 where
+-- A transaction of these deeds committed at a position. Each reply is the plain machine's, which makes the calls alone, on the bytes that the commits before that position have left; just where the machine then has written, the next commit is the transaction's own, and leaves the machine's bytes. The arena is the machine's, and so are the actions, with the undo actions of what was taken back in their places.
+pub record IsPlain (deepest : ℕ) (arena : List ℕ) (made : List Deed) (at : ℕ) (wrote : Bool) (new : Standing) : Type 0 where
   pub seen : at ≤ length (view_of new.pass).seen
   pub replied : replies_of made ≡ replies deepest (begun_at (view_of new.pass) at arena) (calls_of made)
   pub wrote_is : wrote ≡ (committed_at deepest (view_of new.pass) at arena (calls_of made)).wrote
   pub next : wrote ≡ true → (at < length (view_of new.pass).seen) × (bytes_of (memory_of (view_of new.pass) (suc at)) ≡ (committed_at deepest (view_of new.pass) at arena (calls_of made)).memory)
   pub arena_is : new.engine.arena ≡ (committed_at deepest (view_of new.pass) at arena (calls_of made)).arena
-  pub actions_are : new.engine.actions ≡ (committed_at deepest (view_of new.pass) at arena (calls_of made)).actions
+  pub actions_are : new.engine.actions ≡ (after deepest (state_with deepest (begun_at (view_of new.pass) at arena) made) Commit).actions
 
 module _ {F R E : Type 0} (fn : Mut F (MutBor Lent × Unit {0}) (Result R (Stopped E) × (MutBor Lent × Unit {0}))) where
-  -- which calls each run of a body makes that gives a value, and with which replies
+  -- what each run of a body does that gives a value
   abbrev pub Makings : Type 0
-  Makings = (f : F) (x : Lent) (value : R) (f' : F) (x' : Lent) → CalledAtMut fn f x (Ok value) f' x' → (made : List (Call × Replied)) × Makes x.words x.thread made x'.thread
+  Makings = (f : F) (x : Lent) (value : R) (f' : F) (x' : Lent) → CalledAtMut fn f x (Ok value) f' x' → (made : List Deed) × Makes x.words x.thread made x'.thread
 
   -- the value that is told was given by a run whose calls are the plain machine's at the position told; the body is the first one where bodies are left as they were
   pub record IsPlainRun (makings : Makings) (first : F) (words : Words) (done : Value R) (new : Standing) : Type 0 where
@@ -76,19 +102,19 @@ module _ {F R E : Type 0} (fn : Mut F (MutBor Lent × Unit {0}) (Result R (Stopp
     pub runs : CalledAtMut fn body began (Ok done.value) body' last
     pub plain : IsPlain began.thread.engine.depth began.thread.engine.arena (makings body began done.value body' last runs).0 done.at done.wrote new
 
-  -- a block's value was given by a run whose calls are, with the begin before them and the commit after them, those of the thread: it began where nothing of the runs before it is left
-  pub record IsPlainBlock (makings : Makings) (old : Lent) (value : R) (new : Lent) : Type 0 where
-    pub from : Lent
-    pub fresh : IsTakenBack old.thread from.thread
-    pub here : from.words ≡ old.words
+  -- a block's value was given by a run whose deeds are, with the begin before them and the commit after them, those of the thread, but for the runs before it; the body is the first one where bodies are left as they were
+  pub record IsPlainBlock (makings : Makings) (first : F) (old : Lent) (value : R) (new : Lent) : Type 0 where
+    pub gone : List Action
     pub body : F
+    pub same : KeepsBody fn → body ≡ first
     pub body' : F
     pub began : Lent
     pub last : Lent
+    pub here : began.words ≡ old.words
     pub runs : CalledAtMut fn body began (Ok value) body' last
-    pub makes : Makes old.words from.thread ((Begin usual 0, Code 5) ∷ ((makings body began value body' last runs).0 ++ (Commit, Done) ∷ [])) new.thread
+    pub makes : Makes old.words old.thread (block_of gone (makings body began value body' last runs).0) new.thread
 
   -- where the block gave a value
-  abbrev pub IsPlainIn : Makings → Lent → Result (Result R E) Stop → Lent → Type 0
-  IsPlainIn makings old (Ok (Ok value)) new = IsPlainBlock makings old value new
-  IsPlainIn makings old told new = Unit {0}
+  abbrev pub IsPlainIn : Makings → F → Lent → Result (Result R E) Stop → Lent → Type 0
+  IsPlainIn makings first old (Ok (Ok value)) new = IsPlainBlock makings first old value new
+  IsPlainIn makings first old told new = Unit {0}

@@ -47,8 +47,8 @@ impl Transaction {
         ensures kept { KeepsLent F.FnMut → KeepsBlocks F.FnMut → IsKept self.old self.new }
         ensures within { KeepsLent F.FnMut → KeepsBlocks F.FnMut → StaysWithin self.old self.new }
 
-        // Where the calls are known of each run that gives a value, those of the block are its transaction's.
-        ensures plain { KeepsLent F.FnMut → KeepsBlocks F.FnMut → (makings : Makings F.FnMut) → IsPlainIn F.FnMut makings self.old result self.new }
+        // Where it is known what each run does that gives a value, the deeds of the block are its transaction's.
+        ensures plain { KeepsLent F.FnMut → KeepsBlocks F.FnMut → (makings : Makings F.FnMut) → IsPlainIn F.FnMut makings body self.old result self.new }
 
         // Unless the body gave a value, nothing of the block is left, and the blocks around it are as before.
         ensures undone { KeepsLent F.FnMut → KeepsBlocks F.FnMut → IsUndoneUnless result self.old self.new }

@@ -1,9 +1,8 @@
 -- Reads, writes and commits of the plain machine.
-use Rattle.std.proofs.Common.{◌≡◌, ◌∙◌, ◌||◌, ℕ, Bool, false, true, true≢false, List, [], ◌∷◌, ◌++◌, map, Option, None, Some, ap, refl, subst, sym}
+use Rattle.std.proofs.Common.{◌≡◌, ◌∙◌, ◌||◌, ℕ, Bool, false, true, true≢false, List, [], ◌∷◌, ◌++◌, Option, None, Some, ap, refl, subst, sym}
 use Rattle.itm_types.specs.declared.access.ReadHint.TheVariants.{R}
 use Rattle.itm_types.specs.declared.access.WriteHint.TheVariants.{W}
 use Rattle.itm_types.specs.declared.access.Width.TheVariants.{U8}
-use Rattle.itm_types.specs.declared.call.Call.{Call}
 use Rattle.itm_types.specs.declared.call.Call.TheVariants.{Commit, Read, Write}
 use Rattle.itm_types.specs.declared.call.Refusal.{Refusal}
 use Rattle.itm_types.specs.declared.call.Reply.{Reply}
@@ -13,6 +12,7 @@ use Rattle.itm_model.specs.Machine.{after, after_unless, bytes_reply, closed, re
 use Rattle.itm_model.specs.Runs.{replies, state_after}
 use Rattle.itm_model.specs.State.{State}
 use Rattle.itm_runtime.specs.Stops.{bytes_of_number, number}
+use Rattle.transactions.specs.Plain.{Calls, Deed, TakesBack, calls_of, replies_of}
 use Rattle.tx_map.specs.Plainly.{Goes}
 
 abbrev bytes_in : Reply → List ℕ
@@ -31,23 +31,20 @@ abbrev rest_of : List Reply → List Reply
 rest_of [] = []
 rest_of (r ∷ rs) = rs
 
-abbrev calls_in : List (Call × Reply) → List Call
-calls_in made = map (λ (m : Call × Reply). m.0) made
+-- deeds, and more after them
+pub record Parts (d : ℕ) (s : State) (xs ys : List Deed) : Type 0 where
+  pub first : replies_of xs ≡ replies d s (calls_of xs)
+  pub second : replies_of ys ≡ replies d (state_after d s (calls_of xs)) (calls_of ys)
+  pub state : state_after d s (calls_of (xs ++ ys)) ≡ state_after d (state_after d s (calls_of xs)) (calls_of ys)
 
-abbrev replies_in : List (Call × Reply) → List Reply
-replies_in made = map (λ (m : Call × Reply). m.1) made
-
--- calls, and more after them
-pub record Parts (d : ℕ) (s : State) (xs ys : List (Call × Reply)) : Type 0 where
-  pub first : replies_in xs ≡ replies d s (calls_in xs)
-  pub second : replies_in ys ≡ replies d (state_after d s (calls_in xs)) (calls_in ys)
-  pub state : state_after d s (calls_in (xs ++ ys)) ≡ state_after d (state_after d s (calls_in xs)) (calls_in ys)
-
-pub parted : (d : ℕ) (s : State) (xs ys : List (Call × Reply)) → replies_in (xs ++ ys) ≡ replies d s (calls_in (xs ++ ys)) → Parts d s xs ys
+pub parted : (d : ℕ) (s : State) (xs ys : List Deed) → replies_of (xs ++ ys) ≡ replies d s (calls_of (xs ++ ys)) → Parts d s xs ys
 parted d s [] ys e = record { first = refl; second = e; state = refl }
-parted d s (x ∷ xs) ys e =
-    let inner = parted d (after d s x.0) xs ys (ap rest_of e) in
+parted d s (Calls call r ∷ xs) ys e =
+    let inner = parted d (after d s call) xs ys (ap rest_of e) in
     record { first = λ i. first_of (e i) ∷ inner.first i; second = inner.second; state = inner.state }
+parted d s (TakesBack gone ∷ xs) ys e =
+    let inner = parted d s xs ys e in
+    record { first = inner.first; second = inner.second; state = inner.state }
 
 read_by : (o : Option Refusal) (xs ys : List ℕ) (s : State) → bytes_reply xs ≡ reply_unless o (bytes_reply ys) → (ys ≡ xs) × (after_unless o s s ≡ s)
 read_by None xs ys s e = (sym (ap bytes_in e), refl)

@@ -5,8 +5,6 @@ use Rattle.itm_types.specs.declared.access.ReadHint.TheVariants.{R}
 use Rattle.itm_types.specs.declared.access.WriteHint.TheVariants.{W}
 use Rattle.itm_types.specs.declared.access.Width.TheVariants.{U8}
 use Rattle.itm_types.specs.declared.call.Call.TheVariants.{Read, Write}
-use Rattle.itm_types.specs.declared.call.Call.{Call}
-use Rattle.itm_types.specs.declared.call.Reply.{Reply as Replied}
 use Rattle.itm_types.specs.declared.call.Reply.TheVariants.{Done}
 use Rattle.itm_types.specs.Slices.{slice, with_slice}
 use Rattle.itm_model.specs.Machine.{bytes_reply}
@@ -17,7 +15,8 @@ use Rattle.itm_runtime.specs.CallResults.{Tells}
 use Rattle.itm_runtime.specs.Standing.{Standing}
 use Rattle.itm_runtime.specs.Stops.{answer_to_read, answer_to_write, bytes_of_number, number}
 use Rattle.itm_runtime.specs.declared.stop.Stop.{Stop}
-use Rattle.transactions.specs.Plain.{Makes, calls_of}
+use Rattle.transactions.specs.Plain.{Calls, calls_of}
+use Rattle.transactions.proofs.Deeds.{makes_then}
 use Rattle.typed_cells.specs.Reads.{read_as}
 use Rattle.tx_map.specs.Plainly.{Does, Goes}
 use Rattle.tx_map.specs.Tables.{pair_of}
@@ -34,10 +33,6 @@ goes_on So Then All s t u by g h = record {
   still = λ w. let second = h.still w in let first = g.still second.0 in (first.0, second.1 ∙ first.1);
 }
 
-makes_more : (words : Words) (a b c : Standing) (xs ys : List (Call × Replied)) → Makes words a xs b → Makes words b ys c → Makes words a (xs ++ ys) c
-makes_more words a b c [] ys first second = subst (λ (t : Standing). Makes words t ys c) first second
-makes_more words a b c (x ∷ xs) ys first second = (first.0, first.1, first.2, makes_more words first.0 b c xs ys first.3 second)
-
 module _ (words : Words) where
   pub does_nothing : (t : Standing) (So : List ℕ → List ℕ → Type 0) → ((m : List ℕ) → So m m) → Does words t t So
   does_nothing t So so = record { made = []; makes = refl; plainly = λ d s e. goes_nowhere So s s refl (so s.memory) }
@@ -45,7 +40,7 @@ module _ (words : Words) where
   pub does_then : (a b c : Standing) (So Then All : List ℕ → List ℕ → Type 0) → ((m n o : List ℕ) → So m n → Then n o → All m o) → Does words a b So → Does words b c Then → Does words a c All
   does_then a b c So Then All by x y = record {
     made = x.made ++ y.made;
-    makes = makes_more words a b c x.made y.made x.makes y.makes;
+    makes = makes_then words a b c x.made y.made x.makes y.makes;
     plainly = λ d s e.
         let p = parted d s x.made y.made e in
         let t = state_after d s (calls_of x.made) in
@@ -59,11 +54,11 @@ module _ (words : Words) where
   -- ## One call
 
   pub does_write : (a b : Standing) (at n : ℕ) → Tells words a (Write W at (number n)) (answer_to_write (Ok tt)) b → Does words a b (λ old new. new ≡ with_slice old at (to_le_bytes w64 n))
-  does_write a b at n tells = record { made = (Write W at (number n), Done) ∷ []; makes = (b, tt, tells, refl); plainly = λ d s e. goes_by_write d s at n e }
+  does_write a b at n tells = record { made = Calls (Write W at (number n)) Done ∷ []; makes = (b, tt, tells, refl); plainly = λ d s e. goes_by_write d s at n e }
 
   read_so : (a b : Standing) (first i place n : ℕ) → place ≡ first + 8 * i → n < 2 ^ 64 → Tells words a (Read R U8 place) (answer_to_read (Ok n)) b → Does words a b (Reads first i (pair_of n))
   read_so a b first i place n at fits tells = record {
-    made = (Read R U8 place, bytes_reply (bytes_of_number n)) ∷ [];
+    made = Calls (Read R U8 place) (bytes_reply (bytes_of_number n)) ∷ [];
     makes = (b, tt, tells, refl);
     plainly = λ d s e. goes_weaker (λ old new. (new ≡ old) × (slice old place 8 ≡ bytes_of_number n)) (Reads first i (pair_of n)) s (state_after d s (Read R U8 place ∷ []))
         (λ old new r. record { same = r.0; pair_is = pair_read old first i n fits (ap (λ k. slice old k 8) (sym at) ∙ r.1) })

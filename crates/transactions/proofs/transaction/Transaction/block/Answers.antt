@@ -36,7 +36,8 @@ pub returns-then-not-goes_again-clause-plain : goal.returns-then-not-goes_again-
 returns-then-not-goes_again-clause-plain g c lent blocks makings =
     let tells : TellsBlock g.F.FnMut c.loop-told.body c.loop-told.self c.block_once-told.result c.block_once-told.new.self = search rules in
     let was = c.loop-told.invariant.2 lent blocks in
-    plain_in g.F.FnMut lent blocks makings c.loop-told.body c.args.self.now c.loop-told.self c.block_once-told.new.self was.0 was.1 c.block_once-told.result tells
+    plain_in g.F.FnMut lent blocks makings c.args.body c.args.self.now c.loop-told.self c.block_once-told.new.self was.0 was.1 c.block_once-told.result
+    (rebased_block g.F.FnMut c.loop-told.body c.args.body c.loop-told.invariant.1 c.loop-told.self c.block_once-told.new.self c.block_once-told.result tells)
 
 pub loop-told-preserved : goal.loop-told-preserved
 loop-told-preserved g c = (
