@@ -1,5 +1,5 @@
 -- The second account's part as a block.
-use Rattle.std.proofs.Common.{◌≡◌, ◌∙◌, ℕ, Result, Ok, ap, arith, subst}
+use Rattle.std.proofs.Common.{◌≡◌, ◌∙◌, ℕ, Result, Ok, ap, subst}
 use Rattle.std.specs.Borrow.{MutBor}
 use Rattle.std.specs.Fn.{Called, CalledAtMut, Mut}
 use Rattle.transactions.specs.Plain.{IsPlainBlock, IsPlainIn, Makings}
@@ -7,14 +7,11 @@ use Rattle.shared_words.specs.InGlobal.{Words}
 use Rattle.itm_runtime.specs.Standing.{Standing}
 use Rattle.itm_runtime.specs.declared.stop.Stop.{Stop}
 use Rattle.transactions.specs.Blocks.{KeepsBlocks, StaysWithin}
-use Rattle.transactions.specs.Lent.{IsKept, Lent}
+use Rattle.transactions.specs.Lent.{Lent}
 use Rattle.transactions.specs.Runs.{KeepsBody}
 use Rattle.transactions.specs.declared.stopped.Stopped.{Stopped}
 use Rattle.bank.specs.declared.transfer.Unmade.{Unmade}
 use Rattle.bank.specs.Transfers.{EndsNoBlock, HasPaidIn, IsPaidIn, deeds_of_payment}
-
-pub kept_then : (a b c : Lent) → IsKept a b → IsKept b c → IsKept a c
-kept_then a b c s t = record { words = t.words ∙ s.words; mine_is = t.mine_is ∙ s.mine_is; looks = omega (arith, s.looks, t.looks) }
 
 module _ {F : Type 0} (fn : Mut F (MutBor Lent × Unit {0}) (Result (Unit {0}) (Stopped Unmade) × (MutBor Lent × Unit {0}))) where
   pub keeps_blocks : ((f : F) (shown left : MutBor Lent) (r : Result (Unit {0}) (Stopped Unmade)) (f' : F) → Called fn f (shown, tt) (r, (left, tt)) f' → EndsNoBlock shown.now left.now) → KeepsBlocks fn

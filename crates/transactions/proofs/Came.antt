@@ -12,7 +12,7 @@ use Rattle.transactions.specs.declared.tried.Done.{Done as Value}
 use Rattle.transactions.specs.declared.tried.Tried.TheVariants.{Failed as Fails}
 use Rattle.transactions.specs.Lent.{IsKept, IsLeft, Lent, mine_of}
 use Rattle.transactions.specs.Plain.{IsPlainRun, Makings}
-use Rattle.transactions.specs.Runs.{ComesTo, GoesAgain, IsCancelled, KeepsBody, KeepsLent, mine_left}
+use Rattle.transactions.specs.Runs.{ComesTo, HasLooked, IsCancelled, KeepsBody, KeepsLent, mine_left}
 use Rattle.transactions.proofs.LaterViews.{went_on}
 use Rattle.transactions.proofs.Plain.{plain_run}
 use Rattle.transactions.proofs.Tries.{rebased}
@@ -32,7 +32,7 @@ module _ {F R E : Type 0} (fn : Mut F (MutBor Lent × Unit {0}) (Result R (Stopp
   plain_of makings body words keeps (Err why) new t = tt
 
 -- a try whose body took it back has looked at the clock
-pub cancelled_goes : (R : Type 0) {E : Type 0} (why : Failed E) → IsCancelled {R = R} (Err why) → GoesAgain {R = R} (Fails why)
+pub cancelled_goes : (R : Type 0) {E : Type 0} (why : Failed E) → IsCancelled {R = R} (Err why) → HasLooked {R = R} (Fails why)
 cancelled_goes R (failures.Cancelled why) is = tt
 cancelled_goes R (failures.Refused refusal) is = absurd is
 cancelled_goes R failures.Full is = absurd is

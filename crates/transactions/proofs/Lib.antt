@@ -7,7 +7,7 @@ pub mod LastEngines
 pub mod LaterViews
 pub mod Within
 mod InnerBlocks
-mod BlockOutcomes
+pub mod BlockOutcomes
 mod BlockRuns
 mod RanActions
 pub mod Deeds

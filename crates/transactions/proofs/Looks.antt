@@ -23,7 +23,7 @@ use Rattle.itm_runtime.specs.declared.stop.Stop.{Stop}
 use Rattle.itm_runtime.specs.declared.stop.Stop.TheVariants as stops
 use Rattle.transactions.specs.declared.tried.Tried.{Tried}
 use Rattle.transactions.specs.Lent.{Lent, looks_of}
-use Rattle.transactions.specs.Runs.{BeginTold, GoesAgain, stop_told, usual}
+use Rattle.transactions.specs.Runs.{BeginTold, HasLooked, stop_told, usual}
 use Rattle.transactions.proofs.Modes.{keeps_begin, stays_revocable}
 
 opens : (s : State) → is_open (effect s (Begin usual 0)) ≡ true
@@ -61,13 +61,13 @@ begun_looks t again (answers.Full at) v e served stands on is shut = absurd (on 
 
 -- so does one after which there is another try
 module _ {R E : Type 0} (before : Standing) (again : Bool) (stood : Lent) (told : Tried R E) where
-  pub stopped_looks : (stop : Stop) → BeginTold before again (answer_of stop) stood → told ≡ stop_told stop true → GoesAgain told → (view_of before.pass).looks < looks_of stood
-  stopped_looks (stops.Refused why) t is goes = absurd (subst GoesAgain is goes)
+  pub stopped_looks : (stop : Stop) → BeginTold before again (answer_of stop) stood → told ≡ stop_told stop true → HasLooked told → (view_of before.pass).looks < looks_of stood
+  stopped_looks (stops.Refused why) t is goes = absurd (subst HasLooked is goes)
   stopped_looks (stops.Conflict clock word) t is goes = t.served.tells.looks
   stopped_looks (stops.Restarted clock word) t is goes = t.served.tells.looks
   stopped_looks (stops.Busy clock) t is goes = t.served.tells.looks
-  stopped_looks (stops.Full at) t is goes = absurd (subst GoesAgain is goes)
-  stopped_looks stops.Memory t is goes = absurd (subst GoesAgain is goes)
+  stopped_looks (stops.Full at) t is goes = absurd (subst HasLooked is goes)
+  stopped_looks stops.Memory t is goes = absurd (subst HasLooked is goes)
 
 pub or_not : (b : Bool) → (b || false) ≡ b
 or_not true = refl

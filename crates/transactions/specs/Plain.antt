@@ -1,4 +1,4 @@
--- What the calls of a transaction come to: those of the plain machine, on the bytes that some first commits have left.
+-- What the calls of a transaction come to, whatever blocks of it were taken back: those of the plain machine, on the bytes that some first commits have left.
 use Rattle.std.specs.Prelude.{◌≡◌, ℕ, suc, ◌<◌, ◌≤◌, Bool, true, false, List, [], ◌∷◌, ◌++◌, length, map, Result, Ok}
 use Rattle.std.specs.Borrow.{MutBor}
 use Rattle.std.specs.Fn.{CalledAtMut, Mut}

@@ -56,13 +56,13 @@ stop_told (stops.Busy clock) was_open = Busy
 stop_told (stops.Full at) was_open = Fails failures.Full
 stop_told stops.Memory was_open = Fails failures.Memory
 
--- after such a try comes another one, or its body took it back
-abbrev pub GoesAgain : {R E : Type 0} → Tried R E → Type 0
-GoesAgain (Done done) = ⊥
-GoesAgain (Fails (failures.Cancelled why)) = Unit {0}
-GoesAgain (Fails why) = ⊥
-GoesAgain Conflict = Unit {0}
-GoesAgain Busy = Unit {0}
+-- such a try has looked at the clock, and has not committed
+abbrev pub HasLooked : {R E : Type 0} → Tried R E → Type 0
+HasLooked (Done done) = ⊥
+HasLooked (Fails (failures.Cancelled why)) = Unit {0}
+HasLooked (Fails why) = ⊥
+HasLooked Conflict = Unit {0}
+HasLooked Busy = Unit {0}
 
 -- the pass's own commits after a try
 abbrev pub mine_then : {R E : Type 0} → List ℕ → Tried R E → List ℕ

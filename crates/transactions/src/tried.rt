@@ -35,7 +35,7 @@ pub(crate) enum Tried<R, E> {
 
 impl Transaction {
     ghost use Rattle.transactions.specs.Lent.{IsKept, IsLeft, looks_of, mine_of};
-    ghost use Rattle.transactions.specs.Runs.{BeginTold, GoesAgain, HasBegun, HasEnded, IsGivenUp, KeepsBody, KeepsLent, Tells, cancel_told, mine_then, stop_told};
+    ghost use Rattle.transactions.specs.Runs.{BeginTold, HasLooked, HasBegun, HasEnded, IsGivenUp, KeepsBody, KeepsLent, Tells, cancel_told, mine_then, stop_told};
 
     /// Begins, runs the body, and ends.
     pub(crate) fn attempt<R: Drop, E: Drop, F: FnMut(&mut Transaction) -> Result<R, Stopped<E>>>(
@@ -50,7 +50,7 @@ impl Transaction {
         ensures tells { Tells F.FnMut body.old self.old.words result self.new.thread }
         ensures same { KeepsBody F.FnMut → body.new ≡ body.old }
         ensures left { KeepsLent F.FnMut → IsLeft (mine_then (mine_of self.old) result) self.old self.new }
-        ensures looks { KeepsLent F.FnMut → GoesAgain result → looks_of self.old < looks_of self.new }
+        ensures looks { KeepsLent F.FnMut → HasLooked result → looks_of self.old < looks_of self.new }
     {
         match self.begun(again) {
             Ok(()) => match body(self) {

@@ -27,7 +27,8 @@ impl Client {
         requires callable { F.IsAlwaysCallable body }
         ensures comes { ComesTo F.FnMut body self.old.transaction.words result self.new.transaction.thread }
 
-        // Where each run's calls are known, those of the run that gave the value are the plain machine's at the position told.
+        // Where it is known what each run does, the calls of the run that gave the value are the plain machine's at the position
+        // told.
         ensures plain { KeepsLent F.FnMut → (makings : Makings F.FnMut) → IfOk result (λ done. IsPlainRun F.FnMut makings body self.old.transaction.words done self.new.transaction.thread) }
 
         // The body hands back what it was lent: the words are the same, and the pass's own commits are those told.
@@ -38,6 +39,7 @@ impl Client {
 
         // It tells of one that the body cancelled once there were so many more of them, each with a look at the clock.
         ensures waited { KeepsLent F.FnMut → IsCancelled result → looks_of self.old.transaction + retries < looks_of self.new.transaction }
+        ensures tries { self.new.tries ≡ self.old.tries }
     {
         for _ in 0..retries {
             let told = self.run(&mut body);

@@ -5,27 +5,28 @@ use Rattle.itm_types.specs.declared.call.Reply.TheVariants.{Done}
 use Rattle.bank.specs.declared.transfer.TheConstants.{RECEIPT}
 use Rattle.bank.specs.Transfers.{HasPaidIn}
 use Rattle.bank.proofs.Calls.{made_by, over, read_replied, write_replied}
-use Rattle.bank.proofs.Payments.{block_paid, keeps_blocks, kept_then, paid_over}
+use Rattle.transactions.proofs.BlockOutcomes.{kept_twice}
+use Rattle.bank.proofs.Payments.{block_paid, keeps_blocks, paid_over}
 use Rattle.bank.proofs.transfer.move_amount.Goals as goal
 
 pub returns-in_err-why-clause-kept : goal.returns-in_err-why-clause-kept
 returns-in_err-why-clause-kept c =
-    kept_then c.args.tx.now c.write.new.tx c.block.new.self (kept_then c.args.tx.now c.read.new.tx c.write.new.tx c.in_ok-had.ensures.kept c.in_ok-write.ensures.kept) (c.block.ensures.kept (λ f x r f' x' run. search rules) (keeps_blocks _ (λ f shown left r f' called. search rules)))
+    kept_twice c.args.tx.now c.write.new.tx c.block.new.self (kept_twice c.args.tx.now c.read.new.tx c.write.new.tx c.in_ok-had.ensures.kept c.in_ok-write.ensures.kept) (c.block.ensures.kept (λ f x r f' x' run. search rules) (keeps_blocks _ (λ f shown left r f' called. search rules)))
 
 pub returns-in-Err-clause-kept : goal.returns-in-Err-clause-kept
 returns-in-Err-clause-kept c =
-    kept_then c.args.tx.now c.write.new.tx c.block.new.self (kept_then c.args.tx.now c.read.new.tx c.write.new.tx c.in_ok-had.ensures.kept c.in_ok-write.ensures.kept) (c.block.ensures.kept (λ f x r f' x' run. search rules) (keeps_blocks _ (λ f shown left r f' called. search rules)))
+    kept_twice c.args.tx.now c.write.new.tx c.block.new.self (kept_twice c.args.tx.now c.read.new.tx c.write.new.tx c.in_ok-had.ensures.kept c.in_ok-write.ensures.kept) (c.block.ensures.kept (λ f x r f' x' run. search rules) (keeps_blocks _ (λ f shown left r f' called. search rules)))
 
 pub returns-in_err-on_commit-clause-kept : goal.returns-in_err-on_commit-clause-kept
 returns-in_err-on_commit-clause-kept c =
-    kept_then c.args.tx.now c.block.new.self c.on_commit.new.self
-    (kept_then c.args.tx.now c.write.new.tx c.block.new.self (kept_then c.args.tx.now c.read.new.tx c.write.new.tx c.in_ok-had.ensures.kept c.in_ok-write.ensures.kept) (c.block.ensures.kept (λ f x r f' x' run. search rules) (keeps_blocks _ (λ f shown left r f' called. search rules))))
+    kept_twice c.args.tx.now c.block.new.self c.on_commit.new.self
+    (kept_twice c.args.tx.now c.write.new.tx c.block.new.self (kept_twice c.args.tx.now c.read.new.tx c.write.new.tx c.in_ok-had.ensures.kept c.in_ok-write.ensures.kept) (c.block.ensures.kept (λ f x r f' x' run. search rules) (keeps_blocks _ (λ f shown left r f' called. search rules))))
     c.in_err-on_commit.ensures.kept
 
 pub returns-clause-kept : goal.returns-clause-kept
 returns-clause-kept c =
-    kept_then c.args.tx.now c.block.new.self c.on_commit.new.self
-    (kept_then c.args.tx.now c.write.new.tx c.block.new.self (kept_then c.args.tx.now c.read.new.tx c.write.new.tx c.in_ok-had.ensures.kept c.in_ok-write.ensures.kept) (c.block.ensures.kept (λ f x r f' x' run. search rules) (keeps_blocks _ (λ f shown left r f' called. search rules))))
+    kept_twice c.args.tx.now c.block.new.self c.on_commit.new.self
+    (kept_twice c.args.tx.now c.write.new.tx c.block.new.self (kept_twice c.args.tx.now c.read.new.tx c.write.new.tx c.in_ok-had.ensures.kept c.in_ok-write.ensures.kept) (c.block.ensures.kept (λ f x r f' x' run. search rules) (keeps_blocks _ (λ f shown left r f' called. search rules))))
     c.in_ok-on_commit.ensures.kept
 
 pub returns-clause-made : goal.returns-clause-made

@@ -36,6 +36,12 @@ returns-clause-waited g c keeps is =
     let now = c.run.ensures.cancelled keeps is in
     omega (arith, was.1, now)
 
+pub returns-then-not-is_cancelled-clause-tries : goal.returns-then-not-is_cancelled-clause-tries
+returns-then-not-is_cancelled-clause-tries g c = c.run-told.ensures.tries ∙ c.loop.invariant.2
+
+pub returns-clause-tries : goal.returns-clause-tries
+returns-clause-tries g c = c.run.ensures.tries ∙ c.loop.invariant.2
+
 pub loop-preserved : goal.loop-preserved
 loop-preserved g c = (
   c.run-told.ensures.callable,
