@@ -51,57 +51,93 @@ fn two(alloc: Global, tries: u64) -> Result<(Client, Client), AllocError> {
     Ok((client(alloc, words, first, tries)?, other))
 }
 
-#[test]
-fn commits_in_turn(rt: HostRuntime) -> Result<(), AllocError> {
-    let (mut one, mut other) = two(rt.alloc(), 1)?;
+/// What a test tries on two clients. They are lent to it: what owns them is proved once, in `on_two`, since the proof of a
+/// drop takes long.
+#[derive(Clone, Copy)]
+enum Case {
+    CommitInTurn,
+    TakeBack,
+    RunAgain,
+    GiveUp,
+    RefuseAPlace,
+    RegisterAnAction,
+    TakeABlockBack,
+    RunABlockAgain,
+}
+
+fn try_case(rt: &impl Abort, case: Case, one: &mut Client, other: &mut Client) {
+    match case {
+        Case::CommitInTurn => commit_in_turn(rt, one, other),
+        Case::TakeBack => take_back(rt, one),
+        Case::RunAgain => run_again(rt, one, other),
+        Case::GiveUp => give_up(rt, one),
+        Case::RefuseAPlace => refuse_a_place(rt, one),
+        Case::RegisterAnAction => register_an_action(rt, one),
+        Case::TakeABlockBack => take_a_block_back(rt, one),
+        Case::RunABlockAgain => run_a_block_again(rt, one, other),
+    }
+}
+
+/// Tries the case on two clients, of which the first one tries so often.
+fn on_two(rt: &impl Abort, alloc: Global, tries: u64, case: Case) -> Result<(), AllocError> {
+    let (mut one, mut other) = two(alloc, tries)?;
+    try_case(rt, case, &mut one, &mut other);
+    Ok(())
+}
+
+fn commit_in_turn(rt: &impl Abort, one: &mut Client, other: &mut Client) {
     let done = |value, at| Ok(Done {
         value,
         at,
         wrote: true,
     });
-    assert_eq!(&rt; add(&mut one, 8, 3), done(0, 0));
-    assert_eq!(&rt; add(&mut other, 8, 4), done(3, 1));
-    assert_eq!(&rt; add(&mut one, 8, 5), done(7, 2));
-    Ok(())
+    assert_eq!(rt; add(one, 8, 3), done(0, 0));
+    assert_eq!(rt; add(other, 8, 4), done(3, 1));
+    assert_eq!(rt; add(one, 8, 5), done(7, 2));
 }
 
 #[test]
-fn takes_back(rt: HostRuntime) -> Result<(), AllocError> {
-    let (mut one, _other) = two(rt.alloc(), 1)?;
+fn commits_in_turn(rt: HostRuntime) -> Result<(), AllocError> {
+    on_two(&rt, rt.alloc(), 1, Case::CommitInTurn)
+}
+
+fn take_back(rt: &impl Abort, one: &mut Client) {
     let why = one.atomically(|tx| -> Result<(), Stopped<u64>> {
         tx.write_u64(0, 7)?;
         let found = tx.read_u64(0)?;
         Err(Stopped::Cancelled(found))
     });
-    assert_eq!(&rt; why, Err(Failed::Cancelled(7)));
-    assert_eq!(&rt;
-        add(&mut one, 0, 1),
+    assert_eq!(rt; why, Err(Failed::Cancelled(7)));
+    assert_eq!(rt;
+        add(one, 0, 1),
         Ok(Done {
             value: 0,
             at: 0,
             wrote: true
         })
     );
-    Ok(())
+}
+
+#[test]
+fn takes_back(rt: HostRuntime) -> Result<(), AllocError> {
+    on_two(&rt, rt.alloc(), 1, Case::TakeBack)
 }
 
 /// What another thread commits between two reads is met by a conflict, and the body is run again.
-#[test]
-fn runs_again(rt: HostRuntime) -> Result<(), AllocError> {
-    let (mut one, mut other) = two(rt.alloc(), 2)?;
+fn run_again(rt: &impl Abort, one: &mut Client, other: &mut Client) {
     let mut runs = 0u8;
     let sum = one.atomically(|tx| -> Result<u64, Stopped<()>> {
         let low = tx.read_u64(0)?;
         if runs == 0 {
             runs = 1;
-            let _ = add(&mut other, 0, 5);
-            let _ = add(&mut other, 8, 6);
+            let _ = add(other, 0, 5);
+            let _ = add(other, 8, 6);
         }
         let high = tx.read_u64(8)?;
         tx.write_u64(0, 1)?;
         Ok(low.wrapping_add(high))
     });
-    assert_eq!(&rt;
+    assert_eq!(rt;
         sum,
         Ok(Done {
             value: 11,
@@ -109,34 +145,37 @@ fn runs_again(rt: HostRuntime) -> Result<(), AllocError> {
             wrote: true
         })
     );
-    Ok(())
+}
+
+#[test]
+fn runs_again(rt: HostRuntime) -> Result<(), AllocError> {
+    on_two(&rt, rt.alloc(), 2, Case::RunAgain)
+}
+
+fn give_up(rt: &impl Abort, one: &mut Client) {
+    assert_eq!(rt; add(one, 0, 1), Err(Failed::Tries));
 }
 
 #[test]
 fn gives_up(rt: HostRuntime) -> Result<(), AllocError> {
-    let (mut one, _other) = two(rt.alloc(), 0)?;
-    assert_eq!(&rt; add(&mut one, 0, 1), Err(Failed::Tries));
-    Ok(())
+    on_two(&rt, rt.alloc(), 0, Case::GiveUp)
+}
+
+fn refuse_a_place(rt: &impl Abort, one: &mut Client) {
+    assert_eq!(rt; add(one, 17, 1), Err(Failed::Refused(Refusal::OutOfRange)));
 }
 
 #[test]
 fn refuses_a_place(rt: HostRuntime) -> Result<(), AllocError> {
-    let (mut one, _other) = two(rt.alloc(), 1)?;
-    assert_eq!(&rt;
-        add(&mut one, 17, 1),
-        Err(Failed::Refused(Refusal::OutOfRange))
-    );
-    Ok(())
+    on_two(&rt, rt.alloc(), 1, Case::RefuseAPlace)
 }
 
-#[test]
-fn actions_are_due(rt: HostRuntime) -> Result<(), AllocError> {
-    let (mut one, _other) = two(rt.alloc(), 1)?;
+fn register_an_action(rt: &impl Abort, one: &mut Client) {
     let told = one.atomically(|tx| -> Result<(), Stopped<()>> {
         tx.on_commit(Action { fun: 3, arg: 4 })?;
         Ok(())
     });
-    assert_eq!(&rt;
+    assert_eq!(rt;
         told,
         Ok(Done {
             value: (),
@@ -144,15 +183,17 @@ fn actions_are_due(rt: HostRuntime) -> Result<(), AllocError> {
             wrote: false
         })
     );
-    assert!(&rt; one.due().len() == 1);
-    assert!(&rt; one.due()[0].action == Action { fun: 3, arg: 4 });
-    Ok(())
+    assert!(rt; one.due().len() == 1);
+    assert!(rt; one.due()[0].action == Action { fun: 3, arg: 4 });
+}
+
+#[test]
+fn actions_are_due(rt: HostRuntime) -> Result<(), AllocError> {
+    on_two(&rt, rt.alloc(), 1, Case::RegisterAnAction)
 }
 
 /// A block that is taken back alone leaves what the transaction wrote before it, and the transaction goes on.
-#[test]
-fn takes_a_block_back(rt: HostRuntime) -> Result<(), AllocError> {
-    let (mut one, _other) = two(rt.alloc(), 1)?;
+fn take_a_block_back(rt: &impl Abort, one: &mut Client) {
     let told = one.atomically(|tx| -> Result<Result<(), u64>, Stopped<()>> {
         tx.write_u64(0, 7)?;
         let inner = tx.block(|tx| -> Result<(), Stopped<u64>> {
@@ -168,7 +209,7 @@ fn takes_a_block_back(rt: HostRuntime) -> Result<(), AllocError> {
         })?;
         Ok(inner)
     });
-    assert_eq!(&rt;
+    assert_eq!(rt;
         told,
         Ok(Done {
             value: Err(8),
@@ -181,15 +222,17 @@ fn takes_a_block_back(rt: HostRuntime) -> Result<(), AllocError> {
         at: 1,
         wrote: true,
     });
-    assert_eq!(&rt; add(&mut one, 8, 1), done);
-    Ok(())
+    assert_eq!(rt; add(one, 8, 1), done);
+}
+
+#[test]
+fn takes_a_block_back(rt: HostRuntime) -> Result<(), AllocError> {
+    on_two(&rt, rt.alloc(), 1, Case::TakeABlockBack)
 }
 
 /// What another thread commits of a word that the block alone has read is met by the block alone, and what its first run wrote
 /// is gone.
-#[test]
-fn runs_a_block_again(rt: HostRuntime) -> Result<(), AllocError> {
-    let (mut one, mut other) = two(rt.alloc(), 1)?;
+fn run_a_block_again(rt: &impl Abort, one: &mut Client, other: &mut Client) {
     let mut runs = 0u8;
     let sum = one.atomically(|tx| -> Result<u64, Stopped<()>> {
         let first = tx.read_u64(0)?;
@@ -198,7 +241,7 @@ fn runs_a_block_again(rt: HostRuntime) -> Result<(), AllocError> {
             if runs == 0 {
                 runs = 1;
                 tx.write_u64(0, 9)?;
-                let _ = add(&mut other, 8, 5);
+                let _ = add(other, 8, 5);
             }
             let high = tx.read_u64(16)?;
             tx.write_u64(16, 1)?;
@@ -206,7 +249,7 @@ fn runs_a_block_again(rt: HostRuntime) -> Result<(), AllocError> {
         })?;
         Ok(inner.unwrap_or(0).wrapping_add(first))
     });
-    assert_eq!(&rt;
+    assert_eq!(rt;
         sum,
         Ok(Done {
             value: 5,
@@ -219,6 +262,10 @@ fn runs_a_block_again(rt: HostRuntime) -> Result<(), AllocError> {
         at: 2,
         wrote: true,
     });
-    assert_eq!(&rt; add(&mut one, 0, 1), done);
-    Ok(())
+    assert_eq!(rt; add(one, 0, 1), done);
+}
+
+#[test]
+fn runs_a_block_again(rt: HostRuntime) -> Result<(), AllocError> {
+    on_two(&rt, rt.alloc(), 1, Case::RunABlockAgain)
 }
