@@ -1,4 +1,5 @@
 -- The commits, in their order, and the memories that they left.
+pub mod ActorLimits
 pub mod CommitCounts
 pub mod Memories
 pub mod SeenMemories

@@ -13,6 +13,7 @@ pub use Rattle.itm_types.specs.declared.call.Ran.{Ran}
 pub use Rattle.itm_types.specs.declared.call.Refusal.{Refusal}
 pub use Rattle.itm_types.specs.declared.call.Reply.{Reply as Replied}
 pub use Rattle.itm_types.specs.declared.call.Reply.TheVariants.{Code, Done, Refused}
+pub use Rattle.itm_types.specs.declared.limits.Limits.{Limits}
 pub use Rattle.itm_types.specs.declared.limits.TheConstants.{MAX_ACTORS}
 pub use Rattle.itm_types.specs.declared.step.Step.{Step}
 pub use Rattle.itm_types.specs.declared.step.Step.TheVariants.{Cas, Load, Store}
@@ -39,7 +40,7 @@ pub use Rattle.norec_core.specs.declared.answer.Next.{Next}
 pub use Rattle.norec_core.specs.declared.answer.Next.TheVariants.{Answer as Answers, Step as Asks}
 pub use Rattle.norec_engine.specs.NextSteps.{ComesInto, next_in}
 pub use Rattle.norec_world.specs.ActionRoom.{AsksAs, goes_in, HasPlace, HasRoomFor, is_held, IsActing, IsPromised, IsRefused, MayRunOn, NoCancel, wanted}
-pub use Rattle.norec_world.specs.Actors.{AreActors}
+pub use Rattle.norec_world.specs.Actors.{AreActors, limits_of}
 pub use Rattle.norec_world.specs.Cells.{Cells, cells_after, found}
 pub use Rattle.norec_world.specs.ClockHolder.{ClocksOn, HoldsOn}
 pub use Rattle.norec_world.specs.Commits.{CommitsInOrder}
@@ -59,7 +60,7 @@ pub use Rattle.norec_world.specs.Rows.{AreFrom, AreOpen, AreUnfinished, Rows, ro
 pub use Rattle.norec_world.specs.Runs.{IsBeforeTry, IsInTry, IsRun, RunsFrom, StillRuns}
 pub use Rattle.norec_world.specs.Sound.{AnswerFits, BeginsAt, Falls, GoesOn, HasLess, HasRow, IsAnswered, IsAsked, IsDone, IsDue, IsKept, IsNoMore, IsReady, IsSettledBy, IsSound, IsTied, IsUnasked, IsWaiting, rank, RestsAs, run_left, StatusIs, steps_left, WritesDown}
 pub use Rattle.norec_world.specs.Stages.{active_of, AllOf, begun_in, cancels_in, count_all, count_in, count_of, ends_in, KeepsOthers, moved_to, open_in, pending_of, points_in, with_open, with_room}
-pub use Rattle.norec_world.specs.Starts.{HasStarted, IsFirst}
+pub use Rattle.norec_world.specs.Starts.{HasStarted, IsFirst, first_engine}
 pub use Rattle.norec_world.specs.Status.{ending_of, is_ready, is_waiting, waiting_step}
 pub use Rattle.norec_world.specs.Tied.{AreTied}
 pub use Rattle.norec_world.specs.Tries.{begins, between, Continues, current_of, EndsAt, GoesOnAfter, IsBetween, outrun, over, Prior, prior_of, runs, shut_out, Tries, TriesAgain, turned_away}

@@ -10,6 +10,7 @@ pub mod Commits
 pub mod Runs
 pub use Rattle.std.proofs.Common.{All, Bool, Err, IsSome, List, None, Option, Result, Some, Vec, [], ap, arith, drop, false, length, refl, replicate, rules, slice_get, slice_index, slice_set, subst, suc, sym, take, true, vec_capacity, ℕ, ◌*◌, ◌++◌, ◌+◌, ◌/◌, ◌<◌, ◌∙◌, ◌≡◌, ◌≤◌}
 pub use Common.*
+pub use Commits.ActorLimits.*
 pub use Commits.CommitCounts.*
 pub use Engines.Intakes.*
 pub use Engines.PlayerLaws.*

@@ -1,6 +1,7 @@
 -- The actors of a world, between two events.
 use Rattle.std.specs.Prelude.{◌≡◌, ℕ, ◌%◌, ◌≤◌, true, false, List, length, Some, slice_get}
 use Rattle.norec_world.specs.declared.actor.Actor.{Actor}
+use Rattle.itm_types.specs.declared.limits.Limits.{Limits}
 use Rattle.itm_types.specs.declared.limits.TheConstants.{MAX_ACTORS}
 use Rattle.norec_world.specs.Cells.{Cells}
 use Rattle.norec_world.specs.Rows.{Rows}
@@ -8,6 +9,10 @@ use Rattle.norec_world.specs.Stages.{count_all}
 use Rattle.norec_world.specs.Status.{is_ready}
 use Rattle.norec_world.specs.Sound.{IsSound}
 use Rattle.tx_player.specs.Rules.{Rules}
+
+-- the limits of an actor's transactions
+abbrev pub limits_of : {P : Type 0} → Actor P → Limits
+limits_of a = record { patience = a.engine.patience; retries = a.run.retries; max_commits = a.engine.max_commits; depth = a.engine.depth; restarts = a.engine.restarts }
 
 module _ {P : Type 0} (rules : Rules P) where
   -- the actor at its place, whose local work is done

@@ -28,16 +28,16 @@ pub record IsDatedActor {P : Type 0} (retries : ℕ) (r : Rows) (a : Actor P) : 
 
 -- each attempt comes next after those that ended before it
 pub record IsDatedWorld {P : Type 0} (w : World P) : Type 0 where
-  pub ended : AreDated w.retries [] w.attempts.ended
-  pub few : RestartAtMost w.restarts w.attempts.ended
-  pub each : (place : ℕ) (a : Actor P) → slice_get w.actors place ≡ Some a → IsDatedActor w.retries w.attempts a
+  pub ended : AreDated w.limits.retries [] w.attempts.ended
+  pub few : RestartAtMost w.limits.restarts w.attempts.ended
+  pub each : (place : ℕ) (a : Actor P) → slice_get w.actors place ≡ Some a → IsDatedActor w.limits.retries w.attempts a
 
 module _ {P : Type 0} (rules : Rules P) where
   -- the headline, with what the actors have not recorded yet
   pub record AreRunning (w : World P) : Type 0 where
-    pub laid : AreLaid w.depth w.base w.cells w.attempts
+    pub laid : AreLaid w.limits.depth w.base w.cells w.attempts
     pub threads : AreOfActors (length w.actors) w.attempts.ended
-    pub each : (place : ℕ) (p : P) (a : Actor P) → slice_get w.opening place ≡ Some p → slice_get w.actors place ≡ Some a → RunsFrom rules (first_of p w.arena) w.depth w.base w.cells w.attempts a
+    pub each : (place : ℕ) (p : P) (a : Actor P) → slice_get w.opening place ≡ Some p → slice_get w.actors place ≡ Some a → RunsFrom rules (first_of p w.arena) w.limits.depth w.base w.cells w.attempts a
 
   pub record IsWorld (w : World P) : Type 0 where
     pub actors : AreActors rules w.cells w.attempts w.actors

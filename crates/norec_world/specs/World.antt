@@ -1,6 +1,7 @@
 -- What contracts see of a world.
 use Rattle.std.specs.Prelude.{◌≡◌, ℕ, ◌+◌, ◌-◌, ◌^◌, min, Bool, true, false, List, ◌++◌, Option, None, Some, Result, Ok, Err, slice_get}
 use Rattle.std.specs.Option.{option_and_then, option_map}
+use Rattle.itm_types.specs.declared.limits.Limits.{Limits}
 use Rattle.itm_types.specs.declared.step.Step.{Step}
 use Rattle.itm_types.specs.Memory.{bytes_of}
 use Rattle.tx_attempts.specs.declared.attempt.Attempt.{Attempt}
@@ -21,11 +22,7 @@ pub record World (P : Type 0) : Type 0 where
   pub opening : List P  -- the players as they were handed in
   pub base : List ℕ  -- the memory as it was handed in
   pub arena : ℕ  -- the bytes of each actor's arena
-  pub patience : ℕ
-  pub max_commits : ℕ
-  pub retries : ℕ
-  pub depth : ℕ  -- how many blocks may be open at once
-  pub restarts : ℕ  -- how often inner blocks may go back to their begins, in one transaction
+  pub limits : Limits  -- of each actor's transactions
   pub cells : Cells
   pub actors : List (Actor P)
   pub attempts : Rows  -- those that have ended
@@ -35,22 +32,14 @@ pub record World (P : Type 0) : Type 0 where
 pub record IsSetUp {P : Type 0} (setup : Setup) (w : World P) : Type 0 where
   pub base : w.base ≡ setup.bytes
   pub arena : w.arena ≡ setup.arena
-  pub patience : w.patience ≡ setup.limits.patience
-  pub max_commits : w.max_commits ≡ setup.limits.max_commits
-  pub retries : w.retries ≡ setup.limits.retries
-  pub depth : w.depth ≡ setup.limits.depth
-  pub restarts : w.restarts ≡ setup.limits.restarts
+  pub limits : w.limits ≡ setup.limits
 
 -- it is a world of the same beginning
 pub record SameOpening {P : Type 0} (old new : World P) : Type 0 where
   pub opening : new.opening ≡ old.opening
   pub base : new.base ≡ old.base
   pub arena : new.arena ≡ old.arena
-  pub patience : new.patience ≡ old.patience
-  pub max_commits : new.max_commits ≡ old.max_commits
-  pub retries : new.retries ≡ old.retries
-  pub depth : new.depth ≡ old.depth
-  pub restarts : new.restarts ≡ old.restarts
+  pub limits : new.limits ≡ old.limits
 
 -- so many events more, standing still at the highest number
 abbrev pub counted : ℕ → ℕ → ℕ
@@ -66,7 +55,7 @@ memory_of w = bytes_of w.cells.words
 
 -- what is seen of it from outside
 abbrev pub observed : {P : Type 0} → World P → Observed P
-observed w = record { players = w.opening; base = w.base; arena = w.arena; retries = w.retries; depth = w.depth; restarts = w.restarts; attempts = attempts_of w; clock = w.cells.clock; bytes = memory_of w }
+observed w = record { players = w.opening; base = w.base; arena = w.arena; limits = w.limits; attempts = attempts_of w; clock = w.cells.clock; bytes = memory_of w }
 
 -- how one of these actors ended
 abbrev pub ending_in : {P : Type 0} → List (Actor P) → ℕ → Option End

@@ -27,7 +27,7 @@ module _ {P : Type 0} (rules : Rules P) where
   -- the actor has changed by an event, and no other one has
   abbrev pub ActorGoes : ℕ → World P → Actor P → World P → Type 0
   ActorGoes actor old a new = (a' : Actor P) × (new.actors ≡ slice_set old.actors actor a')
-      × (event : IsEvent rules old.cells old.attempts a new.cells new.attempts a') × (is_ready a'.status ≡ false) × HasRead old.depth old.base event.rows event.stepped
+      × (event : IsEvent rules old.cells old.attempts a new.cells new.attempts a') × (is_ready a'.status ≡ false) × HasRead old.limits.depth old.base event.rows event.stepped
 
   -- the actor is asked for one event, and this comes of it
   pub record Goes (actor : ℕ) (old : World P) (result : Result (Unit {0}) WorldFault) (new : World P) : Type 0 where

@@ -1,16 +1,13 @@
 //! How actors begin.
 
-ghost use Rattle.std.specs.Prelude.{◌≡◌, ℕ, ◌+◌, ◌*◌, ◌<◌, ◌≤◌, false, [], length, replicate, slice_get, None, Some, IfOk, All};
+ghost use Rattle.std.specs.Prelude.{◌≡◌, ℕ, ◌*◌, ◌<◌, ◌≤◌, [], length, slice_get, None, Some, IfOk, All};
 ghost use Rattle.itm_types.specs.Memory.{AllFit, bytes_of};
 ghost use Rattle.itm_types.specs.declared.limits.TheConstants.{MAX_ACTORS, MAX_ARENA, MAX_COMMITS, MAX_PATIENCE, MAX_RETRIES};
-ghost use Rattle.norec_world.specs.Status.{ending_of, is_ready};
-ghost use Rattle.norec_world.specs.Sound.{IsSound};
 ghost use Rattle.norec_world.specs.Rows.{rows_in};
-ghost use Rattle.norec_world.specs.Stages.{KeepsOthers, active_of, count_of};
+ghost use Rattle.norec_world.specs.Stages.{active_of};
 ghost use Rattle.norec_world.specs.Actors.{AreActors};
 ghost use Rattle.norec_world.specs.World.{ending_in};
-ghost use Rattle.norec_core.specs.Core.{opening};
-ghost use Rattle.norec_world.specs.Starts.{IsFirst, HasStarted};
+ghost use Rattle.norec_world.specs.Starts.{IsFirst, IsStarted, HasStarted, first_engine};
 ghost use Rattle.norec_world.specs.Runs.{RunsFrom};
 ghost use Rattle.norec_world.specs.Headline.{first_of};
 ghost use Rattle.norec_world.specs.declared.actor.Actor.{Actor};
@@ -56,12 +53,10 @@ pub(crate) fn start_all<P: Player>(
     ensures count { IfOk result (λ actors. length actors.items ≡ length players.items) }
     ensures sound { IfOk result (λ actors. AreActors P.Player memory.now (rows_in ended.new) actors.items) }
     ensures first { IfOk result (λ actors. (place : ℕ) (a : Actor P) → slice_get actors.items place ≡ Some a
-        → IsFirst memory.now.clock terms.limits.patience terms.limits.max_commits terms.limits.retries
-        terms.limits.depth terms.limits.restarts a) }
+        → IsFirst memory.now.clock terms.limits a) }
     ensures starts { IfOk result (λ actors. (place : ℕ) (p : P) (a : Actor P) → slice_get players.items place ≡ Some p
         → slice_get actors.items place ≡ Some a
-        → HasStarted P.Player memory.now.clock (opening (length memory.now.words) (replicate terms.arena 0)
-        terms.limits.patience terms.limits.max_commits terms.limits.depth terms.limits.restarts) terms.limits.retries place p a) }
+        → HasStarted P.Player memory.now.clock (first_engine (length memory.now.words) terms.arena terms.limits) terms.limits.retries place p a) }
     ensures runs { IfOk result (λ actors. (place : ℕ) (p : P) (a : Actor P) → slice_get players.items place ≡ Some p
         → slice_get actors.items place ≡ Some a
         → RunsFrom P.Player (first_of p terms.arena) terms.limits.depth (bytes_of memory.now.words) memory.now (rows_in ended.new) a) }
@@ -91,23 +86,7 @@ fn start<P: Player>(
     requires size { (0 < length memory.now.words) × (8 * length memory.now.words ≤ MAX_MEMORY) }
     requires fit { AllFit memory.now.words }
     requires clock { memory.now.clock ≡ 0 }
-    ensures sound { IfOk result (IsSound P.Player memory.now (rows_in ended.new)) }
-    ensures fed { IfOk result (λ a. ending_of a.status ≡ Some End.NoMemory → ⊥) }
-    ensures done { IfOk result (λ a. is_ready a.status ≡ false) }
-    ensures thread { IfOk result (λ a. a.run.thread ≡ thread) }
-    ensures first { IfOk result
-        (λ a. IsFirst memory.now.clock terms.limits.patience terms.limits.max_commits terms.limits.retries
-        terms.limits.depth terms.limits.restarts a) }
-    ensures starts { IfOk result
-        (HasStarted P.Player memory.now.clock
-        (opening (length memory.now.words) (replicate terms.arena 0) terms.limits.patience
-        terms.limits.max_commits terms.limits.depth terms.limits.restarts) terms.limits.retries thread player) }
-    ensures ended { IfOk result (λ a. ended.new.items ≡ ended.old.items) }
-    ensures runs { IfOk result (λ a. ended.old.items ≡ []
-        → RunsFrom P.Player (first_of player terms.arena) terms.limits.depth (bytes_of memory.now.words) memory.now (rows_in ended.new) a) }
-    ensures free { IfOk result (λ a. a.engine.holds ≡ false) }
-    ensures others { IfOk result (λ a. (others : ℕ) → others < MAX_ACTORS → others ≤ (rows_in ended.old).room
-        → others + count_of a ≤ (rows_in ended.new).room) }
+    ensures { IfOk result (IsStarted P.Player memory.now terms.arena terms.limits thread player (rows_in ended.old) (rows_in ended.new)) }
 {
     let arena = Arena::new(alloc, terms.arena as usize)?;
     let engine = Engine::new(alloc, memory.words(), arena, terms.limits)?;

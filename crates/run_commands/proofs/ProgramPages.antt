@@ -2,6 +2,7 @@
 use Rattle.std.proofs.Common.{◌≡◌, inl, inr, ℕ, zero, suc, ◌+◌, ◌*◌, ◌/◌, ◌%◌, ◌<◌, ◌≤◌, ◌==◌, List, [], ◌∷◌, length, map, replicate, Option, None, Some, refl, sym, ap, subst, ◌∙◌, arith}
 use Rattle.std.specs.Prelude.{slice_index_or}
 use Rattle.std.proofs.lemmas.List.{length-map}
+use Rattle.itm_types.specs.declared.limits.Limits.{Limits}
 use Rattle.itm_types.specs.declared.limits.TheConstants.{MAX_ARENA, MAX_RETRIES}
 use Rattle.tx_attempts.specs.declared.attempt.Attempt.{Attempt}
 use Rattle.tx_runs.specs.declared.ending.End.{End}
@@ -65,11 +66,7 @@ began_as p w (first, begins, leads) =
       setup = record {
         base = same.base ∙ s.base;
         arena = same.arena ∙ s.arena;
-        patience = same.patience ∙ s.patience;
-        max_commits = same.max_commits ∙ s.max_commits;
-        retries = same.retries ∙ s.retries;
-        depth = same.depth ∙ s.depth;
-        restarts = same.restarts ∙ s.restarts;
+        limits = same.limits ∙ s.limits;
       };
     }
 
@@ -78,9 +75,9 @@ limited_as : (p : Listing) (w : World Thread) → BeganAs p w → IsLimitedListi
 limited_as p w began limits = record {
   memory = subst (λ (bytes : List ℕ). IsMemorySize (version_of p) (length bytes)) (sym began.setup.base) limits.memory;
   arena = subst (λ (n : ℕ). n ≤ MAX_ARENA) (sym began.setup.arena) limits.arena;
-  retries = subst (λ (n : ℕ). n ≤ MAX_RETRIES) (sym began.setup.retries) limits.retries;
+  retries = subst (λ (n : ℕ). n ≤ MAX_RETRIES) (sym (ap (λ (l : Limits). l.retries) began.setup.limits)) limits.retries;
   actors = subst (λ (n : ℕ). n ≤ suc (thread_limit (version_of p))) (sym (ap (λ (l : List Thread). length l) began.players ∙ length-map (threads_of p) (opening p.limits.depth))) limits.threads;
-  restarts = subst (MayRestart (version_of p)) (sym began.setup.restarts) limits.restarts;
+  restarts = subst (MayRestart (version_of p)) (sym (ap (λ (l : Limits). l.restarts) began.setup.limits)) limits.restarts;
 }
 
 -- its history's text is read as a legal one
@@ -90,19 +87,18 @@ read_as_legal p w is limits fits =
 
 module _ (p : Listing) (w : World Thread) (began : BeganAs p w) (player : Thread) (player_is : player ≡ first_thread p) where
   -- what the player does alone is what the program's thread does
-  alone_is : solo thread_rules w.depth w.max_commits 0 player w.base (replicate w.arena 0) ≡ solo_of p
+  alone_is : solo thread_rules w.limits.depth w.limits.max_commits 0 player w.base (replicate w.arena 0) ≡ solo_of p
   unfolding solo_of
-  alone_is = λ i. solo thread_rules (began.setup.depth i) (began.setup.max_commits i) 0 (player_is i) (began.setup.base i) (replicate (began.setup.arena i) 0)
+  alone_is = λ i. solo thread_rules (began.setup.limits i).depth (began.setup.limits i).max_commits 0 (player_is i) (began.setup.base i) (replicate (began.setup.arena i) 0)
 
   so_far : (commits : ℕ) (memory : List ℕ) (outcome : Outcome) (rows : List Attempt)
-      → IsSoFar thread_rules w.depth w.max_commits 0 player w.base (replicate w.arena 0) commits memory outcome rows
+      → IsSoFar thread_rules w.limits.depth w.limits.max_commits 0 player w.base (replicate w.arena 0) commits memory outcome rows
       → IsSoFar thread_rules p.limits.depth p.limits.max_commits 0 (first_thread p) (opening_of p) (replicate p.arena 0) commits memory outcome rows
   so_far commits memory outcome rows s =
       subst (λ (n : ℕ). IsSoFar thread_rules p.limits.depth p.limits.max_commits 0 (first_thread p) (opening_of p) (replicate n 0) commits memory outcome rows) began.setup.arena
       (subst (λ (base : List ℕ). IsSoFar thread_rules p.limits.depth p.limits.max_commits 0 (first_thread p) base (replicate w.arena 0) commits memory outcome rows) began.setup.base
       (subst (λ (t : Thread). IsSoFar thread_rules p.limits.depth p.limits.max_commits 0 t w.base (replicate w.arena 0) commits memory outcome rows) player_is
-      (subst (λ (n : ℕ). IsSoFar thread_rules p.limits.depth n 0 player w.base (replicate w.arena 0) commits memory outcome rows) began.setup.max_commits
-      (subst (λ (n : ℕ). IsSoFar thread_rules n w.max_commits 0 player w.base (replicate w.arena 0) commits memory outcome rows) began.setup.depth s))))
+      (subst (λ (l : Limits). IsSoFar thread_rules l.depth l.max_commits 0 player w.base (replicate w.arena 0) commits memory outcome rows) began.setup.limits s)))
 
   is_page : (end : End) → solo_of p ≡ record { attempts = map without_room (attempts_of w); memory = memory_of w; commits = w.cells.clock / 2; held = w.cells.clock % 2 == 1; ending = end }
       → roomless (told_of (version_of p) w) ≡ page p
@@ -137,7 +133,7 @@ world_of_run p w nested limits leaves commits opaque tied =
       tied = tied;
       fed = fed p nested leaves.0 w leaves.1 led.0 led.1 commits tied;
       none_open = none_open p nested leaves.0 w leaves.1 led.0 led.1 commits tied;
-      legal = legal_world thread_rules (version_of p) w (limits.depth ∙ sym (began_as p w leaves).setup.depth) commits opaque tied;
+      legal = legal_world thread_rules (version_of p) w (limits.depth ∙ sym (ap (λ (l : Limits). l.depth) (began_as p w leaves).setup.limits)) commits opaque tied;
       alone = λ one.
           let began = began_as p w leaves in
           let first = leaves.1 in

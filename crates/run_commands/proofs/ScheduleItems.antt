@@ -1,5 +1,5 @@
 -- The items of a program: one schedule, and what stays over it.
-use Rattle.std.proofs.Common.{inl, inr, ◌≡◌, ℕ, zero, suc, ◌+◌, ◌<◌, List, [], ◌∷◌, ◌++◌, length, map, replicate, Option, Result, refl, sym, ap, ◌∙◌, arith}
+use Rattle.std.proofs.Common.{inl, inr, ◌≡◌, ℕ, zero, suc, ◌+◌, ◌<◌, List, [], ◌∷◌, ◌++◌, length, map, replicate, Option, Result, refl, sym, ap, subst, ◌∙◌, arith}
 use Rattle.std.specs.List.{All, AllByRecursion, range_with_len}
 use Rattle.std.proofs.lemmas.List.Elements.{All-map}
 use Rattle.std.proofs.lemmas.List.FromFn.{get_or-range_with_len, length-range_with_len, map-range_with_len_more}
@@ -7,6 +7,7 @@ use Rattle.norec_world.specs.declared.fault.WorldFault.{WorldFault}
 use Rattle.tx_runs.specs.declared.ending.End.{End}
 use Rattle.norec_world.specs.World.{World, SameOpening, ending_at}
 use Rattle.norec_world.specs.WorldEvents.{Goes, Takes}
+use Rattle.norec_world.proofs.Events.WorldEvents.{opening_both, opening_same}
 use Rattle.script_program.specs.declared.schedule.Item.{Item}
 use Rattle.script_program.specs.declared.schedule.Item.TheVariants.{Take, Out}
 use Rattle.script_program.specs.declared.instruction.Instruction.{Instruction}
@@ -54,34 +55,10 @@ pub record Keeps (old new : World Thread) : Type 0 where
   pub actors : length new.actors ≡ length old.actors
 
 keeps_same : (old new : World Thread) → new ≡ old → Keeps old new
-keeps_same old new e = record {
-  opening = record {
-    opening = ap (λ (w : World Thread). w.opening) e;
-    base = ap (λ (w : World Thread). w.base) e;
-    arena = ap (λ (w : World Thread). w.arena) e;
-    patience = ap (λ (w : World Thread). w.patience) e;
-    max_commits = ap (λ (w : World Thread). w.max_commits) e;
-    retries = ap (λ (w : World Thread). w.retries) e;
-    depth = ap (λ (w : World Thread). w.depth) e;
-    restarts = ap (λ (w : World Thread). w.restarts) e;
-  };
-  actors = ap (λ (w : World Thread). length w.actors) e;
-}
+keeps_same old new e = subst (Keeps old) (sym e) (record { opening = opening_same old; actors = refl })
 
 keeps_then : (a b c : World Thread) → Keeps a b → Keeps b c → Keeps a c
-keeps_then a b c k l = record {
-  opening = record {
-    opening = l.opening.opening ∙ k.opening.opening;
-    base = l.opening.base ∙ k.opening.base;
-    arena = l.opening.arena ∙ k.opening.arena;
-    patience = l.opening.patience ∙ k.opening.patience;
-    max_commits = l.opening.max_commits ∙ k.opening.max_commits;
-    retries = l.opening.retries ∙ k.opening.retries;
-    depth = l.opening.depth ∙ k.opening.depth;
-    restarts = l.opening.restarts ∙ k.opening.restarts;
-  };
-  actors = l.actors ∙ k.actors;
-}
+keeps_then a b c k l = record { opening = opening_both a b c k.opening l.opening; actors = l.actors ∙ k.actors }
 
 goes_keeps : (old new : World Thread) (thread : ℕ) (result : Result (Unit {0}) WorldFault) → Goes thread_rules thread old result new → Keeps old new
 goes_keeps old new thread result g = record { opening = g.opening; actors = g.actors }

@@ -12,9 +12,9 @@ use Rattle.tx_player.specs.Rules.{Rules}
 pub record IsLimitedWorld {P : Type 0} (version : Version) (w : World P) : Type 0 where
   pub memory : IsMemorySize version (length w.base)
   pub arena : w.arena ≤ MAX_ARENA
-  pub retries : w.retries ≤ MAX_RETRIES
+  pub retries : w.limits.retries ≤ MAX_RETRIES
   pub actors : length w.opening ≤ suc (thread_limit version)
-  pub restarts : MayRestart version w.restarts
+  pub restarts : MayRestart version w.limits.restarts
 
 -- a player accesses its arena in 1, 2, 4 or 8 bytes
 abbrev pub HasArenaWidths : {P : Type 0} → Rules P → Type 0

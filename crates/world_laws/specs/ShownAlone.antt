@@ -15,9 +15,9 @@ use Rattle.tx_player.specs.Rules.{Rules}
 module _ {P : Type 0} (rules : Rules P) where
   -- What its player has done alone: a beginning before its end, where the memory is told only of an even clock; all of it at its end, or a beginning where memory was refused.
   abbrev pub DoneBy : World P → P → Option End → Type 0
-  DoneBy w p None = (memory : List ℕ) × IsSoFar rules w.depth w.max_commits 0 p w.base (replicate w.arena 0) (w.cells.clock / 2) memory Unfinished (attempts_of w)
+  DoneBy w p None = (memory : List ℕ) × IsSoFar rules w.limits.depth w.limits.max_commits 0 p w.base (replicate w.arena 0) (w.cells.clock / 2) memory Unfinished (attempts_of w)
       × (w.cells.clock % 2 ≡ 0 → memory_of w ≡ memory)
-  DoneBy w p (Some end) = HasEnded rules w.depth w.max_commits 0 p w.base (replicate w.arena 0) w.cells (attempts_of w) end
+  DoneBy w p (Some end) = HasEnded rules w.limits.depth w.limits.max_commits 0 p w.base (replicate w.arena 0) w.cells (attempts_of w) end
 
   -- where there is one player, the world so far shows what that one has done alone
   abbrev pub ShowsAlone : World P → Type 0

@@ -21,7 +21,7 @@ use tx_player::Player;
 /// machine alone, its committed attempts run one after the other by position, and each other one runs alone on what so
 /// many first commits left. Does nothing.
 pub fn legal<P: Player>()
-    ensures { (version : Version) (w : World P) → depth_of version ≡ w.depth → CommitsInOrder w
+    ensures { (version : Version) (w : World P) → depth_of version ≡ w.limits.depth → CommitsInOrder w
         → AreOpaque P.Player (observed w) → AreTied P.Player w → IsLegal (told_of version w) }
 {}
 

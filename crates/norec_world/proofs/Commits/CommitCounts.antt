@@ -1,9 +1,10 @@
 -- The commits stay in order over an event.
 use Rattle.std.proofs.Common.{◌≡◌, inl, inr, ℕ, ◌+◌, ◌*◌, ◌/◌, ◌%◌, ◌≤◌, ◌==◌, ◌&&◌, Bool, true, false, nat_lt, List, [], ◌∷◌, ◌++◌, Some, slice_get, slice_set, refl, sym, ap, subst, ◌∙◌, arith}
-use Rattle.norec_world.proofs.Common.{Actor, AreActors, AreCounted, AreUnfinished, Attempt, Cells, CommitsInOrder, EndsAt, IsEvent, IsFirst, Outcome, Prior, Rows, Rules, Tries, World, begins, between, both_ways, count_at, count_committed, false_from_ne_true, is_at, is_committed, le-ltb, one_where, outrun, over, prior_of, runs, shut_out, turned_away}
+use Rattle.norec_world.proofs.Common.{Actor, AreActors, AreCounted, AreUnfinished, Attempt, Cells, CommitsInOrder, EndsAt, IsEvent, IsFirst, Limits, Outcome, limits_of, Prior, Rows, Rules, Tries, World, begins, between, both_ways, count_at, count_committed, false_from_ne_true, is_at, is_committed, le-ltb, one_where, outrun, over, prior_of, runs, shut_out, turned_away}
 use Rattle.norec_world.proofs.Commits.OutrunConflicts.{outrun_after}
 use Rattle.norec_world.proofs.Events.SoundOthers.{held_after, held_apart, odd_or_even, one_after, set_place}
-use Rattle.norec_world.specs.{Commits.HasLimits, Rows.AreEnded}
+use Rattle.norec_world.specs.Rows.{AreEnded}
+use Rattle.norec_world.proofs.Commits.ActorLimits.{limits_stay}
 use Rattle.std.proofs.lemmas.Bool.Decides.{nat_tests}
 use Rattle.tx_attempts.proofs.LaterClocks.{outrun_none}
 use Rattle.tx_attempts.specs.Outrun.{AreOutrun}
@@ -110,7 +111,7 @@ module _ {P : Type 0} (rules : Rules P) (w : World P) (c : CommitsInOrder w) (i 
     counted = counted_after w.cells.clock cells'.clock (prior_of w.attempts got) r' new event.tries c.counted;
     outrun = outrun_after w.cells.clock cells'.clock (prior_of w.attempts got) r' new event.clocks.late event.tries c.outrun;
     ended = ended_after w.cells.clock cells'.clock (prior_of w.attempts got) r' new event.tries c.ended;
-    few = (let l = (c.limits i got here).max_commits in subst (λ (n : ℕ). cells'.clock ≤ 2 * n) l (event.clocks.capped (subst (λ (n : ℕ). w.cells.clock ≤ 2 * n) (sym l) c.few)));
+    few = (let l = ap (λ (x : Limits). x.max_commits) (c.limits i got here) in subst (λ (n : ℕ). cells'.clock ≤ 2 * n) l (event.clocks.capped (subst (λ (n : ℕ). w.cells.clock ≤ 2 * n) (sym l) c.few)));
     held = held_after w.cells cells' w.actors i got new here event.clocks c.one odd_of c.held;
     free = free_after;
     one = one_after w.cells cells' w.actors i got new here event.clocks c.one odd_of;
@@ -123,16 +124,16 @@ module _ {P : Type 0} (rules : Rules P) (w : World P) (c : CommitsInOrder w) (i 
         | inr h ↦ false_from_ne_true b.engine.holds (λ x. absurd (let odd = odd_of j b h.1 x in let same = ap (λ (z : Cells). z.clock % 2) (held_apart w.cells cells' w.actors i got new here event.clocks c.one odd_of j b h.0 h.1 x).0 in omega arith))
       ]
 
-      each_limits : (place : ℕ) (a : Actor P) → slice_get (slice_set w.actors i new) place ≡ Some a → HasLimits after a
+      each_limits : (place : ℕ) (a : Actor P) → slice_get (slice_set w.actors i new) place ≡ Some a → limits_of a ≡ w.limits
       each_limits j b e = elim (set_place w.actors i got new here j b e) [
-        | inl h ↦ (let l = c.limits i got here in subst (HasLimits after) (sym h.1) (record { retries = event.retries ∙ l.retries; patience = event.clocks.limit.1 ∙ l.patience; depth = event.clocks.limit.2 ∙ l.depth; max_commits = event.clocks.limit.0 ∙ l.max_commits; restarts = event.clocks.limit.3 ∙ l.restarts }))
-        | inr h ↦ (let l = c.limits j b h.1 in record { retries = l.retries; patience = l.patience; max_commits = l.max_commits; depth = l.depth; restarts = l.restarts })
+        | inl h ↦ subst (λ (z : Actor P). limits_of z ≡ w.limits) (sym h.1) (limits_stay got new event.retries event.clocks.limit ∙ c.limits i got here)
+        | inr h ↦ c.limits j b h.1
       ]
 
 -- a world that has just begun
 module _ {P : Type 0} (rules : Rules P) (w : World P)
     (sound : AreActors rules w.cells w.attempts w.actors) (zero_clock : w.cells.clock ≡ 0) (none : w.attempts.ended ≡ [])
-    (first : (place : ℕ) (a : Actor P) → slice_get w.actors place ≡ Some a → IsFirst w.cells.clock w.patience w.max_commits w.retries w.depth w.restarts a) where
+    (first : (place : ℕ) (a : Actor P) → slice_get w.actors place ≡ Some a → IsFirst w.cells.clock w.limits a) where
   pub commits_first : CommitsInOrder w
   commits_first = record {
     counted = record {
@@ -145,7 +146,7 @@ module _ {P : Type 0} (rules : Rules P) (w : World P)
     held = λ odd. absurd (omega (arith, zero_clock));
     free = λ even place a e. free_one place a e;
     one = λ i j a b ea eb ha hb. absurd (both_ways a.engine.holds (free_one i a ea) ha);
-    limits = λ place a e. (let f = first place a e in record { retries = f.retries_are; patience = f.patience_is; max_commits = f.limit; depth = f.depth_is; restarts = f.restarts_are });
+    limits = λ place a e. (first place a e).limits_are;
   }
     where
       free_one : (place : ℕ) (a : Actor P) → slice_get w.actors place ≡ Some a → a.engine.holds ≡ false

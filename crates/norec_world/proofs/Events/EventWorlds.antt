@@ -55,8 +55,8 @@ module _ {P : Type 0} {rules : Rules P} (laws : Obeys rules) {w v : World P} (is
   here : slice_get w.actors i ≡ Some got
   here = (going_in is i got some read).0
 
-  event : (events : ℕ) → (e : IsEvent rules w.cells w.attempts got cells' r2 a2) × HasRead w.depth w.base e.rows e.stepped
-  event events = event_then x y w.depth w.base (has_read rules laws w kept i got a1 here cells' r1 events x.others x.clocks x.runs x.sound.tied)
+  event : (events : ℕ) → (e : IsEvent rules w.cells w.attempts got cells' r2 a2) × HasRead w.limits.depth w.base e.rows e.stepped
+  event events = event_then x y w.limits.depth w.base (has_read rules laws w kept i got a1 here cells' r1 events x.others x.clocks x.runs x.sound.tied)
 
   pub world_after : (events : ℕ) → IsWorld rules (led w i cells' r2 a2 events)
   world_after events =
@@ -88,7 +88,7 @@ module _ {P : Type 0} {rules : Rules P} (laws : Obeys rules) {w v : World P} (is
         commits = kept'.commits;
         opaque = world_opaque rules laws after kept';
         tied = world_tied rules laws after kept';
-        opening = record { opening = refl; base = refl; arena = refl; patience = refl; max_commits = refl; retries = refl; depth = refl; restarts = refl };
+        opening = record { opening = refl; base = refl; arena = refl; limits = refl };
         actors = length-set w.actors i a2;
       })
 

@@ -26,7 +26,7 @@ no_fault end e none = absurd (let u = subst (λ (r : Result (Unit {0}) WorldFaul
 
 -- the world keeps its beginning
 pub opening_same : {P : Type 0} (w : World P) → SameOpening w w
-opening_same w = record { opening = refl; base = refl; arena = refl; patience = refl; max_commits = refl; retries = refl; depth = refl; restarts = refl }
+opening_same w = record { opening = refl; base = refl; arena = refl; limits = refl }
 
 -- ## Where the actor waits for no operation
 
@@ -156,7 +156,7 @@ at_place_is {A} f xs place x e = ap (λ (o : Option A). option_map_or f o 0) e
 -- ## Worlds
 
 pub opening_both : {P : Type 0} (a b c : World P) → SameOpening a b → SameOpening b c → SameOpening a c
-opening_both a b c f g = record { opening = g.opening ∙ f.opening; base = g.base ∙ f.base; arena = g.arena ∙ f.arena; patience = g.patience ∙ f.patience; max_commits = g.max_commits ∙ f.max_commits; depth = g.depth ∙ f.depth; restarts = g.restarts ∙ f.restarts; retries = g.retries ∙ f.retries }
+opening_both a b c f g = record { opening = g.opening ∙ f.opening; base = g.base ∙ f.base; arena = g.arena ∙ f.arena; limits = g.limits ∙ f.limits }
 
 module _ {P : Type 0} (rules : Rules P) (actor : ℕ) where
   pub takes_one : (n : ℕ) (old between new : World P) → Takes rules actor n old between → Goes rules actor between (event_result (ending_at new actor)) new

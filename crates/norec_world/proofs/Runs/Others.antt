@@ -76,22 +76,22 @@ module _ {P : Type 0} (rules : Rules P) (laws : Obeys rules) where
 
   module _ (w : World P) (sound : AreActors rules w.cells w.attempts w.actors) (long : length w.actors ≡ length w.opening)
       (running : AreRunning rules w) where
-    shown_still : (k : ℕ) → k ≤ w.cells.clock / 2 → bytes_at w.depth w.base (attempts_of w) k ≡ bytes_at w.depth w.base w.attempts.ended k
-    shown_still k l = bytes_still w.depth w.base w.cells.clock w.attempts.ended running.laid.counted (opens w.actors) k l
+    shown_still : (k : ℕ) → k ≤ w.cells.clock / 2 → bytes_at w.limits.depth w.base (attempts_of w) k ≡ bytes_at w.limits.depth w.base w.attempts.ended k
+    shown_still k l = bytes_still w.limits.depth w.base w.cells.clock w.attempts.ended running.laid.counted (opens w.actors) k l
 
     -- of an open attempt: its calls are made alone on the memory of its position, and its actions and its mode are those of the state that they lead to
-    abbrev Parts : (p : P) (a : Actor P) → RunsFrom rules (first_of p w.arena) w.depth w.base w.cells w.attempts a → in_transaction a.engine ≡ true → Type 0
+    abbrev Parts : (p : P) (a : Actor P) → RunsFrom rules (first_of p w.arena) w.limits.depth w.base w.cells w.attempts a → in_transaction a.engine ≡ true → Type 0
     Parts p a x o =
         let t = x.runs.inside o in
-        let memory : List ℕ = bytes_at w.depth w.base (attempts_of w) (a.engine.snapshot / 2) in
+        let memory : List ℕ = bytes_at w.limits.depth w.base (attempts_of w) (a.engine.snapshot / 2) in
         let start = t.5.open_try.of_block.start in
-        let state : State = state_then w.depth (breaks_of t.1.restarts) (opened memory start.arena start.props) t.1.calls.list in
-        IsMadeAlone rules w.depth t.0 start t.1 memory × (t.1.ran ≡ state.actions.ran) × (state.irrevocable ≡ a.engine.irrevocable)
+        let state : State = state_then w.limits.depth (breaks_of t.1.restarts) (opened memory start.arena start.props) t.1.calls.list in
+        IsMadeAlone rules w.limits.depth t.0 start t.1 memory × (t.1.ran ≡ state.actions.ran) × (state.irrevocable ≡ a.engine.irrevocable)
 
     open_parts : (place : ℕ) (p : P) (a : Actor P) (e : slice_get w.opening place ≡ Some p) (f : slice_get w.actors place ≡ Some a) (o : in_transaction a.engine ≡ true) → Parts p a (running.each place p a e f) o
     open_parts place p a e f o = elim (cases_Bool a.engine.irrevocable) [ inl i ↦ held_so i | inr r ↦ open_so r ]
       where
-        x : RunsFrom rules (first_of p w.arena) w.depth w.base w.cells w.attempts a
+        x : RunsFrom rules (first_of p w.arena) w.limits.depth w.base w.cells w.attempts a
         x = running.each place p a e f
 
         tied : IsTied w.cells a.engine
@@ -103,13 +103,13 @@ module _ {P : Type 0} (rules : Rules P) (laws : Obeys rules) where
         open_so : a.engine.irrevocable ≡ false → Parts p a x o
         open_so r =
             let k : ℕ = a.engine.snapshot / 2 in
-            let m : List ℕ = words_at w.depth w.base w.attempts.ended k in
+            let m : List ℕ = words_at w.limits.depth w.base w.attempts.ended k in
             let fits = running.laid.memories.fits k k_late in
             let same = running.laid.memories.same k k_late ∙ sym (shown_still k k_late) in
             let t = (x.runs.inside o).5.open_try in
             let mem : IsMemory a.engine.words m = (fits.0 ∙ sym tied.words, fits.1) in
-            let bytes : List ℕ = bytes_at w.depth w.base (attempts_of w) k in
-            let reads = agree_reads (words_at w.depth w.base w.attempts.ended (w.cells.clock / 2)) a.engine.irrevocable a.engine.log m r (x.sees.logged o) in (
+            let bytes : List ℕ = bytes_at w.limits.depth w.base (attempts_of w) k in
+            let reads = agree_reads (words_at w.limits.depth w.base w.attempts.ended (w.cells.clock / 2)) a.engine.irrevocable a.engine.log m r (x.sees.logged o) in (
               made_over t m mem reads bytes same (open_over t m mem reads bytes same r o),
               ran_over t m mem reads bytes same,
               ap (λ (y : State). y.irrevocable) (stays_over t m mem reads bytes same) ∙ (ap (λ (y : State). y.irrevocable) (sym (stands_over t m mem reads bytes same r)) ∙ stands_mode a.engine m),
@@ -122,30 +122,30 @@ module _ {P : Type 0} (rules : Rules P) (laws : Obeys rules) where
             let holds = (tied.settled.irrevocable i).0 in
             let half : a.engine.snapshot / 2 ≡ w.cells.clock / 2 = omega (arith, tied.holder holds, (tied.settled.holder holds).1, tied.settled.even) in
             let n : ℕ = w.cells.clock / 2 in
-            let m : List ℕ = words_at w.depth w.base w.attempts.ended n in
+            let m : List ℕ = words_at w.limits.depth w.base w.attempts.ended n in
             let fits = running.laid.memories.fits n (top n) in
             let mem : IsMemory a.engine.words m = (fits.0 ∙ sym tied.words, fits.1) in
-            let bytes : List ℕ = bytes_at w.depth w.base (attempts_of w) (a.engine.snapshot / 2) in
-            let shown : bytes ≡ bytes_at w.depth w.base w.attempts.ended n = ap (bytes_at w.depth w.base (attempts_of w)) half ∙ shown_still n (top n) in
+            let bytes : List ℕ = bytes_at w.limits.depth w.base (attempts_of w) (a.engine.snapshot / 2) in
+            let shown : bytes ≡ bytes_at w.limits.depth w.base w.attempts.ended n = ap (bytes_at w.limits.depth w.base (attempts_of w)) half ∙ shown_still n (top n) in
             let same = running.laid.memories.same n (top n) ∙ sym shown in
             let reads : ReadsFrom a.engine.irrevocable m a.engine.log m = subst (λ (b : Bool). ReadsFrom b m a.engine.log m) (sym i) refl in (
-              made_over t.5.open_try m mem reads bytes same (ap (λ (y : List ℕ). is_open (alone_whole w.depth y t.1)) shown ∙ h.still_open),
+              made_over t.5.open_try m mem reads bytes same (ap (λ (y : List ℕ). is_open (alone_whole w.limits.depth y t.1)) shown ∙ h.still_open),
               ran_over t.5.open_try m mem reads bytes same,
-              ap (λ (y : State). y.irrevocable) (stays_over t.5.open_try m mem reads bytes same) ∙ (ap (λ (y : List ℕ). (alone_whole w.depth y t.1).irrevocable) shown ∙ (h.mode ∙ sym i)),
+              ap (λ (y : State). y.irrevocable) (stays_over t.5.open_try m mem reads bytes same) ∙ (ap (λ (y : List ℕ). (alone_whole w.limits.depth y t.1).irrevocable) shown ∙ (h.mode ∙ sym i)),
             )
 
     of_actor : (place : ℕ) (p : P) (a : Actor P) → slice_get w.opening place ≡ Some p → slice_get w.actors place ≡ Some a
-        → IsRunOf rules w.depth (w.cells.clock / 2) (bytes_at w.depth w.base (attempts_of w)) (Some (first_of p w.arena)) (of_thread place (attempts_of w))
+        → IsRunOf rules w.limits.depth (w.cells.clock / 2) (bytes_at w.limits.depth w.base (attempts_of w)) (Some (first_of p w.arena)) (of_thread place (attempts_of w))
     of_actor place p a e f =
         let x = running.each place p a e f in
         let s = sound.each place a f in
         let n : ℕ = w.cells.clock / 2 in
-        let memory : ℕ → List ℕ = bytes_at w.depth w.base w.attempts.ended in
-        let shown : ℕ → List ℕ = bytes_at w.depth w.base (attempts_of w) in
+        let memory : ℕ → List ℕ = bytes_at w.limits.depth w.base w.attempts.ended in
+        let shown : ℕ → List ℕ = bytes_at w.limits.depth w.base (attempts_of w) in
         let ended : List Attempt = of_thread a.run.thread w.attempts.ended in
         let own_rows : of_thread a.run.thread (attempts_of w) ≡ ended ++ with_open (active_of a) [] =
         of_thread_more a.run.thread w.attempts.ended (opens w.actors) ∙ ap (λ (l : List Attempt). ended ++ l) (opens_of 0 place a.run.thread w.actors a (stand_there sound) f (s.thread ∙ (let z : place ≡ 0 + place = omega arith in z))) in
-        subst (λ (t : ℕ). IsRunOf rules w.depth (w.cells.clock / 2) (bytes_at w.depth w.base (attempts_of w)) (Some (first_of p w.arena)) (of_thread t (attempts_of w))) s.thread
+        subst (λ (t : ℕ). IsRunOf rules w.limits.depth (w.cells.clock / 2) (bytes_at w.limits.depth w.base (attempts_of w)) (Some (first_of p w.arena)) (of_thread t (attempts_of w))) s.thread
         (elim (cases_Bool (in_transaction a.engine)) [
           | inl o ↦
               (let t = x.runs.inside o in
@@ -154,16 +154,16 @@ module _ {P : Type 0} (rules : Rules P) (laws : Obeys rules) where
               let parts = open_parts place p a e f o in
               let block = t.5.open_try.of_block in
               let active : active_of a ≡ Some t.1 = ap open_in t.4 in
-              let try = try_stops laws w.depth block n shown k outcomes.Unfinished t.1.ran refl parts.0 parts.0.still_open t.5.open_try.began late parts.1 (λ f. absurd (cc)) in
+              let try = try_stops laws w.limits.depth block n shown k outcomes.Unfinished t.1.ran refl parts.0 parts.0.still_open t.5.open_try.began late parts.1 (λ f. absurd (cc)) in
               let as_it_is : record t.1 { at = k; outcome = outcomes.Unfinished } ≡ t.1 =
               λ i. record t.1 { at = (sym (x.reads t.1 active)) i; outcome = (sym (row_unfinished (in_transaction a.engine) a t.1 s.sound.kept.row active)) i } in
               let rows : of_thread a.run.thread (attempts_of w) ≡ ended ++ t.1 ∷ [] = own_rows ∙ ap (λ (o : Option Attempt). ended ++ with_open o []) active in
-              subst (IsRunOf rules w.depth n shown (Some (first_of p w.arena))) (sym rows)
-              (run_with rules w.depth n n memory shown (top n) shown_still (Some (first_of p w.arena)) ended t.0 block.start t.1 x.runs.run t.2 block.begins (subst (IsTryAt rules w.depth n shown t.0 (Some block.start)) as_it_is try)).0)
+              subst (IsRunOf rules w.limits.depth n shown (Some (first_of p w.arena))) (sym rows)
+              (run_with rules w.limits.depth n n memory shown (top n) shown_still (Some (first_of p w.arena)) ended t.0 block.start t.1 x.runs.run t.2 block.begins (subst (IsTryAt rules w.limits.depth n shown t.0 (Some block.start)) as_it_is try)).0)
           | inr shut ↦
               (let none : HasRow false a = subst (λ (b : Bool). HasRow b a) shut s.sound.kept.row in
               let rows : of_thread a.run.thread (attempts_of w) ≡ ended = own_rows ∙ (ap (λ (o : Option Attempt). ended ++ with_open o []) none ∙ append-nil ended) in
-              subst (IsRunOf rules w.depth n shown (Some (first_of p w.arena))) (sym rows) (run_still rules w.depth n n memory shown (top n) shown_still (Some (first_of p w.arena)) ended x.runs.run).0)
+              subst (IsRunOf rules w.limits.depth n shown (Some (first_of p w.arena))) (sym rows) (run_still rules w.limits.depth n n memory shown (top n) shown_still (Some (first_of p w.arena)) ended x.runs.run).0)
         ])
 
     player_at : (place : ℕ) (a : Actor P) → slice_get w.actors place ≡ Some a → (p : P) × (slice_get w.opening place ≡ Some p)
@@ -171,7 +171,7 @@ module _ {P : Type 0} (rules : Rules P) (laws : Obeys rules) where
 
     -- an open attempt's player alone is irrevocable where its engine is
     mode_of : (place : ℕ) (a : Actor P) (row : Attempt) → slice_get w.actors place ≡ Some a → active_of a ≡ Some row
-        → (alone w.depth (bytes_at w.depth w.base (attempts_of w) row.at) row).irrevocable ≡ a.engine.irrevocable
+        → (alone w.limits.depth (bytes_at w.limits.depth w.base (attempts_of w) row.at) row).irrevocable ≡ a.engine.irrevocable
     mode_of place a row e some =
         let here = player_at place a e in
         let own = sound.each place a e in
@@ -179,9 +179,9 @@ module _ {P : Type 0} (rules : Rules P) (laws : Obeys rules) where
         let x = running.each place here.0 a here.1 e in
         let t = x.runs.inside o in
         let same : t.1 ≡ row = same_Some _ _ (sym (ap open_in t.4) ∙ some) in
-        ap (λ (j : ℕ). (alone w.depth (bytes_at w.depth w.base (attempts_of w) j) row).irrevocable) (x.reads row some)
-        ∙ (ap (λ (y : Attempt). (alone w.depth (bytes_at w.depth w.base (attempts_of w) (a.engine.snapshot / 2)) y).irrevocable) (sym same)
-        ∙ (ap (λ (y : State). y.irrevocable) (alone_led laws w.depth t.5.open_try.of_block (bytes_at w.depth w.base (attempts_of w) (a.engine.snapshot / 2))) ∙ (open_parts place here.0 a here.1 e o).2))
+        ap (λ (j : ℕ). (alone w.limits.depth (bytes_at w.limits.depth w.base (attempts_of w) j) row).irrevocable) (x.reads row some)
+        ∙ (ap (λ (y : Attempt). (alone w.limits.depth (bytes_at w.limits.depth w.base (attempts_of w) (a.engine.snapshot / 2)) y).irrevocable) (sym same)
+        ∙ (ap (λ (y : State). y.irrevocable) (alone_led laws w.limits.depth t.5.open_try.of_block (bytes_at w.limits.depth w.base (attempts_of w) (a.engine.snapshot / 2))) ∙ (open_parts place here.0 a here.1 e o).2))
 
     -- who holds the clock has an open attempt, at the last position
     held_row : (place : ℕ) (a : Actor P) → slice_get w.actors place ≡ Some a → a.engine.holds ≡ true → (row : Attempt) × (active_of a ≡ Some row) × (row.at ≡ w.cells.clock / 2)
@@ -195,7 +195,7 @@ module _ {P : Type 0} (rules : Rules P) (laws : Obeys rules) where
         let half : a.engine.snapshot / 2 ≡ w.cells.clock / 2 = omega (arith, tied.holder h, holder.1, tied.settled.even) in
         (t.1, ap open_in t.4, x.reads t.1 (ap open_in t.4) ∙ half)
 
-    pub are_opaque : AreOutrun w.cells.clock w.attempts.ended → AreDated w.retries [] (attempts_of w) → RestartAtMost w.restarts (attempts_of w) → AreOpaque rules (observed w)
+    pub are_opaque : AreOutrun w.cells.clock w.attempts.ended → AreDated w.limits.retries [] (attempts_of w) → RestartAtMost w.limits.restarts (attempts_of w) → AreOpaque rules (observed w)
     are_opaque outrun dated few = record {
       runs = λ place p e. (let here = there_is w.actors place (omega (arith, long, slice_get_within w.opening place p e)) in of_actor place p here.0 e here.1);
       threads = subst (λ (n : ℕ). AreOfActors n (attempts_of w)) long (of_actors_both (length w.actors) w.attempts.ended (opens w.actors) running.threads
@@ -229,7 +229,7 @@ module _ {P : Type 0} (rules : Rules P) (laws : Obeys rules) where
       fed = λ place p a e f true_room. ((running.each place p a e f).fed true_room).fed;
       stored = λ place a row e some i.
           (let here = player_at place a e in
-          subst (λ (bytes : List ℕ). StandsIn w.depth a.engine.waits a.engine.doing a.engine w.cells.words (alone_whole w.depth bytes row)) (sym (shown_still (w.cells.clock / 2) (top (w.cells.clock / 2)))) ((running.each place here.0 a here.1 e).held i row some).stands);
+          subst (λ (bytes : List ℕ). StandsIn w.limits.depth a.engine.waits a.engine.doing a.engine w.cells.words (alone_whole w.limits.depth bytes row)) (sym (shown_still (w.cells.clock / 2) (top (w.cells.clock / 2)))) ((running.each place here.0 a here.1 e).held i row some).stands);
     }
 
   pub world_opaque : (w : World P) → IsWorld rules w → AreOpaque rules (observed w)
@@ -249,11 +249,11 @@ module _ {P : Type 0} (rules : Rules P) (laws : Obeys rules) where
     player : (p : P) × (slice_get w.opening i ≡ Some p)
     player = there_is w.opening i (let l = slice_get_within w.actors i got here in omega (arith, kept.long))
 
-    went : AreLaid w.depth w.base cells' r' × RunsFrom rules (first_of player.0 w.arena) w.depth w.base cells' r' new
-    went = runs (first_of player.0 w.arena) w.depth w.base kept.running.laid (kept.running.each i player.0 got player.1 here)
+    went : AreLaid w.limits.depth w.base cells' r' × RunsFrom rules (first_of player.0 w.arena) w.limits.depth w.base cells' r' new
+    went = runs (first_of player.0 w.arena) w.limits.depth w.base kept.running.laid (kept.running.each i player.0 got player.1 here)
 
     -- what its transaction has read is of one memory
-    pub has_read : IsTied cells' new.engine → HasRead w.depth w.base r' new
+    pub has_read : IsTied cells' new.engine → HasRead w.limits.depth w.base r' new
     has_read tied o =
         let k_late : new.engine.snapshot / 2 ≤ cells'.clock / 2 = (let reached = tied.settled.reached in let late = tied.late in omega arith) in
         let fits = went.0.memories.fits (new.engine.snapshot / 2) k_late in
@@ -271,15 +271,15 @@ module _ {P : Type 0} (rules : Rules P) (laws : Obeys rules) where
       each = each_after;
     }
       where
-        each_after : (place : ℕ) (p : P) (a : Actor P) → slice_get w.opening place ≡ Some p → slice_get (slice_set w.actors i new) place ≡ Some a → RunsFrom rules (first_of p w.arena) w.depth w.base cells' r' a
+        each_after : (place : ℕ) (p : P) (a : Actor P) → slice_get w.opening place ≡ Some p → slice_get (slice_set w.actors i new) place ≡ Some a → RunsFrom rules (first_of p w.arena) w.limits.depth w.base cells' r' a
         each_after place p a e f = elim (set_place w.actors i got new here place a f) [
           | inl h ↦
               (let same_player : player.0 ≡ p = (let z : Some player.0 ≡ Some p = sym player.1 ∙ (ap (slice_get w.opening) h.0 ∙ e) in cc) in
-              subst (λ (x : Actor P). RunsFrom rules (first_of p w.arena) w.depth w.base cells' r' x) (sym h.1)
-              (subst (λ (q : P). RunsFrom rules (first_of q w.arena) w.depth w.base cells' r' new) same_player went.1))
+              subst (λ (x : Actor P). RunsFrom rules (first_of p w.arena) w.limits.depth w.base cells' r' x) (sym h.1)
+              (subst (λ (q : P). RunsFrom rules (first_of q w.arena) w.limits.depth w.base cells' r' new) same_player went.1))
           | inr h ↦
               (let b = kept.actors.each place a h.1 in
-              other_runs (first_of p w.arena) w.depth w.base w.cells cells' w.attempts r' got.run.thread a kept.running.laid b.sound.tied others.more others.ended others.mine
+              other_runs (first_of p w.arena) w.limits.depth w.base w.cells cells' w.attempts r' got.run.thread a kept.running.laid b.sound.tied others.more others.ended others.mine
               (λ same. h.0 (sym mine ∙ (sym same ∙ b.thread))) clocks.late (others_held place a h.0 h.1) (kept.running.each place p a e h.1))
         ]
 

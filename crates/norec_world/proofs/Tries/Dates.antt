@@ -1,6 +1,6 @@
 -- Which try of its block an attempt is, and when it began: an event keeps what the attempts before it say of that.
 use Rattle.std.proofs.Common.{◌≡◌, ℕ, ◌+◌, ◌/◌, ◌<◌, ◌≤◌, ◌==◌, Bool, true, false, nat_lt, List, [], ◌∷◌, ◌++◌, length, Option, None, Some, is_some, slice_get, slice_set, if◌then◌else◌, inl, inr, refl, sym, ap, subst, ◌∙◌, arith, eq-eqb, append_assoc}
-use Rattle.norec_world.proofs.Common.{Actor, AllByRecursion, AllOf, AreActors, AreDated, AreFrom, AreOfActors, Attempt, BeginsAt, Call, Cells, CommitsInOrder, Continues, Core, End, GaveUp, GoesOnAfter, HasRow, IsBetween, IsDated, IsEvent, IsWorld, NoMemory, Outcome, Phase, Prior, Rows, Rules, Status, StatusIs, Tries, TriesAgain, Waits, World, active_of, append-nil, attempts_of, begins, between, both_ways, count_committed, current_of, ending_of, in_transaction, is_begin, is_committed, is_waiting, ltb-false, ne_eqb, none-some, one_where, outrun, over, pending_of, prior_of, runs, same_Some, shut_out, turned_away}
+use Rattle.norec_world.proofs.Common.{Actor, AllByRecursion, AllOf, AreActors, AreDated, AreFrom, AreOfActors, Attempt, BeginsAt, Call, Cells, CommitsInOrder, Continues, Core, End, GaveUp, GoesOnAfter, HasRow, IsBetween, IsDated, IsEvent, IsWorld, Limits, NoMemory, Outcome, Phase, Prior, Rows, Rules, Status, StatusIs, Tries, TriesAgain, Waits, World, active_of, append-nil, attempts_of, begins, between, both_ways, count_committed, current_of, ending_of, in_transaction, is_begin, is_committed, is_waiting, ltb-false, ne_eqb, none-some, one_where, outrun, over, pending_of, prior_of, runs, same_Some, shut_out, turned_away}
 use Rattle.norec_core.specs.Phases as at
 use Rattle.tx_attempts.specs.declared.attempt.Outcome.TheVariants as outcomes
 use Rattle.norec_world.specs.Dates.{led_by, tried_by, tried_in, up_to_last}
@@ -103,23 +103,23 @@ open_dated k n ended more (x ∷ xs) below from each = (
     below_more [] all = ((let l : x.thread < x.thread + 1 = omega arith in l), tt)
     below_more (y ∷ ys) all = ((let l = all.0 in let m = from.0 in omega arith), below_more ys all.1)
 
-pub all_dated : {P : Type 0} {rules : Rules P} (w : World P) → AreActors rules w.cells w.attempts w.actors → IsDatedWorld w → AreDated w.retries [] (attempts_of w)
+pub all_dated : {P : Type 0} {rules : Rules P} (w : World P) → AreActors rules w.cells w.attempts w.actors → IsDatedWorld w → AreDated w.limits.retries [] (attempts_of w)
 all_dated w sound d =
     let opened = opens w.actors in
-    dated_both w.retries [] w.attempts.ended opened d.ended
-    (subst (λ (l : List Attempt). AreDated w.retries l opened) (append-nil w.attempts.ended) (open_dated w.retries 0 w.attempts.ended [] opened tt (are_open sound).by_actor
-    (opens_each (IsDated w.retries w.attempts.ended) w.actors (λ place a row e here. ((d.each place a e).opened row here).dated))))
+    dated_both w.limits.retries [] w.attempts.ended opened d.ended
+    (subst (λ (l : List Attempt). AreDated w.limits.retries l opened) (append-nil w.attempts.ended) (open_dated w.limits.retries 0 w.attempts.ended [] opened tt (are_open sound).by_actor
+    (opens_each (IsDated w.limits.retries w.attempts.ended) w.actors (λ place a row e here. ((d.each place a e).opened row here).dated))))
 
 -- and of each no more blocks ran again than may
 few_open : (most : ℕ) (xs : List Attempt) → AllByRecursion (λ (row : Attempt). length row.restarts ≤ most) xs → RestartAtMost most xs
 few_open most [] each = tt
 few_open most (x ∷ xs) each = (each.0, few_open most xs each.1)
 
-pub all_few : {P : Type 0} {rules : Rules P} (w : World P) → AreActors rules w.cells w.attempts w.actors → CommitsInOrder w → IsDatedWorld w → RestartAtMost w.restarts (attempts_of w)
+pub all_few : {P : Type 0} {rules : Rules P} (w : World P) → AreActors rules w.cells w.attempts w.actors → CommitsInOrder w → IsDatedWorld w → RestartAtMost w.limits.restarts (attempts_of w)
 all_few w sound commits d =
-    few_both w.restarts w.attempts.ended (opens w.actors) d.few
-    (few_open w.restarts (opens w.actors) (opens_each (λ (row : Attempt). length row.restarts ≤ w.restarts) w.actors
-    (λ place a row e here. (let s = (sound.each place a e).sound in let few = s.acts.few row here in let most = s.tied.settled.few in let same = (commits.limits place a e).restarts in omega arith))))
+    few_both w.limits.restarts w.attempts.ended (opens w.actors) d.few
+    (few_open w.limits.restarts (opens w.actors) (opens_each (λ (row : Attempt). length row.restarts ≤ w.limits.restarts) w.actors
+    (λ place a row e here. (let s = (sound.each place a e).sound in let few = s.acts.few row here in let most = s.tied.settled.few in let same : a.engine.restarts ≡ w.limits.restarts = ap (λ (l : Limits). l.restarts) (commits.limits place a e) in omega arith))))
 
 -- ## An event
 
@@ -270,20 +270,20 @@ module _ {P : Type 0} (rules : Rules P) where
 
 module _ {P : Type 0} {rules : Rules P} (w : World P) (kept : IsWorld rules w) (i : ℕ) (got new : Actor P) (here : slice_get w.actors i ≡ Some got) (cells' : Cells) (r' : Rows) (events : ℕ)
     (event : IsEvent rules w.cells w.attempts got cells' r' new) (waits : is_waiting got.status ≡ true) (counted : count_committed r'.ended ≡ cells'.clock / 2) where
-  dated_now : (row : Attempt) → current_of (active_of got) (pending_of got) ≡ Some row → IsTry w.retries w.attempts got row
+  dated_now : (row : Attempt) → current_of (active_of got) (pending_of got) ≡ Some row → IsTry w.limits.retries w.attempts got row
   dated_now row e = by_open (active_of got) refl e
     where
-      d : IsDatedActor w.retries w.attempts got
+      d : IsDatedActor w.limits.retries w.attempts got
       d = kept.dated.each i got here
 
-      by_open : (o : Option Attempt) → active_of got ≡ o → current_of o (pending_of got) ≡ Some row → IsTry w.retries w.attempts got row
+      by_open : (o : Option Attempt) → active_of got ≡ o → current_of o (pending_of got) ≡ Some row → IsTry w.limits.retries w.attempts got row
       by_open None none e = d.next (waiting_going got.status waits) row e
       by_open (Some x) some e = d.opened row (some ∙ e)
 
   same : new.run.thread ≡ got.run.thread
   same = event.others.thread
 
-  tries_now : (row : Attempt) → current_of (active_of got) (pending_of got) ≡ Some row → (row.thread ≡ new.run.thread) × (row.nth ≡ got.run.nth) × IsDated w.retries w.attempts.ended row
+  tries_now : (row : Attempt) → current_of (active_of got) (pending_of got) ≡ Some row → (row.thread ≡ new.run.thread) × (row.nth ≡ got.run.nth) × IsDated w.limits.retries w.attempts.ended row
   tries_now row e = (let t = dated_now row e in (t.thread ∙ sym same, t.nth, t.dated))
 
   some_now : current_of (active_of got) (pending_of got) ≡ None → ⊥
@@ -291,24 +291,24 @@ module _ {P : Type 0} {rules : Rules P} (w : World P) (kept : IsWorld rules w) (
       let s = (kept.actors.each i got here).sound in
       current_some rules (in_transaction got.engine) w.cells w.attempts got got.status refl s.kept.row s.status waits none
 
-  limit : got.run.retries ≡ w.retries
-  limit = (kept.commits.limits i got here).retries
+  limit : got.run.retries ≡ w.limits.retries
+  limit = ap (λ (l : Limits). l.retries) (kept.commits.limits i got here)
 
-  most : got.engine.restarts ≡ w.restarts
-  most = (kept.commits.limits i got here).restarts
+  most : got.engine.restarts ≡ w.limits.restarts
+  most = ap (λ (l : Limits). l.restarts) (kept.commits.limits i got here)
 
   -- another one
-  other_dated : (j : ℕ) (b : Actor P) → (i ≡ j → ⊥) → slice_get w.actors j ≡ Some b → IsDatedActor w.retries r' b
+  other_dated : (j : ℕ) (b : Actor P) → (i ≡ j → ⊥) → slice_get w.actors j ≡ Some b → IsDatedActor w.limits.retries r' b
   other_dated j b apart e =
       let d = kept.dated.each j b e in
       let own = event.others in
       let others : b.run.thread ≡ got.run.thread → ⊥ = (λ z. apart (sym (kept.actors.each i got here).thread ∙ (sym z ∙ (kept.actors.each j b e).thread))) in
-      let later : (row : Attempt) → IsTry w.retries w.attempts b row → IsTry w.retries r' b row = (λ row t.
+      let later : (row : Attempt) → IsTry w.limits.retries w.attempts b row → IsTry w.limits.retries r' b row = (λ row t.
       record {
         thread = t.thread;
         nth = t.nth;
-        dated = subst (λ (l : List Attempt). IsDated w.retries l row) (sym own.ended)
-            (dated_else w.retries w.attempts.ended own.more row (else_all row.thread got.run.thread own.more (λ z. others (sym t.thread ∙ sym z)) own.mine) t.dated);
+        dated = subst (λ (l : List Attempt). IsDated w.limits.retries l row) (sym own.ended)
+            (dated_else w.limits.retries w.attempts.ended own.more row (else_all row.thread got.run.thread own.more (λ z. others (sym t.thread ∙ sym z)) own.mine) t.dated);
       }) in
       record {
         opened = λ row f. later row (d.opened row f);
@@ -317,11 +317,11 @@ module _ {P : Type 0} {rules : Rules P} (w : World P) (kept : IsWorld rules w) (
 
   pub dated_after : IsDatedWorld (record w { cells = cells'; actors = slice_set w.actors i new; attempts = r'; events = events })
   dated_after = record {
-    ended = dated_ended w.retries w.cells.clock cells'.clock (prior_of w.attempts got) r' new limit counted tries_now some_now kept.dated.ended event.tries;
+    ended = dated_ended w.limits.retries w.cells.clock cells'.clock (prior_of w.attempts got) r' new limit counted tries_now some_now kept.dated.ended event.tries;
     few = subst (λ (n : ℕ). RestartAtMost n r'.ended) most
-        (few_ended w.retries w.cells.clock cells'.clock (prior_of w.attempts got) r' new limit counted tries_now some_now kept.dated.ended event.tries (subst (λ (n : ℕ). RestartAtMost n w.attempts.ended) (sym most) kept.dated.few));
+        (few_ended w.limits.retries w.cells.clock cells'.clock (prior_of w.attempts got) r' new limit counted tries_now some_now kept.dated.ended event.tries (subst (λ (n : ℕ). RestartAtMost n w.attempts.ended) (sym most) kept.dated.few));
     each = λ j b e. elim (set_place w.actors i got new here j b e) [
-      | inl h ↦ subst (IsDatedActor w.retries r') (sym h.1) (dated_actor w.retries w.cells.clock cells'.clock (prior_of w.attempts got) r' new limit counted tries_now some_now kept.dated.ended event.tries)
+      | inl h ↦ subst (IsDatedActor w.limits.retries r') (sym h.1) (dated_actor w.limits.retries w.cells.clock cells'.clock (prior_of w.attempts got) r' new limit counted tries_now some_now kept.dated.ended event.tries)
       | inr h ↦ other_dated j b h.0 h.1
     ];
   }
@@ -329,12 +329,12 @@ module _ {P : Type 0} {rules : Rules P} (w : World P) (kept : IsWorld rules w) (
 -- a world that has just begun
 pub dated_first : {P : Type 0} (w : World P) → w.cells.clock ≡ 0 → w.attempts.ended ≡ [] → ((place : ℕ) (a : Actor P) → slice_get w.actors place ≡ Some a → IsBetween w.cells.clock 1 a) → IsDatedWorld w
 dated_first {P} w zero_clock none first = record {
-  ended = subst (AreDated w.retries []) (sym none) tt;
-  few = subst (RestartAtMost w.restarts) (sym none) tt;
+  ended = subst (AreDated w.limits.retries []) (sym none) tt;
+  few = subst (RestartAtMost w.limits.restarts) (sym none) tt;
   each = λ place a e.
       (let led : up_to_last a.run.thread w.attempts.ended ≡ [] = ap (up_to_last a.run.thread) none in
       let tried : tried_in (up_to_last a.run.thread w.attempts.ended) ≡ 0 = ap tried_in led in
       let count : count_committed (up_to_last a.run.thread w.attempts.ended) ≡ 0 = ap count_committed led in
       let counted : count_committed w.attempts.ended ≡ w.cells.clock / 2 = (let c : count_committed w.attempts.ended ≡ 0 = ap count_committed none in omega arith) in
-      between_dated w.retries w.cells.clock w.attempts a counted 1 (first place a e) (omega arith) (omega arith) (λ f. omega arith));
+      between_dated w.limits.retries w.cells.clock w.attempts a counted 1 (first place a e) (omega arith) (omega arith) (λ f. omega arith));
 }

@@ -24,17 +24,17 @@ use Rattle.tx_history.proofs.Runs.AloneRuns.{IsPlaced, of_run}
 use Rattle.world_laws.proofs.LegalHistories.EachThread.{of_threads}
 use Rattle.world_laws.proofs.LegalHistories.Holders.{HeldBy, count_holding_both, each_open, ended_free, ended_there, irrevocable_of, none_held, one_held, placed_there, stands_among}
 
-module _ {P : Type 0} (rules : Rules P) (version : Version) (w : World P) (allows : depth_of version ≡ w.depth) (commits : CommitsInOrder w) (opaque : AreOpaque rules (observed w)) (tied : AreTied rules w) where
+module _ {P : Type 0} (rules : Rules P) (version : Version) (w : World P) (allows : depth_of version ≡ w.limits.depth) (commits : CommitsInOrder w) (opaque : AreOpaque rules (observed w)) (tied : AreTied rules w) where
   half : count_committed (attempts_of w) ≡ w.cells.clock / 2
   half = opaque.counted.all
 
   at_position : (k : ℕ) → count_at k (attempts_of w) ≡ one_where (nat_lt k (count_committed (attempts_of w)))
   at_position k = opaque.counted.each k ∙ ap (λ (n : ℕ). one_where (nat_lt k n)) (sym half)
 
-  placed : All (IsPlaced rules w.depth (w.cells.clock / 2) (bytes_at w.depth w.base (attempts_of w))) (attempts_of w)
-  placed = of_threads (IsPlaced rules w.depth (w.cells.clock / 2) (bytes_at w.depth w.base (attempts_of w))) (length w.opening) (attempts_of w) opaque.threads (λ thread l.
+  placed : All (IsPlaced rules w.limits.depth (w.cells.clock / 2) (bytes_at w.limits.depth w.base (attempts_of w))) (attempts_of w)
+  placed = of_threads (IsPlaced rules w.limits.depth (w.cells.clock / 2) (bytes_at w.limits.depth w.base (attempts_of w))) (length w.opening) (attempts_of w) opaque.threads (λ thread l.
       (let p = there_is w.opening thread l in
-      of_run rules w.depth (w.cells.clock / 2) (bytes_at w.depth w.base (attempts_of w)) (Some (first_of p.0 w.arena)) (of_thread thread (attempts_of w)) (opaque.runs thread p.0 p.1)))
+      of_run rules w.limits.depth (w.cells.clock / 2) (bytes_at w.limits.depth w.base (attempts_of w)) (Some (first_of p.0 w.arena)) (of_thread thread (attempts_of w)) (opaque.runs thread p.0 p.1)))
 
   module _ (place : ℕ) (a : Actor P) (row : Attempt) (here : slice_get w.actors place ≡ Some a) (some : active_of a ≡ Some row) where
     -- an open attempt that holds the clock in the history is that of an actor that does
@@ -48,7 +48,7 @@ module _ {P : Type 0} (rules : Rules P) (version : Version) (w : World P) (allow
   free : w.cells.clock % 2 ≡ 0 → EndsFree (told_of version w) (count_committed (attempts_of w))
   free even = record {
     clock = omega (arith, half);
-    bytes = opaque.free even ∙ (ap (bytes_at w.depth w.base (attempts_of w)) (sym half) ∙ ap (λ (n : ℕ). bytes_at n w.base (attempts_of w) (count_committed (attempts_of w))) (sym allows));
+    bytes = opaque.free even ∙ (ap (bytes_at w.limits.depth w.base (attempts_of w)) (sym half) ∙ ap (λ (n : ℕ). bytes_at n w.base (attempts_of w) (count_committed (attempts_of w))) (sym allows));
     holding = open_holding ∙ none_held (told_of version w) (opens w.actors) (each_open (λ (x : Attempt). is_holding (told_of version w) x ≡ true → ⊥) w.actors
         (λ place a row here some t. true≢false (sym (holds_there place a row here some t) ∙ commits.free even place a here)));
   }

@@ -37,20 +37,20 @@ module _ {P : Type 0} (rules : Rules P) (widths : HasArenaWidths rules) (version
   all_own : All (IsOwn HasArenaWidth w.arena) (attempts_of w)
   all_own = of_threads (IsOwn HasArenaWidth w.arena) (length w.opening) (attempts_of w) opaque.threads (λ thread l.
       (let p = there_is w.opening thread l in
-      own_run rules HasArenaWidth widths w.depth w.arena (w.cells.clock / 2) (bytes_at w.depth w.base (attempts_of w)) (Some (first_of p.0 w.arena)) (of_thread thread (attempts_of w))
+      own_run rules HasArenaWidth widths w.limits.depth w.arena (w.cells.clock / 2) (bytes_at w.limits.depth w.base (attempts_of w)) (Some (first_of p.0 w.arena)) (of_thread thread (attempts_of w))
       (length-replicate w.arena 0) (opaque.runs thread p.0 p.1)))
 
-  limited_by : IsLimitedWorld version w → (a : Attempt) → IsOwn HasArenaWidth w.arena a → a.thread < length w.opening → a.nth ≤ w.retries + 1 → length a.restarts ≤ w.restarts → IsLimited version a
+  limited_by : IsLimitedWorld version w → (a : Attempt) → IsOwn HasArenaWidth w.arena a → a.thread < length w.opening → a.nth ≤ w.limits.retries + 1 → length a.restarts ≤ w.limits.restarts → IsLimited version a
   limited_by h a own of few again = record {
     thread = (let most = h.actors in omega arith);
     nth = (own.nth, (let most = h.retries in omega arith));
     arena = (let most = h.arena in let same = own.arena in omega arith);
     widths = own.calls;
-    restarts = may_tell version w.restarts a.restarts h.restarts again;
+    restarts = may_tell version w.limits.restarts a.restarts h.restarts again;
   }
 
   pub limited_world : IsLimitedWorld version w → AreLimited (told_of version w)
   limited_world h = record {
     memory = h.memory;
-    attempts = λ k d l. limited_by h (get_or (attempts_of w) k d) (all_own k d l) (all_of_actors (length w.opening) (attempts_of w) opaque.threads k d l) (all_few w.retries [] (attempts_of w) opaque.dated k d l) (each_restarts w.restarts (attempts_of w) opaque.few k d l);
+    attempts = λ k d l. limited_by h (get_or (attempts_of w) k d) (all_own k d l) (all_of_actors (length w.opening) (attempts_of w) opaque.threads k d l) (all_few w.limits.retries [] (attempts_of w) opaque.dated k d l) (each_restarts w.limits.restarts (attempts_of w) opaque.few k d l);
   }

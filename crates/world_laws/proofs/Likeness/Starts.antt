@@ -1,6 +1,6 @@
 -- Two worlds of equal beginning, before their first event, are the same.
-use Rattle.std.proofs.Common.{◌≡◌, ℕ, ◌/◌, List, [], ◌∷◌, ◌++◌, length, replicate, Some, slice_get, sym, ap, subst, ◌∙◌, arith}
-use Rattle.norec_world.proofs.Common.{Attempt, Core, HasStarted, Rules, SameOpening, World, opening, option_and_then, ending_of, slice_get_within, tally_of, words_of}
+use Rattle.std.proofs.Common.{◌≡◌, ℕ, ◌/◌, List, [], ◌∷◌, ◌++◌, length, Some, slice_get, sym, ap, subst, ◌∙◌, arith}
+use Rattle.norec_world.proofs.Common.{Attempt, Core, HasStarted, Limits, Rules, SameOpening, World, first_engine, option_and_then, ending_of, slice_get_within, tally_of, words_of}
 use Rattle.norec_world.specs.declared.actor.Actor.{Actor}
 use Rattle.norec_world.specs.Starts.{IsNew}
 use Rattle.tx_runs.proofs.RunLists.{there_is}
@@ -39,16 +39,16 @@ module _ {P : Type 0} (rules : Rules P) (v w : World P) (same : SameOpening v w)
 
   -- the other one's start, with the limits of this one
   start_of : (place : ℕ) (p : P) (b : Actor P) → slice_get v.opening place ≡ Some p → slice_get w.actors place ≡ Some b
-      → HasStarted rules v.cells.clock (opening (length v.base / 8) (replicate v.arena 0) v.patience v.max_commits v.depth v.restarts) v.retries place p b
-  start_of place p b e d = subst (λ (n : ℕ). HasStarted rules n (opening (length v.base / 8) (replicate v.arena 0) v.patience v.max_commits v.depth v.restarts) v.retries place p b) (g.clock ∙ sym f.clock)
-      (subst (λ (n : ℕ). HasStarted rules w.cells.clock (opening (length v.base / 8) (replicate v.arena 0) v.patience v.max_commits v.depth v.restarts) n place p b) same.retries
-      (subst (λ (c : Core). HasStarted rules w.cells.clock c w.retries place p b) (λ i. opening (length (same.base i) / 8) (replicate (same.arena i) 0) (same.patience i) (same.max_commits i) (same.depth i) (same.restarts i))
+      → HasStarted rules v.cells.clock (first_engine (length v.base / 8) v.arena v.limits) v.limits.retries place p b
+  start_of place p b e d = subst (λ (n : ℕ). HasStarted rules n (first_engine (length v.base / 8) v.arena v.limits) v.limits.retries place p b) (g.clock ∙ sym f.clock)
+      (subst (λ (n : ℕ). HasStarted rules w.cells.clock (first_engine (length v.base / 8) v.arena v.limits) n place p b) (ap (λ (l : Limits). l.retries) same.limits)
+      (subst (λ (c : Core). HasStarted rules w.cells.clock c w.limits.retries place p b) (λ i. first_engine (length (same.base i) / 8) (same.arena i) (same.limits i))
       (g.starts place p b (ap (λ (xs : List P). slice_get xs place) same.opening ∙ e) d)))
 
   actors_first : (place : ℕ) (a b : Actor P) → slice_get v.actors place ≡ Some a → slice_get w.actors place ≡ Some b → AreAlike a b
   actors_first place a b e d =
       let p = there_is v.opening place (let l = slice_get_within v.actors place a e in let n = f.actors in omega arith) in
-      starts_alike rules v.cells.clock (opening (length v.base / 8) (replicate v.arena 0) v.patience v.max_commits v.depth v.restarts) v.retries place p.0 a b (f.starts place p.0 a p.1 e) (start_of place p.0 b p.1 d) (fed_at v f place a e) (fed_at w g place b d)
+      starts_alike rules v.cells.clock (first_engine (length v.base / 8) v.arena v.limits) v.limits.retries place p.0 a b (f.starts place p.0 a p.1 e) (start_of place p.0 b p.1 d) (fed_at v f place a e) (fed_at w g place b d)
 
   pub new_same : SameWorld v w
   new_same = record {

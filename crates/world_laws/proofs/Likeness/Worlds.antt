@@ -58,11 +58,7 @@ opening_same v w v' w' s f g = record {
   opening = g.opening ∙ (s.opening ∙ sym f.opening);
   base = g.base ∙ (s.base ∙ sym f.base);
   arena = g.arena ∙ (s.arena ∙ sym f.arena);
-  patience = g.patience ∙ (s.patience ∙ sym f.patience);
-  max_commits = g.max_commits ∙ (s.max_commits ∙ sym f.max_commits);
-  depth = g.depth ∙ (s.depth ∙ sym f.depth);
-  restarts = g.restarts ∙ (s.restarts ∙ sym f.restarts);
-  retries = g.retries ∙ (s.retries ∙ sym f.retries);
+  limits = g.limits ∙ (s.limits ∙ sym f.limits);
 }
 
 module _ {P : Type 0} (rules : Rules P) (actor : ℕ) (v w : World P) (s : SameWorld v w)

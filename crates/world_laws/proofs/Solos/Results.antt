@@ -54,7 +54,7 @@ told_whole n [] k s = refl
 told_whole n (a ∷ rest) k s = λ i. record a { calls = record { list = a.calls.list; room = sym s.3 i } } ∷ told_whole (n + one_if (is_committed a.outcome)) rest k s.4 i
 
 module _ {P : Type 0} (rules : Rules P) (laws : Obeys rules) (w : World P) (commits : CommitsInOrder w) (opaque : AreOpaque rules (observed w)) (tied : AreTied rules w)
-    (p : P) (a : Actor P) (players : w.opening ≡ p ∷ []) (actors : w.actors ≡ a ∷ []) (sole : IsSole rules w.max_commits w.depth w.base (first_of p w.arena) w.cells.clock w.attempts a) where
+    (p : P) (a : Actor P) (players : w.opening ≡ p ∷ []) (actors : w.actors ≡ a ∷ []) (sole : IsSole rules w.limits.max_commits w.limits.depth w.base (first_of p w.arena) w.cells.clock w.attempts a) where
   -- it is the one actor
   player_here : slice_get w.opening 0 ≡ Some p
   player_here = ap (λ (l : List P). slice_get l 0) players
@@ -88,44 +88,44 @@ module _ {P : Type 0} (rules : Rules P) (laws : Obeys rules) (w : World P) (comm
   -- ## The player's blocks that are over
 
   abbrev Arrived : List Attempt → Type 0
-  Arrived tail = Arrives rules laws w.max_commits w.depth w.base (attempts_of w) (w.cells.clock / 2) (record { player = p; arena = replicate w.arena 0; memory = w.base; commits = 0 }) sole.past tail (w.cells.clock / 2)
+  Arrived tail = Arrives rules laws w.limits.max_commits w.limits.depth w.base (attempts_of w) (w.cells.clock / 2) (record { player = p; arena = replicate w.arena 0; memory = w.base; commits = 0 }) sole.past tail (w.cells.clock / 2)
 
   abbrev So : ℕ → List ℕ → Outcome → Type 0
-  So commits memory outcome = IsSoFar rules w.depth w.max_commits 0 p w.base (replicate w.arena 0) commits memory outcome (attempts_of w)
+  So commits memory outcome = IsSoFar rules w.limits.depth w.limits.max_commits 0 p w.base (replicate w.arena 0) commits memory outcome (attempts_of w)
 
   abbrev All : End → Type 0
-  All end = IsAll rules w.depth w.max_commits 0 p w.base (replicate w.arena 0) w.cells (attempts_of w) end
+  All end = IsAll rules w.limits.depth w.limits.max_commits 0 p w.base (replicate w.arena 0) w.cells (attempts_of w) end
 
   arrived : (tail : List Attempt) → attempts_of w ≡ sole.past ++ tail → Arrived tail
   arrived tail is =
-      arrives rules laws w.max_commits w.depth w.base (attempts_of w) (w.cells.clock / 2) (record { player = p; arena = replicate w.arena 0; memory = w.base; commits = 0 }) sole.past tail (w.cells.clock / 2) refl
+      arrives rules laws w.limits.max_commits w.limits.depth w.base (attempts_of w) (w.cells.clock / 2) (record { player = p; arena = replicate w.arena 0; memory = w.base; commits = 0 }) sole.past tail (w.cells.clock / 2) refl
       (λ j l. ap (λ (xs : List Attempt). committed_at xs j) is)
-      (subst (IsRunOf rules w.depth (w.cells.clock / 2) (bytes_at w.depth w.base (attempts_of w)) (Some (first_of p w.arena))) (of_thread_all (attempts_of w) all_mine ∙ is) (opaque.runs 0 p player_here))
+      (subst (IsRunOf rules w.limits.depth (w.cells.clock / 2) (bytes_at w.limits.depth w.base (attempts_of w)) (Some (first_of p w.arena))) (of_thread_all (attempts_of w) all_mine ∙ is) (opaque.runs 0 p player_here))
       sole.commit (let few = commits.few in omega arith)
 
-  so_far : (tail : List Attempt) (x : Arrived tail) (outcome : Outcome) → (attempts_of w ≡ sole.past) ⊎ IsBegun rules w.depth w.max_commits 0 x.before sole.past outcome (attempts_of w) → So (w.cells.clock / 2) x.before.memory outcome
-  so_far tail x outcome rows = record { before = x.before; past = sole.past; whole = x.whole; commits_are = sym x.commits; memory_is = refl; left = x.memory ∙ ap (bytes_at w.depth w.base (attempts_of w)) x.commits; rows_are = rows }
+  so_far : (tail : List Attempt) (x : Arrived tail) (outcome : Outcome) → (attempts_of w ≡ sole.past) ⊎ IsBegun rules w.limits.depth w.limits.max_commits 0 x.before sole.past outcome (attempts_of w) → So (w.cells.clock / 2) x.before.memory outcome
+  so_far tail x outcome rows = record { before = x.before; past = sole.past; whole = x.whole; commits_are = sym x.commits; memory_is = refl; left = x.memory ∙ ap (bytes_at w.limits.depth w.base (attempts_of w)) x.commits; rows_are = rows }
 
   left_by : (tail : List Attempt) (x : Arrived tail) → w.cells.clock % 2 ≡ 0 → memory_of w ≡ x.before.memory
-  left_by tail x z = opaque.free z ∙ (ap (bytes_at w.depth w.base (attempts_of w)) (sym x.commits) ∙ sym x.memory)
+  left_by tail x z = opaque.free z ∙ (ap (bytes_at w.limits.depth w.base (attempts_of w)) (sym x.commits) ∙ sym x.memory)
 
   -- what is told of its attempts
   told_as : (tail : List Attempt) → attempts_of w ≡ sole.past ++ tail → map without_room (attempts_of w) ≡ sole.past ++ map without_room tail
   told_as tail is = ap (map without_room) is ∙ (map-append without_room sole.past tail ∙ ap (λ (l : List Attempt). l ++ map without_room tail) (told_whole 0 sole.past (w.cells.clock / 2) sole.commit))
 
   -- the player goes no further
-  stops : (tail : List Attempt) (x : Arrived tail) (end : End) (memory : List ℕ) (held : Bool) → solo_within rules w.depth w.max_commits 0 (rules.calls_left x.before.player) x.before ≡ record { attempts = map without_room tail; memory = memory; commits = x.before.commits; held = held; ending = end }
+  stops : (tail : List Attempt) (x : Arrived tail) (end : End) (memory : List ℕ) (held : Bool) → solo_within rules w.limits.depth w.limits.max_commits 0 (rules.calls_left x.before.player) x.before ≡ record { attempts = map without_room tail; memory = memory; commits = x.before.commits; held = held; ending = end }
       → attempts_of w ≡ sole.past ++ tail → memory_of w ≡ memory → (w.cells.clock % 2 == 1) ≡ held → All end
   stops tail x end memory held last is left odd =
       x.whole ∙ (ap (with_all sole.past) last ∙ (λ i. record { attempts = sym (told_as tail is) i; memory = sym left i; commits = x.commits i; held = sym odd i; ending = end }))
 
   -- between two blocks, or with the block given up
-  rests_even : (tail : List Attempt) (x : Arrived tail) (end : End) → solo_within rules w.depth w.max_commits 0 (rules.calls_left x.before.player) x.before ≡ record { attempts = map without_room tail; memory = x.before.memory; commits = x.before.commits; held = false; ending = end }
+  rests_even : (tail : List Attempt) (x : Arrived tail) (end : End) → solo_within rules w.limits.depth w.limits.max_commits 0 (rules.calls_left x.before.player) x.before ≡ record { attempts = map without_room tail; memory = x.before.memory; commits = x.before.commits; held = false; ending = end }
       → attempts_of w ≡ sole.past ++ tail → w.cells.clock % 2 ≡ 0 → All end
   rests_even tail x end last is z = stops tail x end x.before.memory false last is (left_by tail x z) (ap (λ (n : ℕ). n == 1) z)
 
   abbrev place_now : Option (Between P)
-  place_now = run_after rules w.depth (bytes_at w.depth w.base w.attempts.ended) (Some (first_of p w.arena)) (of_thread a.run.thread w.attempts.ended)
+  place_now = run_after rules w.limits.depth (bytes_at w.limits.depth w.base w.attempts.ended) (Some (first_of p w.arena)) (of_thread a.run.thread w.attempts.ended)
 
   -- what its attempts have led to is where its player stands
   led : (tail : List Attempt) (x : Arrived tail) → w.attempts.ended ≡ sole.past
@@ -134,9 +134,9 @@ module _ {P : Type 0} (rules : Rules P) (laws : Obeys rules) (w : World P) (comm
       let run = tied.players 0 p a player_here here in
       let rows : of_thread a.run.thread w.attempts.ended ≡ sole.past =
       ap (λ (t : ℕ). of_thread t w.attempts.ended) own ∙ (of_thread_all w.attempts.ended (of_actors_first 1 w.attempts.ended _ all_mine) ∙ ended) in
-      let still = run_still rules w.depth (w.cells.clock / 2) (w.cells.clock / 2) (bytes_at w.depth w.base w.attempts.ended) (bytes_at w.depth w.base (attempts_of w)) (omega arith)
-      (λ k l. bytes_still w.depth w.base w.cells.clock w.attempts.ended commits.counted _ k l) (Some (first_of p w.arena)) (of_thread a.run.thread w.attempts.ended) run.run in
-      sym still.1 ∙ (ap (run_after rules w.depth (bytes_at w.depth w.base (attempts_of w)) (Some (first_of p w.arena))) rows ∙ x.led)
+      let still = run_still rules w.limits.depth (w.cells.clock / 2) (w.cells.clock / 2) (bytes_at w.limits.depth w.base w.attempts.ended) (bytes_at w.limits.depth w.base (attempts_of w)) (omega arith)
+      (λ k l. bytes_still w.limits.depth w.base w.cells.clock w.attempts.ended commits.counted _ k l) (Some (first_of p w.arena)) (of_thread a.run.thread w.attempts.ended) run.run in
+      sym still.1 ∙ (ap (run_after rules w.limits.depth (bytes_at w.limits.depth w.base (attempts_of w)) (Some (first_of p w.arena))) rows ∙ x.led)
 
   -- the clock is odd where its engine is irrevocable
   odd_where : a.engine.irrevocable ≡ true → w.cells.clock % 2 ≡ 1
@@ -148,8 +148,8 @@ module _ {P : Type 0} (rules : Rules P) (laws : Obeys rules) (w : World P) (comm
   -- ## The last one
 
   module _ (row : Attempt) (is : attempts_of w ≡ sole.past ++ row ∷ []) (first : IsFirstTry (w.cells.clock / 2) row) (x : Arrived (row ∷ [])) where
-    y : IsNext rules laws w.max_commits w.depth w.base (attempts_of w) (w.cells.clock / 2) x.before row
-    y = is_next rules laws w.max_commits w.depth w.base (attempts_of w) (w.cells.clock / 2) x.before row [] x.run first.unbroken
+    y : IsNext rules laws w.limits.max_commits w.limits.depth w.base (attempts_of w) (w.cells.clock / 2) x.before row
+    y = is_next rules laws w.limits.max_commits w.limits.depth w.base (attempts_of w) (w.cells.clock / 2) x.before row [] x.run first.unbroken
 
     first_here : IsFirstTry x.before.commits row
     first_here = subst (λ (n : ℕ). IsFirstTry n row) (sym x.commits) first
@@ -163,52 +163,52 @@ module _ {P : Type 0} (rules : Rules P) (laws : Obeys rules) (w : World P) (comm
     abbrev from : State
     from = opened x.before.memory y.start.arena y.start.props
 
-    alone_here : IsAlone rules w.depth unbroken begun from row.calls.list
-    alone_here = made_alone rules laws w.max_commits w.depth w.base (attempts_of w) (w.cells.clock / 2) x.before row y x.memory first_here at_here
+    alone_here : IsAlone rules w.limits.depth unbroken begun from row.calls.list
+    alone_here = made_alone rules laws w.limits.max_commits w.limits.depth w.base (attempts_of w) (w.cells.clock / 2) x.before row y x.memory first_here at_here
 
-    state_here : alone w.depth (bytes_at w.depth w.base (attempts_of w) row.at) row ≡ state_then w.depth unbroken from row.calls.list
-    state_here = same_state rules laws w.max_commits w.depth w.base (attempts_of w) (w.cells.clock / 2) x.before row y x.memory first_here at_here
+    state_here : alone w.limits.depth (bytes_at w.limits.depth w.base (attempts_of w) row.at) row ≡ state_then w.limits.depth unbroken from row.calls.list
+    state_here = same_state rules laws w.limits.max_commits w.limits.depth w.base (attempts_of w) (w.cells.clock / 2) x.before row y x.memory first_here at_here
 
-    row_here : (outcome : Outcome) → outcome ≡ row.outcome → row_of w.depth 0 x.before y.start row.calls outcome ≡ row
-    row_here outcome o = same_row rules laws w.max_commits w.depth w.base (attempts_of w) (w.cells.clock / 2) x.before row y x.memory first_here at_here outcome row.calls.room o refl
+    row_here : (outcome : Outcome) → outcome ≡ row.outcome → row_of w.limits.depth 0 x.before y.start row.calls outcome ≡ row
+    row_here outcome o = same_row rules laws w.limits.max_commits w.limits.depth w.base (attempts_of w) (w.cells.clock / 2) x.before row y x.memory first_here at_here outcome row.calls.room o refl
 
-    row_told : (outcome : Outcome) → outcome ≡ row.outcome → row_of w.depth 0 x.before y.start (record { list = row.calls.list; room = 0 }) outcome ≡ without_room row
+    row_told : (outcome : Outcome) → outcome ≡ row.outcome → row_of w.limits.depth 0 x.before y.start (record { list = row.calls.list; room = 0 }) outcome ≡ without_room row
     row_told outcome o = ap without_room (row_here outcome o)
 
-    begun_so : (outcome : Outcome) → row.outcome ≡ outcome → ((outcome ≡ outcomes.Unfinished → ⊥) → row.calls.room ≡ 0) → IsBegun rules w.depth w.max_commits 0 x.before sole.past outcome (attempts_of w)
+    begun_so : (outcome : Outcome) → row.outcome ≡ outcome → ((outcome ≡ outcomes.Unfinished → ⊥) → row.calls.room ≡ 0) → IsBegun rules w.limits.depth w.limits.max_commits 0 x.before sole.past outcome (attempts_of w)
     begun_so outcome o spent = record { start = y.start; calls = row.calls; rows_are = is ∙ ap (λ (r : Attempt). sole.past ++ r ∷ []) (sym (row_here outcome (sym o))); begins = y.comes; alone = alone_here; spent = spent }
 
     -- its player makes no more calls
-    rests_open : row.outcome ≡ outcomes.Unfinished → rules.next_call (player_then rules.answered begun row.calls.list) ≡ None → ((state_then w.depth unbroken from row.calls.list).irrevocable && nat_le w.max_commits x.before.commits) ≡ false
-        → memory_of w ≡ (if (state_then w.depth unbroken from row.calls.list).irrevocable then (state_then w.depth unbroken from row.calls.list).memory else x.before.memory) → (w.cells.clock % 2 == 1) ≡ (state_then w.depth unbroken from row.calls.list).irrevocable → All Finished
+    rests_open : row.outcome ≡ outcomes.Unfinished → rules.next_call (player_then rules.answered begun row.calls.list) ≡ None → ((state_then w.limits.depth unbroken from row.calls.list).irrevocable && nat_le w.limits.max_commits x.before.commits) ≡ false
+        → memory_of w ≡ (if (state_then w.limits.depth unbroken from row.calls.list).irrevocable then (state_then w.limits.depth unbroken from row.calls.list).memory else x.before.memory) → (w.cells.clock % 2 == 1) ≡ (state_then w.limits.depth unbroken from row.calls.list).irrevocable → All Finished
     rests_open o none free left odd =
-        let t : State = state_then w.depth unbroken from row.calls.list in
+        let t : State = state_then w.limits.depth unbroken from row.calls.list in
         let q : P = player_then rules.answered begun row.calls.list in
-        let gets : answers rules.next_call rules.answered rules.calls_left w.depth begun x.before.memory y.start.arena y.start.props ≡ map pair_of row.calls.list =
-        begins_alone rules laws w.depth (rules.calls_left begun) unbroken begun from row.calls.list (let l : rules.calls_left begun ≤ rules.calls_left begun = omega arith in l) alone_here
-        ∙ (ap (λ (k : Option Call). map pair_of row.calls.list ++ gets_through rules.next_call rules.answered rules.calls_left w.depth (rules.calls_left begun) (breaks_after unbroken row.calls.list) q t k) (no_turn (is_open t) (rules.next_call q) none)
-        ∙ (ap (λ (l : List (Call × Reply)). map pair_of row.calls.list ++ l) (gets_none rules laws w.depth (rules.calls_left begun) (breaks_after unbroken row.calls.list) q t) ∙ append-nil (map pair_of row.calls.list))) in
-        let open_then : is_open t ≡ true = ap is_open (sym state_here) ∙ subst (λ (k : Outcome). EndsAs k (alone w.depth (bytes_at w.depth w.base (attempts_of w) row.at) row)) o y.opaque.ends in
+        let gets : answers rules.next_call rules.answered rules.calls_left w.limits.depth begun x.before.memory y.start.arena y.start.props ≡ map pair_of row.calls.list =
+        begins_alone rules laws w.limits.depth (rules.calls_left begun) unbroken begun from row.calls.list (let l : rules.calls_left begun ≤ rules.calls_left begun = omega arith in l) alone_here
+        ∙ (ap (λ (k : Option Call). map pair_of row.calls.list ++ gets_through rules.next_call rules.answered rules.calls_left w.limits.depth (rules.calls_left begun) (breaks_after unbroken row.calls.list) q t k) (no_turn (is_open t) (rules.next_call q) none)
+        ∙ (ap (λ (l : List (Call × Reply)). map pair_of row.calls.list ++ l) (gets_none rules laws w.limits.depth (rules.calls_left begun) (breaks_after unbroken row.calls.list) q t) ∙ append-nil (map pair_of row.calls.list))) in
+        let open_then : is_open t ≡ true = ap is_open (sym state_here) ∙ subst (λ (k : Outcome). EndsAs k (alone w.limits.depth (bytes_at w.limits.depth w.base (attempts_of w) row.at) row)) o y.opaque.ends in
         stops (row ∷ []) x Finished (if t.irrevocable then t.memory else x.before.memory) t.irrevocable
-        (open_block rules laws w.depth w.max_commits 0 x.before y.start y.comes row.calls.list gets alone_here open_then free
-        ∙ ap (λ (r : Attempt). with_first r (left_open rules w.depth w.max_commits 0 x.before t)) (row_told outcomes.Unfinished (sym o))) is left odd
+        (open_block rules laws w.limits.depth w.limits.max_commits 0 x.before y.start y.comes row.calls.list gets alone_here open_then free
+        ∙ ap (λ (r : Attempt). with_first r (left_open rules w.limits.depth w.limits.max_commits 0 x.before t)) (row_told outcomes.Unfinished (sym o))) is left odd
       where
         no_turn : (b : Bool) (k : Option Call) → k ≡ None → (if b then k else None) ≡ None
         no_turn true k e = e
         no_turn false k e = refl
 
     -- it was refused the clock, as full
-    refused : row.outcome ≡ outcomes.Full → w.max_commits ≤ w.cells.clock / 2 → w.cells.clock % 2 ≡ 0 → All GaveUp
+    refused : row.outcome ≡ outcomes.Full → w.limits.max_commits ≤ w.cells.clock / 2 → w.cells.clock % 2 ≡ 0 → All GaveUp
     refused o full z =
         let lacks = y.opaque.full o in
         let n = x.commits in
         rests_even (row ∷ []) x GaveUp
-        (full_block rules laws w.depth w.max_commits 0 x.before y.start y.comes row.calls.list lacks.call (reply w.depth (alone w.depth (bytes_at w.depth w.base (attempts_of w) row.at) row) lacks.call) lacks.rest
-        (sym (same_answers rules laws w.max_commits w.depth w.base (attempts_of w) (w.cells.clock / 2) x.before row y x.memory first_here at_here) ∙ lacks.answers_are) alone_here
-        (ap is_open (sym state_here) ∙ (subst (λ (k : Outcome). EndsAs k (alone w.depth (bytes_at w.depth w.base (attempts_of w) row.at) row)) o y.opaque.ends).0)
-        (ap (λ (s : State). s.irrevocable) (sym state_here) ∙ lacks.revocable) (ap (λ (s : State). takes_clock (after w.depth s lacks.call)) (sym state_here) ∙ lacks.takes)
-        (le-leb w.max_commits x.before.commits (omega arith))
-        ∙ ap (λ (r : Attempt). with_first r (stopped rules w.depth w.max_commits 0 x.before GaveUp)) (row_told outcomes.Full (sym o))) is z
+        (full_block rules laws w.limits.depth w.limits.max_commits 0 x.before y.start y.comes row.calls.list lacks.call (reply w.limits.depth (alone w.limits.depth (bytes_at w.limits.depth w.base (attempts_of w) row.at) row) lacks.call) lacks.rest
+        (sym (same_answers rules laws w.limits.max_commits w.limits.depth w.base (attempts_of w) (w.cells.clock / 2) x.before row y x.memory first_here at_here) ∙ lacks.answers_are) alone_here
+        (ap is_open (sym state_here) ∙ (subst (λ (k : Outcome). EndsAs k (alone w.limits.depth (bytes_at w.limits.depth w.base (attempts_of w) row.at) row)) o y.opaque.ends).0)
+        (ap (λ (s : State). s.irrevocable) (sym state_here) ∙ lacks.revocable) (ap (λ (s : State). takes_clock (after w.limits.depth s lacks.call)) (sym state_here) ∙ lacks.takes)
+        (le-leb w.limits.max_commits x.before.commits (omega arith))
+        ∙ ap (λ (r : Attempt). with_first r (stopped rules w.limits.depth w.limits.max_commits 0 x.before GaveUp)) (row_told outcomes.Full (sym o))) is z
 
     -- its engine, and the plain state after its calls
     module _ (some : active_of a ≡ Some row) where
@@ -219,42 +219,42 @@ module _ {P : Type 0} (rules : Rules P) (laws : Obeys rules) (w : World P) (comm
       read_at = tied.reads 0 a row here some
 
       -- no block of it has run again
-      whole_alone : (memory : List ℕ) → alone_whole w.depth memory row ≡ alone w.depth memory row
+      whole_alone : (memory : List ℕ) → alone_whole w.limits.depth memory row ≡ alone w.limits.depth memory row
       whole_alone memory =
-          ap (λ (rs : List Again). state_through w.depth (breaks_in rs) (opened memory row.arena row.props) (calls_of row)) first.unbroken
-          ∙ sym (ap (λ (rs : List Again). state_through w.depth (breaks_of rs) (opened memory row.arena row.props) (calls_of row)) first.unbroken)
+          ap (λ (rs : List Again). state_through w.limits.depth (breaks_in rs) (opened memory row.arena row.props) (calls_of row)) first.unbroken
+          ∙ sym (ap (λ (rs : List Again). state_through w.limits.depth (breaks_of rs) (opened memory row.arena row.props) (calls_of row)) first.unbroken)
 
       -- it is not irrevocable where its engine is not
-      revocable_here : a.engine.irrevocable ≡ false → (state_then w.depth unbroken from row.calls.list).irrevocable ≡ false
+      revocable_here : a.engine.irrevocable ≡ false → (state_then w.limits.depth unbroken from row.calls.list).irrevocable ≡ false
       revocable_here e = ap (λ (s : State). s.irrevocable) (sym state_here) ∙ (tied.modes 0 a row here some ∙ e)
 
       -- and where it is, it is what the words hold
-      held_here : IsIdle a.engine → a.engine.irrevocable ≡ true → stands_for a.engine w.cells.words ≡ state_then w.depth unbroken from row.calls.list
+      held_here : IsIdle a.engine → a.engine.irrevocable ≡ true → stands_for a.engine w.cells.words ≡ state_then w.limits.depth unbroken from row.calls.list
       held_here idle e =
           let n : w.cells.clock / 2 ≡ row.at = sym (at_here ∙ x.commits) in
-          subst (λ (o : Option Step). StandsIn w.depth o a.engine.doing a.engine w.cells.words (alone_whole w.depth (bytes_at w.depth w.base (attempts_of w) (w.cells.clock / 2)) row)) idle.0 (tied.stored 0 a row here some e)
-          ∙ (whole_alone (bytes_at w.depth w.base (attempts_of w) (w.cells.clock / 2)) ∙ ap (λ (k : ℕ). alone w.depth (bytes_at w.depth w.base (attempts_of w) k) row) n ∙ state_here)
+          subst (λ (o : Option Step). StandsIn w.limits.depth o a.engine.doing a.engine w.cells.words (alone_whole w.limits.depth (bytes_at w.limits.depth w.base (attempts_of w) (w.cells.clock / 2)) row)) idle.0 (tied.stored 0 a row here some e)
+          ∙ (whole_alone (bytes_at w.limits.depth w.base (attempts_of w) (w.cells.clock / 2)) ∙ ap (λ (k : ℕ). alone w.limits.depth (bytes_at w.limits.depth w.base (attempts_of w) k) row) n ∙ state_here)
 
       -- fewer have committed than may
-      few_here : a.engine.irrevocable ≡ true → nat_le w.max_commits x.before.commits ≡ false
-      few_here e = lt-leb w.max_commits x.before.commits (omega (arith, odd_where e, commits.few, x.commits))
+      few_here : a.engine.irrevocable ≡ true → nat_le w.limits.max_commits x.before.commits ≡ false
+      few_here e = lt-leb w.limits.max_commits x.before.commits (omega (arith, odd_where e, commits.few, x.commits))
 
       rests_idle : IsIdle a.engine → row.outcome ≡ outcomes.Unfinished → rules.next_call (player_then rules.answered begun row.calls.list) ≡ None → All Finished
       rests_idle idle o none = by_mode a.engine.irrevocable refl
         where
           by_mode : (b : Bool) → a.engine.irrevocable ≡ b → All Finished
           by_mode true e =
-              let t : State = state_then w.depth unbroken from row.calls.list in
+              let t : State = state_then w.limits.depth unbroken from row.calls.list in
               let stands = held_here idle e in
               let odd = odd_where e in
               let mode : t.irrevocable ≡ true = ap (λ (s : State). s.irrevocable) (sym stands) ∙ (mode_in a.engine.irrevocable a.engine.writes a.engine.blocks a.engine.arena a.engine.actions w.cells.words ∙ e) in
               let left : memory_of w ≡ t.memory = sym (ap (λ (b : Bool). (state_in b a.engine.writes a.engine.blocks a.engine.arena a.engine.actions w.cells.words).memory) e) ∙ ap (λ (s : State). s.memory) stands in
-              rests_open o none (and_right t.irrevocable (nat_le w.max_commits x.before.commits) (few_here e)) (left ∙ sym (cond-true t.irrevocable t.memory x.before.memory mode)) (ap (λ (n : ℕ). n == 1) odd ∙ sym mode)
+              rests_open o none (and_right t.irrevocable (nat_le w.limits.max_commits x.before.commits) (few_here e)) (left ∙ sym (cond-true t.irrevocable t.memory x.before.memory mode)) (ap (λ (n : ℕ). n == 1) odd ∙ sym mode)
           by_mode false e =
-              let t : State = state_then w.depth unbroken from row.calls.list in
+              let t : State = state_then w.limits.depth unbroken from row.calls.list in
               let even = even_free w commits one a here (idle.1 ∙ e) in
               let mode = revocable_here e in
-              rests_open o none (and_left t.irrevocable (nat_le w.max_commits x.before.commits) mode) (left_by (row ∷ []) x even ∙ sym (cond-false t.irrevocable t.memory x.before.memory mode)) (ap (λ (n : ℕ). n == 1) even ∙ sym mode)
+              rests_open o none (and_left t.irrevocable (nat_le w.limits.max_commits x.before.commits) mode) (left_by (row ∷ []) x even ∙ sym (cond-false t.irrevocable t.memory x.before.memory mode)) (ap (λ (n : ℕ). n == 1) even ∙ sym mode)
 
     -- its player stands where its calls have led it
     stands_so : w.attempts.ended ≡ sole.past → active_of a ≡ Some row → a.run.player ≡ player_then rules.answered begun row.calls.list
@@ -262,18 +262,18 @@ module _ {P : Type 0} (rules : Rules P) (laws : Obeys rules) (w : World P) (comm
         let t = (tied.players 0 p a player_here here).inside (row_open (in_transaction a.engine) a row row_kept some) in
         let place : t.0 ≡ between x.before = same_Some _ _ (sym t.2 ∙ led (row ∷ []) x ended) in
         let block = t.5.open_try.of_block in
-        let start : block.start ≡ y.start = same_Some _ _ (sym block.begins ∙ (ap (λ (b : Between P). begin_of rules w.depth b.player b.arena) place ∙ y.comes)) in
+        let start : block.start ≡ y.start = same_Some _ _ (sym block.begins ∙ (ap (λ (b : Between P). begin_of rules w.limits.depth b.player b.arena) place ∙ y.comes)) in
         let same : t.1 ≡ row = same_Some _ _ (sym (ap open_in t.4) ∙ some) in
         block.player ∙ (λ i. player_then rules.answered (rules.answered (start i).player (begin_code (place i).again)) (same i).calls.list)
 
   -- ## By how it stands
 
-  none_comes : (b : Between P) (x : Arrived []) → IsBeforeTry rules w.depth (w.cells.clock / 2) b a → place_now ≡ Some b → w.attempts.ended ≡ sole.past → rules.next_call a.run.player ≡ None → begin_of rules w.depth x.before.player x.before.arena ≡ None
+  none_comes : (b : Between P) (x : Arrived []) → IsBeforeTry rules w.limits.depth (w.cells.clock / 2) b a → place_now ≡ Some b → w.attempts.ended ≡ sole.past → rules.next_call a.run.player ≡ None → begin_of rules w.limits.depth x.before.player x.before.arena ≡ None
   none_comes b x t led_to ended none =
-      ap (λ (b : Between P). begin_of rules w.depth b.player b.arena) (sym (same_Some _ _ (sym led_to ∙ led [] x ended)))
-      ∙ (led_before rules laws t ∙ (ap (begin_within rules w.depth (rules.calls_left a.run.player) a.run.player a.engine.arena) none ∙ no_call (rules.calls_left a.run.player) a.engine.arena))
+      ap (λ (b : Between P). begin_of rules w.limits.depth b.player b.arena) (sym (same_Some _ _ (sym led_to ∙ led [] x ended)))
+      ∙ (led_before rules laws t ∙ (ap (begin_within rules w.limits.depth (rules.calls_left a.run.player) a.run.player a.engine.arena) none ∙ no_call (rules.calls_left a.run.player) a.engine.arena))
     where
-      no_call : (k : ℕ) (arena : List ℕ) → begin_within rules w.depth k a.run.player arena None ≡ None
+      no_call : (k : ℕ) (arena : List ℕ) → begin_within rules w.limits.depth k a.run.player arena None ≡ None
       no_call zero arena = refl
       no_call (suc k) arena = refl
 
@@ -281,7 +281,7 @@ module _ {P : Type 0} (rules : Rules P) (laws : Obeys rules) (w : World P) (comm
   rests : (x : Arrived []) → attempts_of w ≡ sole.past ++ [] → w.attempts.ended ≡ sole.past → ending_of a.status ≡ Some Finished → active_of a ≡ None → rules.next_call a.run.player ≡ None → w.cells.clock % 2 ≡ 0 → All Finished
   rests x is ended finished shut none z =
       let t = (tied.players 0 p a player_here here).between (row_shut (in_transaction a.engine) a row_kept shut) (λ e. absurd (let both = sym finished ∙ e in cc)) (λ e. absurd (let both = sym finished ∙ e in cc)) in
-      rests_even [] x Finished (no_block rules laws w.depth w.max_commits 0 x.before (none_comes t.0 x t.2 t.1 ended none)) is z
+      rests_even [] x Finished (no_block rules laws w.limits.depth w.limits.max_commits 0 x.before (none_comes t.0 x t.2 t.1 ended none)) is z
 
   module _ (ended : w.attempts.ended ≡ sole.past) where
     is_none : active_of a ≡ None → attempts_of w ≡ sole.past ++ []
@@ -296,14 +296,14 @@ module _ {P : Type 0} (rules : Rules P) (laws : Obeys rules) (w : World P) (comm
   some_over : (outcome : Outcome) (row : Attempt) (is : attempts_of w ≡ sole.past ++ row ∷ []) → IsFirstTry (w.cells.clock / 2) row → row.outcome ≡ outcome → ((outcome ≡ outcomes.Unfinished → ⊥) → row.calls.room ≡ 0) → (memory : List ℕ) × So (w.cells.clock / 2) memory outcome × (w.cells.clock % 2 ≡ 0 → memory_of w ≡ memory)
   some_over outcome row is first o spent = (let x = arrived (row ∷ []) is in (x.before.memory, so_far (row ∷ []) x outcome (inr (begun_so row is first x outcome o spent)), left_by (row ∷ []) x))
 
-  going : IsOnWay rules w.max_commits w.depth w.base (first_of p w.arena) sole.past (w.cells.clock / 2) w.attempts a → DoneBy rules w p None
+  going : IsOnWay rules w.limits.max_commits w.limits.depth w.base (first_of p w.arena) sole.past (w.cells.clock / 2) w.attempts a → DoneBy rules w p None
   going s = by_open (active_of a) refl
     where
       by_open : (o : Option Attempt) → active_of a ≡ o → DoneBy rules w p None
       by_open None e = nothing_open s.ended outcomes.Unfinished e
       by_open (Some row) e = some_over outcomes.Unfinished row (is_some_row s.ended row e) (s.current row (ap (λ (o : Option Attempt). current_of o (pending_of a)) e)) (row_unfinished (in_transaction a.engine) a row row_kept e) (λ u. absurd (u refl))
 
-  finished : IsOnWay rules w.max_commits w.depth w.base (first_of p w.arena) sole.past (w.cells.clock / 2) w.attempts a → ending_of a.status ≡ Some Finished → rules.next_call a.run.player ≡ None → IsIdle a.engine → All Finished
+  finished : IsOnWay rules w.limits.max_commits w.limits.depth w.base (first_of p w.arena) sole.past (w.cells.clock / 2) w.attempts a → ending_of a.status ≡ Some Finished → rules.next_call a.run.player ≡ None → IsIdle a.engine → All Finished
   finished s end none idle = by_open (active_of a) refl
     where
       by_open : (o : Option Attempt) → active_of a ≡ o → All Finished
@@ -315,14 +315,14 @@ module _ {P : Type 0} (rules : Rules P) (laws : Obeys rules) (w : World P) (comm
           rests_idle row is first x e idle (row_unfinished (in_transaction a.engine) a row row_kept e) (ap rules.next_call (sym (stands_so row is first x s.ended e)) ∙ none)
 
   -- its next block goes irrevocable, where as many have committed as may
-  kept_away : IsKeptOut rules w.max_commits w.depth w.base (first_of p w.arena) sole.past w.attempts a → active_of a ≡ None → w.max_commits ≤ w.cells.clock / 2 → w.cells.clock % 2 ≡ 0 → All GaveUp
+  kept_away : IsKeptOut rules w.limits.max_commits w.limits.depth w.base (first_of p w.arena) sole.past w.attempts a → active_of a ≡ None → w.limits.max_commits ≤ w.cells.clock / 2 → w.cells.clock % 2 ≡ 0 → All GaveUp
   kept_away k shut full z =
       let is = is_none k.ended shut in
       let x = arrived [] is in
       let place : k.before ≡ between x.before = same_Some _ _ (sym k.led ∙ led [] x k.ended) in
       let n = x.commits in
       rests_even [] x GaveUp
-      (kept_out rules laws w.depth w.max_commits 0 x.before k.start (ap (λ (b : Between P). begin_of rules w.depth b.player b.arena) (sym place) ∙ k.begins) k.goes (le-leb w.max_commits x.before.commits (omega arith))) is z
+      (kept_out rules laws w.limits.depth w.limits.max_commits 0 x.before k.start (ap (λ (b : Between P). begin_of rules w.limits.depth b.player b.arena) (sym place) ∙ k.begins) k.goes (le-leb w.limits.max_commits x.before.commits (omega arith))) is z
 
   last_is : (outcome : Outcome) → active_of a ≡ None → (l : EndsWith sole.past (w.cells.clock / 2) outcome w.attempts) → attempts_of w ≡ sole.past ++ l.row ∷ []
   last_is outcome none l = (λ i. l.ended i ++ active_none none i) ∙ append-nil (sole.past ++ l.row ∷ [])
@@ -330,7 +330,7 @@ module _ {P : Type 0} (rules : Rules P) (laws : Obeys rules) (w : World P) (comm
   starved : w.cells.clock % 2 ≡ 0 → (memory : List ℕ) × So (w.cells.clock / 2) memory outcomes.NoMemory × (w.cells.clock % 2 ≡ 0 → memory_of w ≡ memory) → DoneBy rules w p (Some NoMemory)
   starved z (memory, part, told) = inl (z, subst (λ (m : List ℕ). So (w.cells.clock / 2) m outcomes.NoMemory) (sym (told z)) part)
 
-  done_by : (o : Option End) → ending_of a.status ≡ o → StandsSole rules w.max_commits w.depth w.base (first_of p w.arena) o sole.past (w.cells.clock / 2) w.attempts a → DoneBy rules w p o
+  done_by : (o : Option End) → ending_of a.status ≡ o → StandsSole rules w.limits.max_commits w.limits.depth w.base (first_of p w.arena) o sole.past (w.cells.clock / 2) w.attempts a → DoneBy rules w p o
   done_by None e s = going s
   done_by (Some Finished) e s = finished s.0 e s.1 s.2
   done_by (Some GaveUp) e s =

@@ -1,6 +1,6 @@
 -- A world that one player has to itself, from its beginning on.
 use Rattle.std.proofs.Common.{Result, ◌<◌, ◌≤◌, ◌≡◌, inl, inr, ℕ, ◌/◌, ◌%◌, true, false, List, [], ◌∷◌, ◌++◌, None, Some, slice_get, slice_set, length, refl, sym, ap, subst, ◌∙◌, arith}
-use Rattle.norec_world.proofs.Common.{AreOfActors, Attempt, CommitsInOrder, IsEvent, IsRunOf, Rules, World, active_of, bytes_at, ending_of, false_from_ne_true, first_of, of_thread, slice_get-set_same, slice_get_within, same_Some, both_ways, in_transaction, open_in, AreTied, AreOpaque, SameOpening, Goes, observed, attempts_of, is_waiting, pending_of, cases_Bool, none-some}
+use Rattle.norec_world.proofs.Common.{AreOfActors, Attempt, CommitsInOrder, IsEvent, IsRunOf, Limits, Rules, World, active_of, bytes_at, ending_of, false_from_ne_true, first_of, of_thread, slice_get-set_same, slice_get_within, same_Some, both_ways, in_transaction, open_in, AreTied, AreOpaque, SameOpening, Goes, observed, attempts_of, is_waiting, pending_of, cases_Bool, none-some}
 use Rattle.norec_world.specs.declared.actor.Actor.{Actor}
 use Rattle.tx_runs.specs.declared.ending.End.TheVariants.{Finished}
 use Rattle.norec_world.specs.declared.fault.WorldFault.{WorldFault}
@@ -42,7 +42,7 @@ module _ {P : Type 0} (rules : Rules P) where
 
 module _ {P : Type 0} (rules : Rules P) where
   abbrev pub HasSole : World P → Type 0
-  HasSole w = (p : P) (a : Actor P) → slice_get w.opening 0 ≡ Some p → slice_get w.actors 0 ≡ Some a → IsSole rules w.max_commits w.depth w.base (first_of p w.arena) w.cells.clock w.attempts a
+  HasSole w = (p : P) (a : Actor P) → slice_get w.opening 0 ≡ Some p → slice_get w.actors 0 ≡ Some a → IsSole rules w.limits.max_commits w.limits.depth w.base (first_of p w.arena) w.cells.clock w.attempts a
 
   -- one that has just begun
   pub sole_first : (w : World P) → IsNew rules w → HasSole w
@@ -53,13 +53,13 @@ module _ {P : Type 0} (rules : Rules P) where
       record {
         past = [];
         commit = ap (λ (n : ℕ). n / 2) (sym new.clock);
-        stands = stands_between rules w.max_commits w.depth w.base (first_of p w.arena) w.cells.clock [] w.attempts a starts.thread (none_first w.attempts.ended _ new.none) first.between finishes;
+        stands = stands_between rules w.limits.max_commits w.limits.depth w.base (first_of p w.arena) w.cells.clock [] w.attempts a starts.thread (none_first w.attempts.ended _ new.none) first.between finishes;
         seen = λ f. first.seen;
       }
 
   -- its player's next block, where no attempt is open
   to_begin_of : (w : World P) → AreTied rules w → (p : P) (a : Actor P) → slice_get w.opening 0 ≡ Some p → slice_get w.actors 0 ≡ Some a → ending_of a.status ≡ None → (row : Attempt) → active_of a ≡ None → pending_of a ≡ Some row → may_go [] row.props ≡ true
-      → IsToBegin rules w.max_commits w.depth w.base (first_of p w.arena) w.attempts a row
+      → IsToBegin rules w.limits.max_commits w.limits.depth w.base (first_of p w.arena) w.attempts a row
   to_begin_of w tied p a player here going row none was may =
       let shut = row_shut (in_transaction a.engine) a (tied.rows 0 a here) none in
       let t = (tied.players 0 p a player here).between shut (λ e. absurd (let both = sym going ∙ e in cc)) (λ e. absurd (let both = sym going ∙ e in cc)) in
@@ -102,31 +102,30 @@ module _ {P : Type 0} (rules : Rules P) where
     all_mine : AreOfActors 1 new.attempts.ended
     all_mine = of_actors_first 1 new.attempts.ended _ (subst (λ (n : ℕ). AreOfActors n (attempts_of new)) (ap (λ (l : List P). length l) same.opening ∙ one) opaque'.threads)
 
-    sole_over : (p : P) → slice_get w.opening 0 ≡ Some p → IsSole rules w.max_commits w.depth w.base (first_of p w.arena) new.cells.clock new.attempts next
+    sole_over : (p : P) → slice_get w.opening 0 ≡ Some p → IsSole rules w.limits.max_commits w.limits.depth w.base (first_of p w.arena) new.cells.clock new.attempts next
     sole_over p player =
         let going = waiting_going got.status waits in
         let mine = tied'.threads 0 next placed in
         let was_sole = sole p got player was in
         let player' : slice_get new.opening 0 ≡ Some p = ap (λ (l : List P). slice_get l 0) same.opening ∙ player in
-        sole_after rules w.max_commits w.depth w.base (first_of p w.arena) w.cells.clock new.cells.clock w.attempts new.attempts got next going (read_since w tied p got player was) (none_called w tied p got player was going) was_sole (tied.threads 0 got was) mine (commits.limits i got here).max_commits
+        sole_after rules w.limits.max_commits w.limits.depth w.base (first_of p w.arena) w.cells.clock new.cells.clock w.attempts new.attempts got next going (read_since w tied p got player was) (none_called w tied p got player was going) was_sole (tied.threads 0 got was) mine (ap (λ (l : Limits). l.max_commits) (commits.limits i got here))
         (shut_free rules w tied got was) (to_begin_of w tied p got player was going) (event.clocks.seen was_sole.seen)
         (even_shut rules new tied' commits' still_one next placed)
         (λ row ended.
         (let run = (tied'.players 0 p next player' placed).run in
         let rows : of_thread next.run.thread new.attempts.ended ≡ w.attempts.ended ++ row ∷ [] = ap (λ (t : ℕ). of_thread t new.attempts.ended) mine ∙ (of_thread_all new.attempts.ended all_mine ∙ ended) in
-        last_early rules new.depth (new.cells.clock / 2) (bytes_at new.depth new.base new.attempts.ended) (Some (first_of p new.arena)) w.attempts.ended row
-        (subst (IsRunOf rules new.depth (new.cells.clock / 2) (bytes_at new.depth new.base new.attempts.ended) (Some (first_of p new.arena))) rows run)))
+        last_early rules new.limits.depth (new.cells.clock / 2) (bytes_at new.limits.depth new.base new.attempts.ended) (Some (first_of p new.arena)) w.attempts.ended row
+        (subst (IsRunOf rules new.limits.depth (new.cells.clock / 2) (bytes_at new.limits.depth new.base new.attempts.ended) (Some (first_of p new.arena))) rows run)))
         (λ e. (event.finishes e, idle_event rules event (ended_still next.status Finished e))) event.tries
 
     pub sole_still : HasSole new
     sole_still p a player' here' =
         let player : slice_get w.opening 0 ≡ Some p = ap (λ (l : List P). slice_get l 0) (sym same.opening) ∙ player' in
         let is : next ≡ a = same_Some _ _ (sym placed ∙ here') in
-        subst (IsSole rules new.max_commits new.depth new.base (first_of p new.arena) new.cells.clock new.attempts) is
-        (subst (λ (n : ℕ). IsSole rules n new.depth new.base (first_of p new.arena) new.cells.clock new.attempts next) (sym same.max_commits)
-        (subst (λ (n : ℕ). IsSole rules w.max_commits n new.base (first_of p new.arena) new.cells.clock new.attempts next) (sym same.depth)
-        (subst (λ (b : List ℕ). IsSole rules w.max_commits w.depth b (first_of p new.arena) new.cells.clock new.attempts next) (sym same.base)
-        (subst (λ (n : ℕ). IsSole rules w.max_commits w.depth w.base (first_of p n) new.cells.clock new.attempts next) (sym same.arena) (sole_over p player)))))
+        subst (IsSole rules new.limits.max_commits new.limits.depth new.base (first_of p new.arena) new.cells.clock new.attempts) is
+        (subst (λ (l : Limits). IsSole rules l.max_commits l.depth new.base (first_of p new.arena) new.cells.clock new.attempts next) (sym same.limits)
+        (subst (λ (b : List ℕ). IsSole rules w.limits.max_commits w.limits.depth b (first_of p new.arena) new.cells.clock new.attempts next) (sym same.base)
+        (subst (λ (n : ℕ). IsSole rules w.limits.max_commits w.limits.depth w.base (first_of p n) new.cells.clock new.attempts next) (sym same.arena) (sole_over p player))))
 
   -- over an answer of the world
   pub sole_goes : (i : ℕ) (w new : World P) (result : Result (Unit {0}) WorldFault) → length w.opening ≡ 1 → CommitsInOrder w → AreTied rules w → HasSole w → Goes rules i w result new → HasSole new

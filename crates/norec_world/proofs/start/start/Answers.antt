@@ -1,10 +1,10 @@
 use Rattle.std.proofs.Common.{◌<◌, ◌^◌, ℕ}
-use Rattle.norec_world.proofs.{Core, IsBetween, IsSettled, PlayerRun, RunsFrom, begun_in, bytes_of, count_in, first_of, fresh_runs, is_ready, laid_first, open_in, opening, opening_settled, prior_of, rows_in, stage_of, starts_between, ◌≡◌, refl, replicate, length, ◌∙◌, ap, subst, sym, rules, arith}
+use Rattle.norec_world.proofs.{Core, IsBetween, IsSettled, PlayerRun, RunsFrom, begun_in, bytes_of, count_in, first_engine, first_of, fresh_runs, is_ready, laid_first, limits_as, limits_stay, open_in, opening, opening_settled, prior_of, rows_in, stage_of, starts_between, ◌≡◌, refl, replicate, length, ◌∙◌, ap, subst, sym, rules, arith}
 use Rattle.norec_world.proofs.start.start.Goals.{After-new-actor, After-work}
 use Rattle.norec_world.proofs.start.start.Goals as goal
 
 -- the engine that it begins with
-engine_is : (g : _) (c : After-new-actor g) → c.new-actor.result.engine ≡ opening (length c.args.memory.now.words) (replicate c.args.terms.arena 0) c.args.terms.limits.patience c.args.terms.limits.max_commits c.args.terms.limits.depth c.args.terms.limits.restarts
+engine_is : (g : _) (c : After-new-actor g) → c.new-actor.result.engine ≡ first_engine (length c.args.memory.now.words) c.args.terms.arena c.args.terms.limits
 engine_is g c =
     c.new-actor.ensures.engine ∙ (c.in_ok-engine.ensures.ok ∙ (λ i. opening (c.words.ensures i) (c.in_ok-arena.ensures i) c.args.terms.limits.patience c.args.terms.limits.max_commits c.args.terms.limits.depth c.args.terms.limits.restarts))
 
@@ -33,47 +33,44 @@ work-requires g c =
       place = search rules;
     }
 
-pub returns-in_default-clause-first : goal.returns-in_default-clause-first
-returns-in_default-clause-first g c =
-    let engine = engine_is g (goal.at.returns-in_default-clause-first g c).After-new-actor in
+pub returns-in_default : goal.returns-in_default
+returns-in_default g c =
+    let at = goal.at.returns-in_default g c in
+    let cells = c.args.memory.now in
+    let limits = c.args.terms.limits in
+    let run = c.new-actor.ensures.run in
+    let engine = engine_is g at.After-new-actor in
+    let between = begins_between g at.After-work in
     let worked = c.work.ensures.worked in
     record {
-      between = (begins_between g (goal.at.returns-in_default-clause-first g c).After-work).0;
-      retries_are = worked.retries ∙ ap (λ (x : PlayerRun g.row.P.Denot). x.retries) c.new-actor.ensures.run;
-      patience_is = worked.limit.1 ∙ ap (λ (e : Core). e.patience) engine;
-      limit = worked.limit.0 ∙ ap (λ (e : Core). e.max_commits) engine;
-      depth_is = worked.limit.2 ∙ ap (λ (e : Core). e.depth) engine;
-      restarts_are = worked.limit.3 ∙ ap (λ (e : Core). e.restarts) engine;
-      seen = worked.clock ∙ (ap (λ (e : Core). e.clock) engine ∙ sym c.requires.clock);
+      sound = worked.sound;
+      starts = record {
+        fresh = c.new-actor.result;
+        engine_is = engine;
+        run = run;
+        ready = c.new-actor.ensures.status;
+        rows = rows_in c.args.ended.now;
+        rows' = rows_in c.work.new.ended;
+        works = worked.works;
+        done = c.work.ensures.done;
+        finishes = worked.finishes (ap is_ready c.new-actor.ensures.status);
+        thread = worked.others.thread ∙ ap (λ (x : PlayerRun g.row.P.Denot). x.thread) run;
+      };
+      first = record {
+        between = between.0;
+        limits_are = limits_stay c.new-actor.result c.work.new.self worked.retries worked.limit
+            ∙ limits_as c.new-actor.result (length cells.words) c.args.terms.arena limits engine (ap (λ (x : PlayerRun g.row.P.Denot). x.retries) run);
+        seen = worked.clock ∙ (ap (λ (e : Core). e.clock) engine ∙ sym c.requires.clock);
+      };
+      runs = λ none.
+          (let fresh = fresh_runs g.P.Player g.met.P.Player.laws cells (rows_in c.args.ended.now) c.new-actor.result limits.depth (bytes_of cells.words) c.args.terms.arena limits.patience limits.max_commits limits.restarts
+          (subst (λ (p : g.row.P.Denot). g.P.Player.depth p ≡ 0) (sym (ap (λ (x : PlayerRun g.row.P.Denot). x.player) run)) c.requires.outside) engine none (ap (λ (x : PlayerRun g.row.P.Denot). x.nth) run) (ap (λ (x : PlayerRun g.row.P.Denot). x.again) run) (ap (λ (x : PlayerRun g.row.P.Denot). x.current) run) c.new-actor.ensures.status in
+          (worked.runs (first_of c.args.player c.args.terms.arena) limits.depth (bytes_of cells.words) (laid_first limits.depth (bytes_of cells.words) cells (rows_in c.args.ended.now) refl c.requires.fit c.requires.clock none)
+          (subst (λ (p : g.row.P.Denot). RunsFrom g.P.Player (first_of p c.args.terms.arena) limits.depth (bytes_of cells.words) cells (rows_in c.args.ended.now) c.new-actor.result) (ap (λ (x : PlayerRun g.row.P.Denot). x.player) run) fresh)).1);
+      free = search rules;
+      fed = search rules;
+      ended = between.1;
+      others = λ others few room.
+          (let none = ap (λ (x : PlayerRun g.row.P.Denot). count_in (stage_of x.current)) run in
+          worked.others.room others few (omega arith));
     }
-
-pub returns-in_default-clause-ended : goal.returns-in_default-clause-ended
-returns-in_default-clause-ended g c = (begins_between g (goal.at.returns-in_default-clause-ended g c).After-work).1
-
-pub returns-in_default-clause-runs : goal.returns-in_default-clause-runs
-returns-in_default-clause-runs g c none =
-    let cells = c.args.memory.now in
-    let run = c.new-actor.ensures.run in
-    let fresh = fresh_runs g.P.Player g.met.P.Player.laws cells (rows_in c.args.ended.now) c.new-actor.result c.args.terms.limits.depth (bytes_of cells.words) c.args.terms.arena c.args.terms.limits.patience c.args.terms.limits.max_commits c.args.terms.limits.restarts
-    (subst (λ (p : g.row.P.Denot). g.P.Player.depth p ≡ 0) (sym (ap (λ (x : PlayerRun g.row.P.Denot). x.player) run)) c.requires.outside) (engine_is g (goal.at.returns-in_default-clause-runs g c).After-new-actor) none (ap (λ (x : PlayerRun g.row.P.Denot). x.nth) run) (ap (λ (x : PlayerRun g.row.P.Denot). x.again) run) (ap (λ (x : PlayerRun g.row.P.Denot). x.current) run) c.new-actor.ensures.status in
-    (c.work.ensures.worked.runs (first_of c.args.player c.args.terms.arena) c.args.terms.limits.depth (bytes_of cells.words) (laid_first c.args.terms.limits.depth (bytes_of cells.words) cells (rows_in c.args.ended.now) refl c.requires.fit c.requires.clock none)
-    (subst (λ (p : g.row.P.Denot). RunsFrom g.P.Player (first_of p c.args.terms.arena) c.args.terms.limits.depth (bytes_of cells.words) cells (rows_in c.args.ended.now) c.new-actor.result) (ap (λ (x : PlayerRun g.row.P.Denot). x.player) run) fresh)).1
-
-pub returns-in_default-clause-starts : goal.returns-in_default-clause-starts
-returns-in_default-clause-starts g c = record {
-  fresh = c.new-actor.result;
-  engine_is = engine_is g (goal.at.returns-in_default-clause-starts g c).After-new-actor;
-  run = c.new-actor.ensures.run;
-  ready = c.new-actor.ensures.status;
-  rows = rows_in c.args.ended.now;
-  rows' = rows_in c.work.new.ended;
-  works = c.work.ensures.worked.works;
-  done = c.work.ensures.done;
-  finishes = c.work.ensures.worked.finishes (ap is_ready c.new-actor.ensures.status);
-  thread = c.work.ensures.worked.others.thread ∙ ap (λ (x : PlayerRun g.row.P.Denot). x.thread) c.new-actor.ensures.run;
-}
-
-pub returns-in_default-clause-others : goal.returns-in_default-clause-others
-returns-in_default-clause-others g c others few room =
-    let none = ap (λ (x : PlayerRun g.row.P.Denot). count_in (stage_of x.current)) c.new-actor.ensures.run in
-    c.work.ensures.worked.others.room others few (omega arith)

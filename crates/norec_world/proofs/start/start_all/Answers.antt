@@ -1,5 +1,5 @@
-use Rattle.std.proofs.Common.{rules, ◌≡◌, ◌≢◌, ◌+◌, ◌<◌, ◌≤◌, ℕ, zero, suc, Some, [], ◌∷◌, ◌++◌, inl, inr, slice_get, drop, replicate, List, length, length-append, ap, sym, subst, refl, ◌∙◌, arith}
-use Rattle.norec_world.proofs.{Actor, AreActors, HasStarted, IsFirst, MAX_ACTORS, RunsFrom, actors_joined, append-nil, bytes_of, ending_in, fed_joined, first_of, joined_place, laid_first, opening, other_runs, rows_in, same_Some, slice_index_or}
+use Rattle.std.proofs.Common.{rules, ◌≡◌, ◌≢◌, ◌+◌, ◌<◌, ◌≤◌, ℕ, zero, suc, Some, [], ◌∷◌, ◌++◌, inl, inr, slice_get, drop, List, length, length-append, ap, sym, subst, refl, ◌∙◌, arith}
+use Rattle.norec_world.proofs.{Actor, AreActors, HasStarted, IsFirst, MAX_ACTORS, RunsFrom, actors_joined, append-nil, bytes_of, ending_in, fed_joined, first_engine, first_of, joined_place, laid_first, other_runs, rows_in, same_Some, slice_index_or}
 use Rattle.norec_world.proofs.start.start_all.Goals as goal
 
 -- the next one of a list
@@ -20,7 +20,7 @@ loop-player-preserved g c =
     let longer : length c.push.new.self.items ≡ length before + 1 = ap length items ∙ length-append before (actor ∷ []) in
     let count = i.count in
     let fewer : length before < MAX_ACTORS = omega (arith, i.few) in
-    let numbered = c.in_ok-actor.ensures.thread in
+    let numbered = c.in_ok-actor.ensures.starts.thread in
     let thread : actor.run.thread ≡ length before = omega (arith, c.len-thread.ensures) in
     let o = c.in_ok-actor.ensures.others in
     let here = drop_head c.into_iter-player-iterator.result.rest.items (length before) c.in-Some.player c.next.new.self.rest.items (sym i.rest ∙ steps) in
@@ -34,10 +34,10 @@ loop-player-preserved g c =
       few = i.few;
       outside = λ k d l. subst (λ (xs : List g.row.P.Denot). g.P.Player.depth (slice_index_or xs (suc k) d) ≡ 0) steps (i.outside (suc k) d (omega arith));
       sound = subst (AreActors g.P.Player c.args.memory.now (rows_in c.start.new.ended)) (sym items)
-          (actors_joined g.P.Player c.args.memory.now (rows_in c.loop-player.ended) (rows_in c.start.new.ended) before i.sound actor c.in_ok-actor.ensures.sound c.in_ok-actor.ensures.done thread fewer o c.in_ok-actor.ensures.free);
+          (actors_joined g.P.Player c.args.memory.now (rows_in c.loop-player.ended) (rows_in c.start.new.ended) before i.sound actor c.in_ok-actor.ensures.sound c.in_ok-actor.ensures.starts.done thread fewer o c.in_ok-actor.ensures.free);
       ended = ended ∙ i.ended;
       tries = λ place a e. elim (placed place a e) [
-        | inl h ↦ subst (IsFirst c.args.memory.now.clock c.args.terms.limits.patience c.args.terms.limits.max_commits c.args.terms.limits.retries c.args.terms.limits.depth c.args.terms.limits.restarts) (sym h.1) c.in_ok-actor.ensures.first
+        | inl h ↦ subst (IsFirst c.args.memory.now.clock c.args.terms.limits) (sym h.1) c.in_ok-actor.ensures.first
         | inr h ↦ i.tries place a h.1
       ];
       rest = sym here.1 ∙ ap (λ (k : ℕ). drop k c.into_iter-player-iterator.result.rest.items) (let e : suc (length before) ≡ length c.push.new.self.items = omega arith in e);
@@ -55,7 +55,7 @@ loop-player-preserved g c =
         | inl h ↦
             (let Started : ℕ → g.row.P.Denot → Actor g.row.P.Denot → Type 0 =
             HasStarted g.P.Player c.args.memory.now.clock
-            (opening (length c.args.memory.now.words) (replicate c.args.terms.arena 0) c.args.terms.limits.patience c.args.terms.limits.max_commits c.args.terms.limits.depth c.args.terms.limits.restarts) c.args.terms.limits.retries in
+            (first_engine (length c.args.memory.now.words) c.args.terms.arena c.args.terms.limits) c.args.terms.limits.retries in
             subst (Started place p) (sym h.1) (subst (λ (q : g.row.P.Denot). Started place q actor) (same_player place p h.0 e)
             (subst (λ (n : ℕ). Started n c.in-Some.player actor) (sym numbered ∙ (thread ∙ h.0)) c.in_ok-actor.ensures.starts)))
         | inr h ↦ i.starts place p a e h.1

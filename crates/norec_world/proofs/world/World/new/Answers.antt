@@ -1,8 +1,8 @@
-use Rattle.norec_world.proofs.{AreOfActors, HasStarted, RunsFrom, World, bytes_of, commits_first, dated_first, first_of, laid_first, opening, opens_none, rows_in, words_of, words_of-bytes_of, world_opaque, world_tied, rules, ◌≡◌, ◌/◌, ℕ, length, replicate, List, slice_get, sym, ap, subst, ◌∙◌, ◌++◌}
+use Rattle.norec_world.proofs.{AreOfActors, HasStarted, RunsFrom, World, bytes_of, commits_first, dated_first, first_engine, first_of, laid_first, opens_none, rows_in, words_of, words_of-bytes_of, world_opaque, world_tied, rules, ◌≡◌, ◌/◌, ℕ, length, List, slice_get, sym, ap, subst, ◌∙◌, ◌++◌}
 use Rattle.norec_world.proofs.world.World.new.Goals as goal
 
 pub invariant_of-result : goal.invariant_of-result
-invariant_of-result g c = let w : World g.row.P.Denot = record { opening = c.in_ok-opening.opening.items; base = c.new-base.result; arena = c.args.setup.arena; patience = c.args.setup.limits.patience; max_commits = c.args.setup.limits.max_commits; retries = c.args.setup.limits.retries; depth = c.args.setup.limits.depth; restarts = c.args.setup.limits.restarts; cells = c.new-memory.result; actors = c.in_ok-actors.actors.items; attempts = (rows_in c.start_all.new.ended); events = 0 } in
+invariant_of-result g c = let w : World g.row.P.Denot = record { opening = c.in_ok-opening.opening.items; base = c.new-base.result; arena = c.args.setup.arena; limits = c.args.setup.limits; cells = c.new-memory.result; actors = c.in_ok-actors.actors.items; attempts = (rows_in c.start_all.new.ended); events = 0 } in
     let based : c.new-base.result ≡ bytes_of c.new-memory.result.words = (c.new-base.ensures ∙ (c.in_ok-to_vec.ensures.items_if_clones_equal (λ x y e. e) ∙ c.as_slice.ensures)) ∙ (sym c.into_vec.ensures ∙ sym c.new-memory.ensures.bytes) in
     let commits = commits_first g.P.Player w c.in_ok-actors.ensures.sound c.new-memory.ensures.clock c.in_ok-actors.ensures.none c.in_ok-actors.ensures.first in record {
       actors = search rules;
@@ -36,7 +36,7 @@ returns-clause-anew g c =
       starts = λ place p a e f.
           (let players : c.in_ok-opening.opening.items ≡ c.args.players.items = search rules in
           let words : length c.new-memory.result.words ≡ length c.args.setup.bytes / 8 = search rules in
-          subst (λ (n : ℕ). HasStarted g.P.Player c.new-memory.result.clock (opening n (replicate c.args.setup.arena 0) c.args.setup.limits.patience c.args.setup.limits.max_commits c.args.setup.limits.depth c.args.setup.limits.restarts) c.args.setup.limits.retries place p a)
+          subst (λ (n : ℕ). HasStarted g.P.Player c.new-memory.result.clock (first_engine n c.args.setup.arena c.args.setup.limits) c.args.setup.limits.retries place p a)
           (words ∙ ap (λ (b : List ℕ). length b / 8) (sym given)) (c.in_ok-actors.ensures.starts place p a (ap (λ (xs : List g.row.P.Denot). slice_get xs place) (sym players) ∙ e) f));
       first = c.in_ok-actors.ensures.first;
       clock = c.new-memory.ensures.clock;
