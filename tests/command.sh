@@ -44,6 +44,16 @@ start() {
     shift
     "$@" >"$work/beside/$name" 2>&1 &
 }
+# part NAME..: parts of this script that stand in files of their own, in a folder of their own
+part() {
+    work=$(mktemp -d) || exit 1
+    trap 'rm -rf "$work"' EXIT
+    passed=0 failed=0
+    for file; do . "$root/tests/$file.sh"; done
+    echo "$passed passed, $failed failed"
+}
+start 'the steps of runs' part steps
+start 'histories' part judging histories versions restarts
 start 'bodies that only tests refuse' sh "$root/tests/planted.sh"
 start 'memory refused to engines' env SCRIPTS=few sh "$root/tests/sweeps.sh" engines
 start 'compiled programs' sh "$root/compiled/test.sh" few
@@ -341,16 +351,12 @@ check 'a history in which an update is lost' 3
 
 . "$root/tests/rows.sh"
 . "$root/tests/judging.sh"
-. "$root/tests/histories.sh"
-. "$root/tests/versions.sh"
 . "$root/tests/largest.sh"
-. "$root/tests/restarts.sh"
 . "$root/tests/scripts.sh"
 . "$root/tests/threads.sh"
 . "$root/tests/streams.sh"
 . "$root/tests/launcher.sh"
 . "$root/tests/large_words.sh"
-. "$root/tests/steps.sh"
 
 # (its threads are to run at once, so nothing beside them)
 wait
