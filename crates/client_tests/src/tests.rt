@@ -51,8 +51,8 @@ fn two(alloc: Global, tries: u64) -> Result<(Client, Client), AllocError> {
     Ok((client(alloc, words, first, tries)?, other))
 }
 
-/// What a test tries on two clients. They are lent to it: what owns them is proved once, in `on_two`, since the proof of a
-/// drop takes long.
+/// What a test tries on two clients. They are lent to it by `on_two`, which owns them for all tests: so these are proved in
+/// less time than with clients of their own.
 #[derive(Clone, Copy)]
 enum Case {
     CommitInTurn,
