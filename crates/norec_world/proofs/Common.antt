@@ -95,7 +95,7 @@ pub use Rattle.tx_runs.proofs.Tries.{alone_led, begin_call, by_wrote, IsMadeAlon
 pub use Rattle.tx_runs.specs.Nesting.{IsDeep, IsNested, whole}
 pub use Rattle.tx_runs.specs.Outcomes.{is_done}
 pub use Rattle.tx_runs.specs.PlayerRuns.{KeepsPlaces, stage_of, tally_of}
-pub use Rattle.tx_runs.specs.Runs.{begins_at, LeadsTo, run_after}
+pub use Rattle.tx_runs.specs.Runs.{begins_at, run_after}
 pub use Rattle.tx_runs.specs.Tallies.{begins_again, begun, closed, ending_as, over_as, sent_back, Stage, Stand, stand_of, Taken, Tally, took_in, tried, with_call, within}
 pub use Rattle.tx_runs.specs.declared.ending.End.{End}
 pub use Rattle.tx_runs.specs.declared.ending.End.TheVariants.{Finished, GaveUp, NoMemory}

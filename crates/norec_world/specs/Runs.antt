@@ -8,7 +8,7 @@ use Rattle.tx_attempts.specs.Attempts.{of_thread}
 use Rattle.tx_attempts.specs.Opacity.{Between, IsRunOf}
 use Rattle.tx_runs.specs.OpenTries.{IsOpenTry}
 use Rattle.tx_runs.specs.PlayerRuns.{stage_of}
-use Rattle.tx_runs.specs.Runs.{LeadsTo, begins_at, run_after}
+use Rattle.tx_runs.specs.Runs.{IsBefore, begins_at, run_after}
 use Rattle.tx_runs.specs.Tallies.{within}
 use Rattle.tx_runs.specs.declared.savepoint.Savepoint.{Savepoint}
 use Rattle.norec_world.specs.Cells.{Cells}
@@ -29,12 +29,9 @@ module _ {P : Type 0} (rules : Rules P) where
     pub open_try : IsOpenTry rules deepest position b row points p e
     pub anew : e.again ≡ false
 
-  -- before the next one, with so many commits done: the player has come as far as its calls outside a transaction led, and perhaps called its begin
+  -- before the next one, with so many commits done; perhaps its begin was called
   pub record IsBeforeTry (deepest n : ℕ) (b : Between P) (a : Actor P) : Type 0 where
-    pub calls : ℕ
-    pub leads : LeadsTo rules deepest calls b.player b.arena a.run.player a.engine.arena
-    pub again : a.run.again ≡ b.again
-    pub tries : b.tries < a.run.nth
+    pub before : IsBefore rules deepest b a.run.player a.engine.arena a.run.again a.run.nth
     pub pending : (row : Attempt) → pending_of a ≡ Some row
         → (row.began ≤ n) × (row.arena ≡ a.engine.arena) × (row.calls.list ≡ []) × (row.ran ≡ [])
         × (may_go [] row.props ≡ true → begins_at rules deepest b ≡ Some (record { player = a.run.player; arena = a.engine.arena; props = row.props })) × (a.engine.again ≡ b.again)

@@ -15,7 +15,7 @@ use Rattle.tx_player.specs.Rules.{Rules}
 use Rattle.tx_runs.specs.Nesting.{IsNested}
 use Rattle.tx_runs.specs.OpenTries.{IsOpenTry, ReadsFrom, whole_then}
 use Rattle.tx_runs.specs.Restarts.{RestartAtMost}
-use Rattle.tx_runs.specs.Runs.{run_after, LeadsTo}
+use Rattle.tx_runs.specs.Runs.{IsBefore, run_after}
 use Rattle.tx_worker.specs.Positions.{bytes_at, positions, AreLeft, AreSince, known_after, AreOwn}
 use Rattle.tx_runs.specs.declared.savepoint.Savepoint.{Savepoint}
 use Rattle.tx_runs.specs.Tallies.{outside, within}
@@ -45,13 +45,6 @@ module _ {P : Type 0} (rules : Rules P) where
   pub record IsTry (deepest : ℕ) (b : Between P) (row : Attempt) (points : List Savepoint) (p : P) (v : View) (e : Core) : Type 0 where
     pub is_open : IsOpenTry rules deepest (memory_of v (e.snapshot / 2)) b row points p e
     pub stands_held : e.irrevocable ≡ true → stands_for e (held v) ≡ whole_then deepest row (memory_of v (e.snapshot / 2)) row.calls.list
-
-  -- before the next one: the player has come as far as its calls outside a transaction led
-  pub record IsBefore (deepest : ℕ) (b : Between P) (t : Account P) (arena : List ℕ) : Type 0 where
-    pub calls : ℕ
-    pub leads : LeadsTo rules deepest calls b.player b.arena t.player arena
-    pub again : t.again ≡ b.again
-    pub tries : b.tries < t.nth
 
   -- the attempts that have ended are the player's run over the commits that were seen
   pub record HasRun (c : Course P) (v : View) (ended : List Attempt) : Type 0 where
@@ -87,7 +80,7 @@ module _ {P : Type 0} (rules : Rules P) where
     pub between : Between P
     pub stage_is : t.stage ≡ outside
     pub now_is : now_at c v t.ended ≡ Some between
-    pub before : IsBefore c.depth between t e.arena
+    pub before : IsBefore rules c.depth between t.player e.arena t.again t.nth
     pub known : known_after c.known t.ended ≤ commits_known v
     pub looked : c.view.looks + t.nth ≤ v.looks + 1
 

@@ -1,5 +1,5 @@
 -- Where a call in progress goes on: the engine, handed what its step found, stands at a further step just where it asks for one, and just then its actor waits once that is recorded.
-use Rattle.std.proofs.Common.{◌≡◌, ℕ, Bool, false, List, Option, None, Some, is_some, refl, sym, ap, ◌∙◌}
+use Rattle.std.proofs.Common.{◌≡◌, ℕ, false, List, Option, None, Some, is_some, refl, sym, ap, ◌∙◌}
 use Rattle.itm_types.specs.declared.row.LogRow.{LogRow}
 use Rattle.write_set.specs.declared.row.Row.{Row}
 use Rattle.norec_core.specs.Order.{asked_in, stage_after}

@@ -1,10 +1,11 @@
 -- An actor's run, once an answer is recorded.
 use Rattle.std.proofs.Common.{◌≡◌, ℕ, ◌/◌, ◌%◌, ◌<◌, ◌≤◌, Bool, true, false, List, [], ◌∷◌, ◌++◌, Option, None, Some, refl, sym, true≢false, ap, subst, ◌∙◌, arith, inl, inr}
-use Rattle.norec_world.proofs.Common.{Actions, Actor, Agrees, Answers, Attempt, Between, Call, Cells, ComesTo, Core, End, GaveUp, IsBeforeTry, IsInTry, IsMadeAlone, IsMemory, IsRun, IsRunOf, IsTied, IsTryAt, LeadsTo, NoMemory, Obeys, Ran, Replied, Reply, Restarted, Rows, Rules, RunsFrom, Savepoint, State, TellsRoom, active_of, after, after_try, alone_whole, append-nil, breaks_of, bytes_at, bytes_of, ending_of, in_transaction, is_open, none-some, of_thread, open_in, opened, pending_of, reply as plainly, reply_cases, run_after, run_with, stage_of, stands_for, state_then, with_call, within, words_at}
+use Rattle.norec_world.proofs.Common.{Actions, Actor, Agrees, Answers, Attempt, Between, Call, Cells, ComesTo, Core, End, GaveUp, IsBeforeTry, IsInTry, IsMadeAlone, IsMemory, IsRun, IsRunOf, IsTied, IsTryAt, NoMemory, Obeys, Ran, Replied, Reply, Restarted, Rows, Rules, RunsFrom, Savepoint, State, TellsRoom, active_of, after, after_try, alone_whole, append-nil, breaks_of, bytes_at, bytes_of, ending_of, in_transaction, is_open, none-some, of_thread, open_in, opened, pending_of, reply as plainly, reply_cases, run_after, run_with, stage_of, stands_for, state_then, with_call, within, words_at}
 use Rattle.itm_model.specs.Machine.{undone}
 use Rattle.norec_world.proofs.Tries.Stages.{is_cut, taken_at, told_again, told_nth, told_player, told_stage}
 use Rattle.tx_attempts.proofs.ToldRuns.{telling}
 use Rattle.tx_attempts.specs.Restarts.{ran_on}
+use Rattle.tx_runs.proofs.Begins.{before_same}
 use Rattle.tx_runs.proofs.RunLists.{of_thread_own}
 use Rattle.tx_runs.proofs.TriesBack.{back_on}
 use Rattle.tx_runs.proofs.TriesHeld.{enters_on, held_on}
@@ -22,11 +23,8 @@ top n = omega arith
 -- a player before its try stays there while no call of it is answered, and no begin of it comes
 pub before_as : {P : Type 0} {rules : Rules P} {deepest n n' : ℕ} {b : Between P} {a : Actor P} (a' : Actor P) → IsBeforeTry rules deepest n b a → n ≤ n' → a'.run.player ≡ a.run.player → a'.run.again ≡ a.run.again → a'.run.nth ≡ a.run.nth → a'.engine.arena ≡ a.engine.arena → a'.engine.again ≡ a.engine.again
     → ((row : Attempt) → pending_of a' ≡ Some row → pending_of a ≡ Some row) → IsBeforeTry rules deepest n' b a'
-before_as {P} {rules = rules} {deepest = deepest} {b = b} {a = a} a' k later player again nth arena anew pending = record {
-  calls = k.calls;
-  leads = subst (λ (q : P). LeadsTo rules deepest k.calls b.player b.arena q a'.engine.arena) (sym player) (subst (LeadsTo rules deepest k.calls b.player b.arena a.run.player) (sym arena) k.leads);
-  again = again ∙ k.again;
-  tries = omega (arith, nth, k.tries);
+before_as a' k later player again nth arena anew pending = record {
+  before = before_same k.before player arena again (omega (arith, nth));
   pending = λ row is. (let p = k.pending row (pending row is) in (omega (arith, p.0, later), p.1 ∙ sym arena, p.2, p.3, λ may. p.4 may ∙ (λ i. Some (record { player = sym player i; arena = sym arena i; props = row.props })), anew ∙ p.5, p.6));
 }
 
@@ -71,7 +69,7 @@ module _ {P : Type 0} (rules : Rules P) (first : Between P) (deepest : ℕ) (bas
     pub rests_run : in_transaction a.engine ≡ false → (again : Bool) (tries : ℕ) → now_at r.ended a.run.thread ≡ Some (record { player = a.run.player; arena = a.engine.arena; again = again; tries = tries }) → a.run.again ≡ again → ((ending_of a.status ≡ Some GaveUp → ⊥) → tries < a.run.nth) → pending_of a ≡ None
         → IsRun rules first deepest base n r a
     rests_run shut again tries now was few nothing =
-        shut_run shut (record { player = a.run.player; arena = a.engine.arena; again = again; tries = tries }) now (λ gave_up. record { calls = 0; leads = (refl, refl); again = was; tries = few gave_up; pending = λ row e. absurd (none-some row (sym nothing ∙ e)) })
+        shut_run shut (record { player = a.run.player; arena = a.engine.arena; again = again; tries = tries }) now (λ gave_up. record { before = record { calls = 0; leads = (refl, refl); again = was; tries = few gave_up }; pending = λ row e. absurd (none-some row (sym nothing ∙ e)) })
 
     -- the player has given up
     pub gave_run : in_transaction a.engine ≡ false → ending_of a.status ≡ Some GaveUp → IsRun rules first deepest base n r a

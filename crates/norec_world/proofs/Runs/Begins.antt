@@ -1,10 +1,10 @@
 -- An actor's run between two tries: calls outside a transaction, and begins.
-use Rattle.std.proofs.Common.{◌≡◌, ◌⊎◌, ℕ, suc, ◌/◌, ◌≤◌, Bool, true, false, List, [], ◌++◌, None, Some, refl, sym, true≢false, ap, subst, ◌∙◌, arith, is_some, inl, inr}
-use Rattle.norec_world.proofs.Common.{Actor, Agrees, Answer, Attempt, Begin, Between, Busy, Call, Cells, Committed, Conflict, ConflictsIn, Core, Enters, Full, IsBeforeTry, IsLost, IsMemory, IsRun, LeadsTo, Obeys, Outcome, Props, Ready, Replied, Replies, Reply, Restarted, Rows, Rules, Stage, Stand, TakesTo, Tally, active_of, alone_whole, append-nil, backed, begin_call, begin_of, begins_at, begun_in, blocks_after, bytes_at, ending_of, in_transaction, inside_all, is_inside, may_go, none-some, open_in, over_as, plain_reply, reply_cases, same_Some, sent_back, stage_of, stand_of, stands_for, tally_of, tried, within, words_at}
+use Rattle.std.proofs.Common.{◌≡◌, ◌⊎◌, ℕ, ◌/◌, ◌≤◌, Bool, true, false, List, [], ◌++◌, None, Some, refl, sym, true≢false, ap, subst, ◌∙◌, arith, is_some, inl, inr}
+use Rattle.norec_world.proofs.Common.{Actor, Agrees, Answer, Attempt, Begin, Between, Busy, Call, Cells, Committed, Conflict, ConflictsIn, Core, Enters, Full, IsBeforeTry, IsLost, IsMemory, IsRun, Obeys, Outcome, Props, Ready, Replied, Replies, Reply, Restarted, Rows, Rules, Stage, Stand, TakesTo, Tally, active_of, alone_whole, append-nil, backed, begin_call, begun_in, blocks_after, bytes_at, ending_of, in_transaction, inside_all, is_inside, may_go, none-some, open_in, over_as, plain_reply, reply_cases, same_Some, sent_back, stage_of, stand_of, stands_for, tally_of, tried, within, words_at}
 use Rattle.tx_attempts.specs.declared.attempt.Outcome.TheVariants as outcomes
 use Rattle.norec_world.proofs.Tries.Stages.{is_tried, sent_same}
 use Rattle.norec_world.proofs.Runs.Answers.{RunOf, gave_run, now_at, open_run, run_same, shut_run, top}
-use Rattle.tx_runs.proofs.Begins.{led}
+use Rattle.tx_runs.proofs.Begins.{before_past, before_same}
 use Rattle.tx_runs.proofs.OutermostBegins.{begin_may, served_outside}
 use Rattle.norec_world.proofs.Tries.TryEnds.{IsBegun, RepliedOutside, begun_or_not, next_try}
 use Rattle.norec_world.proofs.Commits.SeenMemories.{HasSeen, memory_at, same_at}
@@ -16,10 +16,6 @@ use Rattle.tx_runs.specs.OpenTries.{IsOpenTry}
 pub none_over : (outcome : Outcome) (stand : Stand) (s : Stage) → open_in s ≡ None → over_as outcome stand s ≡ []
 none_over outcome stand (within row points) none = absurd (none-some row (sym none))
 none_over outcome stand s none = refl
-
-module _ {P : Type 0} (rules : Rules P) (laws : Obeys rules) where
-  pub led_before : {deepest n : ℕ} {b : Between P} {a : Actor P} → IsBeforeTry rules deepest n b a → begins_at rules deepest b ≡ begin_of rules deepest a.run.player a.engine.arena
-  led_before {deepest = deepest} {b = b} {a = a} k = led rules laws deepest k.calls b.player b.arena a.run.player a.engine.arena k.leads
 
 module _ {P : Type 0} {rules : Rules P} (laws : Obeys rules) {first : Between P} {base : List ℕ} {cells cells' : Cells} {r : Rows} (r1 : Rows) {mid : Core} (a last : Actor P) (call : Call)
     (seen : HasSeen mid.depth base cells cells' r mid a.engine) (run : IsRun rules first mid.depth base (cells.clock / 2) r (record a { engine = mid })) (revocable : mid.irrevocable ≡ false) where
@@ -54,10 +50,7 @@ module _ {P : Type 0} {rules : Rules P} (laws : Obeys rules) {first : Between P}
         -- its memory is the words as they are: nothing is logged
         let served = served_outside mid a.engine call reply cells'.words g m.taken.was_is shut (sym m.taken.words, m.taken.tied.fit) (subst (Agrees cells'.words) (sym (m.taken.tied.settled.closed shut).0) tt) in
         shut_run rules first mid.depth base (stays x.ended m.settled.thread) closed t.0 ((λ i. now_at rules first mid.depth base (x.ended i) (m.settled.thread i)) ∙ t.1) (λ gave_up. record {
-          calls = suc k.calls;
-          leads = (a.run.player, mid.arena, call, k.leads, m.answered.in_call.asks, served.0, x.player ∙ ap (rules.answered a.run.player) served.1, ap (λ (c : Core). c.arena) m.settled.engine ∙ served.2);
-          again = again ∙ k.again;
-          tries = omega (arith, x.nth, k.tries);
+          before = before_same (before_past k.before call m.answered.in_call.asks served.0 (x.player ∙ ap (rules.answered a.run.player) served.1) (ap (λ (c : Core). c.arena) m.settled.engine ∙ served.2)) refl refl again (omega (arith, x.nth));
           pending = λ row e. absurd (none-some row (sym x.pending ∙ e));
         })
 
@@ -99,7 +92,7 @@ module _ {P : Type 0} {rules : Rules P} (laws : Obeys rules) {first : Between P}
             props = same;
             calls = p.2;
             ran = p.3;
-            tries = (let nth = (m.answered.in_call.opens b.row b.pending).nth in let fewer = k.tries in omega arith);
+            tries = (let nth = (m.answered.in_call.opens b.row b.pending).nth in let fewer = k.before.tries in omega arith);
             outside = m.taken.was_is;
             empty = m.taken.empty refl;
             again = p.5;
@@ -166,10 +159,7 @@ module _ {P : Type 0} {rules : Rules P} (laws : Obeys rules) {first : Between P}
       let d = is_tried tally over a.run.retries x in
       let ended : r1.ended ≡ r.ended = d.ended ∙ (ap (λ (l : List Attempt). r.ended ++ l) nothing ∙ append-nil r.ended) in
       shut_run rules first mid.depth base (stays ended thread) closed t.0 ((λ i. now_at rules first mid.depth base (ended i) (thread i)) ∙ t.1) (λ gave_up. record {
-        calls = k.calls;
-        leads = subst (λ (q : P). LeadsTo rules mid.depth k.calls t.0.player t.0.arena q last.engine.arena) (sym (d.player ∙ player)) (subst (LeadsTo rules mid.depth k.calls t.0.player t.0.arena a.run.player) (sym arena) k.leads);
-        again = d.again ∙ (again ∙ k.again);
-        tries = omega (arith, (next_try tally over a.run.retries x gave_up).1, nth, k.tries);
+        before = before_same k.before (d.player ∙ player) arena (d.again ∙ again) (omega (arith, (next_try tally over a.run.retries x gave_up).1, nth));
         pending = λ row e. absurd (none-some row (sym (ap begun_in d.stage) ∙ e));
       })
 

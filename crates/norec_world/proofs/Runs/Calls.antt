@@ -5,7 +5,7 @@ use Rattle.norec_world.proofs.Tries.ReadPositions.{still_reads}
 use Rattle.tx_runs.proofs.GivenUp.{given_up_as}
 use Rattle.std.proofs.Common.{unwrap_or, ◌≡◌, ℕ, ◌/◌, ◌<◌, ◌≤◌, ◌&&◌, Bool, true, false, not, List, [], ◌∷◌, ◌++◌, ◌+◌, Some, refl, sym, true≢false, ap, subst, ◌∙◌, arith, None, inl, inr}
 use Rattle.std.proofs.lemmas.Bool.{and_right, not_from_true}
-use Rattle.norec_world.proofs.Common.{Actor, AreCounted, AreLaid, Attempt, Begin, Between, Call, Cells, ComesTo, Commit, Core, Ended, EndsWithin, HasRow, Idle, IsBeforeTry, IsDeep, IsDone, IsHeld, IsNested, IsRun, IsSettled, IsSound, LeadsTo, Next, Obeys, PlayerRun, Props, Ready, Rows, Rules, RunsFrom, Sees, Stage, Starves, Status, Step, StillRuns, Tells, active_of, append-nil, begins_again, begins_at, begun_in, bytes_at, cases_Bool, cond-false, cond-true, ending_as, ending_of, found, handed_is, handed_to, in_transaction, irrevocable_room, is_inside, may_go, open_in, over_as, pending_of, reserved, rolled_back, same_Some, shut_revocable, stage_of, stand_of, told, with_room, within, words_at}
+use Rattle.norec_world.proofs.Common.{Actor, AreCounted, AreLaid, Attempt, Begin, Between, Call, Cells, ComesTo, Commit, Core, Ended, EndsWithin, HasRow, Idle, IsBeforeTry, IsDeep, IsDone, IsHeld, IsNested, IsRun, IsSettled, IsSound, Next, Obeys, PlayerRun, Props, Ready, Rows, Rules, RunsFrom, Sees, Stage, Starves, Status, Step, StillRuns, Tells, active_of, append-nil, begins_again, begins_at, begun_in, bytes_at, cases_Bool, cond-false, cond-true, ending_as, ending_of, found, handed_is, handed_to, in_transaction, irrevocable_room, is_inside, may_go, open_in, over_as, pending_of, reserved, rolled_back, same_Some, shut_revocable, stage_of, stand_of, told, with_room, within, words_at}
 use Rattle.tx_attempts.specs.declared.attempt.Outcome.TheVariants as outcomes
 use Rattle.tx_runs.specs.declared.ending.End.TheVariants as ends
 use Rattle.norec_world.proofs.Tries.Stages.{asked_at, asked_begun, moved_begun, moved_open, moved_stage, row_is_of, stage_out, told_active, told_player}
@@ -21,8 +21,8 @@ use Rattle.norec_world.proofs.Engines.Intakes.{recorded, now, still_going}
 use Rattle.norec_world.proofs.Rooms.FedPlayers.{HasLeft, answered_left, more_within, none_within, waits_left}
 use Rattle.norec_world.proofs.Runs.Answers.{RunOf, before_as, idle_from, now_at, open_run, run_on, run_same, top}
 use Rattle.norec_world.proofs.Runs.Endings.{stop_run}
-use Rattle.tx_runs.proofs.Begins.{begin_here}
-use Rattle.norec_world.proofs.Runs.Begins.{led_before, none_over}
+use Rattle.tx_runs.proofs.Begins.{before_led, before_same, begin_here}
+use Rattle.norec_world.proofs.Runs.Begins.{none_over}
 use Rattle.tx_runs.proofs.OutermostBegins.{may_begin}
 use Rattle.tx_runs.proofs.TriesStep.{came_on, handed_on, told_on}
 use Rattle.tx_runs.specs.OpenTries.{IsOpenTry}
@@ -79,8 +79,8 @@ module _ {P : Type 0} {rules : Rules P} (laws : Obeys rules) {cells : Cells} {r0
         ap (λ (x : Attempt). x.arena) made,
         ap (λ (x : Attempt). x.calls.list) made,
         ap (λ (x : Attempt). x.ran) made,
-        λ may. led_before rules laws k ∙ (begin_here rules laws old.engine.depth old.run.player old.engine.arena f.0 f.1 asks (may_begin old.engine.depth old.engine.arena f.0 f.1 m.sound.tied.settled.deep (subst (λ (x : Props). may_go [] x ≡ true) (sym same) may)) ∙ (λ i. Some (record { player = (sym (player_same m)) i; arena = old.engine.arena; props = same i }))),
-        (λ i. begins_again (out i) old.run.again (f.2 i) && not (o i)) ∙ (and-true old.run.again ∙ k.again),
+        λ may. before_led rules laws old.engine.depth k.before ∙ (begin_here rules laws old.engine.depth old.run.player old.engine.arena f.0 f.1 asks (may_begin old.engine.depth old.engine.arena f.0 f.1 m.sound.tied.settled.deep (subst (λ (x : Props). may_go [] x ≡ true) (sym same) may)) ∙ (λ i. Some (record { player = (sym (player_same m)) i; arena = old.engine.arena; props = same i }))),
+        (λ i. begins_again (out i) old.run.again (f.2 i) && not (o i)) ∙ (and-true old.run.again ∙ k.before.again),
         ap (λ (x : Attempt). x.restarts) made,
       )
 
@@ -103,10 +103,7 @@ module _ {P : Type 0} {rules : Rules P} (laws : Obeys rules) {cells : Cells} {r0
         },
       )))
       (λ b o k. record {
-        calls = k.calls;
-        leads = subst (λ (q : P). LeadsTo rules old.engine.depth k.calls b.player b.arena q old.engine.arena) (sym (player_same m)) k.leads;
-        again = came_again ∙ k.again;
-        tries = omega (arith, came_nth, k.tries);
+        before = before_same k.before (player_same m) refl came_again (omega (arith, came_nth));
         pending = λ row e. fresh_pending b k o row e;
       })
 

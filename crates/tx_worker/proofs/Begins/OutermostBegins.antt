@@ -27,12 +27,12 @@ use Rattle.tx_attempts.specs.Opacity.{begin_code}
 use Rattle.tx_attempts.specs.declared.attempt.Attempt.{Attempt}
 use Rattle.tx_player.specs.Depth.{depth_after}
 use Rattle.tx_player.specs.Rules.{Obeys, Rules}
-use Rattle.tx_runs.proofs.Begins.{begin_here, led}
+use Rattle.tx_runs.proofs.Begins.{before_led, before_same, begin_here}
 use Rattle.tx_runs.proofs.Players.{plays}
 use Rattle.tx_runs.specs.Nesting.{IsNested}
 use Rattle.tx_runs.proofs.TriesBegin.{IsToOpen, begins_held, begins_on}
 use Rattle.tx_runs.specs.OpenTries.{IsOpenTry}
-use Rattle.tx_runs.specs.Runs.{LeadsTo, begins_at}
+use Rattle.tx_runs.specs.Runs.{begins_at}
 use Rattle.tx_worker.proofs.Machines.LastEvents.{IsLast}
 use Rattle.tx_worker.proofs.Runs.LaterCommits.{run_later}
 use Rattle.tx_worker.proofs.Begins.OutsideCalls.{answered_outside, left_outside, nested_outside, opened_one, revocable_outside, shut_state, stands_outside}
@@ -149,7 +149,6 @@ module _ {P : Type 0} {rules : Rules P} (laws : Obeys rules) (c : Course P) (s :
   tries_again went rises mine shut looks undone_so same limit few =
       let nested = nested_outside running outside in
       let later = run_later rules c s.view v went t.ended running.has_run in
-      let k = was.before in
       record {
         has_run = later.0;
         mine = mine ∙ running.mine;
@@ -165,12 +164,7 @@ module _ {P : Type 0} {rules : Rules P} (laws : Obeys rules) (c : Course P) (s :
           stage_is = refl;
           known = (let k = was.known in let up = went.high in omega arith);
           now_is = later.1 ∙ was.now_is;
-          before = record {
-            calls = k.calls;
-            leads = subst (LeadsTo rules c.depth k.calls was.between.player was.between.arena t.player) (sym (nothing_left s v e before outside undone_so)) k.leads;
-            again = k.again;
-            tries = (let fewer = k.tries in omega arith);
-          };
+          before = before_same was.before refl (nothing_left s v e before outside undone_so) refl (omega arith);
           looked = (let old = was.looked in omega arith);
         };
       }
@@ -213,7 +207,7 @@ module _ {P : Type 0} {rules : Rules P} (laws : Obeys rules) (c : Course P) (s :
 
       comes : begins_at rules c.depth was.between ≡ Some (record { player = t.player; arena = s.engine.arena; props = props })
       comes =
-          led rules laws c.depth was.before.calls was.between.player was.between.arena t.player s.engine.arena was.before.leads
+          before_led rules laws c.depth was.before
           ∙ begin_here rules laws c.depth t.player s.engine.arena props room (asks ∙ ap (λ (x : Call). Some x) is) accepted
 
       to_open : IsToOpen rules was.between (begun c.number t.nth (commits_known s.view) props s.engine.arena ahead) t.player last.mid props room

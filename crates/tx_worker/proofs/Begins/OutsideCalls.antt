@@ -1,5 +1,5 @@
 -- A call outside a transaction that leaves none open.
-use Rattle.std.proofs.Common.{◌≡◌, ℕ, suc, ◌&&◌, not, nat_lt, Bool, true, false, true≢false, if◌then◌else◌, List, [], length, is_some, Option, None, Some, refl, sym, ap, subst, ◌∙◌, arith}
+use Rattle.std.proofs.Common.{◌≡◌, ℕ, ◌&&◌, not, nat_lt, Bool, true, false, true≢false, if◌then◌else◌, List, [], length, is_some, Option, None, Some, refl, sym, ap, subst, ◌∙◌, arith}
 use Rattle.itm_types.specs.Access.{size_of}
 use Rattle.itm_types.specs.Calls.{is_begin}
 use Rattle.itm_types.specs.declared.call.Call.{Call}
@@ -26,7 +26,7 @@ use Rattle.itm_runtime.specs.Ties.{Stands}
 use Rattle.tx_attempts.specs.Opacity.{stays_outside}
 use Rattle.tx_player.specs.Depth.{depth_after}
 use Rattle.tx_player.specs.Rules.{Obeys, Rules}
-use Rattle.tx_runs.proofs.Begins.{opened_arena, same_arena}
+use Rattle.tx_runs.proofs.Begins.{before_past, opened_arena, same_arena}
 use Rattle.tx_runs.proofs.Players.{plays}
 use Rattle.tx_runs.specs.Nesting.{IsNested}
 use Rattle.tx_worker.proofs.Runs.LaterCommits.{run_later}
@@ -210,21 +210,7 @@ module _ {P : Type 0} {rules : Rules P} (laws : Obeys rules) (c : Course P) (s :
           stage_is = was.stage_is;
           known = (let k = was.known in let up = served.went.high in omega arith);
           now_is = later.1 ∙ was.now_is;
-          before = record {
-            calls = suc was.before.calls;
-            leads = (
-              t.player,
-              s.engine.arena,
-              s.call,
-              was.before.leads,
-              asks,
-              plain.begins_none,
-              ap (rules.answered t.player) plain.reply_is,
-              sym (stands_arena e (left_over v e)) ∙ (ap (λ (x : State). x.arena) left ∙ plain.arena_is),
-            );
-            again = was.before.again;
-            tries = was.before.tries;
-          };
+          before = before_past was.before s.call asks plain.begins_none (ap (rules.answered t.player) plain.reply_is) (sym (stands_arena e (left_over v e)) ∙ (ap (λ (x : State). x.arena) left ∙ plain.arena_is));
           looked = omega (arith, was.looked, served.went.looks);
         };
       }

@@ -1,5 +1,5 @@
 -- A worker before its first call.
-use Rattle.std.proofs.Common.{◌≡◌, ℕ, ◌/◌, ◌^◌, ◌<◌, ◌≤◌, Bool, false, true≢false, List, [], ◌∷◌, length, Vec, Global, refl, sym, ap, subst, ◌∙◌, arith, append-nil}
+use Rattle.std.proofs.Common.{◌≡◌, ℕ, ◌^◌, ◌<◌, ◌≤◌, Bool, false, true≢false, List, [], ◌∷◌, length, Vec, Global, refl, sym, ap, subst, ◌∙◌, arith, append-nil}
 use Rattle.itm_types.specs.declared.limits.TheConstants.{MAX_RETRIES}
 use Rattle.nest_frames.specs.Nest.{Frame}
 use Rattle.norec_core.specs.Core.{in_transaction, is_inside}

@@ -1,5 +1,5 @@
 -- A call that comes outside a transaction, by its answer.
-use Rattle.std.proofs.Common.{◌≡◌, ◌⊎◌, ℕ, ◌+◌, ◌/◌, ◌<◌, ◌≤◌, Bool, true, false, true≢false, nat_lt, if◌then◌else◌, List, [], ◌++◌, length, None, Some, refl, sym, ap, subst, ◌∙◌, arith, inl, inr, append-nil, ltb-false}
+use Rattle.std.proofs.Common.{◌≡◌, ◌⊎◌, ℕ, ◌+◌, ◌<◌, ◌≤◌, Bool, true, false, true≢false, nat_lt, if◌then◌else◌, List, [], ◌++◌, length, None, Some, refl, sym, ap, subst, ◌∙◌, arith, inl, inr, append-nil, ltb-false}
 use Rattle.std.proofs.lemmas.Bool.{ltb-true}
 use Rattle.itm_types.specs.Calls.{is_begin}
 use Rattle.itm_types.specs.declared.call.Call.{Call}

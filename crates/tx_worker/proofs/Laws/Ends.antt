@@ -15,7 +15,7 @@ use Rattle.tx_attempts.specs.declared.attempt.Outcome.TheVariants as outcomes
 use Rattle.tx_attempts.specs.Attempts.{alone}
 use Rattle.tx_attempts.specs.Opacity.{begin_within}
 use Rattle.tx_player.specs.Rules.{Obeys, Rules}
-use Rattle.tx_runs.proofs.Begins.{led}
+use Rattle.tx_runs.proofs.Begins.{before_led}
 use Rattle.tx_runs.specs.declared.ending.End.{End}
 use Rattle.tx_runs.specs.declared.ending.End.TheVariants as ends
 use Rattle.tx_runs.specs.Tallies.{Stage, outside, begins, within, over_as, stand_of}
@@ -80,7 +80,7 @@ module _ {P : Type 0} {rules : Rules P} (laws : Obeys rules) (words : Words) (c 
         inl (record {
           between = out.between;
           now_is = out.now_is;
-          none = led rules laws c.depth out.before.calls out.between.player out.between.arena a.player s.engine.arena out.before.leads ∙ begins_none (rules.calls_left a.player) a.player s.engine.arena none;
+          none = before_led rules laws c.depth out.before ∙ begins_none (rules.calls_left a.player) a.player s.engine.arena none;
         })
       where
         begins_none : (n : ℕ) (p : P) (arena : List ℕ) → rules.next_call p ≡ None → begin_within rules c.depth n p arena (rules.next_call p) ≡ None

@@ -15,7 +15,7 @@ use Rattle.tx_attempts.specs.Attempts.{alone_whole, calls_of}
 use Rattle.tx_attempts.specs.declared.attempt.Again.{Again}
 use Rattle.itm_model.specs.Runs.{state_through}
 use Rattle.norec_world.proofs.Common.{open_in}
-use Rattle.norec_world.proofs.Runs.Begins.{led_before}
+use Rattle.tx_runs.proofs.Begins.{before_led}
 use Rattle.itm_types.specs.declared.call.Reply.{Reply}
 use Rattle.tx_attempts.specs.declared.attempt.Outcome.TheVariants as outcomes
 use Rattle.world_laws.specs.SoFar.{IsBegun, IsSoFar, IsAll}
@@ -271,7 +271,7 @@ module _ {P : Type 0} (rules : Rules P) (laws : Obeys rules) (w : World P) (comm
   none_comes : (b : Between P) (x : Arrived []) → IsBeforeTry rules w.limits.depth (w.cells.clock / 2) b a → place_now ≡ Some b → w.attempts.ended ≡ sole.past → rules.next_call a.run.player ≡ None → begin_of rules w.limits.depth x.before.player x.before.arena ≡ None
   none_comes b x t led_to ended none =
       ap (λ (b : Between P). begin_of rules w.limits.depth b.player b.arena) (sym (same_Some _ _ (sym led_to ∙ led [] x ended)))
-      ∙ (led_before rules laws t ∙ (ap (begin_within rules w.limits.depth (rules.calls_left a.run.player) a.run.player a.engine.arena) none ∙ no_call (rules.calls_left a.run.player) a.engine.arena))
+      ∙ (before_led rules laws w.limits.depth t.before ∙ (ap (begin_within rules w.limits.depth (rules.calls_left a.run.player) a.run.player a.engine.arena) none ∙ no_call (rules.calls_left a.run.player) a.engine.arena))
     where
       no_call : (k : ℕ) (arena : List ℕ) → begin_within rules w.limits.depth k a.run.player arena None ≡ None
       no_call zero arena = refl

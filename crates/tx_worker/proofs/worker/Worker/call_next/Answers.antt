@@ -1,4 +1,4 @@
-use Rattle.std.proofs.Common.{◌≡◌, false, true≢false, refl, sym, inl, ◌∙◌}
+use Rattle.std.proofs.Common.{false, true≢false, refl, sym, inl, ◌∙◌}
 use Rattle.tx_runs.specs.declared.ending.End.TheVariants as ends
 use Rattle.tx_worker.specs.Calls.{IsShut}
 use Rattle.tx_worker.specs.Gates.{IsLet}
