@@ -1,3 +1,4 @@
+pub mod KeptFrames
 pub mod Replies
 pub mod Blocks
 pub mod Phases

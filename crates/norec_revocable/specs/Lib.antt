@@ -1,3 +1,4 @@
+pub mod KeptFrames
 pub mod InPhases
 pub mod OpenBegins
 pub mod Restarts

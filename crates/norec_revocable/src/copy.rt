@@ -10,6 +10,7 @@ ghost use Rattle.norec_core.specs.Accesses.{count};
 ghost use Rattle.norec_data.specs.View.{in_block, rows_before};
 ghost use Rattle.norec_revocable.specs.InPhases.{IsSound, MayPutFor, Copied, IsServed, IsReading, reserved_for};
 ghost use Rattle.norec_revocable.specs.Between.{in_copy, logged, MayCopy, MayFinish};
+ghost use Rattle.norec_revocable.specs.KeptFrames.{KeepsAllButWrites};
 ghost use Rattle.norec_data.specs.Turns.{Turns};
 ghost use Rattle.norec_core.specs.Order.{chunk_reading, load_chunks};
 ghost use Rattle.norec_core.specs.Effects.{arena_copied, writes_copied};
@@ -61,11 +62,7 @@ fn reserve(state: &mut Data, copying: Copying) -> Result<(), AllocError>
       frames = state.new.frames;
     } }
     ensures log { state.new.log.rows ≡ state.old.log.rows }
-    ensures blocks { state.new.frames.blocks ≡ state.old.frames.blocks }
-    ensures size { state.new.frames.size ≡ state.old.frames.size }
-    ensures depth { state.new.frames.depth ≡ state.old.frames.depth }
-    ensures actions { state.new.frames.actions ≡ state.old.frames.actions }
-    ensures room_left { state.new.frames.room ≡ state.old.frames.room }
+    ensures kept { KeepsAllButWrites state.old.frames state.new.frames }
     ensures buffer { OnOk result (state.new.buffer.items ≡ replicate copying.size 0) }
     ensures room { OnOk result (is_out copying.pair ≡ false → source_words copying ≤ state.new.log.room) }
     ensures rows { OnOk result (state.new.frames.writes.rows ≡ reserved_for copying copying.pair state.old.frames.writes.rows) }
@@ -104,11 +101,7 @@ fn reserve_target(frames: &mut Frames, copying: Copying) -> Result<(), AllocErro
         (frames.new.writes.rows ≡ reserved_for copying copying.pair frames.old.writes.rows) }
     ensures may_put { OnOk result (MayPutFor copying copying.pair frames.new.writes) }
     ensures err { OnErr result (frames.new.writes.rows ≡ frames.old.writes.rows) }
-    ensures blocks { frames.new.blocks ≡ frames.old.blocks }
-    ensures size { frames.new.size ≡ frames.old.size }
-    ensures depth { frames.new.depth ≡ frames.old.depth }
-    ensures actions { frames.new.actions ≡ frames.old.actions }
-    ensures room { frames.new.room ≡ frames.old.room }
+    ensures kept { KeepsAllButWrites frames.old frames.new }
 {
     match copying.pair {
         CopyPair::In(_) => Ok(()),
@@ -180,11 +173,7 @@ fn deliver(state: &mut Data, copying: Copying)
     ensures rows { state.new.frames.writes.rows
         ≡ writes_copied (rows_before state.old) copying copying.pair state.old.buffer.items }
     ensures arena { state.new.arena ≡ arena_copied state.old.arena copying copying.pair state.old.buffer.items }
-    ensures blocks { state.new.frames.blocks ≡ state.old.frames.blocks }
-    ensures size { state.new.frames.size ≡ state.old.frames.size }
-    ensures depth { state.new.frames.depth ≡ state.old.frames.depth }
-    ensures actions { state.new.frames.actions ≡ state.old.frames.actions }
-    ensures room_left { state.new.frames.room ≡ state.old.frames.room }
+    ensures kept { KeepsAllButWrites state.old.frames state.new.frames }
     ensures bytes { AreBytes state.old.buffer.items }
 {
     match copying.pair {

@@ -5,6 +5,7 @@ ghost use Rattle.itm_types.specs.Slices.{AreBytes};
 ghost use Rattle.word_pieces.specs.Chunks.{chunks_of};
 ghost use Rattle.write_set.specs.Marks.{MayPut};
 ghost use Rattle.norec_core.specs.Rows.{HaveRows, range_pieces, reserved_all, put_chunks};
+ghost use Rattle.norec_revocable.specs.KeptFrames.{KeepsAllButWrites};
 
 use crate::writes::{put_all, reserve_all};
 use itm_types::MAX_BYTES;
@@ -21,11 +22,7 @@ pub(crate) fn reserve_range(frames: &mut Frames, to: u64, chunks: Chunks) -> Res
     ensures may_put { OnOk result
         (All (λ p. MayPut frames.new.writes p.word) (range_pieces to (chunks_of chunks.direction chunks.size))) }
     ensures err { OnErr result (frames.new.writes.rows ≡ frames.old.writes.rows) }
-    ensures blocks { frames.new.blocks ≡ frames.old.blocks }
-    ensures size { frames.new.size ≡ frames.old.size }
-    ensures depth { frames.new.depth ≡ frames.old.depth }
-    ensures actions { frames.new.actions ≡ frames.old.actions }
-    ensures room { frames.new.room ≡ frames.old.room }
+    ensures kept { KeepsAllButWrites frames.old frames.new }
 {
     let len = frames.len();
     for number in 0..chunks.len() {
@@ -48,11 +45,7 @@ pub(crate) fn put_range(frames: &mut Frames, to: u64, direction: Direction, byte
     requires may_put { All (λ p. MayPut frames.old.writes p.word) (range_pieces to (chunks_of direction (length bytes.now))) }
     ensures rows { frames.new.writes.rows
         ≡ put_chunks frames.old.writes.rows to (chunks_of direction (length bytes.now)) bytes.now }
-    ensures blocks { frames.new.blocks ≡ frames.old.blocks }
-    ensures size { frames.new.size ≡ frames.old.size }
-    ensures depth { frames.new.depth ≡ frames.old.depth }
-    ensures actions { frames.new.actions ≡ frames.old.actions }
-    ensures room { frames.new.room ≡ frames.old.room }
+    ensures kept { KeepsAllButWrites frames.old frames.new }
     ensures bytes { AreBytes bytes.now }
 {
     let chunks = Chunks::new(bytes.len() as u64, direction);

@@ -9,6 +9,7 @@ ghost use Rattle.write_set.specs.Marks.{KeepsRoom, MayPut};
 ghost use Rattle.nest_frames.specs.Nest.{rows_of};
 ghost use Rattle.norec_core.specs.Rows.{AreRoomy, HaveRows, reserved_all, put_all};
 ghost use Rattle.norec_revocable.specs.InPhases.{IsSound};
+ghost use Rattle.norec_revocable.specs.KeptFrames.{KeepsAllButWrites};
 ghost use Rattle.norec_core.specs.Accesses.{access_refusal};
 ghost use Rattle.norec_data.specs.View.{in_block};
 ghost use Rattle.norec_revocable.specs.Moves.{CallComes, CallTurns, ComesTo};
@@ -76,11 +77,7 @@ fn put_next(frames: &mut Frames, at: u64, size: u8, bytes: &[u8]) -> bool
     ensures none { result ≡ false → frames.new ≡ frames.old }
     ensures rows { result ≡ true → frames.new.writes.rows
         ≡ put_all (reserved_all frames.old.writes.rows (pieces_of at size)) (pieces_of at size) bytes.now }
-    ensures blocks { frames.new.blocks ≡ frames.old.blocks }
-    ensures size { frames.new.size ≡ frames.old.size }
-    ensures depth { frames.new.depth ≡ frames.old.depth }
-    ensures actions { frames.new.actions ≡ frames.old.actions }
-    ensures room { frames.new.room ≡ frames.old.room }
+    ensures kept { KeepsAllButWrites frames.old frames.new }
     ensures bytes { AreBytes bytes.now }
 {
     match piece_at(at, size, 0) {
@@ -117,11 +114,7 @@ fn put_found(frames: &mut Frames, at: u64, size: u8, bytes: &[u8]) -> bool
     ensures none { result ≡ false → frames.new ≡ frames.old }
     ensures rows { result ≡ true → frames.new.writes.rows
         ≡ put_all (reserved_all frames.old.writes.rows (pieces_of at size)) (pieces_of at size) bytes.now }
-    ensures blocks { frames.new.blocks ≡ frames.old.blocks }
-    ensures size { frames.new.size ≡ frames.old.size }
-    ensures depth { frames.new.depth ≡ frames.old.depth }
-    ensures actions { frames.new.actions ≡ frames.old.actions }
-    ensures room { frames.new.room ≡ frames.old.room }
+    ensures kept { KeepsAllButWrites frames.old frames.new }
     ensures bytes { AreBytes bytes.now }
 {
     match piece_at(at, size, 0) {
@@ -142,11 +135,7 @@ fn put_value(frames: &mut Frames, at: u64, size: u8, bytes: &[u8]) -> Result<(),
     ensures rows { OnOk result (frames.new.writes.rows
         ≡ put_all (reserved_all frames.old.writes.rows (pieces_of at size)) (pieces_of at size) bytes.now) }
     ensures err { OnErr result (frames.new.writes.rows ≡ frames.old.writes.rows) }
-    ensures blocks { frames.new.blocks ≡ frames.old.blocks }
-    ensures size { frames.new.size ≡ frames.old.size }
-    ensures depth { frames.new.depth ≡ frames.old.depth }
-    ensures actions { frames.new.actions ≡ frames.old.actions }
-    ensures room { frames.new.room ≡ frames.old.room }
+    ensures kept { KeepsAllButWrites frames.old frames.new }
     ensures grows { OnErr result (AreRoomy frames.old.writes.rows (rows_of frames.old.blocks) (pieces_of at size) → ⊥) }
     ensures bytes { AreBytes bytes.now }
 {
@@ -165,11 +154,7 @@ fn put_piece(frames: &mut Frames, piece: Piece, bytes: &[u8]) -> Result<(), Allo
     ensures rows { OnOk result (frames.new.writes.rows
         ≡ put_all (reserved_all frames.old.writes.rows (piece ∷ [])) (piece ∷ []) bytes.now) }
     ensures err { OnErr result (frames.new.writes.rows ≡ frames.old.writes.rows) }
-    ensures blocks { frames.new.blocks ≡ frames.old.blocks }
-    ensures size { frames.new.size ≡ frames.old.size }
-    ensures depth { frames.new.depth ≡ frames.old.depth }
-    ensures actions { frames.new.actions ≡ frames.old.actions }
-    ensures room { frames.new.room ≡ frames.old.room }
+    ensures kept { KeepsAllButWrites frames.old frames.new }
     ensures grows { OnErr result (AreRoomy frames.old.writes.rows (rows_of frames.old.blocks) (piece ∷ []) → ⊥) }
     ensures bytes { AreBytes bytes.now }
 {
@@ -187,11 +172,7 @@ fn put_pieces(frames: &mut Frames, at: u64, size: u8, bytes: &[u8]) -> Result<()
     ensures rows { OnOk result (frames.new.writes.rows
         ≡ put_all (reserved_all frames.old.writes.rows (pieces_of at size)) (pieces_of at size) bytes.now) }
     ensures err { OnErr result (frames.new.writes.rows ≡ frames.old.writes.rows) }
-    ensures blocks { frames.new.blocks ≡ frames.old.blocks }
-    ensures size { frames.new.size ≡ frames.old.size }
-    ensures depth { frames.new.depth ≡ frames.old.depth }
-    ensures actions { frames.new.actions ≡ frames.old.actions }
-    ensures room { frames.new.room ≡ frames.old.room }
+    ensures kept { KeepsAllButWrites frames.old frames.new }
     ensures grows { OnErr result (AreRoomy frames.old.writes.rows (rows_of frames.old.blocks) (pieces_of at size) → ⊥) }
     ensures bytes { AreBytes bytes.now }
 {
@@ -207,11 +188,7 @@ pub(crate) fn reserve_all(frames: &mut Frames, pieces: &[Piece]) -> Result<(), A
     ensures rows { OnOk result (frames.new.writes.rows ≡ reserved_all frames.old.writes.rows pieces.now) }
     ensures may_put { OnOk result (All (λ p. MayPut frames.new.writes p.word) pieces.now) }
     ensures err { OnErr result (frames.new.writes.rows ≡ frames.old.writes.rows) }
-    ensures blocks { frames.new.blocks ≡ frames.old.blocks }
-    ensures size { frames.new.size ≡ frames.old.size }
-    ensures depth { frames.new.depth ≡ frames.old.depth }
-    ensures actions { frames.new.actions ≡ frames.old.actions }
-    ensures room { frames.new.room ≡ frames.old.room }
+    ensures kept { KeepsAllButWrites frames.old frames.new }
     ensures inner { frames.new.writes.inner ≡ frames.old.writes.inner }
     ensures others { OnOk result (KeepsRoom frames.old.writes frames.new.writes) }
     ensures grows { OnErr result (AreRoomy frames.old.writes.rows (rows_of frames.old.blocks) pieces.now → ⊥) }
@@ -233,11 +210,7 @@ pub(crate) fn put_all(frames: &mut Frames, pieces: &[Piece], bytes: &[u8])
     requires pieces { All IsPiece pieces.now }
     requires bytes { All (λ p. p.at + p.count ≤ length bytes.now) pieces.now }
     ensures rows { frames.new.writes.rows ≡ put_all frames.old.writes.rows pieces.now bytes.now }
-    ensures blocks { frames.new.blocks ≡ frames.old.blocks }
-    ensures size { frames.new.size ≡ frames.old.size }
-    ensures depth { frames.new.depth ≡ frames.old.depth }
-    ensures actions { frames.new.actions ≡ frames.old.actions }
-    ensures room { frames.new.room ≡ frames.old.room }
+    ensures kept { KeepsAllButWrites frames.old frames.new }
     ensures words { map (λ r. r.word) frames.new.writes.rows ≡ map (λ r. r.word) frames.old.writes.rows }
     ensures others { KeepsRoom frames.old.writes frames.new.writes }
     ensures bytes { AreBytes bytes.now }

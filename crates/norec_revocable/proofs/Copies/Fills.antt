@@ -27,6 +27,7 @@ use Rattle.norec_core.specs.Accesses.{access_refusal}
 use Rattle.norec_data.specs.View.{core, in_block}
 use Rattle.norec_revocable.proofs.Blocks.OpenBegins.{begun_same}
 use Rattle.norec_revocable.specs.InPhases.{AreFrames, IsSound}
+use Rattle.norec_revocable.specs.KeptFrames.{KeepsAllButWrites}
 use Rattle.norec_revocable.specs.Between.{IsSoundTurn}
 use Rattle.norec_core.specs.Proceeds.{Replies}
 use Rattle.norec_core.specs.Rows.{range_pieces, reserved_all, put_chunks, put_range, AllWritesWithin}
@@ -72,42 +73,36 @@ filled d frames buffer = record d { frames = frames; buffer = buffer; spent = 0;
 pub record IsFilled (d : Data) (to byte size : ℕ) (frames : Nest) : Type 0 where
   pub accepted : access_refusal (in_block d) d.words to size ≡ None
   pub rows : frames.writes.rows ≡ put_range d.frames.writes.rows to Up (bytes_set size byte)
-  pub blocks : frames.blocks ≡ d.frames.blocks
-  pub sized : frames.size ≡ d.frames.size
-  pub depth : frames.depth ≡ d.frames.depth
-  pub actions : frames.actions ≡ d.frames.actions
-  pub room : frames.room ≡ d.frames.room
+  pub kept : KeepsAllButWrites d.frames frames
 
 -- a fill of no bytes
 pub none_filled : (d : Data) (to byte size : ℕ) → access_refusal (in_block d) d.words to size ≡ None → size ≡ 0 → IsFilled d to byte size d.frames
 none_filled d to byte size accepted none = record {
   accepted = accepted;
   rows = sym (ap (λ (n : ℕ). put_range d.frames.writes.rows to Up (bytes_set n byte)) none);
-  blocks = refl;
-  sized = refl;
-  depth = refl;
-  actions = refl;
-  room = refl;
+  kept = refl;
 }
 
 -- one of these bytes, whose words have rows
 pub some_filled : (d : Data) (to byte size : ℕ) (rows : List Row) (bytes : List ℕ) (frames : Nest) → access_refusal (in_block d) d.words to size ≡ None
     → rows ≡ reserved_all d.frames.writes.rows (range_pieces to (chunks_of Up size)) → bytes ≡ bytes_set size byte → frames.writes.rows ≡ put_chunks rows to (chunks_of Up (length bytes)) bytes
-    → frames.blocks ≡ d.frames.blocks → frames.size ≡ d.frames.size → frames.depth ≡ d.frames.depth → frames.actions ≡ d.frames.actions → frames.room ≡ d.frames.room → IsFilled d to byte size frames
-some_filled d to byte size rows bytes frames accepted reserved are put blocks sized deep actions room =
+    → KeepsAllButWrites d.frames frames → IsFilled d to byte size frames
+some_filled d to byte size rows bytes frames accepted reserved are put kept =
     let len : size ≡ length (bytes_set size byte) = sym (length-replicate size (byte % 256)) in
     let same = reserved ∙ (λ i. reserved_all d.frames.writes.rows (range_pieces to (chunks_of Up (len i)))) in
     record {
       accepted = accepted;
       rows = put ∙ (λ i. put_chunks (same i) to (chunks_of Up (length (are i))) (are i));
-      blocks = blocks;
-      sized = sized;
-      depth = deep;
-      actions = actions;
-      room = room;
+      kept = kept;
     }
 
 module _ (d : Data) (to byte size : ℕ) (frames : Nest) (buffer : Vec ℕ) (s : IsSound d Idle) (is : IsFilled d to byte size frames) where
+  abbrev blocks : frames.blocks ≡ d.frames.blocks
+  blocks = ap (λ (n : Nest). n.blocks) is.kept
+
+  abbrev actions : frames.actions ≡ d.frames.actions
+  actions = ap (λ (n : Nest). n.actions) is.kept
+
   filled_sound : IsSoundTurn (End ends.Done) (filled d frames buffer)
   filled_sound =
       let bytes = bytes_set size byte in
@@ -119,7 +114,7 @@ module _ (d : Data) (to byte size : ℕ) (frames : Nest) (buffer : Vec ℕ) (s :
       record {
         asked = tt;
         sound = record {
-          bounds = bounds_kept d frames is.sized is.depth s.bounds;
+          bounds = bounds_kept d frames (ap (λ (n : Nest). n.size) is.kept) (ap (λ (n : Nest). n.depth) is.kept) s.bounds;
           reached = s.reached;
           in_phase = (
             λ o. (
@@ -128,13 +123,13 @@ module _ (d : Data) (to byte size : ℕ) (frames : Nest) (buffer : Vec ℕ) (s :
                 log = idle.0.log;
                 writes = subst (AllWritesWithin d.words) (sym is.rows) (AllWritesWithin-put_range d.words d.frames.writes.rows to Up bytes idle.0.writes (AreBytes-set size byte) range);
                 rows = subst AreRows (sym is.rows) (AreRows-put_range d.words d.frames.writes.rows to Up bytes idle.0.rows (AreBytes-set size byte) range);
-                frames = subst (AreFrames d.words) (sym is.blocks) idle.0.frames;
-                begun = begun_same d.log.rows d.log.rows d.frames.actions frames.actions d.frames.blocks frames.blocks refl is.actions is.blocks idle.0.begun;
+                frames = subst (AreFrames d.words) (sym blocks) idle.0.frames;
+                begun = begun_same d.log.rows d.log.rows d.frames.actions frames.actions d.frames.blocks frames.blocks refl actions blocks idle.0.begun;
                 tries = idle.0.tries;
               },
               idle.1,
             ),
-            λ o. (let yes = ap is_inside is.blocks ∙ may.0 in absurd (cc)),
+            λ o. (let yes = ap is_inside blocks ∙ may.0 in absurd (cc)),
           );
         };
       }
@@ -145,21 +140,21 @@ module _ (d : Data) (to byte size : ℕ) (frames : Nest) (buffer : Vec ℕ) (s :
       let idle = s.in_phase.0 may.0 in
       let all = λ (m : List ℕ) (mem : IsMemory d.words m). fills d.frames.depth d.frames.writes.rows d.frames.blocks d.arena d.frames.actions m d.words hint to byte size mem idle.0.rows is.accepted in
       record {
-        meets = λ m mem agrees. (λ i. state_over (is.rows i) (is.blocks i) d.arena (is.actions i) m) ∙ (all m mem).0;
+        meets = λ m mem agrees. (λ i. state_over (is.rows i) (blocks i) d.arena (actions i) m) ∙ (all m mem).0;
         reply_is = λ m mem agrees. (all m mem).1;
-        stays = (λ i. record (core (filled d frames buffer) Idle) { depth = is.depth i; room = is.room i });
+        stays = (λ i. record (core (filled d frames buffer) Idle) { depth = (is.kept i).depth; room = (is.kept i).room });
         writes = λ m mem agrees. is.rows;
         arena = λ m mem agrees. refl;
         free = refl;
         revocable = refl;
         unfreed = refl;
-        still = λ other o. ap is_inside is.blocks ∙ o;
-        blocks = is.blocks;
-        actions = is.actions;
+        still = λ other o. ap is_inside blocks ∙ o;
+        blocks = blocks;
+        actions = actions;
         settled = λ o. (idle.1, s.bounds.even);
       }
 
   pub fill_turns : (hint : WriteHint) → CallTurns d (Fill hint to byte size) false (End ends.Done) (filled d frames buffer)
   fill_turns hint =
       answered d (Fill hint to byte size) ends.Done (filled d frames buffer) (filled_at_once d hint to byte size) filled_sound (fill_replies hint)
-      (record { opens = λ o. sym (ap is_inside is.blocks) ∙ o; log = λ o. refl; snapshot = refl }) tt
+      (record { opens = λ o. sym (ap is_inside blocks) ∙ o; log = λ o. refl; snapshot = refl }) tt

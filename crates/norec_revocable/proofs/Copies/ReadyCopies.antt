@@ -20,6 +20,8 @@ use Rattle.norec_data.specs.View.{in_block, core, rows_before}
 use Rattle.norec_revocable.proofs.Blocks.OpenBegins.{begun_same}
 use Rattle.norec_revocable.specs.InPhases.{reserved_for, AreFrames, IsOpen, IsServed, IsSound, MayPutFor}
 use Rattle.norec_data.specs.Bounds.{IsBounded}
+use Rattle.nest_frames.specs.Nest.{Nest}
+use Rattle.norec_revocable.specs.KeptFrames.{KeepsAllButWrites}
 use Rattle.norec_revocable.specs.Between.{in_copy, logged, MayCopy}
 use Rattle.norec_revocable.proofs.Copies.AcceptedCopies.{accepted_open}
 use Rattle.norec_core.proofs.Replies.CopyRefusals.{accepted_sides, shared_within}
@@ -50,8 +52,14 @@ abbrev pub ready : Data → Data → Data
 ready s e = record s { buffer = e.buffer; log = e.log; frames = e.frames; written = length s.frames.writes.rows; entry = length e.log.rows; tries = 0; spent = 0 }
 
 module _ (s e : Data) (k : Copying) (sound : IsSound s Idle) (accepted : copy_refusal (in_block s) s.words (length s.arena) k ≡ None)
-    (log : e.log.rows ≡ s.log.rows) (blocks : e.frames.blocks ≡ s.frames.blocks) (size : e.frames.size ≡ s.frames.size) (depth : e.frames.depth ≡ s.frames.depth) (actions : e.frames.actions ≡ s.frames.actions) (room : e.frames.room ≡ s.frames.room)
+    (log : e.log.rows ≡ s.log.rows) (kept : KeepsAllButWrites s.frames e.frames)
     (rows : e.frames.writes.rows ≡ reserved_for k k.pair s.frames.writes.rows) (may_put : MayPutFor k k.pair e.frames.writes) where
+  abbrev blocks : e.frames.blocks ≡ s.frames.blocks
+  blocks = ap (λ (n : Nest). n.blocks) kept
+
+  abbrev actions : e.frames.actions ≡ s.frames.actions
+  actions = ap (λ (n : Nest). n.actions) kept
+
   was_open : in_block s ≡ true
   was_open = accepted_open (in_block s) s.words (length s.arena) k accepted
 
@@ -62,7 +70,7 @@ module _ (s e : Data) (k : Copying) (sound : IsSound s Idle) (accepted : copy_re
   before = ap (take (length s.frames.writes.rows)) rows ∙ first_rows k k.pair s.frames.writes.rows
 
   pub ready_bounds : IsBounded s.words s.limits s.restarted s.snapshot e.frames.size e.frames.depth s.arena
-  ready_bounds = bounds_kept s e.frames size depth sound.bounds
+  ready_bounds = bounds_kept s e.frames (ap (λ (n : Nest). n.size) kept) (ap (λ (n : Nest). n.depth) kept) sound.bounds
 
   pub ready_open : IsOpen (ready s e)
   ready_open =
@@ -91,7 +99,7 @@ module _ (s e : Data) (k : Copying) (sound : IsSound s Idle) (accepted : copy_re
 
   -- as callers see it, it has come
   pub ready_came : logged (in_copy (ready s e) k) s.log.rows ≡ came (core s Idle) (Copy k) false
-  ready_came = λ i. record (came (core s Idle) (Copy k) false) { writes = before i; entry = length (log i); depth = depth i; blocks = blocks i; actions = actions i; room = room i }
+  ready_came = λ i. record (came (core s Idle) (Copy k) false) { writes = before i; entry = length (log i); depth = (kept i).depth; blocks = (kept i).blocks; actions = (kept i).actions; room = (kept i).room }
 
   -- nothing is read yet
   pub ready_to_copy : is_out k.pair ≡ false → e.buffer.items ≡ replicate k.size 0 → source_words k ≤ e.log.room → MayCopy (ready s e) k 0

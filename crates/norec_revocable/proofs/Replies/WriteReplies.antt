@@ -21,9 +21,10 @@ use Rattle.norec_core.proofs.Engines.Machines.{writes, some_put, some_bytes}
 use Rattle.norec_data.specs.declared.end.CallEnd.TheVariants.{Done}
 use Rattle.norec_data.specs.declared.data.Data.{Data}
 use Rattle.norec_data.specs.declared.turn.Turn.TheVariants.{End}
-use Rattle.norec_data.specs.View.{in_block}
+use Rattle.norec_data.specs.View.{core, in_block}
 use Rattle.norec_data.proofs.KeptBounds.{bounds_kept}
 use Rattle.norec_revocable.specs.InPhases.{AreFrames, IsSound}
+use Rattle.norec_revocable.specs.KeptFrames.{KeepsAllButWrites}
 use Rattle.norec_revocable.specs.Moves.{CallTurns}
 use Rattle.norec_revocable.proofs.Blocks.OpenBegins.{begun_same}
 use Rattle.norec_revocable.proofs.Replies.Refusals.{served}
@@ -32,8 +33,13 @@ module _ (s : Data) (hint : WriteHint) (at : ℕ) (value : Datum) (f : Nest)
     (sound : IsSound s Idle) (may_write : access_refusal (in_block s) s.words at (size_of value.width) ≡ None)
     (most : size_of value.width ≤ 32) (are_bytes : AreBytes value.bytes.items)
     (rows : f.writes.rows ≡ put_all (reserved_all s.frames.writes.rows (pieces_of at (size_of value.width))) (pieces_of at (size_of value.width)) value.bytes.items)
-    (blocks : f.blocks ≡ s.frames.blocks) (f_size : f.size ≡ s.frames.size) (f_depth : f.depth ≡ s.frames.depth)
-    (actions : f.actions ≡ s.frames.actions) (room : f.room ≡ s.frames.room) where
+    (kept : KeepsAllButWrites s.frames f) where
+  abbrev blocks : f.blocks ≡ s.frames.blocks
+  blocks = ap (λ (n : Nest). n.blocks) kept
+
+  abbrev actions : f.actions ≡ s.frames.actions
+  actions = ap (λ (n : Nest). n.actions) kept
+
   pub write_turns : CallTurns s (Write hint at value) false (End Done) (record s { frames = f; spent = 0; entry = length s.log.rows })
   write_turns =
       let may = served (in_block s) s.words at (size_of value.width) may_write in
@@ -53,7 +59,7 @@ module _ (s : Data) (hint : WriteHint) (at : ℕ) (value : Datum) (f : Nest)
         sound = record {
           asked = tt;
           sound = record {
-            bounds = bounds_kept s f f_size f_depth sound.bounds;
+            bounds = bounds_kept s f (ap (λ (n : Nest). n.size) kept) (ap (λ (n : Nest). n.depth) kept) sound.bounds;
             reached = sound.reached;
             in_phase = (
               λ o. (
@@ -75,7 +81,7 @@ module _ (s : Data) (hint : WriteHint) (at : ℕ) (value : Datum) (f : Nest)
         proceeds = record {
           meets = λ m mem agrees. (λ i. state_over f.writes.rows (blocks i) s.arena (actions i) m) ∙ (all m mem).0;
           reply_is = λ m mem agrees. (all m mem).1;
-          stays = search rules;
+          stays = (λ i. record (core (record s { frames = f; spent = 0; entry = length s.log.rows }) Idle) { depth = (kept i).depth; room = (kept i).room });
           writes = λ m mem agrees. rows;
           arena = λ m mem agrees. refl;
           free = refl;

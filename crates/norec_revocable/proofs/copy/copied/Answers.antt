@@ -5,6 +5,7 @@ use Rattle.write_set.specs.Rows.{overlay, AreRows}
 use Rattle.norec_core.specs.Copies.{source_in}
 use Rattle.norec_core.specs.Core.{is_inside}
 use Rattle.norec_core.specs.Phases.{Idle}
+use Rattle.nest_frames.specs.Nest.{Nest}
 use Rattle.norec_data.specs.View.{core, rows_before}
 use Rattle.norec_revocable.proofs.Blocks.OpenBegins.{begun_same}
 use Rattle.norec_revocable.specs.InPhases.{AreFrames}
@@ -22,7 +23,8 @@ returns-clause-proceeds c log =
     let may = c.requires.may in
     let served = may.source.served in
     let before : List Row = rows_before s in
-    let blocks = c.deliver.ensures.blocks in
+    let blocks = ap (λ (n : Nest). n.blocks) c.deliver.ensures.kept in
+    let actions = ap (λ (n : Nest). n.actions) c.deliver.ensures.kept in
     let fits = rows_before-fit s.words s.written s.frames.writes.rows may.is_open.rows may.is_open.writes in
     let got = λ (m : List ℕ) (mem : IsMemory s.words m) (agrees : Agrees m s.log.rows).
     may.source.has m mem agrees
@@ -30,9 +32,9 @@ returns-clause-proceeds c log =
     let all = λ (m : List ℕ) (mem : IsMemory s.words m) (agrees : Agrees m s.log.rows).
     copies s.frames.depth before s.frames.blocks s.arena s.frames.actions m s.words k may.is_open.is_open mem fits.0 served.accepted s.buffer.items c.deliver.ensures.bytes (got m mem agrees) in
     rw c.deliver.ensures.frame (record {
-      meets = λ m mem agrees. (λ i. state_over (c.deliver.ensures.rows i) (blocks i) (c.deliver.ensures.arena i) (c.deliver.ensures.actions i) m) ∙ (all m mem agrees).0;
+      meets = λ m mem agrees. (λ i. state_over (c.deliver.ensures.rows i) (blocks i) (c.deliver.ensures.arena i) (actions i) m) ∙ (all m mem agrees).0;
       reply_is = λ m mem agrees. (all m mem agrees).1;
-      stays = (λ i. record (core (record s { arena = c.deliver.new.state.arena; frames = c.deliver.new.state.frames }) Idle) { depth = c.deliver.ensures.depth i; room = c.deliver.ensures.room_left i });
+      stays = (λ i. record (core (record s { arena = c.deliver.new.state.arena; frames = c.deliver.new.state.frames }) Idle) { depth = (c.deliver.ensures.kept i).depth; room = (c.deliver.ensures.kept i).room });
       writes = λ m mem agrees. c.deliver.ensures.rows ∙ ap (writes_copied before k k.pair) (got m mem agrees);
       arena = λ m mem agrees. c.deliver.ensures.arena ∙ ap (arena_copied s.arena k k.pair) (got m mem agrees);
       free = refl;
@@ -40,7 +42,7 @@ returns-clause-proceeds c log =
       unfreed = refl;
       still = λ other o. ap is_inside blocks ∙ o;
       blocks = blocks;
-      actions = c.deliver.ensures.actions;
+      actions = actions;
       settled = λ o. (may.settled, may.bounds.even);
     })
 
@@ -52,6 +54,7 @@ returns-clause-goes c = record {
       let may = c.requires.may in
       let served = may.source.served in
       let before = rows_before s in
+      let blocks = ap (λ (n : Nest). n.blocks) c.deliver.ensures.kept in
       let fits = rows_before-fit s.words s.written s.frames.writes.rows may.is_open.rows may.is_open.writes in
       let rows = copied_fits s.words (length s.arena) before k s.buffer.items fits.0 fits.1 served.accepted served.sized c.deliver.ensures.bytes in
       rw c.deliver.ensures.frame (record {
@@ -62,8 +65,8 @@ returns-clause-goes c = record {
             commits = may.bounds.commits;
             few = may.bounds.few;
             small = may.bounds.small;
-            sized = c.deliver.ensures.size ∙ (may.bounds.sized ∙ sym (ap (length {A = ℕ}) c.deliver.ensures.arena ∙ length-arena_copied s.words s.arena k s.buffer.items served.accepted served.sized));
-            deep = subst (λ (n : ℕ). 0 < n) (sym c.deliver.ensures.depth) may.bounds.deep;
+            sized = ap (λ (n : Nest). n.size) c.deliver.ensures.kept ∙ (may.bounds.sized ∙ sym (ap (length {A = ℕ}) c.deliver.ensures.arena ∙ length-arena_copied s.words s.arena k s.buffer.items served.accepted served.sized));
+            deep = subst (λ (n : ℕ). 0 < n) (sym (ap (λ (n : Nest). n.depth) c.deliver.ensures.kept)) may.bounds.deep;
             even = may.bounds.even;
           };
           reached = omega (arith, may.settled);
@@ -74,13 +77,13 @@ returns-clause-goes c = record {
                 log = may.is_open.log;
                 writes = subst (AllWritesWithin s.words) (sym c.deliver.ensures.rows) rows.1;
                 rows = subst AreRows (sym c.deliver.ensures.rows) rows.0;
-                frames = subst (AreFrames s.words) (sym c.deliver.ensures.blocks) may.is_open.frames;
-                begun = begun_same s.log.rows s.log.rows s.frames.actions c.deliver.new.state.frames.actions s.frames.blocks c.deliver.new.state.frames.blocks refl c.deliver.ensures.actions c.deliver.ensures.blocks may.is_open.begun;
+                frames = subst (AreFrames s.words) (sym blocks) may.is_open.frames;
+                begun = begun_same s.log.rows s.log.rows s.frames.actions c.deliver.new.state.frames.actions s.frames.blocks c.deliver.new.state.frames.blocks refl (ap (λ (n : Nest). n.actions) c.deliver.ensures.kept) blocks may.is_open.begun;
                 tries = may.is_open.tries;
               },
               may.settled,
             ),
-            λ o. (let yes = ap is_inside c.deliver.ensures.blocks ∙ may.is_open.is_open in absurd (cc)),
+            λ o. (let yes = ap is_inside blocks ∙ may.is_open.is_open in absurd (cc)),
           );
         };
       }));

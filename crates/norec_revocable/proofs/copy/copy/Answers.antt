@@ -9,6 +9,7 @@ use Rattle.write_set.specs.declared.row.Row.{Row}
 use Rattle.write_set.specs.Rows.{overlay}
 use Rattle.norec_core.specs.Copies.{chunks_in, copy_refusal, is_out, source_refusal}
 use Rattle.norec_core.specs.Core.{is_inside}
+use Rattle.nest_frames.specs.Nest.{Nest}
 use Rattle.norec_data.specs.declared.data.Data.{Data}
 use Rattle.norec_core.specs.Phases.{Phase}
 use Rattle.norec_data.specs.View.{in_block, rows_before}
@@ -31,7 +32,7 @@ next_chunk-requires c =
       | inr is ↦ ap is_out is.2
     ] in
     rw c.start_call.ensures (rw made.frame (rw c.len-written.ensures.len (record {
-      may = ready_to_copy s e k c.requires.sound (sym c.in_default.ensures) made.log made.blocks made.size made.depth made.actions made.room_left made.rows made.may_put shared made.buffer (made.room shared);
+      may = ready_to_copy s e k c.requires.sound (sym c.in_default.ensures) made.log made.kept made.rows made.may_put shared made.buffer (made.room shared);
     })))
 
 pub copied-requires : goal.copied-requires
@@ -44,19 +45,19 @@ copied-requires c =
     let accepted = sym c.in_default.ensures in
     let arena_is : c.start_call.new.self.arena ≡ s.arena = ap (λ (d : Data). d.arena) c.start_call.ensures ∙ ap (λ (d : Data). d.arena) made.frame in
     let bytes = c.take_source.ensures.bytes ∙ ap (λ (a : List ℕ). slice a k.from k.size) arena_is in
-    let fits = taken s e k sound accepted made.log made.blocks made.size made.depth made.actions made.room_left made.rows made.may_put in
+    let fits = taken s e k sound accepted made.log made.kept made.rows made.may_put in
     let source = subst (λ (pair : CopyPair). source_refusal s.words (length s.arena) pair k.from k.size ≡ None) c.in-Out.is (accepted_sides s.words (length s.arena) k fits).1 in
     let many = ap (length {A = ℕ}) bytes ∙ length-slice s.arena k.from k.size (arena_within (length s.arena) k.from k.size source) in
-    let ready_is = ready_open s e k sound accepted made.log made.blocks made.size made.depth made.actions made.room_left made.rows made.may_put in
+    let ready_is = ready_open s e k sound accepted made.log made.kept made.rows made.may_put in
     rw c.take_source.ensures.frame (rw c.start_call.ensures (rw made.frame (rw c.len-written.ensures.len (record {
       may = record {
-        bounds = ready_bounds s e k sound accepted made.log made.blocks made.size made.depth made.actions made.room_left made.rows made.may_put;
+        bounds = ready_bounds s e k sound accepted made.log made.kept made.rows made.may_put;
         is_open = record { is_open = ready_is.is_open; log = ready_is.log; writes = ready_is.writes; rows = ready_is.rows; frames = ready_is.frames; begun = ready_is.begun; tries = ready_is.tries };
         source = record {
-          served = ready_served s e k sound accepted made.log made.blocks made.size made.depth made.actions made.room_left made.rows made.may_put c.take_source.new.state.buffer.items many;
+          served = ready_served s e k sound accepted made.log made.kept made.rows made.may_put c.take_source.new.state.buffer.items many;
           has = λ m mem agrees. bytes ∙ sym (out_source k.pair s.arena (bytes_of (overlay m e.frames.writes.rows)) k.from k.size (ap is_out c.in-Out.is));
         };
-        settled = ready_settled s e k sound accepted made.log made.blocks made.size made.depth made.actions made.room_left made.rows made.may_put;
+        settled = ready_settled s e k sound accepted made.log made.kept made.rows made.may_put;
       };
     }))))
 
@@ -74,7 +75,7 @@ returns-in-Out c = record {
       ∙ ((λ i. record (c.start_call.ensures i) { tries = 0; written = c.len-written.ensures.len i; buffer = b })
       ∙ (λ i. record (made.frame i) { spent = 0; entry = length e.log.rows; tries = 0; written = length s.frames.writes.rows; buffer = b })) in
       subst (λ mid. Turns mid c.copied.result c.copied.new.state)
-      (ap (λ (d : Data). logged (in_copy d k) s.log.rows) is ∙ ready_came s e k c.requires.sound (sym c.in_default.ensures) made.log made.blocks made.size made.depth made.actions made.room_left made.rows made.may_put)
+      (ap (λ (d : Data). logged (in_copy d k) s.log.rows) is ∙ ready_came s e k c.requires.sound (sym c.in_default.ensures) made.log made.kept made.rows made.may_put)
       (c.copied.ensures.proceeds s.log.rows));
   stays = search rules;
   order = search rules;
@@ -100,7 +101,7 @@ returns-in-In c =
     (λ i. record (c.start_call.ensures i) { tries = 0; written = c.len-written.ensures.len i })
     ∙ (λ i. record (made.frame i) { spent = 0; entry = length e.log.rows; tries = 0; written = length s.frames.writes.rows }) in
     let rows : List Row = s.frames.writes.rows in
-    let old : rows_before came_at ≡ rows = ap rows_before is ∙ before s e k sound accepted made.log made.blocks made.size made.depth made.actions made.room_left made.rows made.may_put in
+    let old : rows_before came_at ≡ rows = ap rows_before is ∙ before s e k sound accepted made.log made.kept made.rows made.may_put in
     let log = s.log.rows in
     let logs : came_at.log.rows ≡ log = ap (λ (d : Data). d.log.rows) is ∙ made.log in
     let at : phase_after c.next_chunk.result c.next_chunk.new.state ≡ load_chunks rows log k 0 cs = c.next_chunk.ensures.goes.order ∙ (λ i. load_chunks (old i) (logs i) k 0 cs) in
@@ -108,10 +109,10 @@ returns-in-In c =
       sound = c.next_chunk.ensures.goes.sound;
       proceeds =
           subst (λ mid. Turns mid c.next_chunk.result c.next_chunk.new.state)
-          (ap (λ (d : Data). logged (in_copy d k) s.log.rows) is ∙ ready_came s e k sound accepted made.log made.blocks made.size made.depth made.actions made.room_left made.rows made.may_put)
+          (ap (λ (d : Data). logged (in_copy d k) s.log.rows) is ∙ ready_came s e k sound accepted made.log made.kept made.rows made.may_put)
           (c.next_chunk.ensures.proceeds s.log.rows);
       stays = record {
-        opens = λ o. sym (ap in_block is ∙ ap is_inside made.blocks) ∙ c.next_chunk.ensures.goes.stays.opens o;
+        opens = λ o. sym (ap in_block is ∙ ap (λ (n : Nest). is_inside n.blocks) made.kept) ∙ c.next_chunk.ensures.goes.stays.opens o;
         log = λ o. c.next_chunk.ensures.goes.stays.log o ∙ (ap (λ (d : Data). d.log.rows) is ∙ made.log);
         snapshot = c.next_chunk.ensures.goes.stays.snapshot ∙ ap (λ (d : Data). d.snapshot) is;
       };

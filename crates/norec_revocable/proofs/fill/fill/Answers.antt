@@ -12,6 +12,7 @@ use Rattle.write_set.specs.declared.row.Row.{Row}
 use Rattle.write_set.specs.Rows.{lookup}
 use Rattle.norec_core.specs.Rows.{range_pieces, reserved_all}
 use Rattle.norec_revocable.specs.Moves.{CallTurns}
+use Rattle.norec_revocable.proofs.KeptFrames.{kept_on}
 use Rattle.norec_revocable.proofs.Copies.Fills.{none_filled, some_filled, fill_turns}
 use Rattle.norec_core.proofs.Accesses.Writings.{all_reserved}
 use Rattle.norec_revocable.proofs.fill.fill.Goals.{then-size-gt0+in_ok-set_all+in_ok-reserve_range, else-size-gt0}
@@ -42,8 +43,7 @@ filled_turn c hint =
       | then-size-gt0+in_ok-set_all+in_ok-reserve_range w ↦ (
           let made = w.in_ok-reserve_range.ensures.rows ∙ (λ i. reserved_all s.frames.writes.rows (range_pieces to (chunks_of (w.new.ensures.direction i) (w.new.ensures.size i)))) in
           let is = some_filled s to byte size w.reserve_range.new.frames.writes.rows w.deref.result.now w.put_range.new.frames accepted made
-          (w.deref.ensures.value ∙ w.in_ok-set_all.ensures) w.put_range.ensures.rows (w.put_range.ensures.blocks ∙ w.reserve_range.ensures.blocks)
-          (w.put_range.ensures.size ∙ w.reserve_range.ensures.size) (w.put_range.ensures.depth ∙ w.reserve_range.ensures.depth) (w.put_range.ensures.actions ∙ w.reserve_range.ensures.actions) (w.put_range.ensures.room ∙ w.reserve_range.ensures.room) in
+          (w.deref.ensures.value ∙ w.in_ok-set_all.ensures) w.put_range.ensures.rows (kept_on s.frames w.reserve_range.new.frames w.put_range.new.frames w.reserve_range.ensures.kept w.put_range.ensures.kept) in
           let sound = c.requires.sound in
           rw w.state-is (fill_turns s to byte size w.put_range.new.frames w.set_all.new.buffer sound is hint))
       | else-size-gt0 w ↦ (

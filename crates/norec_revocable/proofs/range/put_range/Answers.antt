@@ -9,10 +9,11 @@ use Rattle.write_set.specs.Rows.{lookup}
 use Rattle.norec_core.specs.Rows.{put_all, put_chunks}
 use Rattle.norec_core.proofs.Accesses.Ranges.{all_of_chunk, put_chunks_more}
 use Rattle.norec_core.proofs.Accesses.Writings.{some_words}
+use Rattle.norec_revocable.proofs.KeptFrames.{kept_on}
 use Rattle.norec_revocable.proofs.range.put_range.Goals as goal
 
 pub loop-number-init : goal.loop-number-init
-loop-number-init c = record { rows = refl; words = refl; others = λ word may. may; blocks = refl; size = refl; depth = refl; actions = refl; room = refl }
+loop-number-init c = record { rows = refl; words = refl; others = λ word may. may; kept = refl }
 
 pub put_all-requires-clause-room : goal.put_all-requires-clause-room
 put_all-requires-clause-room c =
@@ -50,11 +51,7 @@ loop-number-preserved c =
           ∙ sym (ap (λ (xs : List Chunk). put_chunks old c.args.to xs bytes) c.in-Some.ensures.next ∙ put_chunks_more old c.args.to before k bytes));
       words = c.put_all.ensures.words ∙ i.words;
       others = λ word may. c.put_all.ensures.others word (i.others word may);
-      blocks = c.put_all.ensures.blocks ∙ i.blocks;
-      size = c.put_all.ensures.size ∙ i.size;
-      depth = c.put_all.ensures.depth ∙ i.depth;
-      actions = c.put_all.ensures.actions ∙ i.actions;
-      room = c.put_all.ensures.room ∙ i.room;
+      kept = kept_on c.args.frames.now c.loop-number.frames c.put_all.new.frames i.kept c.put_all.ensures.kept;
     }
 
 pub returns-clause-rows : goal.returns-clause-rows

@@ -2,6 +2,7 @@ use Rattle.std.proofs.Common.{◌≡◌, map}
 use Rattle.word_pieces.specs.Chunks.{chunks_before}
 use Rattle.write_set.specs.Marks.{KeepsRoom}
 use Rattle.norec_core.specs.Rows.{put_chunks}
+use Rattle.norec_revocable.specs.KeptFrames.{KeepsAllButWrites}
 use Rattle.norec_revocable.proofs.range.put_range.Given as goal
 
 abbrev pub invariant-loop-number : goal.invariant-loop-number
@@ -9,9 +10,5 @@ invariant-loop-number l = record {
   rows : l.frames.writes.rows ≡ put_chunks l.fn.frames.writes.rows l.to (chunks_before l.chunks.direction l.chunks.size l.number) l.bytes;
   words : map (λ r. r.word) l.frames.writes.rows ≡ map (λ r. r.word) l.fn.frames.writes.rows;
   others : KeepsRoom l.fn.frames.writes l.frames.writes;
-  blocks : l.frames.blocks ≡ l.fn.frames.blocks;
-  size : l.frames.size ≡ l.fn.frames.size;
-  depth : l.frames.depth ≡ l.fn.frames.depth;
-  actions : l.frames.actions ≡ l.fn.frames.actions;
-  room : l.frames.room ≡ l.fn.frames.room;
+  kept : KeepsAllButWrites l.fn.frames l.frames;
 }

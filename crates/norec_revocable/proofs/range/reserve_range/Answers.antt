@@ -13,6 +13,7 @@ use Rattle.nest_frames.specs.Nest.{Nest, Frame}
 use Rattle.norec_core.specs.Rows.{range_pieces, reserved_all}
 use Rattle.norec_core.proofs.Accesses.Ranges.{range_pieces_more, reserved_all-append}
 use Rattle.norec_core.proofs.Accesses.Writings.{cut-reserved_all, on_err, on_ok}
+use Rattle.norec_revocable.proofs.KeptFrames.{kept_on, only_writes}
 use Rattle.norec_revocable.proofs.range.reserve_range.Goals as goal
 
 pub loop-number-init : goal.loop-number-init
@@ -20,15 +21,11 @@ loop-number-init c = record {
   rows = refl;
   may_put = All-nil (λ (p : Piece). MayPut c.args.frames.now.writes p.word);
   inner = refl;
-  blocks = refl;
-  size = refl;
-  depth = refl;
-  actions = refl;
-  room = refl;
+  kept = refl;
 }
 
 pub reserve_all-requires : goal.reserve_all-requires
-reserve_all-requires c = record { «open» = subst (λ (bs : List Frame). 0 < length bs) (sym c.loop-number.invariant.blocks) c.requires.open }
+reserve_all-requires c = record { «open» = subst (λ (bs : List Frame). 0 < length bs) (sym (ap (λ (n : Nest). n.blocks) c.loop-number.invariant.kept)) c.requires.open }
 
 pub cut-requires : goal.cut-requires
 cut-requires c =
@@ -50,20 +47,10 @@ returns-then-is_err-clause-err c =
     let rows = on_err c.reserve_all.result c.reserve_all.ensures.err (sym c.is_err.ensures.value ∙ c.if-is_err.true) ∙ i.rows in
     ap (λ (n : Nest). n.writes.rows) c.cut.ensures.new ∙ ((λ j. take (c.len-len.ensures.len j) (rows j)) ∙ (cut-reserved_all old before).1)
 
-pub returns-then-is_err-clause-blocks : goal.returns-then-is_err-clause-blocks
-returns-then-is_err-clause-blocks c = ap (λ (n : Nest). n.blocks) c.cut.ensures.new ∙ (c.reserve_all.ensures.blocks ∙ c.loop-number.invariant.blocks)
-
-pub returns-then-is_err-clause-size : goal.returns-then-is_err-clause-size
-returns-then-is_err-clause-size c = ap (λ (n : Nest). n.size) c.cut.ensures.new ∙ (c.reserve_all.ensures.size ∙ c.loop-number.invariant.size)
-
-pub returns-then-is_err-clause-depth : goal.returns-then-is_err-clause-depth
-returns-then-is_err-clause-depth c = ap (λ (n : Nest). n.depth) c.cut.ensures.new ∙ (c.reserve_all.ensures.depth ∙ c.loop-number.invariant.depth)
-
-pub returns-then-is_err-clause-room : goal.returns-then-is_err-clause-room
-returns-then-is_err-clause-room c = ap (λ (n : Nest). n.room) c.cut.ensures.new ∙ (c.reserve_all.ensures.room ∙ c.loop-number.invariant.room)
-
-pub returns-then-is_err-clause-actions : goal.returns-then-is_err-clause-actions
-returns-then-is_err-clause-actions c = ap (λ (n : Nest). n.actions) c.cut.ensures.new ∙ (c.reserve_all.ensures.actions ∙ c.loop-number.invariant.actions)
+pub returns-then-is_err-clause-kept : goal.returns-then-is_err-clause-kept
+returns-then-is_err-clause-kept c =
+    let still = kept_on c.args.frames.now c.loop-number.frames c.reserve_all.new.frames c.loop-number.invariant.kept c.reserve_all.ensures.kept in
+    kept_on c.args.frames.now c.reserve_all.new.frames c.cut.new.self still (only_writes c.reserve_all.new.frames c.cut.new.self _ c.cut.ensures.new)
 
 pub loop-number-preserved : goal.loop-number-preserved
 loop-number-preserved c =
@@ -84,11 +71,7 @@ loop-number-preserved c =
       may_put = subst (All (λ (p : Piece). MayPut c.reserve_all.new.frames.writes p.word)) (sym more)
           (All-append (λ (p : Piece). MayPut c.reserve_all.new.frames.writes p.word) (range_pieces c.args.to before) here (λ j d l. others _ (i.may_put j d l)) may);
       inner = c.reserve_all.ensures.inner ∙ i.inner;
-      blocks = c.reserve_all.ensures.blocks ∙ i.blocks;
-      size = c.reserve_all.ensures.size ∙ i.size;
-      depth = c.reserve_all.ensures.depth ∙ i.depth;
-      actions = c.reserve_all.ensures.actions ∙ i.actions;
-      room = c.reserve_all.ensures.room ∙ i.room;
+      kept = kept_on c.args.frames.now c.loop-number.frames c.reserve_all.new.frames i.kept c.reserve_all.ensures.kept;
     }
 
 pub returns-clause-rows : goal.returns-clause-rows

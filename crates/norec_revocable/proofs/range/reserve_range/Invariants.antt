@@ -2,6 +2,7 @@ use Rattle.std.proofs.Common.{◌≡◌, All}
 use Rattle.word_pieces.specs.Chunks.{chunks_before}
 use Rattle.write_set.specs.Marks.{MayPut}
 use Rattle.norec_core.specs.Rows.{range_pieces, reserved_all}
+use Rattle.norec_revocable.specs.KeptFrames.{KeepsAllButWrites}
 use Rattle.norec_revocable.proofs.range.reserve_range.Given as goal
 
 abbrev pub invariant-loop-number : goal.invariant-loop-number
@@ -9,9 +10,5 @@ invariant-loop-number l = record {
   rows : l.frames.writes.rows ≡ reserved_all l.fn.frames.writes.rows (range_pieces l.to (chunks_before l.chunks.direction l.chunks.size l.number));
   may_put : All (λ p. MayPut l.frames.writes p.word) (range_pieces l.to (chunks_before l.chunks.direction l.chunks.size l.number));
   inner : l.frames.writes.inner ≡ l.fn.frames.writes.inner;
-  blocks : l.frames.blocks ≡ l.fn.frames.blocks;
-  size : l.frames.size ≡ l.fn.frames.size;
-  depth : l.frames.depth ≡ l.fn.frames.depth;
-  actions : l.frames.actions ≡ l.fn.frames.actions;
-  room : l.frames.room ≡ l.fn.frames.room;
+  kept : KeepsAllButWrites l.fn.frames l.frames;
 }

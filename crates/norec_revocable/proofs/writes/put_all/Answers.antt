@@ -5,10 +5,11 @@ use Rattle.write_set.specs.Rows.{put}
 use Rattle.nest_frames.specs.Nest.{Nest}
 use Rattle.norec_core.specs.Rows.{put_all}
 use Rattle.norec_core.proofs.Accesses.Writings.{put_all_more, some_words}
+use Rattle.norec_revocable.proofs.KeptFrames.{kept_on, only_writes}
 use Rattle.norec_revocable.proofs.writes.put_all.Goals as goal
 
 pub loop-piece-init : goal.loop-piece-init
-loop-piece-init c = record { rows = refl; others = λ word may. may; words = refl; blocks = refl; size = refl; depth = refl; actions = refl; room = refl }
+loop-piece-init c = record { rows = refl; others = λ word may. may; words = refl; kept = refl }
 
 pub put-requires : goal.put-requires
 put-requires c = record {
@@ -27,11 +28,7 @@ loop-piece-preserved c =
           ∙ put_all_more c.args.frames.now.writes.rows (take c.loop-piece.piece-index c.args.pieces.now) p c.args.bytes.now));
       others = λ word may. c.put.ensures.others word (i.others word may);
       words = c.put.ensures.words ∙ i.words;
-      blocks = ap (λ (n : Nest). n.blocks) c.put.ensures.new ∙ i.blocks;
-      size = ap (λ (n : Nest). n.size) c.put.ensures.new ∙ i.size;
-      depth = ap (λ (n : Nest). n.depth) c.put.ensures.new ∙ i.depth;
-      actions = ap (λ (n : Nest). n.actions) c.put.ensures.new ∙ i.actions;
-      room = ap (λ (n : Nest). n.room) c.put.ensures.new ∙ i.room;
+      kept = kept_on c.args.frames.now c.loop-piece.frames c.put.new.self i.kept (only_writes c.loop-piece.frames c.put.new.self _ c.put.ensures.new);
     }
 
 pub returns-clause-rows : goal.returns-clause-rows

@@ -1,6 +1,7 @@
 use Rattle.std.proofs.Common.{◌≡◌, take, map}
 use Rattle.write_set.specs.Marks.{KeepsRoom}
 use Rattle.norec_core.specs.Rows.{put_all}
+use Rattle.norec_revocable.specs.KeptFrames.{KeepsAllButWrites}
 use Rattle.norec_revocable.proofs.writes.put_all.Given as goal
 
 abbrev pub invariant-loop-piece : goal.invariant-loop-piece
@@ -8,9 +9,5 @@ invariant-loop-piece l = record {
   rows : l.frames.writes.rows ≡ put_all l.fn.frames.writes.rows (take l.piece-index l.pieces) l.bytes;
   others : KeepsRoom l.fn.frames.writes l.frames.writes;
   words : map (λ r. r.word) l.frames.writes.rows ≡ map (λ r. r.word) l.fn.frames.writes.rows;
-  blocks : l.frames.blocks ≡ l.fn.frames.blocks;
-  size : l.frames.size ≡ l.fn.frames.size;
-  depth : l.frames.depth ≡ l.fn.frames.depth;
-  actions : l.frames.actions ≡ l.fn.frames.actions;
-  room : l.frames.room ≡ l.fn.frames.room;
+  kept : KeepsAllButWrites l.fn.frames l.frames;
 }

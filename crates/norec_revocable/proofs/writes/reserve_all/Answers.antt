@@ -9,6 +9,7 @@ use Rattle.write_set.specs.Rows.{lookup, reserved, AreEmpty}
 use Rattle.nest_frames.specs.Nest.{Nest, Frame, rows_of}
 use Rattle.norec_core.specs.Rows.{reserved_all}
 use Rattle.norec_core.proofs.Accesses.Writings.{cut-reserved_all, reserved_all_more, some_kept_all, not_ok, on_err, on_ok}
+use Rattle.norec_revocable.proofs.KeptFrames.{kept_on, only_writes}
 use Rattle.norec_revocable.proofs.writes.reserve_all.Goals as goal
 
 pub loop-piece-init : goal.loop-piece-init
@@ -17,15 +18,11 @@ loop-piece-init c = record {
   may_put = All-nil (λ (p : Piece). MayPut c.args.frames.now.writes p.word);
   inner = refl;
   others = λ word may. may;
-  blocks = refl;
-  size = refl;
-  depth = refl;
-  actions = refl;
-  room = refl;
+  kept = refl;
 }
 
 pub reserve-requires : goal.reserve-requires
-reserve-requires c = subst (λ (bs : List Frame). 0 < length bs) (sym c.loop-piece.invariant.blocks) c.requires.open
+reserve-requires c = subst (λ (bs : List Frame). 0 < length bs) (sym (ap (λ (n : Nest). n.blocks) c.loop-piece.invariant.kept)) c.requires.open
 
 pub cut-requires : goal.cut-requires
 cut-requires c =
@@ -52,30 +49,11 @@ returns-then-is_err-clause-inner c =
     let same = on_err c.reserve.result c.reserve.ensures.err (sym c.is_err.ensures.value ∙ c.if-is_err.true) in
     ap (λ (n : Nest). n.writes.inner) c.cut.ensures.new ∙ (ap (λ (n : Nest). n.writes.inner) same ∙ c.loop-piece.invariant.inner)
 
-pub returns-then-is_err-clause-blocks : goal.returns-then-is_err-clause-blocks
-returns-then-is_err-clause-blocks c =
+pub returns-then-is_err-clause-kept : goal.returns-then-is_err-clause-kept
+returns-then-is_err-clause-kept c =
     let same = on_err c.reserve.result c.reserve.ensures.err (sym c.is_err.ensures.value ∙ c.if-is_err.true) in
-    ap (λ (n : Nest). n.blocks) c.cut.ensures.new ∙ (ap (λ (n : Nest). n.blocks) same ∙ c.loop-piece.invariant.blocks)
-
-pub returns-then-is_err-clause-size : goal.returns-then-is_err-clause-size
-returns-then-is_err-clause-size c =
-    let same = on_err c.reserve.result c.reserve.ensures.err (sym c.is_err.ensures.value ∙ c.if-is_err.true) in
-    ap (λ (n : Nest). n.size) c.cut.ensures.new ∙ (ap (λ (n : Nest). n.size) same ∙ c.loop-piece.invariant.size)
-
-pub returns-then-is_err-clause-depth : goal.returns-then-is_err-clause-depth
-returns-then-is_err-clause-depth c =
-    let same = on_err c.reserve.result c.reserve.ensures.err (sym c.is_err.ensures.value ∙ c.if-is_err.true) in
-    ap (λ (n : Nest). n.depth) c.cut.ensures.new ∙ (ap (λ (n : Nest). n.depth) same ∙ c.loop-piece.invariant.depth)
-
-pub returns-then-is_err-clause-room : goal.returns-then-is_err-clause-room
-returns-then-is_err-clause-room c =
-    let same = on_err c.reserve.result c.reserve.ensures.err (sym c.is_err.ensures.value ∙ c.if-is_err.true) in
-    ap (λ (n : Nest). n.room) c.cut.ensures.new ∙ (ap (λ (n : Nest). n.room) same ∙ c.loop-piece.invariant.room)
-
-pub returns-then-is_err-clause-actions : goal.returns-then-is_err-clause-actions
-returns-then-is_err-clause-actions c =
-    let same = on_err c.reserve.result c.reserve.ensures.err (sym c.is_err.ensures.value ∙ c.if-is_err.true) in
-    ap (λ (n : Nest). n.actions) c.cut.ensures.new ∙ (ap (λ (n : Nest). n.actions) same ∙ c.loop-piece.invariant.actions)
+    let still = kept_on c.args.frames.now c.loop-piece.frames c.reserve.new.self c.loop-piece.invariant.kept (only_writes c.loop-piece.frames c.reserve.new.self c.loop-piece.frames.writes same) in
+    kept_on c.args.frames.now c.reserve.new.self c.cut.new.self still (only_writes c.reserve.new.self c.cut.new.self _ c.cut.ensures.new)
 
 pub loop-piece-preserved : goal.loop-piece-preserved
 loop-piece-preserved c =
@@ -91,11 +69,7 @@ loop-piece-preserved c =
           (λ j d l. c.reserve.ensures.others _ (i.may_put j d l)) (on_ok c.reserve.result c.reserve.ensures.may_put fine);
       inner = ap (λ (n : Nest). n.writes.inner) ok ∙ i.inner;
       others = λ word may. c.reserve.ensures.others word (i.others word may);
-      blocks = ap (λ (n : Nest). n.blocks) ok ∙ i.blocks;
-      size = ap (λ (n : Nest). n.size) ok ∙ i.size;
-      depth = ap (λ (n : Nest). n.depth) ok ∙ i.depth;
-      actions = ap (λ (n : Nest). n.actions) ok ∙ i.actions;
-      room = ap (λ (n : Nest). n.room) ok ∙ i.room;
+      kept = kept_on c.args.frames.now c.loop-piece.frames c.reserve.new.self i.kept (only_writes c.loop-piece.frames c.reserve.new.self _ ok);
     }
 
 pub returns-clause-rows : goal.returns-clause-rows
@@ -113,5 +87,5 @@ returns-then-is_err-clause-grows c roomy =
     let i = c.loop-piece.invariant in
     let before = some_kept_all c.args.frames.now.writes.rows (take c.loop-piece.piece-index c.args.pieces.now) p.word (roomy.0 c.loop-piece.piece-index none c.loop-piece-test.true) in
     let here = subst (λ (rows : List Row). IsSome (lookup p.word rows)) (sym i.rows) before in
-    let new = subst (λ (bs : List Frame). lookup p.word (rows_of bs) ≡ None) (sym i.blocks) (roomy.1 c.loop-piece.piece-index none c.loop-piece-test.true) in
+    let new = subst (λ (bs : List Frame). lookup p.word (rows_of bs) ≡ None) (sym (ap (λ (n : Nest). n.blocks) i.kept)) (roomy.1 c.loop-piece.piece-index none c.loop-piece-test.true) in
     absurd (not_ok c.reserve.result (sym c.is_err.ensures.value ∙ c.if-is_err.true) (c.reserve.ensures.has_row here new))

@@ -1,6 +1,7 @@
 use Rattle.std.proofs.Common.{◌≡◌, All, take}
 use Rattle.write_set.specs.Marks.{KeepsRoom, MayPut}
 use Rattle.norec_core.specs.Rows.{reserved_all}
+use Rattle.norec_revocable.specs.KeptFrames.{KeepsAllButWrites}
 use Rattle.norec_revocable.proofs.writes.reserve_all.Given as goal
 
 abbrev pub invariant-loop-piece : goal.invariant-loop-piece
@@ -9,9 +10,5 @@ invariant-loop-piece l = record {
   may_put : All (λ p. MayPut l.frames.writes p.word) (take l.piece-index l.pieces);
   inner : l.frames.writes.inner ≡ l.fn.frames.writes.inner;
   others : KeepsRoom l.fn.frames.writes l.frames.writes;
-  blocks : l.frames.blocks ≡ l.fn.frames.blocks;
-  size : l.frames.size ≡ l.fn.frames.size;
-  depth : l.frames.depth ≡ l.fn.frames.depth;
-  actions : l.frames.actions ≡ l.fn.frames.actions;
-  room : l.frames.room ≡ l.fn.frames.room;
+  kept : KeepsAllButWrites l.fn.frames l.frames;
 }

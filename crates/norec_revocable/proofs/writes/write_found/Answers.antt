@@ -18,4 +18,4 @@ returns-clause-written c done =
     c.put_found.ensures.rows c.if-not-put_found.false ∙ (λ i. put_all (reserved_all s.frames.writes.rows (pieces_of at (size i))) (pieces_of at (size i)) (same i)) in
     rw c.start_call.ensures
     (write_turns s c.args.hint at value f c.requires.sound c.requires.served (omega (arith, size, c.size.ensures.most)) (subst AreBytes same c.put_found.ensures.bytes)
-    rows c.put_found.ensures.blocks c.put_found.ensures.size c.put_found.ensures.depth c.put_found.ensures.actions c.put_found.ensures.room)
+    rows c.put_found.ensures.kept)

@@ -18,4 +18,4 @@ returns-clause-written c done =
     c.put_next.ensures.rows c.if-not-put_next.false ∙ (λ i. put_all (reserved_all s.frames.writes.rows (pieces_of at (size i))) (pieces_of at (size i)) (same i)) in
     rw c.start_call.ensures
     (write_turns s c.args.hint at value f c.requires.sound c.requires.served (omega (arith, size, c.size.ensures.most)) (subst AreBytes same c.put_next.ensures.bytes)
-    rows c.put_next.ensures.blocks c.put_next.ensures.size c.put_next.ensures.depth c.put_next.ensures.actions c.put_next.ensures.room)
+    rows c.put_next.ensures.kept)

@@ -34,4 +34,4 @@ returns c =
     c.in_ok-put_value.ensures.rows ∙ (λ i. put_all (reserved_all s.frames.writes.rows (pieces_of at (size i))) (pieces_of at (size i)) (same i)) in
     rw c.start_call.ensures
     (write_turns s c.args.hint at value f c.requires.sound c.requires.served (omega (arith, size, c.size.ensures.most)) (subst AreBytes same c.put_value.ensures.bytes)
-    rows c.put_value.ensures.blocks c.put_value.ensures.size c.put_value.ensures.depth c.put_value.ensures.actions c.put_value.ensures.room)
+    rows c.put_value.ensures.kept)
