@@ -1,5 +1,5 @@
 -- What the runs of a block come to.
-use Rattle.std.proofs.Common.{◌≡◌, ◌∙◌, inl, inr, Result, Ok, Err, ap, refl, subst, sym, true≢false, false, true, arith}
+use Rattle.std.proofs.Common.{◌≡◌, ◌∙◌, inl, inr, Result, Ok, Err, ap, refl, subst, sym, true≢false, false, true}
 use Rattle.std.specs.Borrow.{MutBor}
 use Rattle.std.specs.Fn.{CalledAtMut, Mut}
 use Rattle.norec_core.specs.Core.{in_transaction}

@@ -14,4 +14,5 @@ pub mod Deeds
 mod Examples
 mod PlainBlocks
 pub mod Plain
+mod Chains
 mod Came

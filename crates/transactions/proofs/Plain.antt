@@ -37,7 +37,6 @@ use Rattle.itm_runtime.specs.Served.{Start, came_over, left_over, memory_in}
 use Rattle.itm_runtime.specs.Standing.{Standing, start_of}
 use Rattle.itm_runtime.specs.Stops.{GoesOn}
 use Rattle.itm_runtime.specs.Ties.{Stands, memory_of}
-use Rattle.itm_runtime.specs.declared.stop.Stop.{Stop}
 use Rattle.itm_runtime.specs.declared.stop.Stop.TheVariants as stops
 use Rattle.itm_runtime.proofs.Steps.CallsInHand.{is_memory}
 use Rattle.transactions.specs.Lent.{Lent}
@@ -48,9 +47,10 @@ use Rattle.transactions.specs.declared.tried.Tried.{Tried}
 use Rattle.transactions.specs.declared.tried.Tried.TheVariants.{Done}
 use Rattle.transactions.specs.declared.stopped.Stopped.{Stopped}
 use Rattle.transactions.specs.declared.stopped.Stopped.TheVariants.{Engine, Cancelled}
-use Rattle.transactions.specs.Runs.{EndsBy, HasBegun, KeepsBody, KeepsLent, LeftBy, Tells, cancel_told, commit_told, stop_told, usual}
+use Rattle.transactions.specs.Runs.{EndsBy, HasBegun, IsTry, KeepsBody, KeepsLent, LeftBy, Tells, commit_told, usual}
 use Rattle.transactions.proofs.Looks.{engine_open}
 use Rattle.transactions.proofs.RanActions.{ran_as, same_after, same_left, same_replies}
+use Rattle.transactions.proofs.Tries.{is_other, not_cancelled, not_stopped, told_at}
 use Rattle.transactions.proofs.Modes.{KeepsMode, back_mode, keeps_begin, keeps_commit, rolled_mode, shut_revocable, stays_revocable}
 
 -- ## The mode
@@ -287,10 +287,6 @@ law words before began made last at wrote w new begins makes a =
 
 -- ## The tries
 
-abbrev told_at : {R E : Type 0} → Tried R E → ℕ
-told_at (Done done) = done.at
-told_at _ = 0
-
 abbrev told_wrote : {R E : Type 0} → Tried R E → Bool
 told_wrote (Done done) = done.wrote
 told_wrote _ = false
@@ -299,26 +295,9 @@ abbrev told_value : {R E : Type 0} → R → Tried R E → R
 told_value value (Done done) = done.value
 told_value value _ = value
 
-abbrev is_done : {R E : Type 0} → Tried R E → Type 0
-is_done (Done done) = Unit {0}
-is_done _ = ⊥
-
 module _ {F R E : Type 0} (fn : Mut F (MutBor Lent × Unit {0}) (Result R (Stopped E) × (MutBor Lent × Unit {0}))) (makings : Makings fn) (passed : F) (first : Words) (done : Value R) (new : Standing) where
   abbrev told : Tried R E
   told = Done done
-
-  not_stopped : (why : Stop) (b : Bool) → told ≡ stop_told why b → ⊥
-  not_stopped (stops.Refused refusal) true e = subst is_done e tt
-  not_stopped (stops.Refused refusal) false e = subst is_done e tt
-  not_stopped (stops.Conflict clock word) b e = subst is_done e tt
-  not_stopped (stops.Restarted clock word) b e = subst is_done e tt
-  not_stopped (stops.Busy clock) b e = subst is_done e tt
-  not_stopped (stops.Full at) b e = subst is_done e tt
-  not_stopped stops.Memory b e = subst is_done e tt
-
-  not_cancelled : (why : E) (b : Bool) → told ≡ cancel_told why b → ⊥
-  not_cancelled why true e = subst is_done e tt
-  not_cancelled why false e = subst is_done e tt
 
   module _ (before : Standing) (again : Bool) (answer : Answer) (began : Lent) (begins : HasBegun before again answer began) (here : began.words ≡ first) (body body' : F) (same : KeepsBody fn → body ≡ passed) (last : Lent) where
     committed : (value : R) (a : Answer) (stood : Lent) → IsAnswered last.words (start_of last.thread Commit false) a stood.thread.pass stood.thread.engine → told ≡ commit_told value a → LeftBy a stood new → CalledAtMut fn body began (Ok value) body' last → IsPlainRun fn makings passed first done new
@@ -339,17 +318,20 @@ module _ {F R E : Type 0} (fn : Mut F (MutBor Lent × Unit {0}) (Result R (Stopp
           plain = law began.words before began made.0 last.thread done.at done.wrote last.words new (opens_on before again answer began begins.stood begins.outside begins.answered begins.goes_on) made.1
               (subst (λ (x : Answer). IsAnswered last.words (start_of last.thread Commit false) x new.pass new.engine) told_so a);
         }
-    committed value (answers.Reply r) stood answered e left runs = absurd (subst is_done e tt)
-    committed value (answers.Conflict clock word) stood answered e left runs = absurd (subst is_done e tt)
-    committed value (answers.Restarted clock word) stood answered e left runs = absurd (subst is_done e tt)
-    committed value (answers.Busy clock) stood answered e left runs = absurd (subst is_done e tt)
-    committed value (answers.Full at) stood answered e left runs = absurd (subst is_done e tt)
+    committed value (answers.Reply r) stood answered e left runs = absurd (subst is_other e tt)
+    committed value (answers.Conflict clock word) stood answered e left runs = absurd (subst is_other e tt)
+    committed value (answers.Restarted clock word) stood answered e left runs = absurd (subst is_other e tt)
+    committed value (answers.Busy clock) stood answered e left runs = absurd (subst is_other e tt)
+    committed value (answers.Full at) stood answered e left runs = absurd (subst is_other e tt)
 
     ran : (gives : Result R (Stopped E)) → CalledAtMut fn body began gives body' last → EndsBy gives last told new → IsPlainRun fn makings passed first done new
     ran (Ok value) runs ends = committed value ends.answer ends.then ends.answered ends.told_is ends.left runs
-    ran (Err (Engine why)) runs ends = absurd (not_stopped why (in_transaction last.thread.engine) ends.1)
-    ran (Err (Cancelled why)) runs ends = absurd (not_cancelled why (in_transaction last.thread.engine) ends.1)
+    ran (Err (Engine why)) runs ends = absurd (not_stopped told why (in_transaction last.thread.engine) ends.1 tt)
+    ran (Err (Cancelled why)) runs ends = absurd (not_cancelled told why (in_transaction last.thread.engine) ends.1 tt)
+
+  tried_plain : (f : F) (old : Lent) (again : Bool) (f' : F) (words : Words) → old.words ≡ first → (KeepsBody fn → f ≡ passed) → IsTry fn f old again told f' (record { words = words; thread = new }) → IsPlainRun fn makings passed first done new
+  tried_plain f old again f' words here same (inl run) = ran old.thread again run.answer run.began run.begins (run.here ∙ here) f f' same run.last run.gives run.runs run.ends
+  tried_plain f old again f' words here same (inr none) = absurd (not_stopped told none.stop true none.told_is tt)
 
   pub plain_run : (words : Words) → words ≡ first → (first_of : F) → (KeepsBody fn → first_of ≡ passed) → KeepsLent fn → Tells fn first_of words told new → IsPlainRun fn makings passed first done new
-  plain_run words is first_of same kept (inl run) = ran run.before run.again run.answer run.began run.begins (run.here kept ∙ is) run.body run.body' (λ steady. run.same steady ∙ same steady) run.last run.gives run.runs run.ends
-  plain_run words is first_of same kept (inr none) = absurd (not_stopped none.stop true none.told_is)
+  plain_run words is first_of same kept t = tried_plain t.body t.old t.again t.body' t.words' (t.here kept ∙ is) (λ steady. t.same steady ∙ same steady) t.tried

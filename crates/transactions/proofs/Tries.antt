@@ -1,5 +1,5 @@
 -- What a try of a body tells.
-use Rattle.std.proofs.Common.{◌≡◌, ◌∙◌, inl, inr, Bool, true, false, ℕ, List, Result, Err, ap, refl}
+use Rattle.std.proofs.Common.{◌≡◌, ◌∙◌, inr, Bool, true, false, ℕ, List, Result, ap, refl, subst}
 use Rattle.std.specs.Borrow.{MutBor}
 use Rattle.std.specs.Fn.{Mut}
 use Rattle.norec_core.specs.declared.answer.Answer.{Answer}
@@ -8,49 +8,25 @@ use Rattle.shared_words.specs.InGlobal.{Words}
 use Rattle.itm_runtime.specs.Standing.{Standing}
 use Rattle.itm_runtime.specs.declared.stop.Stop.{Stop}
 use Rattle.itm_runtime.specs.declared.stop.Stop.TheVariants as stops
-use Rattle.transactions.specs.declared.failed.Failed.{Failed}
 use Rattle.transactions.specs.declared.failed.Failed.TheVariants as failures
 use Rattle.transactions.specs.declared.tried.Tried.{Tried}
-use Rattle.transactions.specs.declared.tried.Tried.TheVariants.{Conflict, Failed as Fails}
+use Rattle.transactions.specs.declared.tried.Tried.TheVariants.{Done, Conflict, Failed as Fails}
 use Rattle.transactions.specs.declared.stopped.Stopped.{Stopped}
 use Rattle.transactions.specs.Lent.{Lent}
-use Rattle.transactions.specs.Runs.{ComesTo, IsGivenUp, KeepsBody, KeepsLent, LeftBy, Tells, cancel_told, commit_told, mine_then, stop_told}
+use Rattle.transactions.specs.Runs.{IsGivenUp, KeepsBody, KeepsLent, LeftBy, Tells, cancel_told, commit_told, mine_then, stop_told}
 
-module _ {F R E : Type 0} (fn : Mut F (MutBor Lent × Unit {0}) (Result R (Stopped E) × (MutBor Lent × Unit {0}))) (words first : Words) (is : KeepsLent fn → words ≡ first) (body passed : F) (same : KeepsBody fn → body ≡ passed) where
-  -- told of the words that the tries began on
-  pub rebased : (told : Tried R E) (new : Standing) → Tells fn body words told new → Tells fn passed first told new
-  rebased told new (inl run) = inl (record {
-    before = run.before;
-    again = run.again;
-    answer = run.answer;
-    began = run.began;
-    begins = run.begins;
-    here = λ keeps. run.here keeps ∙ is keeps;
-    body = run.body;
-    same = λ steady. run.same steady ∙ same steady;
-    body' = run.body';
-    gives = run.gives;
-    last = run.last;
-    runs = run.runs;
-    ends = run.ends;
-  })
-  rebased told new (inr none) = inr (record {
-    before = none.before;
-    again = none.again;
-    stop = none.stop;
-    then = none.then;
-    begins = none.begins;
-    here = λ keeps. none.here keeps ∙ is keeps;
-    given_up = none.given_up;
-    told_is = none.told_is;
-  })
-
-  pub came_failed : (why : Failed E) (new : Standing) → Tells fn body words (Fails why) new → ComesTo fn passed first (Err why) new
-  came_failed (failures.Cancelled why) new t = rebased _ new t
-  came_failed (failures.Refused refusal) new t = rebased _ new t
-  came_failed failures.Full new t = rebased _ new t
-  came_failed failures.Memory new t = rebased _ new t
-  came_failed failures.Tries new t = tt
+-- told of the words and the body that came first
+pub rebased : {F R E : Type 0} (fn : Mut F (MutBor Lent × Unit {0}) (Result R (Stopped E) × (MutBor Lent × Unit {0}))) (words first : Words) → (KeepsLent fn → words ≡ first) → (body passed : F) → (KeepsBody fn → body ≡ passed) → (told : Tried R E) (new : Standing) → Tells fn body words told new → Tells fn passed first told new
+rebased fn words first is body passed same told new t = record {
+  body = t.body;
+  same = λ steady. t.same steady ∙ same steady;
+  old = t.old;
+  here = λ keeps. t.here keeps ∙ is keeps;
+  again = t.again;
+  body' = t.body';
+  words' = t.words';
+  tried = t.tried;
+}
 
 module _ {R E : Type 0} (mine : List ℕ) where
   abbrev leaves : Tried R E → Type 0
@@ -86,3 +62,40 @@ gave_up (answers.Conflict clock word) then new other up = inr up
 gave_up (answers.Restarted clock word) then new other up = inr up
 gave_up (answers.Busy clock) then new other up = inr up
 gave_up (answers.Full at) then new other up = inr up
+
+abbrev pub told_at : {R E : Type 0} → Tried R E → ℕ
+told_at (Done done) = done.at
+told_at _ = 0
+
+-- ## What neither a stop nor a body that cancels is told as
+
+abbrev pub is_other : {R E : Type 0} → Tried R E → Type 0
+is_other (Done done) = Unit {0}
+is_other (Fails failures.Tries) = Unit {0}
+is_other told = ⊥
+
+pub not_stopped : {R E : Type 0} (told : Tried R E) (why : Stop) (was_open : Bool) → told ≡ stop_told why was_open → is_other told → ⊥
+not_stopped told (stops.Refused refusal) true is other = subst is_other is other
+not_stopped told (stops.Refused refusal) false is other = subst is_other is other
+not_stopped told (stops.Conflict clock word) was_open is other = subst is_other is other
+not_stopped told (stops.Restarted clock word) was_open is other = subst is_other is other
+not_stopped told (stops.Busy clock) was_open is other = subst is_other is other
+not_stopped told (stops.Full at) was_open is other = subst is_other is other
+not_stopped told stops.Memory was_open is other = subst is_other is other
+
+pub not_cancelled : {R E : Type 0} (told : Tried R E) (why : E) (was_open : Bool) → told ≡ cancel_told why was_open → is_other told → ⊥
+not_cancelled told why true is other = subst is_other is other
+not_cancelled told why false is other = subst is_other is other
+
+-- nor is a commit told so, unless it is done
+abbrev pub wants_tries : {R E : Type 0} → Tried R E → Type 0
+wants_tries (Fails failures.Tries) = Unit {0}
+wants_tries told = ⊥
+
+pub not_committed : {R E : Type 0} (told : Tried R E) (value : R) (a : Answer) → told ≡ commit_told value a → wants_tries told → ⊥
+not_committed told value (answers.Committed at wrote) is wants = subst wants_tries is wants
+not_committed told value (answers.Full at) is wants = subst wants_tries is wants
+not_committed told value (answers.Reply reply) is wants = subst wants_tries is wants
+not_committed told value (answers.Conflict clock word) is wants = subst wants_tries is wants
+not_committed told value (answers.Restarted clock word) is wants = subst wants_tries is wants
+not_committed told value (answers.Busy clock) is wants = subst wants_tries is wants

@@ -1,5 +1,5 @@
 -- What a body is lent, and leaves.
-use Rattle.std.specs.Prelude.{◌≡◌, ℕ, false, List}
+use Rattle.std.specs.Prelude.{◌≡◌, ℕ, false, List, length}
 use Rattle.shared_words.specs.InGlobal.{Words}
 use Rattle.shared_words.specs.Passes.{Owns, view_of}
 use Rattle.itm_runtime.specs.Served.{Went}
@@ -22,6 +22,10 @@ mine_of l = (view_of l.thread.pass).mine
 -- how often the pass has looked at the clock
 abbrev pub looks_of : Lent → ℕ
 looks_of l = (view_of l.thread.pass).looks
+
+-- how many commits the pass has seen
+abbrev pub seen_of : Lent → ℕ
+seen_of l = length (view_of l.thread.pass).seen
 
 -- the same words; the pass's own commits are these, and what it knows of all commits has only grown
 pub record IsLeft (mine : List ℕ) (old new : Lent) : Type 0 where

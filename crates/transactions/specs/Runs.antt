@@ -106,6 +106,7 @@ LeftBy _ then new = (new ≡ then.thread) ⊎ IsGivenUp then new
 
 -- the commit of a body's transaction, where it gave this value: what has not committed is rolled back
 pub record HasEnded {R E : Type 0} (last : Lent) (value : R) (told : Tried R E) (new : Standing) : Type 0 where
+  pub stood : Stands (view_of last.thread.pass) last.thread.engine
   pub answer : Answer
   pub then : Lent
   pub answered : IsAnswered last.words (start_of last.thread Commit false) answer then.thread.pass then.thread.engine
@@ -127,36 +128,43 @@ module _ {F R E : Type 0} (fn : Mut F (MutBor Lent × Unit {0}) (Result R (Stopp
   abbrev pub KeepsBody : Type 0
   KeepsBody = (f : F) (x : Lent) (r : Result R (Stopped E)) (f' : F) (x' : Lent) → CalledAtMut fn f x r f' x' → f' ≡ f
 
-  -- a transaction began, on these words where bodies hand back what they are lent; the body was run in it, the first one where bodies are left as they were, and it ended by what that gave
-  pub record HasRun (first : F) (words : Words) (told : Tried R E) (new : Standing) : Type 0 where
-    pub before : Standing
-    pub again : Bool
+  -- a transaction began on what was lent, the body was run in it, and it ended by what that gave
+  pub record HasRun (f : F) (old : Lent) (again : Bool) (told : Tried R E) (f' : F) (new : Lent) : Type 0 where
     pub answer : Answer
     pub began : Lent
-    pub begins : HasBegun before again answer began
-    pub here : KeepsLent → began.words ≡ words
-    pub body : F
-    pub same : KeepsBody → body ≡ first
-    pub body' : F
+    pub begins : HasBegun old.thread again answer began
+    pub here : began.words ≡ old.words
     pub gives : Result R (Stopped E)
     pub last : Lent
-    pub runs : CalledAtMut fn body began gives body' last
-    pub ends : EndsBy gives last told new
+    pub runs : CalledAtMut fn f began gives f' last
+    pub ends : EndsBy gives last told new.thread
+    pub stays : new.words ≡ last.words
 
-  -- none began
-  pub record HasNotBegun (words : Words) (told : Tried R E) (new : Standing) : Type 0 where
-    pub before : Standing
-    pub again : Bool
+  -- none began, and the body was not run
+  pub record HasNotBegun (f : F) (old : Lent) (again : Bool) (told : Tried R E) (f' : F) (new : Lent) : Type 0 where
     pub stop : Stop
     pub then : Lent
-    pub begins : BeginTold before again (answer_of stop) then
-    pub here : KeepsLent → then.words ≡ words
-    pub given_up : IsGivenUp then new
+    pub begins : BeginTold old.thread again (answer_of stop) then
+    pub here : then.words ≡ old.words
+    pub given_up : IsGivenUp then new.thread
+    pub stays : new.words ≡ then.words
+    pub not_run : f' ≡ f
     pub told_is : told ≡ stop_told stop true
 
-  -- what a try on these words is told as
-  abbrev pub Tells : F → Words → Tried R E → Standing → Type 0
-  Tells first words told new = HasRun first words told new ⊎ HasNotBegun words told new
+  -- one try of the body, `again` where an earlier one got past its begin, is told so, and leaves the body and what was lent so
+  abbrev pub IsTry : F → Lent → Bool → Tried R E → F → Lent → Type 0
+  IsTry f old again told f' new = HasRun f old again told f' new ⊎ HasNotBegun f old again told f' new
+
+  -- some try was told so and left the thread so: of this body where bodies are left as they were, and on these words where bodies hand back what they are lent
+  pub record Tells (first : F) (words : Words) (told : Tried R E) (new : Standing) : Type 0 where
+    pub body : F
+    pub same : KeepsBody → body ≡ first
+    pub old : Lent
+    pub here : KeepsLent → old.words ≡ words
+    pub again : Bool
+    pub body' : F
+    pub words' : Words
+    pub tried : IsTry body old again told body' (record { words = words'; thread = new })
 
   -- what all tries come to: what is told of the last one
   abbrev pub ComesTo : F → Words → Result (Value R) (Failed E) → Standing → Type 0

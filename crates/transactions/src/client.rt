@@ -23,10 +23,11 @@ pub struct Client {
 }
 
 impl Client {
-    ghost use Rattle.transactions.specs.Lent.{IsLeft, looks_of, mine_of};
+    ghost use Rattle.transactions.specs.Lent.{IsLeft, looks_of, mine_of, seen_of};
     ghost use Rattle.transactions.specs.declared.failed.Failed.TheVariants.{Tries};
     ghost use Rattle.transactions.specs.Plain.{IsPlainRun, Makings};
-    ghost use Rattle.transactions.specs.Runs.{ComesTo, IsCancelled, KeepsBody, KeepsLent, mine_left};
+    ghost use Rattle.transactions.specs.Runs.{ComesTo, IsCancelled, KeepsLent, mine_left};
+    ghost use Rattle.transactions.specs.Tries.{HasTried};
 
     /// A thread outside a transaction, over the words that own its pass. Each body is tried as often as `tries` says.
     pub fn new(words: Arc<Words>, thread: Thread, tries: u64) -> Client
@@ -65,6 +66,9 @@ impl Client {
         mut body: F,
     ) -> Result<Done<R>, Failed<E>>
         requires callable { F.IsAlwaysCallable body }
+
+        // All its tries in order: what it tells is what the first one came to after which none comes.
+        ensures ran { (last : F) × HasTried F.FnMut body self.old.transaction self.old.tries result last self.new.transaction }
         ensures comes { ComesTo F.FnMut body self.old.transaction.words result self.new.transaction.thread }
 
         // Where it is known what each run does, the calls of the run that gave the value are the plain machine's at the position
@@ -73,6 +77,9 @@ impl Client {
 
         // The body hands back what it was lent: the words are the same, and the pass's own commits are those told.
         ensures left { KeepsLent F.FnMut → IsLeft (mine_left (mine_of self.old.transaction) result) self.old.transaction self.new.transaction }
+
+        // The position told is no less than the number of the commits that its thread had seen before.
+        ensures late { KeepsLent F.FnMut → IfOk result (λ done. seen_of self.old.transaction ≤ done.at) }
 
         // It gives up for want of tries after so many looks at the clock, one for each.
         ensures tried { KeepsLent F.FnMut → IfErr result (λ why. why ≡ Tries → looks_of self.old.transaction + self.old.tries ≤ looks_of self.new.transaction) }
@@ -88,10 +95,10 @@ impl Client {
     ) -> Result<Done<R>, Failed<E>>
         requires callable { F.IsAlwaysCallable body.old }
         ensures callable { F.IsAlwaysCallable body.new }
-        ensures same { KeepsBody F.FnMut → body.new ≡ body.old }
         ensures tries { self.new.tries ≡ self.old.tries }
-        ensures comes { ComesTo F.FnMut body.old self.old.transaction.words result self.new.transaction.thread }
+        ensures ran { HasTried F.FnMut body.old self.old.transaction self.old.tries result body.new self.new.transaction }
         ensures left { KeepsLent F.FnMut → IsLeft (mine_left (mine_of self.old.transaction) result) self.old.transaction self.new.transaction }
+        ensures late { KeepsLent F.FnMut → IfOk result (λ done. seen_of self.old.transaction ≤ done.at) }
         ensures tried { KeepsLent F.FnMut → IfErr result (λ why. why ≡ Tries → looks_of self.old.transaction + self.old.tries ≤ looks_of self.new.transaction) }
         ensures cancelled { KeepsLent F.FnMut → IsCancelled result → looks_of self.old.transaction < looks_of self.new.transaction }
     {

@@ -35,7 +35,7 @@ pub(crate) enum Tried<R, E> {
 
 impl Transaction {
     ghost use Rattle.transactions.specs.Lent.{IsKept, IsLeft, looks_of, mine_of};
-    ghost use Rattle.transactions.specs.Runs.{BeginTold, HasLooked, HasBegun, HasEnded, IsGivenUp, KeepsBody, KeepsLent, Tells, cancel_told, mine_then, stop_told};
+    ghost use Rattle.transactions.specs.Runs.{BeginTold, HasLooked, HasBegun, HasEnded, IsGivenUp, IsTry, KeepsLent, cancel_told, mine_then, stop_told};
 
     /// Begins, runs the body, and ends.
     pub(crate) fn attempt<R: Drop, E: Drop, F: FnMut(&mut Transaction) -> Result<R, Stopped<E>>>(
@@ -47,8 +47,7 @@ impl Transaction {
         requires closed { in_transaction self.old.thread.engine ≡ false }
         ensures callable { F.IsAlwaysCallable body.new }
         ensures closed { in_transaction self.new.thread.engine ≡ false }
-        ensures tells { Tells F.FnMut body.old self.old.words result self.new.thread }
-        ensures same { KeepsBody F.FnMut → body.new ≡ body.old }
+        ensures tells { IsTry F.FnMut body.old self.old again result body.new self.new }
         ensures left { KeepsLent F.FnMut → IsLeft (mine_then (mine_of self.old) result) self.old self.new }
         ensures looks { KeepsLent F.FnMut → HasLooked result → looks_of self.old < looks_of self.new }
     {
@@ -84,6 +83,8 @@ impl Transaction {
         ensures left { IsLeft (mine_then (mine_of self.old) result) self.old self.new }
         ensures ends { HasEnded self.old value result self.new.thread }
     {
+        // (its clause says that the thread stands, which the clause `ends` tells of)
+        let _clock = self.thread.clock();
         match self.thread.commit(&*self.words) {
             Answer::Committed { at, wrote } => Tried::Done(Done { value, at, wrote }),
             Answer::Full { .. } => Tried::Failed(Failed::Full),

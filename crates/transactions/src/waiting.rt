@@ -11,10 +11,11 @@ use crate::tried::Done;
 use std::hint::spin_loop;
 
 impl Client {
-    ghost use Rattle.transactions.specs.Lent.{IsLeft, looks_of, mine_of};
+    ghost use Rattle.transactions.specs.Lent.{IsLeft, looks_of, mine_of, seen_of};
     ghost use Rattle.transactions.specs.declared.failed.Failed.TheVariants.{Tries};
     ghost use Rattle.transactions.specs.Plain.{IsPlainRun, Makings};
     ghost use Rattle.transactions.specs.Runs.{ComesTo, KeepsLent, mine_left};
+    ghost use Rattle.transactions.specs.Tries.{HasRetried};
 
     /// Runs the body as `atomically` does, and, where the body has cancelled it, as a new transaction, at most so many times
     /// more. So a body waits for what other threads are to commit: it cancels until it finds that. It tells what the last
@@ -25,6 +26,9 @@ impl Client {
         mut body: F,
     ) -> Result<Done<R>, Failed<E>>
         requires callable { F.IsAlwaysCallable body }
+
+        // All its transactions in order: those that the body cancelled, and the one that it tells.
+        ensures ran { (last : F) × HasRetried F.FnMut body self.old.transaction self.old.tries retries result last self.new.transaction }
         ensures comes { ComesTo F.FnMut body self.old.transaction.words result self.new.transaction.thread }
 
         // Where it is known what each run does, the calls of the run that gave the value are the plain machine's at the position
@@ -33,6 +37,9 @@ impl Client {
 
         // The body hands back what it was lent: the words are the same, and the pass's own commits are those told.
         ensures left { KeepsLent F.FnMut → IsLeft (mine_left (mine_of self.old.transaction) result) self.old.transaction self.new.transaction }
+
+        // The position told is no less than the number of the commits that its thread had seen before.
+        ensures late { KeepsLent F.FnMut → IfOk result (λ done. seen_of self.old.transaction ≤ done.at) }
 
         // It gives up for want of tries after so many looks at the clock, one for each.
         ensures tried { KeepsLent F.FnMut → IfErr result (λ why. why ≡ Tries → looks_of self.old.transaction + self.old.tries ≤ looks_of self.new.transaction) }

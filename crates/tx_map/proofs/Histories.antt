@@ -1,37 +1,43 @@
 -- From what each commit does to the bytes that all have left.
-use Rattle.std.proofs.Common.{◌≡◌, ◌∙◌, ℕ, zero, suc, ◌+◌, ◌-◌, ◌<◌, ◌≤◌, List, length, ap, refl, subst, sym, arith}
+use Rattle.std.proofs.Common.{◌≡◌, ◌∙◌, ℕ, zero, suc, ◌+◌, ◌-◌, ◌*◌, ◌<◌, ◌≤◌, List, [], ◌∷◌, length, ap, refl, subst, sym, arith}
 use Rattle.shared_words.specs.declared.view.View.{View}
 use Rattle.itm_types.specs.Memory.{bytes_of}
 use Rattle.shared_words.specs.Commits.{StartsWith, memory_at}
 use Rattle.shared_words.proofs.ListPlaces.{starts_le}
 use Rattle.shared_words.proofs.StoredWords.{memory_stays}
-use Rattle.tx_map.specs.Pairs.{HasOnlyPairs, HasPair, KeepsPairs}
+use Rattle.tx_map.specs.declared.table.Put.{Put}
+use Rattle.tx_map.specs.Pairs.{HasOnlyPairs, HasPair}
+use Rattle.tx_map.specs.Puts.{HasPut}
 use Rattle.tx_map.specs.Told.{bytes_in}
-use Rattle.tx_map.specs.Written.{HasMet, KeepsAt}
+use Rattle.tx_map.specs.Written.{EachPuts, PutsPair}
+use Rattle.tx_map.proofs.Pairs.{KeepsPairs, put_there}
 
 -- ## A view that has seen more
 
 module _ (v w : View) (base : w.base ≡ v.base) (grows : StartsWith w.seen v.seen) where
-  pub bytes_later : (k : ℕ) → k ≤ length v.seen → bytes_in w k ≡ bytes_in v k
+  bytes_later : (k : ℕ) → k ≤ length v.seen → bytes_in w k ≡ bytes_in v k
   bytes_later k few = ap bytes_of (ap (λ (m : List ℕ). memory_at m w.seen k) base ∙ memory_stays v.base v.seen w.seen k grows few)
 
-  pub seen_later : length v.seen ≤ length w.seen
+  seen_later : length v.seen ≤ length w.seen
   seen_later = starts_le w.seen v.seen grows
 
-  pub keeps_later : (first count keys p : ℕ) → KeepsAt first count keys v p → KeepsAt first count keys w p
-  keeps_later first count keys p k = record {
-    seen = omega (arith, k.seen, seen_later);
-    keeps = subst (λ (m : List ℕ). KeepsPairs first count keys m (bytes_in w (suc p))) (sym (bytes_later p (omega (arith, k.seen)))) (subst (λ (m : List ℕ). KeepsPairs first count keys (bytes_in v p) m) (sym (bytes_later (suc p) (omega (arith, k.seen)))) k.keeps);
+  puts_later : (first count n : ℕ) (made : ℕ × Put) → PutsPair first count n v made → PutsPair first count n w made
+  puts_later first count n made p = record {
+    seen = omega (arith, p.seen, seen_later);
+    put_is = p.put_is;
+    puts = subst (λ (m : List ℕ). HasPut first count (8 * n + 1) (n + 1_000) made.1 m (bytes_in w (suc made.0))) (sym (bytes_later made.0 (omega (arith, p.seen)))) (subst (λ (m : List ℕ). HasPut first count (8 * n + 1) (n + 1_000) made.1 (bytes_in v made.0) m) (sym (bytes_later (suc made.0) (omega (arith, p.seen)))) p.puts);
   }
 
-  pub met_later : (first count keys n : ℕ) → HasMet first count keys v n → HasMet first count keys w n
-  met_later first count keys n m = record {
-    at = m.at;
-    seen = omega (arith, m.seen, seen_later);
-    there = subst (λ (b : List ℕ). HasOnlyPairs first count keys b → HasPair first count n b) (sym (bytes_later m.at m.seen)) m.there;
-  }
+  pub each_later : (first count n : ℕ) (made : List (ℕ × Put)) → EachPuts first count n v made → EachPuts first count n w made
+  each_later first count n [] e = tt
+  each_later first count n (x ∷ xs) e = (puts_later first count n x e.0, each_later first count (suc n) xs e.1)
 
 -- ## All commits in order
+
+-- the commit at this position keeps the pairs
+pub record KeepsAt (first count keys : ℕ) (v : View) (at : ℕ) : Type 0 where
+  pub seen : at < length v.seen
+  pub keeps : KeepsPairs first count keys (bytes_in v at) (bytes_in v (suc at))
 
 module _ (first count keys : ℕ) (v : View) (begins : HasOnlyPairs first count keys (bytes_in v 0)) (all : (p : ℕ) → p < length v.seen → KeepsAt first count keys v p) where
   pub pairs_at : (k : ℕ) → k ≤ length v.seen → HasOnlyPairs first count keys (bytes_in v k)
@@ -47,6 +53,11 @@ module _ (first count keys : ℕ) (v : View) (begins : HasOnlyPairs first count 
       subst (λ (j : ℕ). HasPair first count n (bytes_in v j)) next
       (((all before few).keeps (pairs_at before (omega arith))).stays n (stays_on n at more before refl (omega arith) there))
 
-  -- a pair that was met is there at the end
-  pub met_stays : (n : ℕ) → HasMet first count keys v n → HasPair first count n (bytes_in v (length v.seen))
-  met_stays n m = stays_on n m.at (length v.seen - m.at) (length v.seen) (omega (arith, m.seen)) (omega arith) (m.there (pairs_at m.at m.seen))
+  -- a pair that was put is there at the end
+  pub put_stays : (n : ℕ) (made : ℕ × Put) → PutsPair first count n v made → HasPair first count n (bytes_in v (length v.seen))
+  put_stays n made p =
+      let at : ℕ = made.0 in
+      let few : at < length v.seen = p.seen in
+      let map = (pairs_at at (omega (arith, few))).map in
+      let there : HasPair first count n (bytes_in v (suc at)) = put_there first count keys n made.1 (bytes_in v at) (bytes_in v (suc at)) p.put_is map p.puts in
+      stays_on n (suc at) (length v.seen - suc at) (length v.seen) (omega (arith, few)) (omega arith) there

@@ -1,7 +1,10 @@
+mod Added
 mod Bytes
+mod Counts
 mod Examples
 mod Finds
 mod Histories
+mod Keys
 mod Leads
 mod Machines
 mod Pairs

@@ -1,5 +1,5 @@
 -- Reads, writes and commits of the plain machine.
-use Rattle.std.proofs.Common.{◌≡◌, ◌∙◌, ◌||◌, ℕ, Bool, false, true, true≢false, List, [], ◌∷◌, ◌++◌, Option, None, Some, ap, refl, subst, sym}
+use Rattle.std.proofs.Common.{◌≡◌, ◌||◌, ℕ, Bool, false, true, true≢false, List, [], ◌∷◌, ◌++◌, Option, None, Some, ap, refl, subst, sym}
 use Rattle.itm_types.specs.declared.access.ReadHint.TheVariants.{R}
 use Rattle.itm_types.specs.declared.access.WriteHint.TheVariants.{W}
 use Rattle.itm_types.specs.declared.access.Width.TheVariants.{U8}
@@ -58,19 +58,19 @@ or_true : (b : Bool) → (b || true) ≡ true
 or_true false = refl
 or_true true = refl
 
-pub goes_nowhere : (So : List ℕ → List ℕ → Type 0) (s t : State) → t ≡ s → So s.memory s.memory → Goes So s t
-goes_nowhere So s t e so = subst (λ (u : State). Goes So s u) (sym e) (record { so = so; still = λ w. (w, refl) })
+pub goes_nowhere : (So : List ℕ → List ℕ → Type 0) (s t : State) → t ≡ s → So s.memory s.memory → Goes false So s t
+goes_nowhere So s t e so = subst (λ (u : State). Goes false So s u) (sym e) (record { so = so; wrote = refl; still = λ w. refl })
 
 module _ (d : ℕ) (s : State) (at : ℕ) where
-  pub goes_by_read : (xs : List ℕ) → bytes_reply xs ∷ [] ≡ replies d s (Read R U8 at ∷ []) → Goes (λ old new. (new ≡ old) × (slice old at 8 ≡ xs)) s (state_after d s (Read R U8 at ∷ []))
+  pub goes_by_read : (xs : List ℕ) → bytes_reply xs ∷ [] ≡ replies d s (Read R U8 at ∷ []) → Goes false (λ old new. (new ≡ old) × (slice old at 8 ≡ xs)) s (state_after d s (Read R U8 at ∷ []))
   goes_by_read xs e =
       let by = read_by (refusal d s (Read R U8 at)) xs (slice s.memory at 8) s (ap first_of e) in
       goes_nowhere (λ old new. (new ≡ old) × (slice old at 8 ≡ xs)) s (state_after d s (Read R U8 at ∷ [])) by.1 (refl, by.0)
 
-  pub goes_by_write : (n : ℕ) → Done ∷ [] ≡ replies d s (Write W at (number n) ∷ []) → Goes (λ old new. new ≡ with_slice old at (bytes_of_number n)) s (state_after d s (Write W at (number n) ∷ []))
+  pub goes_by_write : (n : ℕ) → Done ∷ [] ≡ replies d s (Write W at (number n) ∷ []) → Goes true (λ old new. new ≡ with_slice old at (bytes_of_number n)) s (state_after d s (Write W at (number n) ∷ []))
   goes_by_write n e =
       let by = done_by (refusal d s (Write W at (number n))) s (written s at (bytes_of_number n)) (ap first_of e) in
-      subst (λ (u : State). Goes (λ old new. new ≡ with_slice old at (bytes_of_number n)) s u) (sym by) (record { so = refl; still = λ w. absurd (true≢false (sym (or_true s.wrote) ∙ w)) })
+      subst (λ (u : State). Goes true (λ old new. new ≡ with_slice old at (bytes_of_number n)) s u) (sym by) (record { so = refl; wrote = or_true s.wrote; still = λ w. absurd (true≢false w) })
 
 module _ (d : ℕ) (s : State) where
   pub committed_memory : (after d s Commit).memory ≡ s.memory

@@ -1,15 +1,23 @@
--- Puts and looks keep the pairs.
-use Rattle.std.proofs.Common.{◌≡◌, ◌≢◌, ◌∙◌, ◌⊎◌, inl, inr, ℕ, ◌+◌, ◌*◌, ◌<◌, List, Some, subst, sym, arith}
+-- Puts keep the pairs.
+use Rattle.std.proofs.Common.{◌≡◌, ◌≢◌, ◌∙◌, ◌⊎◌, inl, inr, ℕ, ◌+◌, ◌*◌, ◌<◌, true, true≢false, List, subst, sym, arith}
 use Rattle.tx_map.specs.declared.table.Put.{Put}
 use Rattle.tx_map.specs.declared.table.Put.TheVariants.{Added, Again, Full}
-use Rattle.tx_map.specs.Pairs.{HasOnlyPairs, HasPair, IsPair, KeepsPairs}
-use Rattle.tx_map.specs.Puts.{HasGot, HasPut}
+use Rattle.tx_map.specs.Pairs.{HasOnlyPairs, HasPair, IsPair}
+use Rattle.tx_map.specs.Puts.{HasPut, is_put}
 use Rattle.tx_map.specs.Slots.{Holds, IsPut}
 use Rattle.tx_map.specs.Tables.{HasMap, IsEmpty, slots_in}
 use Rattle.tx_map.proofs.Searches.{either}
 
+-- such a map stays one, and no pair goes
+pub record StillHasPairs (first count keys : ℕ) (old new : List ℕ) : Type 0 where
+  pub pairs : HasOnlyPairs first count keys new
+  pub stays : (n : ℕ) → HasPair first count n old → HasPair first count n new
+
+abbrev pub KeepsPairs : ℕ → ℕ → ℕ → List ℕ → List ℕ → Type 0
+KeepsPairs first count keys old new = HasOnlyPairs first count keys old → StillHasPairs first count keys old new
+
 module _ (first count keys : ℕ) where
-  pub keeps_same : (old new : List ℕ) → new ≡ old → KeepsPairs first count keys old new
+  keeps_same : (old new : List ℕ) → new ≡ old → KeepsPairs first count keys old new
   keeps_same old new e pairs = record { pairs = subst (HasOnlyPairs first count keys) (sym e) pairs; stays = λ n h. subst (HasPair first count n) (sym e) h }
 
   pub empty_only : (bytes : List ℕ) → IsEmpty first count bytes → HasOnlyPairs first count keys bytes
@@ -35,5 +43,7 @@ module _ (first count keys : ℕ) where
     put_keeps Again put pairs = let p = put pairs.map in put_still p.told.0 p.map pairs
     put_keeps Full put pairs = let p = put pairs.map in keeps_same old new p.told.0 pairs
 
-  pub got_pair : (n key value : ℕ) (old new : List ℕ) → key ≡ 8 * n + 1 → value ≡ n + 1_000 → HasGot first count key (Some value) old new → HasOnlyPairs first count keys old → HasPair first count n old
-  got_pair n key value old new e is got pairs = subst (λ (k : ℕ). Holds count (slots_in old first) k (n + 1_000)) e (subst (λ (v : ℕ). Holds count (slots_in old first) key v) is (got.told pairs.map))
+  pub put_there : (n : ℕ) (put : Put) (old new : List ℕ) → is_put put ≡ true → HasMap first count old → HasPut first count (8 * n + 1) (n + 1_000) put old new → HasPair first count n new
+  put_there n Added old new is map puts = let p = puts map in p.told.0.holds
+  put_there n Again old new is map puts = let p = puts map in p.told.0.holds
+  put_there n Full old new is map puts = absurd (true≢false (sym is))

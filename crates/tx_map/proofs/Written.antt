@@ -1,101 +1,119 @@
 -- What a thread's own commits have done, transaction by transaction.
-use Rattle.std.proofs.Common.{◌≡◌, ◌∙◌, ◌⊎◌, inl, inr, ℕ, suc, ◌+◌, ◌-◌, ◌*◌, ◌<◌, ◌≤◌, ◌==◌, Bool, true, false, cond, List, [], ◌∷◌, ◌++◌, length, Option, Some, Result, Ok, Err, IfOk, ap, refl, subst, sym, arith}
-use Rattle.std.proofs.lemmas.Bool.{cases_lt, eqb-true}
+use Rattle.std.proofs.Common.{◌≡◌, ◌∙◌, ℕ, suc, ◌+◌, ◌*◌, ◌<◌, Bool, true, false, true≢false, List, [], ◌∷◌, ◌++◌, length, Option, Some, Result, Ok, Err, IfOk, ap, refl, subst, sym, arith, append_assoc, append-nil, length-append}
 use Rattle.std.proofs.lemmas.Option.{none-some, same_Some}
 use Rattle.std.specs.Result.{result_ok}
-use Rattle.std.proofs.lemmas.List.Sums.{sum_by-append, sum_by-cons}
 use Rattle.shared_words.specs.declared.view.View.{View}
 use Rattle.shared_words.specs.Passes.{view_of}
-use Rattle.shared_words.specs.Views.{times}
-use Rattle.itm_runtime.specs.Served.{Went, mine_if}
+use Rattle.itm_runtime.specs.Served.{mine_if}
 use Rattle.transactions.specs.declared.failed.Failed.{Failed}
 use Rattle.transactions.specs.declared.tried.Done.{Done}
-use Rattle.transactions.specs.Lent.{IsLeft, Lent, mine_of}
+use Rattle.transactions.specs.Lent.{IsKept, IsLeft, Lent, mine_of}
 use Rattle.transactions.specs.Runs.{mine_left}
-use Rattle.transactions.proofs.LaterViews.{went_on}
+use Rattle.transactions.proofs.LaterViews.{went_on, went_self}
 use Rattle.tx_map.specs.declared.table.Put.{Put}
-use Rattle.tx_map.specs.Pairs.{KeepsPairs}
-use Rattle.tx_map.specs.Puts.{HasGot, HasPut}
-use Rattle.tx_map.specs.Told.{HasLed, bytes_at, bytes_in, commits_with}
-use Rattle.tx_map.specs.Written.{HasMet, HasWritten, HasWrittenIn, KeepsAt}
-use Rattle.tx_map.proofs.Histories.{keeps_later, met_later}
-use Rattle.tx_map.proofs.Pairs.{got_pair, keeps_same, put_keeps}
+use Rattle.tx_map.specs.declared.table.Put.TheVariants.{Added, Again, Full}
+use Rattle.tx_map.specs.Puts.{HasGot, HasPut, added_of, is_put}
+use Rattle.tx_map.specs.Told.{HasLed}
+use Rattle.tx_map.specs.Written.{EachPuts, HasWritten, HasWrittenIn, HasWrittenSome, added_in, positions}
+use Rattle.tx_map.proofs.Histories.{each_later}
 
--- another position is one's own
-one_more : (p at : ℕ) (mine : List ℕ) → times p mine < times p (mine ++ at ∷ []) → at ≡ p
-one_more p at mine h = by (at == p) refl
-  where
-    sum : times p (mine ++ at ∷ []) ≡ times p mine + (cond {A = ℕ} (at == p) 1 0 + 0)
-    sum = sum_by-append (λ (q : ℕ). cond {A = ℕ} (q == p) 1 0) mine (at ∷ []) ∙ ap (λ (n : ℕ). times p mine + n) (sum_by-cons (λ (q : ℕ). cond {A = ℕ} (q == p) 1 0) at [])
+pub positions_append : (xs ys : List (ℕ × Put)) → positions (xs ++ ys) ≡ positions xs ++ positions ys
+positions_append [] ys = refl
+positions_append (x ∷ xs) ys = ap (λ (l : List ℕ). x.0 ∷ l) (positions_append xs ys)
 
-    by : (b : Bool) → (at == p) ≡ b → at ≡ p
-    by true e = eqb-true at p e
-    by false e = let none : cond {A = ℕ} (at == p) 1 0 ≡ 0 = ap (λ (b : Bool). cond {A = ℕ} b 1 0) e in absurd (omega (arith, h, sum, none))
+pub added_append : (xs ys : List (ℕ × Put)) → added_in (xs ++ ys) ≡ added_in xs + added_in ys
+added_append [] ys = omega arith
+added_append (x ∷ xs) ys = omega (arith, added_append xs ys)
 
-module _ (first count keys : ℕ) where
-  -- one after another
-  pub written_on : (from upto more : ℕ) (u v w : View) → HasWrittenIn first count keys from upto u v → HasWrittenIn first count keys (from + upto) more v w → HasWrittenIn first count keys from (upto + more) u w
-  written_on from upto more u v w a b = record {
+pub not_full : (put : Put) → (put ≡ Full → ⊥) → is_put put ≡ true
+not_full Added other = refl
+not_full Again other = refl
+not_full Full other = absurd (other refl)
+
+module _ (first count : ℕ) where
+  each_append : (n m : ℕ) (v : View) (xs ys : List (ℕ × Put)) → m ≡ n + length xs → EachPuts first count n v xs → EachPuts first count m v ys → EachPuts first count n v (xs ++ ys)
+  each_append n m v [] ys e a b = let same : m ≡ n = omega arith in subst (λ (k : ℕ). EachPuts first count k v ys) same b
+  each_append n m v (x ∷ xs) ys e a b = let next : m ≡ suc n + length xs = omega arith in (a.0, each_append (suc n) m v xs ys next a.1 b)
+
+  -- ## One after another
+
+  pub written_on : (from upto more added also : ℕ) (u v w : View) → HasWrittenIn first count from upto added u v → HasWrittenIn first count (from + upto) more also v w → HasWrittenIn first count from (upto + more) (added + also) u w
+  written_on from upto more added also u v w a b = record {
     went = went_on u v w a.went b.went;
-    keeps = λ p new. by_place p (cases_lt (times p u.mine) (times p v.mine)) new;
-    met = λ n few. by_number n (cases_lt n upto) few;
-  }
-    where
-      by_place : (p : ℕ) → (times p u.mine < times p v.mine) ⊎ (times p v.mine ≤ times p u.mine) → times p u.mine < times p w.mine → KeepsAt first count keys w p
-      by_place p (inl before) new = keeps_later v w b.went.base b.went.grows first count keys p (a.keeps p before)
-      by_place p (inr none) new = b.keeps p (omega (arith, none, new))
-
-      by_number : (n : ℕ) → (n < upto) ⊎ (upto ≤ n) → n < upto + more → HasMet first count keys w (from + n)
-      by_number n (inl before) few = met_later v w b.went.base b.went.grows first count keys (from + n) (a.met n before)
-      by_number n (inr late) few = let same : from + upto + (n - upto) ≡ from + n = omega (arith, late) in subst (λ (k : ℕ). HasMet first count keys w k) same (b.met (n - upto) (omega (arith, late, few)))
-
-  -- ## One transaction
-
-  one_written : (n : ℕ) (v w : View) (at : ℕ) (wrote : Bool) → Went v w → w.mine ≡ mine_if wrote v.mine at → (wrote ≡ true → KeepsAt first count keys w at) → HasWrittenIn first count keys n 0 v w
-  one_written n v w at true went mine keeps = record {
-    went = went;
-    keeps = λ p new. subst (KeepsAt first count keys w) (one_more p at v.mine (subst (λ (ps : List ℕ). times p v.mine < times p ps) mine new)) (keeps refl);
-    met = λ k few. absurd (omega arith);
-  }
-  one_written n v w at false went mine keeps = record {
-    went = went;
-    keeps = λ p new. (let same : times p w.mine ≡ times p v.mine = ap (times p) mine in absurd (omega (arith, same, new)));
-    met = λ k few. absurd (omega arith);
+    made = a.made ++ b.made;
+    count_is = omega (arith, length-append a.made b.made, a.count_is, b.count_is);
+    added_is = omega (arith, added_append a.made b.made, a.added_is, b.added_is);
+    mine_is = b.mine_is ∙ ap (λ (l : List ℕ). l ++ positions b.made) a.mine_is ∙ append_assoc u.mine (positions a.made) (positions b.made) ∙ ap (λ (l : List ℕ). u.mine ++ l) (sym (positions_append a.made b.made));
+    puts = each_append from (from + upto) w a.made b.made (omega (arith, a.count_is)) (each_later v w b.went.base b.went.grows first count from a.made a.puts) b.puts;
   }
 
-  module _ {R : Type 0} (So : R → List ℕ → List ℕ → Type 0) (keeps : (r : R) (old new : List ℕ) → So r old new → KeepsPairs first count keys old new) where
-    led_keeps : (value : R) (at : ℕ) (wrote : Bool) (w : Lent) → HasLed So (record { value = value; at = at; wrote = wrote }) w.thread → wrote ≡ true → KeepsAt first count keys (view_of w.thread.pass) at
-    led_keeps value at true w led e = record { seen = omega (arith, led.seen); keeps = keeps value (bytes_in (view_of w.thread.pass) at) (bytes_in (view_of w.thread.pass) (suc at)) led.so }
-    led_keeps value at false w led e = absurd (subst (λ (b : Bool). cond b ⊥ (Unit {0})) e tt)
+  pub some_on : (from upto most added : ℕ) (u v w : Lent) → upto < most → HasWritten first count from upto added u v → HasWrittenSome first count (from + upto) 1 v w → HasWrittenSome first count from most u w
+  some_on from upto most added u v w less a s = record {
+    upto = upto + s.upto;
+    few = omega (arith, s.few, less);
+    added = added + s.added;
+    written = written_on from upto s.upto added s.added (view_of u.thread.pass) (view_of v.thread.pass) (view_of w.thread.pass) a s.written;
+  }
 
-    led_written : (n : ℕ) (v w : Lent) (done : Done R) → IsLeft (mine_if done.wrote (mine_of v) done.at) v w → HasLed So done w.thread → HasWritten first count keys n 0 v w
-    led_written n v w done left led = one_written n (view_of v.thread.pass) (view_of w.thread.pass) done.at done.wrote left.went left.mine_is (led_keeps done.value done.at done.wrote w led)
+  pub none_written : (from : ℕ) (v : Lent) → HasWritten first count from 0 0 v v
+  none_written from v = record { went = went_self (view_of v.thread.pass); made = []; count_is = refl; added_is = refl; mine_is = sym (append-nil (mine_of v)); puts = tt }
 
-  module _ (n : ℕ) (few : n < keys) (v w : Lent) where
-    pub put_written : (done : Done Put) → IsLeft (mine_if done.wrote (mine_of v) done.at) v w → HasLed (HasPut first count (8 * n + 1) (n + 1_000)) done w.thread → HasWritten first count keys n 0 v w
-    put_written = led_written (HasPut first count (8 * n + 1) (n + 1_000)) (λ r old new so. put_keeps first count keys n few old new r so) n v w
+  -- ## A look
 
-    got_met : (value : Option ℕ) (at : ℕ) (wrote : Bool) → value ≡ Some (n + 1_000) → HasLed (HasGot first count (8 * n + 1)) (record { value = value; at = at; wrote = wrote }) w.thread → HasMet first count keys (view_of w.thread.pass) n
-    got_met value at wrote is led = record { at = at; seen = by_mode wrote led; there = λ pairs. got_pair first count keys n (8 * n + 1) (n + 1_000) (bytes_in (view_of w.thread.pass) at) (bytes_at w.thread (commits_with {R = Option ℕ} (record { value = value; at = at; wrote = wrote }))) refl refl (subst (λ (o : Option ℕ). HasGot first count (8 * n + 1) o (bytes_in (view_of w.thread.pass) at) (bytes_at w.thread (commits_with {R = Option ℕ} (record { value = value; at = at; wrote = wrote })))) is led.so) pairs }
-      where
-        by_mode : (wrote : Bool) → HasLed (HasGot first count (8 * n + 1)) (record { value = value; at = at; wrote = wrote }) w.thread → at ≤ length (view_of w.thread.pass).seen
-        by_mode true led = omega (arith, led.seen)
-        by_mode false led = led.seen
+  kept_written : (from upto added : ℕ) (u v w : Lent) → HasWritten first count from upto added u v → IsKept v w → HasWritten first count from upto added u w
+  kept_written from upto added u v w a k = record {
+    went = went_on (view_of u.thread.pass) (view_of v.thread.pass) (view_of w.thread.pass) a.went k.went;
+    made = a.made;
+    count_is = a.count_is;
+    added_is = a.added_is;
+    mine_is = k.mine_is ∙ a.mine_is;
+    puts = each_later (view_of v.thread.pass) (view_of w.thread.pass) k.went.base k.went.grows first count from a.made a.puts;
+  }
 
-    pub got_written : (done : Done (Option ℕ)) → done.value ≡ Some (n + 1_000) → IsLeft (mine_if done.wrote (mine_of v) done.at) v w → HasLed (HasGot first count (8 * n + 1)) done w.thread → HasWritten first count keys n 1 v w
-    got_written done is left led =
-        let whole = led_written (HasGot first count (8 * n + 1)) (λ r old new so. keeps_same first count keys old new so.same) n v w done left led in
-        record { went = whole.went; keeps = whole.keeps; met = λ k less. (let same : n ≡ n + k = omega arith in subst (HasMet first count keys (view_of w.thread.pass)) same (got_met done.value done.at done.wrote is led)) }
+  looked : (key : ℕ) (v w : Lent) (found : Result (Done (Option ℕ)) (Failed (Unit {0}))) → IsLeft (mine_left (mine_of v) found) v w → IfOk found (λ done. HasLed (λ got. false) (HasGot first count key) done w.thread) → IsKept v w
+  looked key v w (Ok done) left led = subst (λ (b : Bool). IsLeft (mine_if b (mine_of v) done.at) v w) led.wrote_is left
+  looked key v w (Err why) left led = left
 
-  -- a put of a pair and a look that finds it
-  pub pair_written : (n key value : ℕ) → n < keys → key ≡ 8 * n + 1 → value ≡ n + 1_000 → (u v w : Lent) (told : Result (Done Put) (Failed (Unit {0}))) (found : Result (Done (Option ℕ)) (Failed (Unit {0})))
-      → IsLeft (mine_left (mine_of u) told) u v → IfOk told (λ done. HasLed (HasPut first count key value) done v.thread) → IsLeft (mine_left (mine_of v) found) v w → IfOk found (λ done. HasLed (HasGot first count key) done w.thread)
-      → (put : Done Put) (got : Done (Option ℕ)) → Some put ≡ result_ok told → Some got ≡ result_ok found → got.value ≡ Some value → HasWritten first count keys n 1 u w
-  pair_written n key value few is gives u v w (Ok told) (Ok found) left led left' led' put got done done' there =
-      let same : n ≡ n + 0 = omega arith in
-      let value_is : found.value ≡ Some (n + 1_000) = ap (λ (d : Done (Option ℕ)). d.value) (sym (same_Some got found done')) ∙ there ∙ ap Some gives in
-      let before : HasWritten first count keys n 0 u v = put_written n few u v told left (subst (λ (k : ℕ). HasLed (HasPut first count k (n + 1_000)) told v.thread) is (subst (λ (m : ℕ). HasLed (HasPut first count key m) told v.thread) gives led)) in
-      let then : HasWritten first count keys n 1 v w = got_written n few v w found value_is left' (subst (λ (k : ℕ). HasLed (HasGot first count k) found w.thread) is led') in
-      written_on n 0 1 (view_of u.thread.pass) (view_of v.thread.pass) (view_of w.thread.pass) before (subst (λ (k : ℕ). HasWritten first count keys k 1 v w) same then)
-  pair_written n key value few is gives u v w (Ok told) (Err why) left led left' led' put got done done' there = absurd (none-some got (sym done'))
-  pair_written n key value few is gives u v w (Err why) found left led left' led' put got done done' there = absurd (none-some put (sym done))
+  module _ (n key value : ℕ) (key_is : key ≡ 8 * n + 1) (value_is : value ≡ n + 1_000) (u v : Lent) where
+    -- ## A put
+
+    abbrev Led : Done Put → Type 0
+    Led done = HasLed is_put (HasPut first count key value) done v.thread
+
+    of_pair : (done : Done Put) → Led done → HasLed is_put (HasPut first count (8 * n + 1) (n + 1_000)) done v.thread
+    of_pair done led = subst (λ (k : ℕ). HasLed is_put (HasPut first count k (n + 1_000)) done v.thread) key_is (subst (λ (m : ℕ). HasLed is_put (HasPut first count key m) done v.thread) value_is led)
+
+    one_written : (put : Put) (at : ℕ) (wrote : Bool) → wrote ≡ true → IsLeft (mine_if wrote (mine_of u) at) u v → HasLed is_put (HasPut first count (8 * n + 1) (n + 1_000)) (record { value = put; at = at; wrote = wrote }) v.thread → HasWritten first count n 1 (added_of put) u v
+    one_written put at true e left led = record {
+      went = left.went;
+      made = (at, put) ∷ [];
+      count_is = refl;
+      added_is = omega arith;
+      mine_is = left.mine_is;
+      puts = (record { seen = omega (arith, led.seen); put_is = sym led.wrote_is; puts = led.so }, tt);
+    }
+    one_written put at false e left led = absurd (true≢false (sym e))
+
+    put_written : (told : Result (Done Put) (Failed (Unit {0}))) (done : Done Put) → Some done ≡ result_ok told → is_put done.value ≡ true → IsLeft (mine_left (mine_of u) told) u v → IfOk told Led → HasWritten first count n 1 (added_of done.value) u v
+    put_written (Ok told) done is puts left led =
+        let put_is : is_put told.value ≡ true = ap (λ (d : Done Put). is_put d.value) (sym (same_Some done told is)) ∙ puts in
+        subst (λ (d : Done Put). HasWritten first count n 1 (added_of d.value) u v) (sym (same_Some done told is)) (one_written told.value told.at told.wrote (led.wrote_is ∙ put_is) left (of_pair told led))
+    put_written (Err why) done is puts left led = absurd (none-some done (sym is))
+
+    some_written : (put : Put) (at : ℕ) (wrote : Bool) → IsLeft (mine_if wrote (mine_of u) at) u v → HasLed is_put (HasPut first count (8 * n + 1) (n + 1_000)) (record { value = put; at = at; wrote = wrote }) v.thread → HasWrittenSome first count n 1 u v
+    some_written put at true left led = record { upto = 1; few = omega arith; added = added_of put; written = one_written put at true refl left led }
+    some_written put at false left led = record { upto = 0; few = omega arith; added = 0; written = kept_written n 0 0 u u v (none_written n u) left }
+
+    -- whatever came of it
+    pub put_some : (told : Result (Done Put) (Failed (Unit {0}))) → IsLeft (mine_left (mine_of u) told) u v → IfOk told Led → HasWrittenSome first count n 1 u v
+    put_some (Ok told) left led = some_written told.value told.at told.wrote left (of_pair told led)
+    put_some (Err why) left led = record { upto = 0; few = omega arith; added = 0; written = kept_written n 0 0 u u v (none_written n u) left }
+
+    -- ## And a look after it
+
+    module _ (w : Lent) (told : Result (Done Put) (Failed (Unit {0}))) (found : Result (Done (Option ℕ)) (Failed (Unit {0}))) (left : IsLeft (mine_left (mine_of u) told) u v) (led : IfOk told Led) (left' : IsLeft (mine_left (mine_of v) found) v w) (led' : IfOk found (λ done. HasLed (λ got. false) (HasGot first count key) done w.thread)) where
+      pub pair_some : HasWrittenSome first count n 1 u w
+      pair_some = let s = put_some told left led in record { upto = s.upto; few = s.few; added = s.added; written = kept_written n s.upto s.added u v w s.written (looked key v w found left' led') }
+
+      pub pair_written : (done : Done Put) → Some done ≡ result_ok told → is_put done.value ≡ true → HasWritten first count n 1 (added_of done.value) u w
+      pair_written done is puts = kept_written n 1 (added_of done.value) u v w (put_written told done is puts left led) (looked key v w found left' led')

@@ -1,4 +1,4 @@
--- The pairs that threads put into a map, by their numbers, and what a commit does to them.
+-- The pairs that threads put into a map, by their numbers.
 use Rattle.std.specs.Prelude.{◌≡◌, ◌≢◌, ℕ, ◌+◌, ◌*◌, ◌<◌, List}
 use Rattle.tx_map.specs.Slots.{Holds}
 use Rattle.tx_map.specs.Tables.{HasMap, slots_in}
@@ -20,11 +20,3 @@ pub record HasOnlyPairs (first count keys : ℕ) (bytes : List ℕ) : Type 0 whe
 pub record HasAllPairs (first count keys : ℕ) (bytes : List ℕ) : Type 0 where
   pub pairs : HasOnlyPairs first count keys bytes
   pub each : (n : ℕ) → n < keys → HasPair first count n bytes
-
--- such a map stays one, and no pair goes
-pub record StillHasPairs (first count keys : ℕ) (old new : List ℕ) : Type 0 where
-  pub pairs : HasOnlyPairs first count keys new
-  pub stays : (n : ℕ) → HasPair first count n old → HasPair first count n new
-
-abbrev pub KeepsPairs : ℕ → ℕ → ℕ → List ℕ → List ℕ → Type 0
-KeepsPairs first count keys old new = HasOnlyPairs first count keys old → StillHasPairs first count keys old new

@@ -1,9 +1,21 @@
 -- Puts into a map, and looks at it.
-use Rattle.std.specs.Prelude.{◌≡◌, ℕ, List, Option}
+use Rattle.std.specs.Prelude.{◌≡◌, ℕ, Bool, true, false, List, Option}
 use Rattle.tx_map.specs.declared.table.Put.{Put}
 use Rattle.tx_map.specs.declared.table.Put.TheVariants.{Added, Again, Full}
 use Rattle.tx_map.specs.Slots.{HasNo, Holds, IsGot, IsPut}
 use Rattle.tx_map.specs.Tables.{HasMap, SameBeside, slots_in}
+
+-- such a put gives the key its value
+abbrev pub is_put : Put → Bool
+is_put Added = true
+is_put Again = true
+is_put Full = false
+
+-- how many keys are new by it
+abbrev pub added_of : Put → ℕ
+added_of Added = 1
+added_of Again = 0
+added_of Full = 0
 
 -- what is told of a put: the key is new, or it had a value, or each slot has another key and nothing is changed
 abbrev pub IsTold : Put → ℕ → ℕ → ℕ → ℕ → List ℕ → List ℕ → Type 0

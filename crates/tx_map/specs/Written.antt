@@ -1,30 +1,49 @@
 -- What the commits of one thread do to the pairs of a map.
-use Rattle.std.specs.Prelude.{ℕ, suc, ◌+◌, ◌<◌, ◌≤◌, length}
+use Rattle.std.specs.Prelude.{◌≡◌, ℕ, suc, ◌+◌, ◌*◌, ◌<◌, ◌≤◌, true, List, [], ◌∷◌, ◌++◌, length}
 use Rattle.shared_words.specs.declared.view.View.{View}
 use Rattle.shared_words.specs.Passes.{view_of}
-use Rattle.shared_words.specs.Views.{times}
 use Rattle.itm_runtime.specs.Served.{Went}
 use Rattle.transactions.specs.Lent.{Lent}
-use Rattle.tx_map.specs.Pairs.{HasOnlyPairs, HasPair, KeepsPairs}
+use Rattle.tx_map.specs.declared.table.Put.{Put}
+use Rattle.tx_map.specs.Puts.{HasPut, added_of, is_put}
 use Rattle.tx_map.specs.Told.{bytes_in}
 
--- the commit at this position keeps the pairs
-pub record KeepsAt (first count keys : ℕ) (v : View) (at : ℕ) : Type 0 where
-  pub seen : at < length v.seen
-  pub keeps : KeepsPairs first count keys (bytes_in v at) (bytes_in v (suc at))
+-- a commit's position, and what was told of its put: it puts the pair of this number
+pub record PutsPair (first count n : ℕ) (v : View) (made : ℕ × Put) : Type 0 where
+  pub seen : made.0 < length v.seen
+  pub put_is : is_put made.1 ≡ true
+  pub puts : HasPut first count (8 * n + 1) (n + 1_000) made.1 (bytes_in v made.0) (bytes_in v (suc made.0))
 
--- some first commits have left the pair of this number, if a map of pairs alone
-pub record HasMet (first count keys : ℕ) (v : View) (n : ℕ) : Type 0 where
-  pub at : ℕ
-  pub seen : at ≤ length v.seen
-  pub there : HasOnlyPairs first count keys (bytes_in v at) → HasPair first count n (bytes_in v at)
+-- so of each, in the order of the numbers, from this one on
+abbrev pub EachPuts : ℕ → ℕ → ℕ → View → List (ℕ × Put) → Type 0
+EachPuts first count n v [] = Unit {0}
+EachPuts first count n v (made ∷ rest) = PutsPair first count n v made × EachPuts first count (suc n) v rest
 
--- from the one view to a later one each commit that has become the thread's own keeps the pairs, and so many pairs from this number on were met
-pub record HasWrittenIn (first count keys from upto : ℕ) (old new : View) : Type 0 where
+abbrev pub positions : List (ℕ × Put) → List ℕ
+positions [] = []
+positions (made ∷ rest) = made.0 ∷ positions rest
+
+-- how many of the keys were new
+abbrev pub added_in : List (ℕ × Put) → ℕ
+added_in [] = 0
+added_in (made ∷ rest) = added_of made.1 + added_in rest
+
+-- from the one view to a later one the thread's own commits are these: as many as pairs from this number on, and each puts its pair; so many of the keys were new
+pub record HasWrittenIn (first count from upto added : ℕ) (old new : View) : Type 0 where
   pub went : Went old new
-  pub keeps : (p : ℕ) → times p old.mine < times p new.mine → KeepsAt first count keys new p
-  pub met : (n : ℕ) → n < upto → HasMet first count keys new (from + n)
+  pub made : List (ℕ × Put)
+  pub count_is : length made ≡ upto
+  pub added_is : added_in made ≡ added
+  pub mine_is : new.mine ≡ old.mine ++ positions made
+  pub puts : EachPuts first count from new made
 
 -- so of a thread as it was and as it is
 abbrev pub HasWritten : ℕ → ℕ → ℕ → ℕ → ℕ → Lent → Lent → Type 0
-HasWritten first count keys from upto old new = HasWrittenIn first count keys from upto (view_of old.thread.pass) (view_of new.thread.pass)
+HasWritten first count from upto added old new = HasWrittenIn first count from upto added (view_of old.thread.pass) (view_of new.thread.pass)
+
+-- so of some first ones of these pairs
+pub record HasWrittenSome (first count from most : ℕ) (old new : Lent) : Type 0 where
+  pub upto : ℕ
+  pub few : upto ≤ most
+  pub added : ℕ
+  pub written : HasWritten first count from upto added old new

@@ -1,16 +1,17 @@
 //! A hash map that four threads write at once. Proved: at its place among all commits, each put that is told of leaves bytes
-//! of a map with that put done, if it found a map there, and each look tells what is there; where each thread finds what it
-//! has put, all commits leave a map of all keys, each with its value, and of no other key.
+//! of a map with that put done, if it found a map there, and each look tells what is there. A thread makes one commit for each
+//! pair that it puts, and no other. So the bytes are always of a map with such pairs alone; where each thread finds what it
+//! has put, they are of all pairs, there were as many commits as puts, and as many of these were of a new key as there are keys.
 #![tactic(auto)]
 
-ghost use Rattle.std.specs.Prelude.{◌≡◌, ◌+◌, ◌*◌, ◌%◌, ◌≤◌, ◌<◌, IfOk, IfSome};
+ghost use Rattle.std.specs.Prelude.{◌≡◌, ◌+◌, ◌-◌, ◌*◌, ◌%◌, ◌^◌, ◌≤◌, ◌<◌, false, min, IfOk, IfSome};
 ghost use Rattle.transactions.specs.Lent.{IsLeft, mine_of};
 ghost use Rattle.transactions.specs.Runs.{mine_left};
-ghost use Rattle.tx_map.specs.Pairs.{HasAllPairs};
-ghost use Rattle.tx_map.specs.Puts.{HasGot, HasPut};
+ghost use Rattle.tx_map.specs.Pairs.{HasAllPairs, HasOnlyPairs};
+ghost use Rattle.tx_map.specs.Puts.{HasGot, HasPut, added_of, is_put};
 ghost use Rattle.tx_map.specs.Tables.{IsEmpty};
-ghost use Rattle.tx_map.specs.Told.{AllTell, HasLed};
-ghost use Rattle.tx_map.specs.Written.{HasWritten};
+ghost use Rattle.tx_map.specs.Told.{AllTell, HasLed, told_in_all};
+ghost use Rattle.tx_map.specs.Written.{HasWritten, HasWrittenSome};
 
 mod table;
 
@@ -31,7 +32,7 @@ type Told<T> = Result<Done<T>, Failed<()>>;
 fn put(client: &mut Client, table: &Table, key: u32, value: u32) -> Told<Put>
     requires { 0 < key }
     ensures left { IsLeft (mine_left (mine_of client.old.transaction) result) client.old.transaction client.new.transaction }
-    ensures put { IfOk result (λ done. HasLed (HasPut table.now.slots.first table.now.slots.count key value) done client.new.transaction.thread) }
+    ensures put { IfOk result (λ done. HasLed is_put (HasPut table.now.slots.first table.now.slots.count key value) done client.new.transaction.thread) }
 {
     client.atomically(|tx| Ok(table.put(tx, key, value)?))
 }
@@ -40,7 +41,7 @@ fn put(client: &mut Client, table: &Table, key: u32, value: u32) -> Told<Put>
 fn get(client: &mut Client, table: &Table, key: u32) -> Told<Option<u32>>
     requires { 0 < key }
     ensures left { IsLeft (mine_left (mine_of client.old.transaction) result) client.old.transaction client.new.transaction }
-    ensures got { IfOk result (λ done. HasLed (HasGot table.now.slots.first table.now.slots.count key) done client.new.transaction.thread) }
+    ensures got { IfOk result (λ done. HasLed (λ _. false) (HasGot table.now.slots.first table.now.slots.count key) done client.new.transaction.thread) }
 {
     client.atomically(|tx| Ok(table.get(tx, key)?))
 }
@@ -57,7 +58,8 @@ fn pair_of(number: u32) -> Pair
 fn put_pair(client: &mut Client, table: &Table, number: u32) -> Option<Put>
     requires { number < KEYS }
     ensures words { client.new.transaction.words ≡ client.old.transaction.words }
-    ensures written { IfSome result (λ _. HasWritten table.now.slots.first table.now.slots.count KEYS number 1 client.old.transaction client.new.transaction) }
+    ensures some { HasWrittenSome table.now.slots.first table.now.slots.count number 1 client.old.transaction client.new.transaction }
+    ensures written { IfSome result (λ put. HasWritten table.now.slots.first table.now.slots.count number 1 (added_of put) client.old.transaction client.new.transaction) }
 {
     let (key, value) = pair_of(number);
     let told = put(client, table, key, value).ok()?;
@@ -65,29 +67,35 @@ fn put_pair(client: &mut Client, table: &Table, number: u32) -> Option<Put>
     if found.value != Some(value) {
         return None;
     }
-    Some(told.value)
+    match told.value {
+        Put::Full => None,
+        told => Some(told),
+    }
 }
 
 /// What a thread does: it puts its pairs and looks for each. It tells how many were new, or nothing where one is not found.
 fn write_all(client: &mut Client, table: &Table, thread: usize) -> Option<u64>
     ensures words { client.new.transaction.words ≡ client.old.transaction.words }
-    ensures written { IfSome result (λ _. HasWritten table.now.slots.first table.now.slots.count KEYS (32 * (thread % 4)) 64 client.old.transaction client.new.transaction) }
+    ensures some { HasWrittenSome table.now.slots.first table.now.slots.count (32 * (thread % 4)) 64 client.old.transaction client.new.transaction }
+    ensures written { IfSome result (λ added. HasWritten table.now.slots.first table.now.slots.count (32 * (thread % 4)) 64 added client.old.transaction client.new.transaction) }
 {
     let mut added = 0u64;
     for n in 0..64 {
         let told = put_pair(client, table, 32 * (thread % 4) as u32 + n)?;
-        added = added.saturating_add(u64::from(told == Put::Added));
+        added += told.added();
     }
     Some(added)
 }
 
 /// How many puts of all threads were of new keys, or nothing where a thread tells nothing.
 fn added_by(told: &[Option<u64>]) -> Option<u64>
-    ensures { IfSome result (λ _. AllTell told.now) }
+    ensures tell { IfSome result (λ _. AllTell told.now) }
+    ensures sum { IfSome result (λ added. added ≡ min (told_in_all told.now) (2 ^ 64 - 1)) }
 {
     let mut added = 0u64;
     for by_one in told {
-        added = added.saturating_add((*by_one)?);
+        let more = (*by_one)?;
+        added = added.saturating_add(more);
     }
     Some(added)
 }
@@ -108,7 +116,10 @@ fn write_together<R: Threads + Sync>(
     bytes: &mut [u8],
 ) -> Result<(u64, u64)>
     requires { IsEmpty table.now.slots.first table.now.slots.count bytes.old }
-    ensures { IfOk result (λ _. HasAllPairs table.now.slots.first table.now.slots.count KEYS bytes.new) }
+    ensures only { HasOnlyPairs table.now.slots.first table.now.slots.count KEYS bytes.new }
+    ensures all { IfOk result (λ _. HasAllPairs table.now.slots.first table.now.slots.count KEYS bytes.new) }
+    ensures added { IfOk result (λ told. told.0 ≡ KEYS) }
+    ensures commits { IfOk result (λ told. told.1 ≡ 4 * 64) }
 {
     let write = |thread, client: &mut Client| write_all(client, table, thread);
     let joined = run(rt, alloc, bytes, 4, u64::MAX, &write)?;

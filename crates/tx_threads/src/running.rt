@@ -42,7 +42,7 @@ pub fn run<R: Threads + Sync, T: Send + Drop, F: Fn(usize, &mut Client) -> T + S
 
     // The body hands back a client over the same words.
     requires keeps { KeepsWords F.Fn body.now }
-    ensures run { IfOk result (λ r. HaveRun F.Fn body.now threads bytes.old r.values.items r.clock bytes.new) }
+    ensures run { IfOk result (λ r. HaveRun F.Fn body.now threads tries bytes.old r.values.items r.clock bytes.new) }
     ensures still { OnErr result (bytes.new ≡ bytes.old) }
     ensures length { IfErr result (λ why. why ≡ NoWords Length → IsWrongSize (length bytes.old)) }
     ensures wrong { IfErr result (λ why. IsWrongSize (length bytes.old) → why ≡ NoWords Length) }

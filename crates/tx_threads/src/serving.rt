@@ -45,7 +45,7 @@ fn serve<T: Drop, F: Fn(usize, &mut Client) -> T>(
     requires new { IsNew words.now.value pass }
     requires callable { F.IsAlwaysCallable body.now }
     requires keeps { KeepsWords F.Fn body.now }
-    ensures { IfOk result (λ s. AreServed F.Fn body.now words.now.value (view_of pass).base number 1 s.values.items s.pass) }
+    ensures { IfOk result (λ s. AreServed F.Fn body.now words.now.value (view_of pass).base tries number 1 s.values.items s.pass) }
 {
     let arena = Arena::new(alloc, 0)?;
     let Ok(thread) = Thread::new(alloc, &**words, pass, arena, USUAL_LIMITS) else {
@@ -109,7 +109,7 @@ pub(crate) fn serve_all<R: Threads + Sync, T: Send + Drop, F: Fn(usize, &mut Cli
     requires room { number + more < 2 ^ 64 }
     requires callable { F.IsAlwaysCallable body.now }
     requires keeps { KeepsWords F.Fn body.now }
-    ensures { IfOk result (λ s. AreServed F.Fn body.now words.now.value (view_of pass).base number (more + 1) s.values.items s.pass) }
+    ensures { IfOk result (λ s. AreServed F.Fn body.now words.now.value (view_of pass).base tries number (more + 1) s.values.items s.pass) }
 {
     if more == 0 {
         return serve(alloc, words, pass, number, tries, body);
@@ -120,11 +120,11 @@ pub(crate) fn serve_all<R: Threads + Sync, T: Send + Drop, F: Fn(usize, &mut Cli
         rt,
         move || -> Result<Served<T>, Lost>
             requires { IsSync F.row × IsSend T.row × IsNew words.now.value own × F.IsAlwaysCallable body.now × KeepsWords F.Fn body.now }
-            ensures { IfOk result (λ s. AreServed F.Fn body.entry.now words.entry.now.value (view_of own).base number 1 s.values.items s.pass) }
+            ensures { IfOk result (λ s. AreServed F.Fn body.entry.now words.entry.now.value (view_of own).base tries number 1 s.values.items s.pass) }
         { serve(alloc, words, own, number, tries, body) },
         move || -> Result<Served<T>, Lost>
             requires { IsSync R.row × IsSync F.row × IsSend T.row × IsNew words.now.value rest × (0 < more) × (more < (view_of rest).share + 1) × (number + more < 2 ^ 64) × F.IsAlwaysCallable body.now × KeepsWords F.Fn body.now }
-            ensures { IfOk result (λ s. AreServed F.Fn body.entry.now words.entry.now.value (view_of rest).base (number + 1) more s.values.items s.pass) }
+            ensures { IfOk result (λ s. AreServed F.Fn body.entry.now words.entry.now.value (view_of rest).base tries (number + 1) more s.values.items s.pass) }
         { serve_all(rt, alloc, words, rest, number + 1, more - 1, tries, body) },
     );
     let served = joined(words, mine?, theirs?)?;

@@ -1,5 +1,9 @@
-use Rattle.std.proofs.Common.{ℕ, ◌<◌, None, IsSome, get_or}
+use Rattle.std.proofs.Common.{◌≡◌, ℕ, ◌-◌, ◌^◌, ◌<◌, min, None, IsSome, get_or, take}
+use Rattle.tx_map.specs.Told.{told_in_all}
 use Rattle.tx_map.proofs.added_by.Given as goal
 
 abbrev pub invariant-loop-by_one : goal.invariant-loop-by_one
-invariant-loop-by_one l = (k : ℕ) → k < l.by_one-index → IsSome (get_or l.told k None)
+invariant-loop-by_one l = record {
+  tell : (k : ℕ) → k < l.by_one-index → IsSome (get_or l.told k None);
+  sum : l.added ≡ min (told_in_all (take l.by_one-index l.told)) (2 ^ 64 - 1);
+}

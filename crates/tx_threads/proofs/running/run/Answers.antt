@@ -14,4 +14,4 @@ returns-clause-run g c =
     let count : c.args.threads - 1 + 1 ≡ c.args.threads = omega (arith, c.requires.some) in
     let rest = ap (λ (v : View). v.base) c.split-trunk.ensures.first in
     let bytes = ap bytes_of rest ∙ c.in_ok-words.ensures.bytes in
-    subst (λ (n : ℕ). HaveRun g.F.Fn c.args.body.now n c.args.bytes.now values clock c.closed.new.bytes) count (all_run g.F.Fn c.args.body.now c.in-Ok.words.value (view_of c.split-trunk.new.pass).base (c.args.threads - 1 + 1) clock values c.split-trunk.result c.in_ok-served.served.pass c.args.bytes.now c.closed.new.bytes c.in_ok-served.ensures (ap (λ (v : View). v.mine) trunk) (ap (λ (v : View). v.base) trunk ∙ sym rest) bytes c.in_ok-clock.ensures.ends)
+    subst (λ (n : ℕ). HaveRun g.F.Fn c.args.body.now n c.args.tries c.args.bytes.now values clock c.closed.new.bytes) count (all_run g.F.Fn c.args.body.now c.in-Ok.words.value (view_of c.split-trunk.new.pass).base c.args.tries (c.args.threads - 1 + 1) clock values c.split-trunk.result c.in_ok-served.served.pass c.args.bytes.now c.closed.new.bytes c.in_ok-served.ensures (ap (λ (v : View). v.mine) trunk) (ap (λ (v : View). v.base) trunk ∙ sym rest) bytes c.in_ok-clock.ensures.ends)

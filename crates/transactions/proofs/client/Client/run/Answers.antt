@@ -1,17 +1,46 @@
-use Rattle.std.proofs.Common.{◌∙◌, ap, arith, refl}
+use Rattle.std.proofs.Common.{◌≡◌, ◌∙◌, ℕ, ap, arith, refl, subst}
 use Rattle.shared_words.specs.Passes.{view_of}
 use Rattle.itm_runtime.specs.Served.{mine_if}
+use Rattle.transactions.specs.declared.tried.Tried.TheVariants.{Conflict, Busy}
+use Rattle.transactions.specs.Tries.{AreTries}
 use Rattle.transactions.proofs.Came.{cancelled_goes}
+use Rattle.transactions.proofs.Chains.{late_try, seen_more, tried_failed, try_more}
 use Rattle.transactions.proofs.LaterViews.{went_on}
-use Rattle.transactions.proofs.Tries.{came_failed, rebased}
 use Rattle.transactions.proofs.client.Client.run.Goals as goal
 use Rattle.transactions.proofs.client.Client.run.Goals.{in-Conflict, in-Busy}
 
-pub returns-in-Done-clause-comes : goal.returns-in-Done-clause-comes
-returns-in-Done-clause-comes g c = rebased g.F.FnMut c.loop.self.transaction.words c.args.self.now.transaction.words (λ keeps. (c.loop.invariant.1 keeps).0.words) c.loop.body c.args.body.now c.loop.invariant.4 _ c.attempt.new.self.thread c.in-Done.ensures.tells
+pub returns-in-Done-clause-ran : goal.returns-in-Done-clause-ran
+returns-in-Done-clause-ran g c = record {
+  times = c.loop.counter;
+  fewer = omega (arith, c.loop-test.true, c.loop.invariant.2);
+  body = c.loop.body;
+  mid = c.loop.self.transaction;
+  again = c.loop.again;
+  before = c.loop.invariant.4;
+  last = c.in-Done.ensures.tells;
+}
 
-pub returns-in-Failed-clause-comes : goal.returns-in-Failed-clause-comes
-returns-in-Failed-clause-comes g c = came_failed g.F.FnMut c.loop.self.transaction.words c.args.self.now.transaction.words (λ keeps. (c.loop.invariant.1 keeps).0.words) c.loop.body c.args.body.now c.loop.invariant.4 c.in-Failed.why c.attempt.new.self.thread c.in-Failed.ensures.tells
+pub returns-in-Failed-clause-ran : goal.returns-in-Failed-clause-ran
+returns-in-Failed-clause-ran g c = tried_failed g.F.FnMut c.args.body.now c.args.self.now.transaction c.args.self.now.tries c.attempt.new.body c.attempt.new.self c.in-Failed.why (record {
+  times = c.loop.counter;
+  fewer = omega (arith, c.loop-test.true, c.loop.invariant.2);
+  body = c.loop.body;
+  mid = c.loop.self.transaction;
+  again = c.loop.again;
+  before = c.loop.invariant.4;
+  last = c.in-Failed.ensures.tells;
+})
+
+pub returns-clause-ran : goal.returns-clause-ran
+returns-clause-ran g c =
+    let all : c.loop.counter ≡ c.args.self.now.tries = omega (arith, c.loop-test.false, c.loop.invariant.2, c.loop.invariant.3) in
+    (c.loop.again, subst (λ (n : ℕ). AreTries g.F.FnMut c.args.body.now c.args.self.now.transaction n c.loop.again c.loop.body c.loop.self.transaction) all c.loop.invariant.4)
+
+pub returns-in-Done-clause-late : goal.returns-in-Done-clause-late
+returns-in-Done-clause-late g c keeps =
+    let more = seen_more c.args.self.now.transaction c.loop.self.transaction (c.loop.invariant.1 keeps).0 in
+    let late = late_try g.F.FnMut keeps c.loop.body c.loop.self.transaction c.loop.again c.in-Done.done c.attempt.new.body c.attempt.new.self c.in-Done.ensures.tells in
+    omega (arith, more, late)
 
 pub returns-in-Done-clause-left : goal.returns-in-Done-clause-left
 returns-in-Done-clause-left g c keeps =
@@ -42,7 +71,7 @@ loop-preserved g c = elim c.match-attempt.branch [
         (record { words = now.words ∙ was.0.words; mine_is = now.mine_is ∙ was.0.mine_is; went = went_on (view_of c.args.self.now.transaction.thread.pass) (view_of c.loop.self.transaction.thread.pass) (view_of c.attempt.new.self.thread.pass) was.0.went now.went }, omega (arith, was.1, more)),
     refl,
     omega (arith, c.loop-test.true),
-    λ steady. c.attempt.ensures.same steady ∙ c.loop.invariant.4 steady,
+    try_more g.F.FnMut c.args.body.now c.args.self.now.transaction c.loop.counter c.loop.again c.match-attempt.again c.loop.body c.attempt.new.body c.loop.self.transaction c.attempt.new.self Conflict tt w.again-is c.loop.invariant.4 w.in-Conflict.ensures.tells,
     c.loop.invariant.5,
   )
   | in-Busy w ↦ (
@@ -54,7 +83,7 @@ loop-preserved g c = elim c.match-attempt.branch [
         (record { words = now.words ∙ was.0.words; mine_is = now.mine_is ∙ was.0.mine_is; went = went_on (view_of c.args.self.now.transaction.thread.pass) (view_of c.loop.self.transaction.thread.pass) (view_of c.attempt.new.self.thread.pass) was.0.went now.went }, omega (arith, was.1, more)),
     refl,
     omega (arith, c.loop-test.true),
-    λ steady. c.attempt.ensures.same steady ∙ c.loop.invariant.4 steady,
+    try_more g.F.FnMut c.args.body.now c.args.self.now.transaction c.loop.counter c.loop.again c.match-attempt.again c.loop.body c.attempt.new.body c.loop.self.transaction c.attempt.new.self Busy tt w.again-is c.loop.invariant.4 w.in-Busy.ensures.tells,
     c.loop.invariant.5,
   )
 ]

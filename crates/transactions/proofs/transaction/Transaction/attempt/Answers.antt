@@ -15,7 +15,7 @@ pub returns-in-Ok-body-clause-tells : goal.returns-in-Ok-body-clause-tells
 returns-in-Ok-body-clause-tells g c =
     let run : CalledAtMut g.F.FnMut c.args.body.now c.begun.new.self c.body.result c.body.new.self c.body.new.arg2 = record { shown = _; shows = refl; left = _; called = c.body.ensures; leaves = refl } in
     let begun = c.in-Ok.ensures.begun in
-    inl (record { before = c.args.self.now.thread; again = c.args.again; answer = begun.0; began = c.begun.new.self; begins = begun.1; here = λ keeps. c.begun.ensures.kept.words; body = c.args.body.now; same = λ steady. refl; body' = c.body.new.self; gives = Ok c.in-Ok-body.value; last = c.body.new.arg2; runs = subst (λ (r : Result g.row.R.Denot (Stopped g.row.E.Denot)). CalledAtMut g.F.FnMut c.args.body.now c.begun.new.self r c.body.new.self c.body.new.arg2) c.in-Ok-body.is run; ends = c.ended.ensures.ends })
+    inl (record { answer = begun.0; began = c.begun.new.self; begins = begun.1; here = c.begun.ensures.kept.words; gives = Ok c.in-Ok-body.value; last = c.body.new.arg2; runs = subst (λ (r : Result g.row.R.Denot (Stopped g.row.E.Denot)). CalledAtMut g.F.FnMut c.args.body.now c.begun.new.self r c.body.new.self c.body.new.arg2) c.in-Ok-body.is run; ends = c.ended.ensures.ends; stays = c.ended.ensures.left.words })
 
 pub returns-in-Ok-body-clause-left : goal.returns-in-Ok-body-clause-left
 returns-in-Ok-body-clause-left g c keeps =
@@ -30,7 +30,7 @@ pub returns-in-Err-Engine-clause-tells : goal.returns-in-Err-Engine-clause-tells
 returns-in-Err-Engine-clause-tells g c =
     let run : CalledAtMut g.F.FnMut c.args.body.now c.begun.new.self c.body.result c.body.new.self c.body.new.arg2 = record { shown = _; shows = refl; left = _; called = c.body.ensures; leaves = refl } in
     let begun = c.in-Ok.ensures.begun in
-    inl (record { before = c.args.self.now.thread; again = c.args.again; answer = begun.0; began = c.begun.new.self; begins = begun.1; here = λ keeps. c.begun.ensures.kept.words; body = c.args.body.now; same = λ steady. refl; body' = c.body.new.self; gives = Err (Engine c.in-Err-Engine.why); last = c.body.new.arg2; runs = subst (λ (r : Result g.row.R.Denot (Stopped g.row.E.Denot)). CalledAtMut g.F.FnMut c.args.body.now c.begun.new.self r c.body.new.self c.body.new.arg2) (c.in-Err-Engine.is ∙ ap Err c.in-Err-Engine.field-0-is) run; ends = (c.stopped.ensures.given_up, c.stopped.ensures.told ∙ ap (stop_told c.in-Err-Engine.why) (or_not _)) })
+    inl (record { answer = begun.0; began = c.begun.new.self; begins = begun.1; here = c.begun.ensures.kept.words; gives = Err (Engine c.in-Err-Engine.why); last = c.body.new.arg2; runs = subst (λ (r : Result g.row.R.Denot (Stopped g.row.E.Denot)). CalledAtMut g.F.FnMut c.args.body.now c.begun.new.self r c.body.new.self c.body.new.arg2) (c.in-Err-Engine.is ∙ ap Err c.in-Err-Engine.field-0-is) run; ends = (c.stopped.ensures.given_up, c.stopped.ensures.told ∙ ap (stop_told c.in-Err-Engine.why) (or_not _)); stays = c.stopped.ensures.words })
 
 pub returns-in-Err-Engine-clause-left : goal.returns-in-Err-Engine-clause-left
 returns-in-Err-Engine-clause-left g c keeps =
@@ -45,7 +45,7 @@ pub returns-in-Err-Cancelled-clause-tells : goal.returns-in-Err-Cancelled-clause
 returns-in-Err-Cancelled-clause-tells g c =
     let run : CalledAtMut g.F.FnMut c.args.body.now c.begun.new.self c.body.result c.body.new.self c.body.new.arg2 = record { shown = _; shows = refl; left = _; called = c.body.ensures; leaves = refl } in
     let begun = c.in-Ok.ensures.begun in
-    inl (record { before = c.args.self.now.thread; again = c.args.again; answer = begun.0; began = c.begun.new.self; begins = begun.1; here = λ keeps. c.begun.ensures.kept.words; body = c.args.body.now; same = λ steady. refl; body' = c.body.new.self; gives = Err (Cancelled c.in-Err-Cancelled.why); last = c.body.new.arg2; runs = subst (λ (r : Result g.row.R.Denot (Stopped g.row.E.Denot)). CalledAtMut g.F.FnMut c.args.body.now c.begun.new.self r c.body.new.self c.body.new.arg2) (c.in-Err-Cancelled.is ∙ ap Err c.in-Err-Cancelled.field-0-is) run; ends = (c.cancelled.ensures.given_up, c.cancelled.ensures.told) })
+    inl (record { answer = begun.0; began = c.begun.new.self; begins = begun.1; here = c.begun.ensures.kept.words; gives = Err (Cancelled c.in-Err-Cancelled.why); last = c.body.new.arg2; runs = subst (λ (r : Result g.row.R.Denot (Stopped g.row.E.Denot)). CalledAtMut g.F.FnMut c.args.body.now c.begun.new.self r c.body.new.self c.body.new.arg2) (c.in-Err-Cancelled.is ∙ ap Err c.in-Err-Cancelled.field-0-is) run; ends = (c.cancelled.ensures.given_up, c.cancelled.ensures.told); stays = c.cancelled.ensures.words })
 
 pub returns-in-Err-Cancelled-clause-left : goal.returns-in-Err-Cancelled-clause-left
 returns-in-Err-Cancelled-clause-left g c keeps =
@@ -58,7 +58,7 @@ returns-in-Err-Cancelled-clause-left g c keeps =
 
 pub returns-in-Err-clause-tells : goal.returns-in-Err-clause-tells
 returns-in-Err-clause-tells g c =
-    inr (record { before = c.args.self.now.thread; again = c.args.again; stop = _; then = c.begun.new.self; begins = c.in-Err.ensures.stopped; here = λ keeps. c.begun.ensures.kept.words; given_up = c.stopped-in-Err.ensures.given_up; told_is = c.stopped-in-Err.ensures.told ∙ ap (stop_told c.in-Err.why) (or_so _) })
+    inr (record { stop = _; then = c.begun.new.self; begins = c.in-Err.ensures.stopped; here = c.begun.ensures.kept.words; given_up = c.stopped-in-Err.ensures.given_up; stays = c.stopped-in-Err.ensures.words; not_run = refl; told_is = c.stopped-in-Err.ensures.told ∙ ap (stop_told c.in-Err.why) (or_so _) })
 
 pub returns-in-Err-clause-left : goal.returns-in-Err-clause-left
 returns-in-Err-clause-left g c keeps = record {
@@ -86,12 +86,3 @@ pub returns-in-Err-clause-looks : goal.returns-in-Err-clause-looks
 returns-in-Err-clause-looks g c keeps goes =
     let told = c.stopped-in-Err.ensures.told ∙ ap (stop_told c.in-Err.why) (or_so _) in
     omega (arith, stopped_looks c.args.self.now.thread c.args.again c.begun.new.self c.stopped-in-Err.result c.in-Err.why c.in-Err.ensures.stopped told goes, ap (λ (p : Pass). (view_of p).looks) c.stopped-in-Err.ensures.given_up.pass)
-
-pub returns-in-Ok-body-clause-same : goal.returns-in-Ok-body-clause-same
-returns-in-Ok-body-clause-same g c steady = steady _ _ _ _ _ (record { shown = _; shows = refl; left = _; called = c.body.ensures; leaves = refl })
-
-pub returns-in-Err-Engine-clause-same : goal.returns-in-Err-Engine-clause-same
-returns-in-Err-Engine-clause-same g c steady = steady _ _ _ _ _ (record { shown = _; shows = refl; left = _; called = c.body.ensures; leaves = refl })
-
-pub returns-in-Err-Cancelled-clause-same : goal.returns-in-Err-Cancelled-clause-same
-returns-in-Err-Cancelled-clause-same g c steady = steady _ _ _ _ _ (record { shown = _; shows = refl; left = _; called = c.body.ensures; leaves = refl })

@@ -8,6 +8,7 @@ use Rattle.shared_words.specs.declared.pass.Pass.{Pass}
 use Rattle.itm_runtime.specs.CallResults.{IsAnswered}
 use Rattle.itm_runtime.specs.Served.{Went}
 use Rattle.itm_runtime.specs.Standing.{Standing, start_of}
+use Rattle.itm_runtime.specs.Ties.{Stands}
 use Rattle.transactions.specs.Lent.{Lent, mine_of}
 use Rattle.transactions.specs.Runs.{LeftBy, commit_told}
 use Rattle.transactions.proofs.Tries.{again_told, gave_up}
@@ -38,6 +39,7 @@ returns-in_default g c = record {
     went = subst (λ (l : Lent). Went (view_of l.thread.pass) (view_of c.give_up.new.self.thread.pass)) c.self.view_is (subst (λ (p : Pass). Went (view_of c.self.inside.thread.pass) (view_of p)) (sym c.give_up.ensures.given_up.pass) c.commit.ensures.answered.served.went);
   };
   ends = record {
+    stood = subst (λ (l : Lent). Stands (view_of l.thread.pass) l.thread.engine) c.self.view_is c.clock-clock.ensures.stands;
     answer = c.commit.result;
     then = record { words = c.args.self.now.words; thread = c.commit.new.self };
     answered = moved _ c.args.self.now c.deref.result.now c.commit.result c.commit.new.self.pass c.commit.new.self.engine c.deref.ensures c.self.view_is c.commit.ensures.answered;
@@ -48,6 +50,7 @@ returns-in_default g c = record {
 
 pub returns-in-Committed-clause-ends : goal.returns-in-Committed-clause-ends
 returns-in-Committed-clause-ends g c = record {
+  stood = subst (λ (l : Lent). Stands (view_of l.thread.pass) l.thread.engine) c.self.view_is c.clock-clock.ensures.stands;
   answer = c.commit.result;
   then = record { words = c.args.self.now.words; thread = c.commit.new.self };
   answered = moved _ c.args.self.now c.deref.result.now c.commit.result c.commit.new.self.pass c.commit.new.self.engine c.deref.ensures c.self.view_is c.commit.ensures.answered;
@@ -57,6 +60,7 @@ returns-in-Committed-clause-ends g c = record {
 
 pub returns-in-Full-clause-ends : goal.returns-in-Full-clause-ends
 returns-in-Full-clause-ends g c = record {
+  stood = subst (λ (l : Lent). Stands (view_of l.thread.pass) l.thread.engine) c.self.view_is c.clock-clock.ensures.stands;
   answer = c.commit.result;
   then = record { words = c.args.self.now.words; thread = c.commit.new.self };
   answered = moved _ c.args.self.now c.deref.result.now c.commit.result c.commit.new.self.pass c.commit.new.self.engine c.deref.ensures c.self.view_is c.commit.ensures.answered;
