@@ -121,6 +121,7 @@ pub(crate) fn next_step(state: &Data, irrevocable: bool, pending: Pending) -> St
     ensures step { result ≡ asked_step state.now (phase_of state.now pending) }
     ensures few { state.now.spent + 1 < 2 ^ 128 }
 {
+    // (what holds of all frames, and the bound of a number: the clause `few` says what comes of them)
     let _writes = state.frames.len();
     let _entry = state.entry;
     if irrevocable {

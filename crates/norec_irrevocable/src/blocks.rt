@@ -16,6 +16,7 @@ pub(crate) fn begin(state: &mut Data, props: Props, room: u32) -> Turn
     requires held { IsHeld state.old }
     ensures { HeldCallTurns state.old (Call.Begin props room) result state.new }
 {
+    // (the bound of a number)
     let _room = room;
     let refused = begin_refusal(state, props);
     state.start_call();
@@ -72,6 +73,7 @@ pub(crate) fn mode(state: &mut Data, room: u32) -> Turn
     requires held { IsHeld state.old }
     ensures { HeldCallTurns state.old (Call.Mode room) result state.new }
 {
+    // (the bound of a number)
     let _room = room;
     let refused = mode_refusal(state);
     state.start_call();

@@ -60,6 +60,7 @@ fn send_chunk(state: &mut Data, copying: Copying, number: u32) -> Turn
     let Some(chunk) = chunks(copying).get(number) else {
         return Turn::EndIrrevocable(CallEnd::Done);
     };
+    // (what holds of every arena: it is small)
     let _bytes = state.arena.size();
     let first = (copying.from + chunk.at) as usize;
     let end = first + usize::from(chunk.size);

@@ -39,6 +39,7 @@ pub(crate) fn register(state: &mut Data, action: Action) -> Result<Turn, AllocEr
     requires held { IsHeld state.old }
     ensures { HeldCallComes state.old (Call.CommitAction action) result state.new }
 {
+    // (what holds of all frames)
     let _blocks = state.frames.depth();
     state.frames.register(ActionKind::Commit, action)?;
     state.start_call();
@@ -50,6 +51,7 @@ pub(crate) fn accept_undo(state: &mut Data, action: Action) -> Turn
     requires held { IsHeld state.old }
     ensures { HeldCallTurns state.old (Call.UndoAction action) result state.new }
 {
+    // (the bounds of its numbers)
     let _action = action;
     state.start_call();
     Turn::EndIrrevocable(CallEnd::Done)

@@ -69,6 +69,7 @@ fn whole(state: &mut Data, reading: Reading) -> Turn
         Purpose::Value { .. } => Turn::EndIrrevocable(CallEnd::Gathered),
         Purpose::Chunk { copying, number } => match copying.pair {
             CopyPair::In(_) => {
+                // (what holds of every arena: it is small)
                 let _bytes = state.arena.size();
                 let start = (copying.to + (reading.at - copying.from)) as usize;
                 state.arena.put(start, &state.gathered);

@@ -199,6 +199,7 @@ pub(crate) fn stored(state: &mut Data, row: usize) -> Turn
     requires sound { IsSound state.old (phases.Store state.old.taking row state.old.got) }
     ensures { StepTurns state.old (phases.Store state.old.taking row state.old.got) 0 result state.new }
 {
+    // (what holds of all frames)
     let _rows = state.frames.len();
     next_store(state, row + 1)
 }

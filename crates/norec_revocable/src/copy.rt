@@ -194,6 +194,7 @@ fn take_source(state: &mut Data, copying: Copying)
     ensures frame { state.new ≡ record state.old { buffer = state.new.buffer } }
     ensures bytes { state.new.buffer.items ≡ slice state.old.arena copying.from copying.size }
 {
+    // (what holds of every arena: it is small)
     let _bytes = state.arena.size();
     let start = copying.from as usize;
     let end = start + copying.size as usize;

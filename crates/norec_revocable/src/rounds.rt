@@ -63,6 +63,7 @@ pub(crate) fn row_seen(state: &mut Data, row: usize, seen: u64) -> Turn
     requires sound { IsSound state.old (phases.RoundRow (aim_of state.old) row) }
     ensures { StepGoesTo state.old (phases.RoundRow (aim_of state.old) row) seen result state.new }
 {
+    // (what holds of every log)
     let _rows = state.log.len();
     let logged = state.log.row(row);
     if logged.value == seen {

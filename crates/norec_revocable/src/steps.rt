@@ -15,6 +15,7 @@ pub fn step_of(state: &Data, pending: Pending) -> Step
     requires sound { IsSound (counted state.now) (phase_of state.now pending) }
     ensures { result ≡ step_of state.now (phase_of state.now pending) }
 {
+    // (the bound of a number)
     let _words = state.words;
     match pending {
         Pending::Idle

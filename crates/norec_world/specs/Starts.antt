@@ -45,7 +45,7 @@ pub record HasStarted {P : Type 0} (rules : Rules P) (clock : ℕ) (engine : Cor
   pub thread : a.run.thread ≡ place
 
 -- an actor that was made over this memory, where attempts may have ended before: none has ended by it
-pub record IsStarted {P : Type 0} (rules : Rules P) (memory : Cells) (arena : ℕ) (limits : Limits) (place : ℕ) (p : P) (old new : Rows) (a : Actor P) : Type 0 where
+pub record IsNewActor {P : Type 0} (rules : Rules P) (memory : Cells) (arena : ℕ) (limits : Limits) (place : ℕ) (p : P) (old new : Rows) (a : Actor P) : Type 0 where
   pub sound : IsSound rules memory new a
   pub starts : HasStarted rules memory.clock (first_engine (length memory.words) arena limits) limits.retries place p a
   pub first : IsFirst memory.clock limits a

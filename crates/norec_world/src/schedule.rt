@@ -38,6 +38,7 @@ impl<P: Player> World<P> {
         ensures opening { SameOpening self.old self.new }
         ensures actors { length self.new.actors ≡ length self.old.actors }
     {
+        // (what holds of every world: the clauses after a run of no events)
         let _events = self.events();
         let mut passes = Passes {
             taken: 0,

@@ -7,7 +7,7 @@ ghost use Rattle.norec_world.specs.Rows.{rows_in};
 ghost use Rattle.norec_world.specs.Stages.{active_of};
 ghost use Rattle.norec_world.specs.Actors.{AreActors};
 ghost use Rattle.norec_world.specs.World.{ending_in};
-ghost use Rattle.norec_world.specs.Starts.{IsFirst, IsStarted, HasStarted, first_engine};
+ghost use Rattle.norec_world.specs.Starts.{IsFirst, IsNewActor, HasStarted, first_engine};
 ghost use Rattle.norec_world.specs.Runs.{RunsFrom};
 ghost use Rattle.norec_world.specs.Headline.{first_of};
 ghost use Rattle.norec_world.specs.declared.actor.Actor.{Actor};
@@ -86,7 +86,7 @@ fn start<P: Player>(
     requires size { (0 < length memory.now.words) × (8 * length memory.now.words ≤ MAX_MEMORY) }
     requires fit { AllFit memory.now.words }
     requires clock { memory.now.clock ≡ 0 }
-    ensures { IfOk result (IsStarted P.Player memory.now terms.arena terms.limits thread player (rows_in ended.old) (rows_in ended.new)) }
+    ensures { IfOk result (IsNewActor P.Player memory.now terms.arena terms.limits thread player (rows_in ended.old) (rows_in ended.new)) }
 {
     let arena = Arena::new(alloc, terms.arena as usize)?;
     let engine = Engine::new(alloc, memory.words(), arena, terms.limits)?;

@@ -205,6 +205,7 @@ impl<P: Player> World<P> {
         ensures opening { SameOpening self.old self.new }
         ensures actors { length self.new.actors ≡ length self.old.actors }
     {
+        // (what holds of every world: the clauses after a run of no events)
         let _events = self.events();
         let mut taken = 0u64;
         while self.is_waiting(actor) {
@@ -222,6 +223,7 @@ impl<P: Player> World<P> {
         ensures actors { length self.new.actors ≡ length self.old.actors }
         ensures less { LeavesLess P.Player actor false self.old self.new }
     {
+        // (what holds of every world: the clauses after a run of no events)
         let _events = self.events();
         let mut taken = 0u64;
         let mut goes_on = true;

@@ -30,6 +30,7 @@ fn memories(alloc: Global, program: &Program) -> Result<(Vec<u8>, Vec<u8>), Allo
     let mut before = vec![in alloc; 0; program.size()]?;
     let after = vec![in alloc; 0; program.size()]?;
     program.opening(&mut before);
+    // (their clauses say that the program is within its limits)
     let _limits = (program.arena(), program.limits(), program.threads());
     Ok((before, after))
 }
