@@ -151,7 +151,7 @@ module _ {F R E : Type 0} (fn : Mut F (MutBor Lent × Unit {0}) (Result R (Stopp
     pub not_run : f' ≡ f
     pub told_is : told ≡ stop_told stop true
 
-  -- one try of the body, `again` where an earlier one got past its begin, is told so, and leaves the body and what was lent so
+  -- one try of the body, `again` where an earlier one came to a conflict, is told so, and leaves the body and what was lent so
   abbrev pub IsTry : F → Lent → Bool → Tried R E → F → Lent → Type 0
   IsTry f old again told f' new = HasRun f old again told f' new ⊎ HasNotBegun f old again told f' new
 

@@ -18,13 +18,13 @@ ComesAgain (Fails why) = ⊥
 ComesAgain Conflict = Unit {0}
 ComesAgain Busy = Unit {0}
 
--- whether some try got past its begin: this one, which is told so, or one before it
+-- whether a try came to a conflict: this one, which is told so, or one before it
 abbrev pub again_after : {R E : Type 0} → Bool → Tried R E → Bool
 again_after again Conflict = true
 again_after again told = again
 
 module _ {F R E : Type 0} (fn : Mut F (MutBor Lent × Unit {0}) (Result R (Stopped E) × (MutBor Lent × Unit {0}))) where
-  -- n tries in order, each on what the one before left, after each of which another one comes; `again` where one of them got past its begin
+  -- n tries in order, each on what the one before left, after each of which another one comes; `again` where one of them came to a conflict
   abbrev pub AreTries : F → Lent → ℕ → Bool → F → Lent → Type 0
   AreTries f old zero again f' new = (f' ≡ f) × (new ≡ old) × (again ≡ false)
   AreTries f old (suc n) again f' new = (g : F) × (mid : Lent) × (was : Bool) × (told : Tried R E) × AreTries f old n was g mid × IsTry fn g mid was told f' new × ComesAgain told × (again ≡ again_after was told)

@@ -29,7 +29,7 @@ pub(crate) enum Tried<R, E> {
     Failed(Failed<E>),
     /// Another commit came between.
     Conflict,
-    /// It did not begin.
+    /// The clock was held at its begin, or so its body told.
     Busy,
 }
 

@@ -1,7 +1,8 @@
 -- What a transaction that is told of has done to the bytes.
-use Rattle.std.specs.Prelude.{◌≡◌, ℕ, suc, ◌<◌, ◌≤◌, if◌then◌else◌, Bool, List, length, Option, None, IsSome, slice_index_or, sum_by, unwrap_or}
+use Rattle.std.specs.Prelude.{◌≡◌, ℕ, suc, ◌*◌, ◌<◌, ◌≤◌, if◌then◌else◌, Bool, List, length, Option, None, IsSome, slice_index_or, sum_by, unwrap_or}
 use Rattle.itm_types.specs.Memory.{bytes_of}
 use Rattle.shared_words.specs.declared.view.View.{View}
+use Rattle.shared_words.specs.Good.{EndsWith}
 use Rattle.shared_words.specs.Passes.{view_of}
 use Rattle.itm_runtime.specs.Standing.{Standing}
 use Rattle.itm_runtime.specs.Ties.{memory_of}
@@ -31,3 +32,9 @@ told_in_all told = sum_by (λ (o : Option ℕ). unwrap_or o 0) told
 -- each thread tells something
 abbrev pub AllTell : List (Option ℕ) → Type 0
 AllTell told = (k : ℕ) → k < length told → IsSome (slice_index_or told k None)
+
+-- so many commits lead from the one bytes to the other
+pub record HasCommitted (commits : ℕ) (old new : List ℕ) : Type 0 where
+  pub whole : View
+  pub bytes : bytes_of whole.base ≡ old
+  pub ends : EndsWith whole (2 * commits) new

@@ -10,7 +10,7 @@ ghost use Rattle.transactions.specs.Runs.{mine_left};
 ghost use Rattle.tx_map.specs.Pairs.{HasAllPairs, HasOnlyPairs};
 ghost use Rattle.tx_map.specs.Puts.{HasGot, HasPut, added_of, is_put};
 ghost use Rattle.tx_map.specs.Tables.{IsEmpty};
-ghost use Rattle.tx_map.specs.Told.{AllTell, HasLed, told_in_all};
+ghost use Rattle.tx_map.specs.Told.{AllTell, HasCommitted, HasLed, told_in_all};
 ghost use Rattle.tx_map.specs.Written.{HasWritten, HasWrittenSome};
 
 mod table;
@@ -108,7 +108,7 @@ fn empty(alloc: Global, table: &Table, size: usize) -> Result<Vec<u8>, AllocErro
     vec![in alloc; 0u8; size]
 }
 
-/// Four threads write into the bytes. Tells how many puts were of a new key, and how many transactions wrote.
+/// Four threads write into the bytes. Tells how many puts were of a new key, and how many commits led to the bytes.
 fn write_together<R: Threads + Sync>(
     rt: &R,
     alloc: Global,
@@ -120,6 +120,7 @@ fn write_together<R: Threads + Sync>(
     ensures all { IfOk result (λ _. HasAllPairs table.now.slots.first table.now.slots.count KEYS bytes.new) }
     ensures added { IfOk result (λ told. told.0 ≡ KEYS) }
     ensures commits { IfOk result (λ told. told.1 ≡ 4 * 64) }
+    ensures history { IfOk result (λ told. HasCommitted told.1 bytes.old bytes.new) }
 {
     let write = |thread, client: &mut Client| write_all(client, table, thread);
     let joined = run(rt, alloc, bytes, 4, u64::MAX, &write)?;

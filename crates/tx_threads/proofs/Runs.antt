@@ -65,9 +65,9 @@ opened_so engine words arena e = record {
 }
 
 module _ {F T : Type 0} (fn : Shared F (ℕ × (MutBor Client × Unit {0})) (T × (MutBor Client × Unit {0}))) (f : F) (words : Words) (base : List ℕ) (tries : ℕ) where
-  pub one_served : {n : ℕ} {lent left : MutBor Client} {r : T} (pass : Pass) (values : List T) → fn.post f (n, (lent, tt)) (r, (left, tt)) → lent.now.transaction.words ≡ words → (view_of lent.now.transaction.thread.pass).base ≡ base → lent.now.tries ≡ tries → HasUsualLimits lent.now.transaction.thread.engine → (view_of lent.now.transaction.thread.pass).mine ≡ [] → pass ≡ left.now.transaction.thread.pass → Owns words pass → (view_of pass).holds ≡ false → values ≡ r ∷ [] → AreServed fn f words base tries n 1 values pass
-  one_served {n} {lent} {left} {r} pass values runs here begins tried limits new ends own idle is =
-      let run : HasRun fn f words base tries n r (view_of pass) = record { lent = lent; left = left; here = here; base_is = begins; tries_are = tried; limits = limits; new = new; runs = runs; ends = ap view_of ends } in
+  pub one_served : {n : ℕ} {lent left : MutBor Client} {r : T} (pass : Pass) (values : List T) → fn.post f (n, (lent, tt)) (r, (left, tt)) → lent.now.transaction.words ≡ words → (view_of lent.now.transaction.thread.pass).base ≡ base → lent.now.tries ≡ tries → HasUsualLimits lent.now.transaction.thread.engine → (view_of lent.now.transaction.thread.pass).mine ≡ [] → (view_of lent.now.transaction.thread.pass).looks ≡ 0 → lent.now.transaction.thread.engine.arena ≡ [] → pass ≡ left.now.transaction.thread.pass → Owns words pass → (view_of pass).holds ≡ false → values ≡ r ∷ [] → AreServed fn f words base tries n 1 values pass
+  one_served {n} {lent} {left} {r} pass values runs here begins tried limits new looks arena ends own idle is =
+      let run : HasRun fn f words base tries n r (view_of pass) = record { lent = lent; left = left; here = here; base_is = begins; tries_are = tried; limits = limits; new = new; looks = looks; arena = arena; runs = runs; ends = ap view_of ends } in
       subst (λ (vs : List T). AreServed fn f words base tries n 1 vs pass) (sym is) (record { own = own; idle = idle; count_is = refl; views = view_of pass ∷ []; each = (run, tt); mine = nothing_more (view_of pass).mine; begin = (begins_itself (view_of pass).seen, tt) })
 
   runs_append : (n m : ℕ) (xs ys : List T) (vs ws : List View) → m ≡ n + length xs → EachHasRun fn f words base tries n xs vs → EachHasRun fn f words base tries m ys ws → EachHasRun fn f words base tries n (xs ++ ys) (vs ++ ws)

@@ -14,11 +14,12 @@ use Rattle.shared_words.specs.InGlobal.{Words}
 use Rattle.shared_words.specs.Passes.{Owns, view_of}
 use Rattle.transactions.specs.declared.client.Client.{Client}
 
--- a client may be made of the pass, which has no commit of its own
+-- a client may be made of the pass, which has no commit of its own and has not looked at the clock
 pub record IsNew (words : Words) (pass : Pass) : Type 0 where
   pub own : Owns words pass
   pub idle : (view_of pass).holds ≡ false
   pub mine : (view_of pass).mine ≡ []
+  pub looks : (view_of pass).looks ≡ 0
 
 -- what all passes know, where this one had no client and the other one is all those that had
 pub record Ending (trunk other : View) (clock : ℕ) (bytes : List ℕ) : Type 0 where
@@ -45,7 +46,7 @@ module _ {F T : Type 0} (fn : Shared F (ℕ × (MutBor Client × Unit {0})) (T �
   abbrev pub KeepsWords : Type 0
   KeepsWords = (n : ℕ) (lent left : MutBor Client) (r : T) → fn.post f (n, (lent, tt)) (r, (left, tt)) → left.now.transaction.words ≡ lent.now.transaction.words
 
-  -- as the thread of this number the body was lent a client over these words, whose commits begin from this memory, which tries each body so often, within the usual limits, and that had committed nothing; it gave this, and handed the client back with what its pass then knew
+  -- as the thread of this number the body was lent a client over these words, whose commits begin from this memory, which tries each body so often, within the usual limits, with no arena, and that had committed nothing and not looked at the clock; it gave this, and handed the client back with what its pass then knew
   pub record HasRun (words : Words) (base : List ℕ) (tries n : ℕ) (r : T) (v : View) : Type 0 where
     pub lent : MutBor Client
     pub left : MutBor Client
@@ -54,6 +55,8 @@ module _ {F T : Type 0} (fn : Shared F (ℕ × (MutBor Client × Unit {0})) (T �
     pub tries_are : lent.now.tries ≡ tries
     pub limits : HasUsualLimits lent.now.transaction.thread.engine
     pub new : (view_of lent.now.transaction.thread.pass).mine ≡ []
+    pub looks : (view_of lent.now.transaction.thread.pass).looks ≡ 0
+    pub arena : lent.now.transaction.thread.engine.arena ≡ []
     pub runs : fn.post f (n, (lent, tt)) (r, (left, tt))
     pub ends : v ≡ view_of left.now.transaction.thread.pass
 

@@ -1,4 +1,5 @@
-use Rattle.std.proofs.Common.{ℕ, ◌≡◌, ◌-◌, ◌^◌, min, Option, IfSome, ap, arith, rules, subst, sym}
+use Rattle.std.proofs.Common.{ℕ, ◌≡◌, ◌-◌, ◌*◌, ◌/◌, ◌^◌, length, min, Option, IfSome, ap, arith, rules, subst, sym}
+use Rattle.shared_words.specs.Good.{EndsWith}
 use Rattle.tx_map.specs.Pairs.{HasOnlyPairs}
 use Rattle.tx_map.specs.Told.{AllTell, told_in_all}
 use Rattle.tx_map.proofs.Pairs.{empty_only}
@@ -43,3 +44,10 @@ returns-clause-added g c =
     let all : told_in_all told ≡ 160 = all_added _ _ t.first t.count _ c.in_ok-joined.joined.clock told c.args.bytes.now c.run.new.bytes c.in_ok-joined.ensures.run (λ n lent left r called. search rules) c.requires (λ n lent left r called. search rules) (subst AllTell c.as_slice.ensures.value tell) in
     let same : told_in_all c.as_slice.result.now ≡ told_in_all told = ap told_in_all c.as_slice.ensures.value in
     omega (arith, sum, all, same)
+
+pub returns-clause-history : goal.returns-clause-history
+returns-clause-history g c =
+    let run = c.in_ok-joined.ensures.run in
+    let clock = c.in_ok-joined.joined.clock in
+    let is : clock ≡ 2 * (clock / 2) = omega (arith, run.ends.clock_is) in
+    record { whole = run.whole; bytes = run.bytes; ends = subst (λ (n : ℕ). EndsWith run.whole n c.run.new.bytes) is run.ends }

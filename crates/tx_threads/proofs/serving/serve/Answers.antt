@@ -3,6 +3,7 @@ use Rattle.shared_words.specs.InGlobal.{Words}
 use Rattle.shared_words.specs.Passes.{Owns, view_of}
 use Rattle.shared_words.specs.declared.pass.Pass.{Pass}
 use Rattle.itm_runtime.specs.Standing.{Standing}
+use Rattle.norec_core.specs.Core.{Core}
 use Rattle.tx_threads.proofs.Runs.{one_served, opened_so}
 use Rattle.tx_threads.proofs.serving.serve.Goals as goal
 
@@ -15,4 +16,4 @@ returns g c =
     let lent = c.new-client.ensures.thread in
     let limits = opened_so c.new-client.result.transaction.thread.engine _ _ (ap (λ (t : Standing). t.engine) lent ∙ c.in-Ok.ensures.engine) in
     let own = subst (λ (w : Words). Owns w c.into_parts-words.result.1.pass) (c.into_parts-words.ensures.words ∙ kept ∙ here) c.into_parts-words.ensures.own in
-    one_served g.F.Fn c.args.body.now c.args.words.now.value (view_of c.args.pass).base c.args.tries _ _ c.body-value.ensures here (ap (λ (t : Standing). (view_of t.pass).base) lent ∙ ap (λ (p : Pass). (view_of p).base) c.in-Ok.ensures.pass) c.new-client.ensures.tries limits (ap (λ (t : Standing). (view_of t.pass).mine) lent ∙ ap (λ (p : Pass). (view_of p).mine) c.in-Ok.ensures.pass ∙ c.requires.new.mine) (pass ∙ ap (λ (t : Standing). t.pass) thread) (subst (λ (p : Pass). Owns c.args.words.now.value p) (sym pass) own) (ap (λ (p : Pass). (view_of p).holds) c.in_ok-served.ensures.pass ∙ c.in-Ok-into_parts.ensures.idle) c.in_ok-served.ensures.values
+    one_served g.F.Fn c.args.body.now c.args.words.now.value (view_of c.args.pass).base c.args.tries _ _ c.body-value.ensures here (ap (λ (t : Standing). (view_of t.pass).base) lent ∙ ap (λ (p : Pass). (view_of p).base) c.in-Ok.ensures.pass) c.new-client.ensures.tries limits (ap (λ (t : Standing). (view_of t.pass).mine) lent ∙ ap (λ (p : Pass). (view_of p).mine) c.in-Ok.ensures.pass ∙ c.requires.new.mine) (ap (λ (t : Standing). (view_of t.pass).looks) lent ∙ ap (λ (p : Pass). (view_of p).looks) c.in-Ok.ensures.pass ∙ c.requires.new.looks) (ap (λ (t : Standing). t.engine.arena) lent ∙ ap (λ (e : Core). e.arena) c.in-Ok.ensures.engine ∙ c.in_ok-arena.ensures) (pass ∙ ap (λ (t : Standing). t.pass) thread) (subst (λ (p : Pass). Owns c.args.words.now.value p) (sym pass) own) (ap (λ (p : Pass). (view_of p).holds) c.in_ok-served.ensures.pass ∙ c.in-Ok-into_parts.ensures.idle) c.in_ok-served.ensures.values
