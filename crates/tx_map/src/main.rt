@@ -1,7 +1,7 @@
 //! A hash map that four threads write at once. Proved: at its place among all commits, each put that is told of leaves bytes
 //! of a map with that put done, if it found a map there, and each look tells what is there. A thread makes one commit for each
-//! pair that it puts, and no other. So the bytes are always of a map with such pairs alone; where each thread finds what it
-//! has put, they are of all pairs, there were as many commits as puts, and as many of these were of a new key as there are keys.
+//! pair that it puts, and no other. So the bytes are always of a map with such pairs alone; where none tells a lost key, they
+//! are of all pairs, there were as many commits as puts, and as many of these were of a new key as there are keys.
 #![tactic(auto)]
 
 ghost use Rattle.std.specs.Prelude.{◌≡◌, ◌+◌, ◌-◌, ◌*◌, ◌%◌, ◌^◌, ◌≤◌, ◌<◌, false, min, IfOk, IfSome};

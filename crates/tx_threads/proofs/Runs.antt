@@ -7,6 +7,7 @@ use denote.Param.Members.{Shared}
 use Rattle.itm_types.specs.declared.limits.TheConstants.{MAX_COMMITS, USUAL_DEPTH}
 use Rattle.itm_types.specs.Memory.{bytes_of}
 use Rattle.norec_core.specs.Core.{Core, opening}
+use Rattle.shared_words.proofs.ListPlaces.{starts_self, starts_trans}
 use Rattle.shared_words.specs.declared.pass.Pass.{Pass}
 use Rattle.shared_words.specs.declared.view.View.{View}
 use Rattle.shared_words.specs.Commits.{StartsWith, Stores}
@@ -23,15 +24,9 @@ nothing_more : {A : Type 0} → (xs : List A) → xs ≡ xs ++ []
 nothing_more [] = refl
 nothing_more {A} (x ∷ xs) = ap (λ (l : List A). x ∷ l) (nothing_more xs)
 
-begins_itself : (log : List Stores) → StartsWith log log
-begins_itself log = ([], nothing_more log)
-
-begins_longer : (log some fewer : List Stores) → StartsWith log some → StartsWith some fewer → StartsWith log fewer
-begins_longer log some fewer a b = (b.0 ++ a.0, a.1 ∙ ap (λ (l : List Stores). l ++ a.0) b.1 ∙ append_assoc fewer b.0 a.0)
-
 all_longer : (log some : List Stores) (vs : List View) → StartsWith log some → AllBegin some vs → AllBegin log vs
 all_longer log some [] a b = tt
-all_longer log some (v ∷ vs) a b = (begins_longer log some v.seen a b.0, all_longer log some vs a b.1)
+all_longer log some (v ∷ vs) a b = (starts_trans log some v.seen a b.0, all_longer log some vs a b.1)
 
 both_begin : (log : List Stores) (vs ws : List View) → AllBegin log vs → AllBegin log ws → AllBegin log (vs ++ ws)
 both_begin log [] ws a b = b
@@ -41,7 +36,7 @@ pub first_begins : (v u w : View) → Joined v u w → StartsWith w.seen v.seen
 first_begins v u w j = by j.longer
   where
     by : (StartsWith v.seen u.seen × (w.seen ≡ v.seen)) ⊎ (StartsWith u.seen v.seen × (w.seen ≡ u.seen)) → StartsWith w.seen v.seen
-    by (inl l) = subst (λ (log : List Stores). StartsWith log v.seen) (sym l.1) (begins_itself v.seen)
+    by (inl l) = subst (λ (log : List Stores). StartsWith log v.seen) (sym l.1) (starts_self v.seen)
     by (inr r) = subst (λ (log : List Stores). StartsWith log v.seen) (sym r.1) r.0
 
 pub second_begins : (v u w : View) → Joined v u w → StartsWith w.seen u.seen
@@ -49,7 +44,7 @@ second_begins v u w j = by j.longer
   where
     by : (StartsWith v.seen u.seen × (w.seen ≡ v.seen)) ⊎ (StartsWith u.seen v.seen × (w.seen ≡ u.seen)) → StartsWith w.seen u.seen
     by (inl l) = subst (λ (log : List Stores). StartsWith log u.seen) (sym l.1) l.0
-    by (inr r) = subst (λ (log : List Stores). StartsWith log u.seen) (sym r.1) (begins_itself u.seen)
+    by (inr r) = subst (λ (log : List Stores). StartsWith log u.seen) (sym r.1) (starts_self u.seen)
 
 mine_append : (vs ws : List View) → flat_map mine_of (vs ++ ws) ≡ flat_map mine_of vs ++ flat_map mine_of ws
 mine_append [] ws = refl
@@ -68,7 +63,7 @@ module _ {F T : Type 0} (fn : Shared F (ℕ × (MutBor Client × Unit {0})) (T �
   pub one_served : {n : ℕ} {lent left : MutBor Client} {r : T} (pass : Pass) (values : List T) → fn.post f (n, (lent, tt)) (r, (left, tt)) → lent.now.transaction.words ≡ words → (view_of lent.now.transaction.thread.pass).base ≡ base → lent.now.tries ≡ tries → HasUsualLimits lent.now.transaction.thread.engine → (view_of lent.now.transaction.thread.pass).mine ≡ [] → (view_of lent.now.transaction.thread.pass).looks ≡ 0 → lent.now.transaction.thread.engine.arena ≡ [] → pass ≡ left.now.transaction.thread.pass → Owns words pass → (view_of pass).holds ≡ false → values ≡ r ∷ [] → AreServed fn f words base tries n 1 values pass
   one_served {n} {lent} {left} {r} pass values runs here begins tried limits new looks arena ends own idle is =
       let run : HasRun fn f words base tries n r (view_of pass) = record { lent = lent; left = left; here = here; base_is = begins; tries_are = tried; limits = limits; new = new; looks = looks; arena = arena; runs = runs; ends = ap view_of ends } in
-      subst (λ (vs : List T). AreServed fn f words base tries n 1 vs pass) (sym is) (record { own = own; idle = idle; count_is = refl; views = view_of pass ∷ []; each = (run, tt); mine = nothing_more (view_of pass).mine; begin = (begins_itself (view_of pass).seen, tt) })
+      subst (λ (vs : List T). AreServed fn f words base tries n 1 vs pass) (sym is) (record { own = own; idle = idle; count_is = refl; views = view_of pass ∷ []; each = (run, tt); mine = nothing_more (view_of pass).mine; begin = (starts_self (view_of pass).seen, tt) })
 
   runs_append : (n m : ℕ) (xs ys : List T) (vs ws : List View) → m ≡ n + length xs → EachHasRun fn f words base tries n xs vs → EachHasRun fn f words base tries m ys ws → EachHasRun fn f words base tries n (xs ++ ys) (vs ++ ws)
   runs_append n m [] ys [] ws e a b = let same : m ≡ n = omega arith in subst (λ (k : ℕ). EachHasRun fn f words base tries k ys ws) same b

@@ -34,7 +34,7 @@ abbrev pub AllBegin : List Stores → List View → Type 0
 AllBegin log [] = Unit {0}
 AllBegin log (v ∷ vs) = StartsWith log v.seen × AllBegin log vs
 
--- a call looks at the clock eight times, blocks may be open as deep as is usual, none goes back alone, and as many may commit as ever can
+-- a call starts eight rounds of validation at most, blocks may be open as deep as is usual, none goes back alone, and as many may commit as ever can
 pub record HasUsualLimits (engine : Core) : Type 0 where
   pub patience : engine.patience ≡ 8
   pub depth : engine.depth ≡ USUAL_DEPTH
