@@ -10,3 +10,4 @@ pub mod LastLoads
 pub mod StepChains
 pub mod WordReads
 pub mod DrivenCalls
+pub mod FurtherSteps

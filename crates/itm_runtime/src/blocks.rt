@@ -93,7 +93,7 @@ pub(crate) fn commit_block<A: Allocator>(
 
 /// Takes the clock, and stores the rows. How many had committed before; or what else was found in the clock.
 #[inline(always)]
-fn take_clock<A: Allocator>(
+pub(crate) fn take_clock<A: Allocator>(
     words: &Words<A>,
     pass: &mut Pass,
     engine: &mut Engine,

@@ -11,6 +11,7 @@ ghost use Rattle.norec_core.specs.declared.answer.Next.TheVariants.{Step as Asks
 ghost use Rattle.norec_engine.specs.NextSteps.{next_in};
 ghost use Rattle.norec_engine.specs.WholeReads.{LoadsWord};
 
+use crate::rounds::{commit_again, round};
 use itm_types::{Reply, Step};
 use norec_core::Answer;
 use norec_engine::Engine;
@@ -98,8 +99,32 @@ fn drive<A: Allocator>(
     }
 }
 
-/// Does one step of a call; tells the next one. A part of a word is stored here alone, for the fast path stores whole words.
+/// Does steps of a call, from this one on: where it is the first of a round or takes the clock for a commit, those that come
+/// with it; else this one alone. Tells the next one.
+#[inline(always)]
 fn go_on<A: Allocator>(
+    words: &Words<A>,
+    pass: &mut Pass,
+    engine: &mut Engine,
+    step: Step,
+    answer: &mut Answer,
+) -> Option<Step>
+    requires own { Owns words.now pass.old }
+    requires due { (s : Start) × InCall s (view_of pass.old) engine.old step }
+    ensures { StepsOn words.now (view_of pass.old) engine.old step pass.new engine.new (next_in result answer.new) }
+{
+    if engine.starts_round() {
+        round(words, pass, engine, answer)
+    } else if engine.takes_clock() {
+        commit_again(words, pass, engine, answer)
+    } else {
+        any_step(words, pass, engine, step, answer)
+    }
+}
+
+/// Does this step of a call, whatever it is; tells the next one.
+#[inline(never)]
+fn any_step<A: Allocator>(
     words: &Words<A>,
     pass: &mut Pass,
     engine: &mut Engine,

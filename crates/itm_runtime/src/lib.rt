@@ -6,6 +6,7 @@ mod drive;
 mod equality;
 mod numbers;
 mod refused;
+mod rounds;
 mod slow_path;
 mod stop;
 mod thread;

@@ -54,7 +54,7 @@ module _ (b : Bool) (d : Data) (p : Pending) (c : Core) (view : engine_in b d (p
   stage : phase_of d p ≡ c.stage
   stage = sym (stage_is b d (phase_of d p)) ∙ ap (λ (x : Core). x.stage) view
 
-  sound_for : (q : Pending) → p ≡ q → IsSound d (phase_of d q)
+  pub sound_for : (q : Pending) → p ≡ q → IsSound d (phase_of d q)
   sound_for q is = subst (λ (x : Pending). IsSound d (phase_of d x)) is (subst (λ (x : Bool). IsSoundIn x d (phase_of d p)) mode sound)
 
   pub exchange_at : c.stage ≡ at.Exchange takings.Commit → (p ≡ waits.Exchange) × (d.taking ≡ takings.Commit) × IsSound d (at.Exchange d.taking)

@@ -9,4 +9,5 @@ pub mod WholeWrites
 pub mod FastSteps
 pub mod RestartingCalls
 pub mod BlockSteps
+pub mod RoundSteps
 pub mod RowSteps

@@ -5,3 +5,4 @@ pub mod WholeReads
 pub mod WholeWrites
 pub mod RestartingCalls
 pub mod BlockSteps
+pub mod Rounds

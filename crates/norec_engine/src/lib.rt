@@ -8,6 +8,7 @@ mod fast_path;
 mod next;
 mod refused;
 mod restarting;
+mod rounds;
 mod turns;
 
 pub use engine::Engine;

@@ -1,34 +1,12 @@
-use Rattle.std.proofs.Common.{[], ◌∷◌, refl}
-use Rattle.shared_words.specs.Passes.{view_of, cells_of}
-use Rattle.itm_runtime.proofs.Steps.StepChains.{lawful_of, cell_within, fits_of, waits_of, smaller, got_there}
+use Rattle.std.proofs.Common.{subst}
+use Rattle.itm_types.specs.declared.step.Step.TheVariants.{Load}
+use Rattle.shared_words.specs.Passes.{view_of}
+use Rattle.itm_runtime.specs.InCall.{InCall}
+use Rattle.itm_runtime.proofs.Steps.FurtherSteps.{waits_for}
 use Rattle.itm_runtime.proofs.drive.go_on.Goals as goal
 
-pub step_over-found-requires : goal.step_over-found-requires
-step_over-found-requires g c =
-    let i = c.requires.due.1 in
-    record {
-      own = c.requires.own;
-      cell = cell_within _ _ _ c.args.step c.requires.own.over i.tied i.lawful;
-      lawful = lawful_of _ _ i.tied c.args.step i.lawful;
-      found = got_there _ _ _ c.args.step _ i c.got.ensures;
-    }
-
-pub resume_into-requires : goal.resume_into-requires
-resume_into-requires g c =
-    let i = c.requires.due.1 in
-    record {
-      waits = waits_of c.requires.due.0 _ _ _ i;
-      fits = fits_of c.requires.due.0 _ _ _ _ c.args.step i c.step_over-found.ensures.turn;
-    }
-
-pub returns : goal.returns
-returns g c =
-    let words = cells_of c.args.words.now in
-    let over = c.requires.own.over in
-    let turn = c.step_over-found.ensures.turn in
-    record {
-      own = c.step_over-found.ensures.own;
-      steps = (c.args.step, c.step_over-found.result) ∷ [];
-      leads = (refl, view_of c.step_over-found.new.pass, c.resume_into.new.self, _, record { stepped = record { turn = turn; moves = c.step_over-found.ensures.moves }; over = c.step_over-found.ensures.own.over; resumed = c.resume_into.ensures }, (refl, refl, refl));
-      less = smaller words (view_of c.args.pass.now) (view_of c.step_over-found.new.pass) over c.step_over-found.ensures.own.over c.args.engine.now c.resume_into.new.self c.args.step c.step_over-found.result turn _ c.resume_into.ensures c.requires.due.0 c.requires.due.1;
-    }
+pub round-requires : goal.round-requires
+round-requires g c =
+    let starts = c.starts_round.ensures c.if-starts_round.true in
+    let d = c.requires.due in
+    record { own = c.requires.own; starts = starts; due = (d.0, subst (InCall d.0 (view_of c.args.pass.now) c.args.engine.now) (waits_for d.0 _ _ c.args.step (Load 0) d.1 starts.waits) d.1) }

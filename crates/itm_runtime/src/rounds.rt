@@ -1,0 +1,68 @@
+//! Validation rounds, and the commit that is tried again after one: steps of a call that are done with no dispatch.
+//!
+//! What they come to is told as of one step of the call; the driver goes on from there.
+
+ghost use Rattle.std.specs.Prelude.{◌+◌};
+ghost use Rattle.norec_core.specs.Phases.{RoundStart};
+ghost use Rattle.norec_engine.specs.BlockSteps.{TakesClock};
+ghost use Rattle.norec_engine.specs.NextSteps.{next_in};
+ghost use Rattle.norec_engine.specs.Rounds.{Validates};
+ghost use Rattle.shared_words.specs.Passes.{Owns, view_of};
+ghost use Rattle.itm_runtime.specs.Drives.{StepsOn};
+ghost use Rattle.itm_runtime.specs.InCall.{InCall};
+ghost use Rattle.itm_runtime.specs.Served.{Start};
+
+use crate::blocks::take_clock;
+use itm_types::Step;
+use norec_core::Answer;
+use norec_engine::Engine;
+use shared_words::{Pass, Words};
+use std::alloc::Allocator;
+
+/// A round: loads the clock, then the logged words as far as they are unchanged, and the clock again.
+#[inline(always)]
+pub(crate) fn round<A: Allocator>(
+    words: &Words<A>,
+    pass: &mut Pass,
+    engine: &mut Engine,
+    answer: &mut Answer,
+) -> Option<Step>
+    requires own { Owns words.now pass.old }
+    requires starts { Validates engine.old RoundStart 0 }
+    requires due { (s : Start) × InCall s (view_of pass.old) engine.old (Step.Load 0) }
+    ensures { StepsOn words.now (view_of pass.old) engine.old (Step.Load 0) pass.new engine.new (next_in result answer.new) }
+{
+    let seen = words.step(pass, Step::Load(0));
+    let mut next = engine.round_started(seen, answer);
+    while let Some(cell) = engine.row_ahead() {
+        let seen = words.step(pass, Step::Load(cell));
+        next = engine.row_loaded(seen, answer);
+    }
+    if engine.ends_round() {
+        let seen = words.step(pass, Step::Load(0));
+        next = engine.round_ended(seen, answer);
+    }
+    next
+}
+
+/// Takes the clock for a commit, and stores the rows. Where the clock has moved on, the next round begins.
+#[inline(always)]
+pub(crate) fn commit_again<A: Allocator>(
+    words: &Words<A>,
+    pass: &mut Pass,
+    engine: &mut Engine,
+    answer: &mut Answer,
+) -> Option<Step>
+    requires own { Owns words.now pass.old }
+    requires takes { TakesClock engine.old }
+    requires due { (s : Start) × InCall s (view_of pass.old) engine.old (Step.Cas 0 engine.old.snapshot (engine.old.snapshot + 1)) }
+    ensures { StepsOn words.now (view_of pass.old) engine.old (Step.Cas 0 engine.old.snapshot (engine.old.snapshot + 1)) pass.new engine.new (next_in result answer.new) }
+{
+    match take_clock(words, pass, engine) {
+        Ok(at) => {
+            *answer = Answer::Committed { at, wrote: true };
+            None
+        }
+        Err(found) => engine.resume_into(found, answer),
+    }
+}

@@ -1,0 +1,18 @@
+use Rattle.norec_core.specs.Phases.{RoundStart}
+use Rattle.norec_data.specs.declared.pending.Pending.TheVariants as waits
+use Rattle.norec_engine.proofs.RoundSteps.{left_here, resumed_here, start_waits}
+use Rattle.norec_engine.proofs.engine.Engine.round_started.Goals as goal
+
+pub invariant_of-self : goal.invariant_of-self
+invariant_of-self c =
+    let s = c.self.inside in
+    let v = c.requires.starts in
+    let is = start_waits s.irrevocable s.state s.pending c.args.self.now c.self.view_is v in
+    left_here s.irrevocable s.state s.pending c.args.self.now c.self.view_is c.self.invariant RoundStart 0 v waits.RoundStart is c.args.seen _ _ c.resume-turn.ensures _ _ _ _ c.take.ensures
+
+pub returns : goal.returns
+returns c =
+    let s = c.self.inside in
+    let v = c.requires.starts in
+    let is = start_waits s.irrevocable s.state s.pending c.args.self.now c.self.view_is v in
+    resumed_here s.irrevocable s.state s.pending c.args.self.now c.self.view_is c.self.invariant RoundStart 0 v waits.RoundStart is c.args.seen _ _ c.resume-turn.ensures _ _ _ _ c.take.ensures
