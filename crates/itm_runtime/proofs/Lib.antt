@@ -1,3 +1,4 @@
+pub mod LaterViews
 pub mod Steps
 pub mod Calls
 pub mod Examples

@@ -41,7 +41,7 @@ use Rattle.tx_worker.specs.Progress.{Course, IsRunning}
 use Rattle.tx_worker.specs.Works.{course_of}
 use Rattle.tx_worker.proofs.Laws.Answers.{both}
 use Rattle.tx_worker.proofs.Machines.LastEvents.{IsLast, last_event}
-use Rattle.tx_worker.proofs.Runs.LaterCommits.{went_self}
+use Rattle.itm_runtime.proofs.LaterViews.{went_self}
 use Rattle.script_laws.proofs.RepliedThreads.{HasLeft, deeper_begins, engine_fits, entered_may, one_deeper, open_room, replied_player, reserved_least, told_as_asked, tried_so}
 
 -- ## Before the first call

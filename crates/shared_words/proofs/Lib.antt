@@ -11,3 +11,4 @@ pub mod ClockFirst
 pub mod StructSteps
 pub mod HollowVecs
 pub mod RowFields
+pub mod PositionTotals

@@ -30,7 +30,7 @@ use Rattle.transactions.specs.Lent.{IsKept, Lent}
 use Rattle.transactions.specs.Blocks.{Enters, HasGoneBack, IsAsBefore, IsWithin, IsWithinStill, Leaves, StaysWithin}
 use Rattle.transactions.specs.Runs.{usual}
 use Rattle.transactions.proofs.InnerBlocks.{HasEntered, committed, fresh_begun, goes_abort, goes_commit, has_entered, taken_back, within_self, begin_idle}
-use Rattle.transactions.proofs.LaterViews.{went_on}
+use Rattle.itm_runtime.proofs.LaterViews.{went_on}
 use Rattle.transactions.proofs.Looks.{engine_open}
 use Rattle.transactions.proofs.LastEngines.{arena_left, last, mid, replied, writes_left}
 use Rattle.transactions.proofs.Within.{begins, begins_more, on_self, on_twice, ran_more, ran_none, ran_twice, replied_on}

@@ -16,7 +16,7 @@ use Rattle.transactions.specs.declared.stopped.Stopped.TheVariants.{Engine, Canc
 use Rattle.transactions.specs.Lent.{IsKept, Lent}
 use Rattle.transactions.specs.Blocks.{EndsBlockBy, EntersNot, HasGoneBack, HasRunBlock, IsAsBefore, IsToldAgain, IsUndoneUnless, KeepsBlocks, Leaves, StaysWithin, TellsBlock, block_told}
 use Rattle.transactions.specs.Runs.{KeepsBody, KeepsLent, usual}
-use Rattle.transactions.proofs.LaterViews.{went_self}
+use Rattle.itm_runtime.proofs.LaterViews.{went_self}
 use Rattle.transactions.proofs.BlockOutcomes.{abort_back, abort_kept, back_self, before_twice, before_within, commit_failed, commit_kept, commit_within, not_entered, back_served}
 
 -- nothing is changed

@@ -13,7 +13,7 @@ use Rattle.transactions.specs.declared.tried.Tried.TheVariants.{Failed as Fails}
 use Rattle.transactions.specs.Lent.{IsKept, IsLeft, Lent, mine_of}
 use Rattle.transactions.specs.Plain.{IsPlainRun, Makings}
 use Rattle.transactions.specs.Runs.{ComesTo, HasLooked, IsCancelled, KeepsBody, KeepsLent, mine_left}
-use Rattle.transactions.proofs.LaterViews.{went_on}
+use Rattle.itm_runtime.proofs.LaterViews.{went_on}
 use Rattle.transactions.proofs.Plain.{plain_run}
 use Rattle.transactions.proofs.Tries.{rebased}
 

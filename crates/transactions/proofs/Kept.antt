@@ -22,7 +22,7 @@ use Rattle.itm_runtime.specs.Stops.{GoesOn, answer_to_read, answer_to_write}
 use Rattle.itm_runtime.specs.declared.stop.Stop.{Stop}
 use Rattle.itm_runtime.specs.declared.stop.Stop.TheVariants.{Refused, Conflict, Restarted, Busy, Full, Memory}
 use Rattle.transactions.specs.Lent.{IsKept, Lent, mine_of}
-use Rattle.transactions.proofs.LaterViews.{went_self}
+use Rattle.itm_runtime.proofs.LaterViews.{went_self}
 use Rattle.transactions.proofs.Modes.{KeepsMode, stays_revocable}
 
 module _ (words : Words) (old : Standing) (call : Call) (new : Standing) where

@@ -4,7 +4,6 @@ mod Looks
 mod Tries
 mod WidthReads
 pub mod LastEngines
-pub mod LaterViews
 pub mod Within
 mod InnerBlocks
 pub mod BlockOutcomes

@@ -1,5 +1,4 @@
 -- The history of a run on threads.
-pub mod PositionTotals
 pub mod CommitPositions
 pub mod ThreadAttempts
 pub mod LegalRuns

@@ -7,6 +7,7 @@ use Rattle.std.proofs.lemmas.List.Sums.{sum_by-cons}
 use Rattle.std.proofs.Math.Seq.{take-length}
 use denote.Param.Members.{Shared}
 use Rattle.itm_types.specs.Memory.{bytes_of}
+use Rattle.shared_words.proofs.PositionTotals.{count_is}
 use Rattle.shared_words.specs.declared.view.View.{View}
 use Rattle.shared_words.specs.Commits.{StartsWith, Stores, after}
 use Rattle.shared_words.specs.InGlobal.{Words}
@@ -20,7 +21,7 @@ use Rattle.tx_map.specs.Tables.{IsEmpty}
 use Rattle.tx_map.specs.Told.{AllTell, bytes_in, told_in_all}
 use Rattle.tx_map.specs.Written.{EachPuts, HasWritten, HasWrittenIn, HasWrittenSome, PutsPair, added_in, positions}
 use Rattle.tx_map.proofs.Added.{AllPut, all_append, all_of_each, as_many_new}
-use Rattle.tx_map.proofs.Counts.{as_many, times_append, times_other}
+use Rattle.tx_map.proofs.Counts.{times_append, times_other}
 use Rattle.tx_map.proofs.Histories.{KeepsAt, each_later, pairs_at, put_stays}
 use Rattle.tx_map.proofs.Pairs.{empty_only, put_keeps}
 use Rattle.tx_map.proofs.Written.{added_append, positions_append}
@@ -177,7 +178,7 @@ module _ {F : Type 0} (fn : Shared F (ℕ × (MutBor Client × Unit {0})) (Optio
   -- as many commits as puts, where all bodies have told something
   pub all_commits : EachTells fn f first count → AllTell told → clock ≡ 512
   all_commits tells tell =
-      let each : length run.whole.mine ≡ length run.whole.seen = as_many (length run.whole.seen) run.whole.mine run.ends.mine run.ends.no_other in
+      let each : length run.whole.mine ≡ length run.whole.seen = count_is (length run.whole.seen) run.whole.mine run.ends.mine run.ends.no_other in
       let all : length run.whole.mine ≡ length told * 64 = ap length run.mine ∙ all_count fn f first count run.words tries run.whole tells 0 told run.views run.each tell run.begin in
       omega (arith, run.ends.clock_is, run.count_is, each, all)
 

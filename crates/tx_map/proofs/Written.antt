@@ -9,7 +9,7 @@ use Rattle.transactions.specs.declared.failed.Failed.{Failed}
 use Rattle.transactions.specs.declared.tried.Done.{Done}
 use Rattle.transactions.specs.Lent.{IsKept, IsLeft, Lent, mine_of}
 use Rattle.transactions.specs.Runs.{mine_left}
-use Rattle.transactions.proofs.LaterViews.{went_on, went_self}
+use Rattle.itm_runtime.proofs.LaterViews.{went_on, went_self}
 use Rattle.tx_map.specs.declared.table.Put.{Put}
 use Rattle.tx_map.specs.declared.table.Put.TheVariants.{Added, Again, Full}
 use Rattle.tx_map.specs.Puts.{HasGot, HasPut, added_of, is_put}

@@ -34,7 +34,7 @@ use Rattle.tx_host.specs.Versions.{version_of}
 use Rattle.tx_host.proofs.Histories.CommitPositions.{below_limit, committed_count, count_times, memory_is}
 use Rattle.tx_host.proofs.Passes.Courses.{course_still}
 use Rattle.tx_host.proofs.Histories.LegalRuns.{all_free, all_placed}
-use Rattle.tx_host.proofs.Histories.PositionTotals.{count_is}
+use Rattle.shared_words.proofs.PositionTotals.{count_is}
 use Rattle.tx_host.proofs.Histories.ThreadAttempts.{all_disturbed, all_few, all_left, all_outrun, all_own, all_stand, ends_count}
 
 module _ (words : Words) (p : Listing) (gate : Gating) (r : Report) (start now : View) (all : List Done) (opens : start ≡ opening start.base) (from : bytes_of start.base ≡ r.history.memory) (begun : r.history.memory ≡ opening_of p) (gathered : Gathers words start p gate now all) (closed : EndsWith now r.history.clock r.history.bytes) (attempts : r.history.attempts ≡ attempts_in all) (ends_are : r.ends.items ≡ ends_in all) (version : r.history.version ≡ version_of p) (allows : depth_of (version_of p) ≡ p.limits.depth) where

@@ -19,7 +19,7 @@ use Rattle.tx_worker.specs.Positions.{AreFew, AreOver}
 use Rattle.tx_worker.specs.Progress.{HasRun, IsRunning}
 use Rattle.tx_worker.specs.Workers.{IsWorking, bounds_of}
 use Rattle.tx_worker.specs.Works.{course_of}
-use Rattle.tx_worker.proofs.Runs.LaterCommits.{went_self}
+use Rattle.itm_runtime.proofs.LaterViews.{went_self}
 
 none_open : (bs : List Frame) → is_inside bs ≡ false → length bs ≡ 0
 none_open [] e = refl

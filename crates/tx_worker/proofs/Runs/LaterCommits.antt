@@ -5,6 +5,7 @@ use Rattle.shared_words.specs.declared.view.View.{View}
 use Rattle.shared_words.specs.Commits.{StartsWith, after, memory_at}
 use Rattle.itm_runtime.specs.Served.{Went}
 use Rattle.itm_runtime.specs.Ties.{memory_of}
+use Rattle.itm_runtime.proofs.LaterViews.{went_on}
 use Rattle.tx_attempts.specs.declared.attempt.Attempt.{Attempt}
 use Rattle.tx_attempts.specs.Attempts.{alone, is_committed}
 use Rattle.tx_attempts.specs.Opacity.{Between, IsTryAt, after_try}
@@ -64,19 +65,6 @@ bytes_later v w went = bytes_in v w (later_of v w went)
 
 pub seen_later : (v w : View) → Went v w → length v.seen ≤ length w.seen
 seen_later v w went = seen_in v w (later_of v w went)
-
-pub went_on : (u v w : View) → Went u v → Went v w → Went u w
-went_on u v w a b = record {
-  base = b.base ∙ a.base;
-  share = b.share ∙ a.share;
-  grows = (a.grows.0 ++ b.grows.0, b.grows.1 ∙ (ap (λ (h : _). h ++ b.grows.0) a.grows.1 ∙ append_assoc u.seen a.grows.0 b.grows.0));
-  looks = (let x = a.looks in let y = b.looks in omega arith);
-  high = (let x = a.high in let y = b.high in omega arith);
-}
-
--- where nothing was looked at
-pub went_self : (v : View) → Went v v
-went_self v = record { base = refl; share = refl; grows = ([], sym (append-nil v.seen)); looks = omega arith; high = omega arith }
 
 -- ## One attempt more
 

@@ -33,7 +33,7 @@ use Rattle.tx_runs.proofs.TriesStep.{moves_on, told_on}
 use Rattle.tx_worker.proofs.Machines.LastEvents.{IsLast}
 use Rattle.tx_worker.proofs.Machines.PlainStates.{stands_actions}
 use Rattle.tx_worker.proofs.Runs.EarlierReads.{met_here, position_read, told_plain}
-use Rattle.tx_worker.proofs.Runs.LaterCommits.{went_self}
+use Rattle.itm_runtime.proofs.LaterViews.{went_self}
 use Rattle.tx_worker.proofs.Runs.OpenRuns.{open_whole, stood_whole}
 use Rattle.tx_worker.proofs.Shapes.{replied_row, with_room}
 use Rattle.tx_worker.specs.Accounts.{Account}

@@ -30,7 +30,8 @@ use Rattle.tx_runs.specs.Nesting.{IsNested}
 use Rattle.tx_worker.proofs.Machines.ClockCalls.{wants_revocable, wants_taking}
 use Rattle.tx_worker.proofs.Runs.OpenRuns.{alone_told, arena_given_up, led, led_told, made_open, open_whole, ran_given_up, ran_standing, stood_whole, stop_ended, stop_mine, whole}
 use Rattle.tx_worker.proofs.Runs.EarlierReads.{position_read}
-use Rattle.tx_worker.proofs.Runs.LaterCommits.{known_more, went_self}
+use Rattle.itm_runtime.proofs.LaterViews.{went_self}
+use Rattle.tx_worker.proofs.Runs.LaterCommits.{known_more}
 use Rattle.tx_worker.proofs.Machines.PlainStates.{may_here, stands_actions, stands_arena, stands_mode, stands_open}
 use Rattle.tx_worker.specs.Positions.{bytes_at, positions}
 use Rattle.tx_worker.specs.Progress.{Course, HasRun, IsRunning, MayRead, now_at, stood}

@@ -5,7 +5,7 @@ use Rattle.transactions.specs.declared.tried.Tried.TheVariants.{Conflict, Busy}
 use Rattle.transactions.specs.Tries.{AreTries}
 use Rattle.transactions.proofs.Came.{cancelled_goes}
 use Rattle.transactions.proofs.Chains.{late_try, seen_more, tried_failed, try_more}
-use Rattle.transactions.proofs.LaterViews.{went_on}
+use Rattle.itm_runtime.proofs.LaterViews.{went_on}
 use Rattle.transactions.proofs.client.Client.run.Goals as goal
 use Rattle.transactions.proofs.client.Client.run.Goals.{in-Conflict, in-Busy}
 

@@ -6,7 +6,7 @@ use Rattle.itm_runtime.specs.Served.{Went}
 use Rattle.transactions.specs.declared.stopped.Stopped.{Stopped}
 use Rattle.transactions.specs.declared.stopped.Stopped.TheVariants.{Engine, Cancelled}
 use Rattle.transactions.specs.Runs.{mine_then, stop_told}
-use Rattle.transactions.proofs.LaterViews.{went_on}
+use Rattle.itm_runtime.proofs.LaterViews.{went_on}
 use Rattle.transactions.proofs.Looks.{or_not, or_so, stopped_looks}
 use Rattle.transactions.proofs.Tries.{cancelled_mine, stopped_mine}
 use Rattle.transactions.proofs.transaction.Transaction.attempt.Goals as goal
