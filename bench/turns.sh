@@ -39,29 +39,37 @@ measured() {
             { all[NR] = $1 }
             END { print name, all[1], all[int((NR + 1) / 2)] }'
     done >"$work/told"
+    for program in $programs; do
+        is_ours "$program" || continue
+        for other in $others; do
+            paste "$work/$(basename "$other").times" "$work/$(basename "$program").times" | awk '{ print $1 / $2 }' | sort -g |
+                awk -v names="$(basename "$program") $(basename "$other")" '{ all[NR] = $1 } END { print names, all[int((NR + 1) / 2)] }'
+        done
+    done >"$work/pairs"
 }
 
 # row WORKLOAD THREADS SIZE: a line of each program
 row() {
     measured "$@"
     awk -v row="$(printf '%8s %7d %5d' "$1" "$2" "$3")" -v others="$others" '
-        { name[NR] = $1; least[$1] = $2; median[$1] = $3 }
+        NR != FNR { pair[$1, $2] = $3; next }
+        { name[++names] = $1; least[$1] = $2; median[$1] = $3 }
         END {
             count = split(others, other)
             for (n = 1; n <= count; n++) is_other[other[n]] = 1
-            for (n = 1; n <= NR; n++) {
+            for (n = 1; n <= names; n++) {
                 it = name[n]
                 printf "%s %16s %10.1f %10.1f", row, it, least[it], median[it]
                 for (m = 1; m <= count && !(it in is_other); m++)
-                    printf " %8.3f %8.3f", least[other[m]] / least[it], median[other[m]] / median[it]
+                    printf " %8.3f %8.3f %8.3f", least[other[m]] / least[it], median[other[m]] / median[it], pair[it, other[m]]
                 printf "\n"
             }
-        }' "$work/told"
+        }' "$work/told" "$work/pairs"
 }
 
 {
     printf '%8s %7s %5s %16s %10s %10s' workload threads size program least median
-    for program in $others; do printf ' %8s %8s' "/$program" median; done
+    for program in $others; do printf ' %8s %8s %8s' "/$program" median rounds; done
     printf '\n'
 }
 for count in $threads; do

@@ -8,7 +8,7 @@ ghost use Rattle.std.specs.Prelude.{◌≡◌};
 ghost use Rattle.shared_words.specs.Passes.{Owns};
 
 use crate::bodies::body;
-use crate::draw::advance;
+use crate::draw::{Row, advance};
 use crate::task::{Halt, Progress};
 use itm_runtime::Thread;
 use itm_types::Props;
@@ -81,12 +81,13 @@ fn try_again<const SITE: u64>(
     Err(Halt::Over)
 }
 
-/// The next transaction, at this place.
+/// The next transaction, at this place, about words that the row draws.
 #[inline(always)]
 fn turn<const SITE: u64>(
     words: &Words,
     thread: &mut Thread,
     progress: &mut Progress,
+    row: &mut Row,
 ) -> Result<(), Halt>
     requires own { Owns words.now thread.old.pass }
     ensures own { Owns words.now thread.new.pass }
@@ -94,7 +95,7 @@ fn turn<const SITE: u64>(
     if progress.is_stopped() || progress.is_done() {
         return Err(Halt::Over);
     }
-    advance(&mut progress.block, &mut progress.row);
+    advance(&mut progress.block, row);
     let end = transaction::<SITE>(words, thread, progress, false)?;
     if end == TryEnd::Committed {
         return Ok(());
@@ -103,44 +104,58 @@ fn turn<const SITE: u64>(
 }
 
 /// A transaction at each of two places, one after the other.
-fn two_turns(words: &Words, thread: &mut Thread, progress: &mut Progress) -> Result<(), Halt>
+#[inline(always)]
+fn two_turns(
+    words: &Words,
+    thread: &mut Thread,
+    progress: &mut Progress,
+    row: &mut Row,
+) -> Result<(), Halt>
     requires own { Owns words.now thread.old.pass }
     ensures own { Owns words.now thread.new.pass }
 {
-    turn::<0>(words, thread, progress)?;
-    turn::<1>(words, thread, progress)
+    turn::<0>(words, thread, progress, row)?;
+    turn::<1>(words, thread, progress, row)
 }
 
 /// The same at ten.
-fn ten_turns(words: &Words, thread: &mut Thread, progress: &mut Progress) -> Result<(), Halt>
+#[inline(always)]
+fn ten_turns(
+    words: &Words,
+    thread: &mut Thread,
+    progress: &mut Progress,
+    row: &mut Row,
+) -> Result<(), Halt>
     requires own { Owns words.now thread.old.pass }
     ensures own { Owns words.now thread.new.pass }
 {
-    turn::<0>(words, thread, progress)?;
-    turn::<1>(words, thread, progress)?;
-    turn::<2>(words, thread, progress)?;
-    turn::<3>(words, thread, progress)?;
-    turn::<4>(words, thread, progress)?;
-    turn::<5>(words, thread, progress)?;
-    turn::<6>(words, thread, progress)?;
-    turn::<7>(words, thread, progress)?;
-    turn::<8>(words, thread, progress)?;
-    turn::<9>(words, thread, progress)
+    turn::<0>(words, thread, progress, row)?;
+    turn::<1>(words, thread, progress, row)?;
+    turn::<2>(words, thread, progress, row)?;
+    turn::<3>(words, thread, progress, row)?;
+    turn::<4>(words, thread, progress, row)?;
+    turn::<5>(words, thread, progress, row)?;
+    turn::<6>(words, thread, progress, row)?;
+    turn::<7>(words, thread, progress, row)?;
+    turn::<8>(words, thread, progress, row)?;
+    turn::<9>(words, thread, progress, row)
 }
 
 /// The same at each of the program's places, of which it has 1, 2 or else 10.
+#[inline(always)]
 pub fn all_turns<const SITES: u64>(
     words: &Words,
     thread: &mut Thread,
     progress: &mut Progress,
+    row: &mut Row,
 ) -> Result<(), Halt>
     requires own { Owns words.now thread.old.pass }
     ensures own { Owns words.now thread.new.pass }
 {
     match SITES {
-        1 => turn::<0>(words, thread, progress),
-        2 => two_turns(words, thread, progress),
-        _ => ten_turns(words, thread, progress),
+        1 => turn::<0>(words, thread, progress, row),
+        2 => two_turns(words, thread, progress, row),
+        _ => ten_turns(words, thread, progress, row),
     }
 }
 

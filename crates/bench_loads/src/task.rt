@@ -1,6 +1,6 @@
 //! What a thread is to do, and how far it has come.
 
-use crate::draw::{Row, first_block};
+use crate::draw::first_block;
 use crate::workload::{Block, Workload};
 use std::alloc::AllocError;
 use std::sync::atomic::{AtomicBool, Ordering};
@@ -58,8 +58,6 @@ pub fn most_of(task: &Task) -> u64 {
 pub struct Progress<'a> {
     /// Its transaction.
     pub block: Block,
-    /// Where the words of the next ones come from.
-    pub row: Row,
     pub tally: Tally,
     most: u64,
     stop: &'a AtomicBool,
@@ -67,11 +65,10 @@ pub struct Progress<'a> {
 
 impl Progress<'_> {
     /// The begin of a task; none where its transactions have inner blocks, which stand elsewhere.
-    pub fn new<'a>(task: &Task, seed: u64, stop: &'a AtomicBool) -> Option<Progress<'a>> {
+    pub fn new<'a>(task: &Task, stop: &'a AtomicBool) -> Option<Progress<'a>> {
         let block = first_block(task)?;
         Some(Progress {
             block,
-            row: Row::new(task, seed),
             tally: NOTHING_DONE,
             most: most_of(task),
             stop,

@@ -3,6 +3,7 @@
 ghost use Rattle.std.specs.Prelude.{◌≡◌, false, IfOk};
 ghost use Rattle.shared_words.specs.Passes.{Owns, view_of};
 
+use crate::draw::Row;
 use crate::fault::Fault;
 use crate::nested::{disturb, try_nested};
 use crate::sites::{TryEnd, all_turns, has_nested};
@@ -28,18 +29,21 @@ const LIMITS: Limits = Limits {
 /// A pass that has come back, and what was done with it.
 pub type Worked = Result<(Pass, Tally), Fault>;
 
-/// Runs transactions until the thread is told to stop, or has committed as many as the task has.
+/// Runs transactions until the thread is told to stop, or has committed as many as the task has. (The row is apart from the
+/// progress, which each transaction is handed: so words are drawn in registers, while the commit before ends.)
 fn run<const SITES: u64>(
     words: &Words,
     thread: &mut Thread,
     begin: Progress,
+    row: Row,
 ) -> Result<Tally, AllocError>
     requires own { Owns words.now thread.old.pass }
     ensures own { Owns words.now thread.new.pass }
 {
     let mut progress = begin;
+    let mut row = row;
     for _ in 0..u64::MAX {
-        match all_turns::<SITES>(words, thread, &mut progress) {
+        match all_turns::<SITES>(words, thread, &mut progress, &mut row) {
             Ok(()) => {}
             Err(Halt::Over) => break,
             Err(Halt::Memory) => return Err(AllocError),
@@ -113,8 +117,8 @@ fn run_part<const SITES: u64>(
     requires own { Owns words.now thread.old.pass }
     ensures own { Owns words.now thread.new.pass }
 {
-    match Progress::new(task, seed, stop) {
-        Some(begin) => run::<SITES>(words, thread, begin),
+    match Progress::new(task, stop) {
+        Some(begin) => run::<SITES>(words, thread, begin, Row::new(task, seed)),
         None if !has_nested::<SITES>() => Ok(NOTHING_DONE),
         None if beside => run_beside(words, thread, task, stop),
         None => run_nested(words, thread, task, stop),
