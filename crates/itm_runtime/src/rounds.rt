@@ -1,6 +1,6 @@
-//! Validation rounds, and the commit that is tried again after one: steps of a call that are done with no dispatch.
+//! Validation rounds, and the commit that is tried again after one, with no dispatch over all phases.
 //!
-//! What they come to is told as of one step of the call; the driver goes on from there.
+//! Each function does the step that is asked for and those that come with it, and tells the next one.
 
 ghost use Rattle.std.specs.Prelude.{◌+◌};
 ghost use Rattle.norec_core.specs.Phases.{RoundStart};
@@ -19,7 +19,8 @@ use norec_engine::Engine;
 use shared_words::{Pass, Words};
 use std::alloc::Allocator;
 
-/// A round: loads the clock, then the logged words as far as they are unchanged, and the clock again.
+/// A round: loads the clock, then the logged words as far as they are unchanged, and the clock again, as far as the engine
+/// asks for them. At an odd clock, or where a block may go back to its begin alone, it leaves the rest to its caller.
 #[inline(always)]
 pub(crate) fn round<A: Allocator>(
     words: &Words<A>,
@@ -45,7 +46,8 @@ pub(crate) fn round<A: Allocator>(
     next
 }
 
-/// Takes the clock for a commit, and stores the rows. Where the clock has moved on, the next round begins.
+/// Takes the clock for a commit that has lost it once, and stores the rows. Where another value was found there, hands it in:
+/// a new round begins, or the call is over where no try is left.
 #[inline(always)]
 pub(crate) fn commit_again<A: Allocator>(
     words: &Words<A>,

@@ -1,7 +1,7 @@
-//! Validation rounds on the fast path, and the commit that is tried again after one.
+//! Validation rounds on the fast path, and a commit that waits for the clock.
 //!
-//! A driver that knows which step of a round comes next has no dispatch. It asks before each step, and the function that takes
-//! the step's value stands for one phase alone.
+//! `resume_into` dispatches over all phases. Who asks first which step of a round is waited for hands its value in by that
+//! phase's own function. (A test before the step alone would not do: across an atomic step compilers forget what it found.)
 
 ghost use Rattle.std.specs.Prelude.{◌≡◌, ℕ, IfSome, true};
 ghost use Rattle.norec_core.specs.Aims.{Aim};
@@ -19,7 +19,7 @@ use norec_core::{Answer, Taking};
 use norec_data::Pending;
 
 impl Engine {
-    /// Whether a revocable transaction waits for the clock, at the start of a round.
+    /// Where it says so, a revocable transaction waits for the clock at the start of a round.
     #[inline(always)]
     pub fn starts_round(&self) -> bool
         ensures { result ≡ true → Validates self.now RoundStart 0 }
@@ -33,7 +33,7 @@ impl Engine {
         }
     }
 
-    /// `resume_into` with this clock.
+    /// `resume_into` with the clock at the start of a round.
     #[inline(always)]
     pub fn round_started(&mut self, seen: u64, answer: &mut Answer) -> Option<Step>
         requires starts { Validates self.old RoundStart 0 }
@@ -51,7 +51,7 @@ impl Engine {
         )
     }
 
-    /// The cell of the logged word that it waits for, in a round of a revocable transaction.
+    /// The cell of the logged word that a round of a revocable transaction waits for, where it tells one.
     #[inline(always)]
     pub fn row_ahead(&self) -> Option<u32>
         ensures { IfSome result (λ cell. (row : ℕ) × Validates self.now (λ aim. RoundRow aim row) cell) }
@@ -68,7 +68,7 @@ impl Engine {
         }
     }
 
-    /// `resume_into` with this word.
+    /// `resume_into` with the word of the row that is waited for.
     #[inline(always)]
     pub fn row_loaded(&mut self, seen: u64, answer: &mut Answer) -> Option<Step>
         requires loads { (row : ℕ) × (cell : ℕ) × Validates self.old (λ aim. RoundRow aim row) cell }
@@ -88,7 +88,7 @@ impl Engine {
         )
     }
 
-    /// Whether a revocable transaction waits for the clock, at the end of a round.
+    /// Where it says so, a revocable transaction waits for the clock at the end of a round.
     #[inline(always)]
     pub fn ends_round(&self) -> bool
         ensures { result ≡ true → Validates self.now RoundEnd 0 }
@@ -102,7 +102,7 @@ impl Engine {
         }
     }
 
-    /// `resume_into` with this clock.
+    /// `resume_into` with the clock at the end of a round.
     #[inline(always)]
     pub fn round_ended(&mut self, seen: u64, answer: &mut Answer) -> Option<Step>
         requires ends { Validates self.old RoundEnd 0 }
@@ -120,7 +120,7 @@ impl Engine {
         )
     }
 
-    /// Whether it waits for the exchange that takes the clock, to commit what is written.
+    /// Where it says so, it waits for the exchange that takes the clock, to commit what is written.
     #[inline(always)]
     pub fn takes_clock(&self) -> bool
         ensures { result ≡ true → TakesClock self.now }
