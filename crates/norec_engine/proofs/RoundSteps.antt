@@ -1,5 +1,5 @@
 -- The steps of a validation round, for the engine as its callers see it.
-use Rattle.std.proofs.Common.{◌≡◌, ℕ, suc, ◌+◌, Bool, false, Some, IsSome, refl, sym, ap, subst, ◌∙◌, arith}
+use Rattle.std.proofs.Common.{◌≡◌, ℕ, suc, ◌+◌, Bool, true, false, Some, IsSome, refl, sym, ap, subst, ◌∙◌, arith}
 use Rattle.itm_types.specs.declared.row.LogRow.{LogRow}
 use Rattle.itm_types.specs.declared.step.Step.TheVariants.{Load}
 use Rattle.norec_core.specs.Aims.{Aim}
@@ -16,6 +16,7 @@ use Rattle.norec_data.specs.declared.pending.Pending.TheVariants as waits
 use Rattle.norec_data.specs.declared.turn.Turn.{Turn}
 use Rattle.norec_data.specs.Turns.{Asked}
 use Rattle.norec_data.specs.View.{aim_of, core, phase_of}
+use Rattle.norec_irrevocable.specs.Phases.{IsSoundHeld}
 use Rattle.norec_revocable.specs.InPhases.{IsSound}
 use Rattle.norec_revocable.specs.Moves.{StepTurns}
 use Rattle.norec_engine.specs.Modes.{engine_in, IsSoundIn, IsSoundWith, IsTaken, StepTurnsIn}
@@ -46,6 +47,19 @@ module _ (b : Bool) (d : Data) (p : Pending) (c : Core) (view : engine_in b d (p
 
 pub row_sound : (b : Bool) (d : Data) (p : Pending) (row : ℕ) → IsSoundIn b d (phase_of d p) → b ≡ false → p ≡ waits.RoundRow row → IsSound d (phase_of d (waits.RoundRow row))
 row_sound b d p row sound revocable is = subst (λ (q : Pending). IsSound d (phase_of d q)) is (subst (λ (m : Bool). IsSoundIn m d (phase_of d p)) revocable sound)
+
+-- an irrevocable transaction has no rounds
+pub start_revocable : (b : Bool) (d : Data) (p : Pending) → IsSoundIn b d (phase_of d p) → p ≡ waits.RoundStart → b ≡ false
+start_revocable false d p sound is = refl
+start_revocable true d p sound is = absurd ((subst (λ (q : Pending). IsSoundHeld d (phase_of d q)) is sound).in_phase)
+
+pub row_revocable : (b : Bool) (d : Data) (p : Pending) (row : ℕ) → IsSoundIn b d (phase_of d p) → p ≡ waits.RoundRow row → b ≡ false
+row_revocable false d p row sound is = refl
+row_revocable true d p row sound is = absurd ((subst (λ (q : Pending). IsSoundHeld d (phase_of d q)) is sound).in_phase)
+
+pub end_revocable : (b : Bool) (d : Data) (p : Pending) → IsSoundIn b d (phase_of d p) → p ≡ waits.RoundEnd → b ≡ false
+end_revocable false d p sound is = refl
+end_revocable true d p sound is = absurd ((subst (λ (q : Pending). IsSoundHeld d (phase_of d q)) is sound).in_phase)
 
 -- an engine of these fields, as its callers see it, that is in a round
 module _ (b : Bool) (d : Data) (p : Pending) (c : Core) (view : engine_in b d (phase_of d p) ≡ c) (sound : IsSoundIn b d (phase_of d p)) (at : Aim → Phase) (cell : ℕ) (v : Validates c at cell) (q : Pending) (is : p ≡ q) where

@@ -9,7 +9,7 @@ use Rattle.norec_data.specs.declared.turn.Turn.TheVariants.{Wait, End, EndIrrevo
 use Rattle.norec_data.specs.Turns.{data_after, next_of, pending_after, phase_after}
 use Rattle.norec_data.specs.declared.pending.Pending.{Pending}
 use Rattle.norec_core.specs.declared.answer.Next.{Next}
-use Rattle.norec_data.specs.View.{core, held}
+use Rattle.norec_data.specs.View.{core, held, phase_of}
 use Rattle.norec_revocable.specs.InPhases.{IsSound}
 use Rattle.norec_revocable.specs.Moves.{CallStarves, CallTurns, StepTurns}
 use Rattle.norec_irrevocable.specs.Moves.{HeldCallStarves, HeldCallTurns, HeldStepTurns}
@@ -61,3 +61,10 @@ pub record IsTaken (was : Bool) (turn : Turn) (old : Data) (what : Next) (new : 
   pub pending : p ≡ pending_after turn
   pub mode : irrevocable ≡ mode_after was turn
   pub next : what ≡ next_of turn old
+
+-- the value of the step was handed in, and the turn that came of it was taken
+pub record IsHandedIn (was : Bool) (old : Data) (at : Pending) (seen : ℕ) (what : Next) (new : Data) (p : Pending) (irrevocable : Bool) : Type 0 where
+  pub turn : Turn
+  pub left : Data
+  pub turns : StepTurnsIn was old (phase_of old at) seen turn left
+  pub taken : IsTaken was turn left what new p irrevocable

@@ -98,6 +98,25 @@ impl Engine {
         true
     }
 
+    /// The same, with the step that takes the clock.
+    #[inline(always)]
+    pub(crate) fn commit_step(&mut self) -> Option<Step>
+        requires idle { self.old.waits ≡ None }
+        ensures none { IfNone result (self.new ≡ self.old) }
+        ensures called { IfSome result (λ step. IsCalled self.old Call.Commit false (Asks step) self.new) }
+    {
+        if self.irrevocable
+            || !self.state.is_outermost()
+            || self.state.frames.len() == 0
+            || self.state.limits.max_commits <= self.state.snapshot / 2
+        {
+            return None;
+        }
+        commit_writes(&mut self.state);
+        let step = wait(&mut self.state, &mut self.pending, false, Pending::Exchange);
+        Some(step)
+    }
+
     /// The cell of a row, and the value that is stored there, where the row is one of a whole word.
     #[inline(always)]
     pub fn row_to_store(&self, row: usize) -> (u32, Option<u64>)

@@ -16,8 +16,8 @@ use crate::restarting::may_validate;
 use crate::turns;
 use crate::turns::take;
 use itm_types::{
-    Call, Datum, Limits, MAX_COMMITS, MAX_PATIENCE, MAX_WORDS, Props, Ran, ReadHint, Refusal, Step,
-    Value, Width, WriteHint,
+    Call, Datum, Limits, MAX_COMMITS, MAX_PATIENCE, MAX_WORDS, Props, Ran, ReadHint, Refusal,
+    Reply, Step, Value, Width, WriteHint,
 };
 use nest_frames::Frames;
 use norec_core::{Answer, Opening, Purpose, Reading, Taking, Target, Undone, Writing};
@@ -147,13 +147,42 @@ impl Engine {
         ))
     }
 
-    /// A call comes. The step that it asks for first; where there is none, the call is over, and `answer` tells how.
+    /// A call comes. The step that it asks for first; where there is none, the call is over, and `answer` tells how. What most
+    /// calls are is looked for first, by the functions of the fast path.
     #[inline(never)]
     pub fn call_into(
         &mut self,
         call: &Call,
         answer: &mut Answer,
     ) -> Result<Option<Step>, AllocError>
+        requires idle { self.old.waits ≡ None }
+        ensures { ComesInto self.old call.now false result answer.new self.new }
+    {
+        match call {
+            Call::Read { hint, width, at } => {
+                if let Some(word) = self.read_fast(*hint, *width, *at) {
+                    return Ok(Some(Step::Load(word + 1)));
+                }
+            }
+            Call::Write { hint, at, value } => {
+                if self.serves_write(*at, value) && self.write_next(*hint, *at, value) {
+                    *answer = Answer::Reply(Reply::Done);
+                    return Ok(None);
+                }
+            }
+            Call::Commit => {
+                if let Some(step) = self.commit_step() {
+                    return Ok(Some(step));
+                }
+            }
+            _ => {}
+        }
+        self.call_other(call, answer)
+    }
+
+    /// The same of any call.
+    #[inline(never)]
+    fn call_other(&mut self, call: &Call, answer: &mut Answer) -> Result<Option<Step>, AllocError>
         requires idle { self.old.waits ≡ None }
         ensures { ComesInto self.old call.now false result answer.new self.new }
     {
@@ -177,14 +206,11 @@ impl Engine {
         requires fits { Fits self.old seen }
         ensures { IsResumed self.old seen (next_in result answer.new) self.new }
     {
-        let was = self.irrevocable;
-        let turn = turns::resume(&mut self.state, was, self.pending, seen);
-        take(
+        turns::hand_in(
             &mut self.state,
             &mut self.pending,
             &mut self.irrevocable,
-            was,
-            turn,
+            seen,
             answer,
         )
     }

@@ -19,14 +19,11 @@ use norec_core::{Answer, Taking};
 use norec_data::Pending;
 
 impl Engine {
-    /// Where it says so, a revocable transaction waits for the clock at the start of a round.
+    /// Whether a revocable transaction waits for the clock at the start of a round.
     #[inline(always)]
     pub fn starts_round(&self) -> bool
-        ensures { result ≡ true → Validates self.now RoundStart 0 }
+        ensures { (result ≡ true → Validates self.now RoundStart 0) × (Validates self.now RoundStart 0 → result ≡ true) }
     {
-        if self.irrevocable {
-            return false;
-        }
         match self.pending {
             Pending::RoundStart => true,
             _ => false,
@@ -56,9 +53,6 @@ impl Engine {
     pub fn row_ahead(&self) -> Option<u32>
         ensures { IfSome result (λ cell. (row : ℕ) × Validates self.now (λ aim. RoundRow aim row) cell) }
     {
-        if self.irrevocable {
-            return None;
-        }
         match self.pending {
             Pending::RoundRow(row) => {
                 let logged = self.state.log.row(row);
@@ -88,14 +82,11 @@ impl Engine {
         )
     }
 
-    /// Where it says so, a revocable transaction waits for the clock at the end of a round.
+    /// Whether a revocable transaction waits for the clock at the end of a round.
     #[inline(always)]
     pub fn ends_round(&self) -> bool
-        ensures { result ≡ true → Validates self.now RoundEnd 0 }
+        ensures { (result ≡ true → Validates self.now RoundEnd 0) × (Validates self.now RoundEnd 0 → result ≡ true) }
     {
-        if self.irrevocable {
-            return false;
-        }
         match self.pending {
             Pending::RoundEnd => true,
             _ => false,
@@ -125,9 +116,6 @@ impl Engine {
     pub fn takes_clock(&self) -> bool
         ensures { result ≡ true → TakesClock self.now }
     {
-        if self.irrevocable || self.state.frames.len() == 0 {
-            return false;
-        }
         match (self.pending, self.state.taking) {
             (Pending::Exchange, Taking::Commit) => true,
             _ => false,

@@ -6,7 +6,7 @@ ghost use Rattle.norec_data.specs.Turns.{counted, Asked, IsWaiting};
 ghost use Rattle.norec_engine.specs.NextSteps.{next_in};
 ghost use Rattle.norec_core.specs.Phases as phases;
 ghost use Rattle.norec_core.specs.Proceeds.{Fits};
-ghost use Rattle.norec_engine.specs.Modes.{CallComesIn, engine_in, IsSoundIn, IsSoundWith, IsTaken, StepTurnsIn};
+ghost use Rattle.norec_engine.specs.Modes.{CallComesIn, engine_in, IsHandedIn, IsSoundIn, IsSoundWith, IsTaken, StepTurnsIn};
 
 use itm_types::{Call, Props, Step};
 use norec_core::Answer;
@@ -91,6 +91,122 @@ pub(crate) fn take(
             None
         }
     }
+}
+
+/// The value of the step that is waited for is handed in, and the turn that comes of it is taken. Of the phases that most
+/// transactions have, each has code of its own: there nothing is found out twice.
+#[inline(always)]
+pub(crate) fn hand_in(
+    state: &mut Data,
+    pending: &mut Pending,
+    irrevocable: &mut bool,
+    seen: u64,
+    answer: &mut Answer,
+) -> Option<Step>
+    requires sound { IsSoundIn irrevocable.old state.old (phase_of state.old pending.old) }
+    requires waits { IsSome (engine_in irrevocable.old state.old (phase_of state.old pending.old)).waits }
+    requires fits { Fits (engine_in irrevocable.old state.old (phase_of state.old pending.old)) seen }
+    ensures { IsHandedIn irrevocable.old state.old pending.old seen (next_in result answer.new) state.new pending.new irrevocable.new }
+{
+    if *irrevocable {
+        return hand_in_any(state, pending, irrevocable, seen, answer);
+    }
+    match *pending {
+        Pending::Begin => {
+            hand_in_at(
+                state,
+                pending,
+                irrevocable,
+                false,
+                Pending::Begin,
+                seen,
+                answer,
+            )
+        }
+        Pending::Load => {
+            hand_in_at(
+                state,
+                pending,
+                irrevocable,
+                false,
+                Pending::Load,
+                seen,
+                answer,
+            )
+        }
+        Pending::Confirm(value) => {
+            let at = Pending::Confirm(value);
+            hand_in_at(state, pending, irrevocable, false, at, seen, answer)
+        }
+        Pending::Exchange => {
+            hand_in_at(
+                state,
+                pending,
+                irrevocable,
+                false,
+                Pending::Exchange,
+                seen,
+                answer,
+            )
+        }
+        Pending::Store(row) => {
+            let at = Pending::Store(row);
+            hand_in_at(state, pending, irrevocable, false, at, seen, answer)
+        }
+        Pending::Free => {
+            hand_in_at(
+                state,
+                pending,
+                irrevocable,
+                false,
+                Pending::Free,
+                seen,
+                answer,
+            )
+        }
+        _ => hand_in_any(state, pending, irrevocable, seen, answer),
+    }
+}
+
+/// The same in any phase.
+#[inline(never)]
+fn hand_in_any(
+    state: &mut Data,
+    pending: &mut Pending,
+    irrevocable: &mut bool,
+    seen: u64,
+    answer: &mut Answer,
+) -> Option<Step>
+    requires sound { IsSoundIn irrevocable.old state.old (phase_of state.old pending.old) }
+    requires waits { IsSome (engine_in irrevocable.old state.old (phase_of state.old pending.old)).waits }
+    requires fits { Fits (engine_in irrevocable.old state.old (phase_of state.old pending.old)) seen }
+    ensures { IsHandedIn irrevocable.old state.old pending.old seen (next_in result answer.new) state.new pending.new irrevocable.new }
+{
+    let was = *irrevocable;
+    let at = *pending;
+    hand_in_at(state, pending, irrevocable, was, at, seen, answer)
+}
+
+/// The same where the mode `was` so and the call waits `at` this phase: who knows them says them, so that neither is tested again.
+#[inline(always)]
+fn hand_in_at(
+    state: &mut Data,
+    pending: &mut Pending,
+    irrevocable: &mut bool,
+    was: bool,
+    at: Pending,
+    seen: u64,
+    answer: &mut Answer,
+) -> Option<Step>
+    requires mode { irrevocable.old ≡ was }
+    requires phase { pending.old ≡ at }
+    requires sound { IsSoundIn irrevocable.old state.old (phase_of state.old pending.old) }
+    requires waits { IsSome (engine_in irrevocable.old state.old (phase_of state.old pending.old)).waits }
+    requires fits { Fits (engine_in irrevocable.old state.old (phase_of state.old pending.old)) seen }
+    ensures { IsHandedIn irrevocable.old state.old pending.old seen (next_in result answer.new) state.new pending.new irrevocable.new }
+{
+    let turn = resume(state, was, at, seen);
+    take(state, pending, irrevocable, was, turn, answer)
 }
 
 /// The call goes on by this step, which is counted.

@@ -1,14 +1,11 @@
 -- Steps that are known ahead, as steps of the call.
 use Rattle.std.proofs.Common.{◌≡◌, ℕ, ◌+◌, ◌<◌, ◌≤◌, List, [], ◌∷◌, ◌++◌, Some, refl, sym, ap, subst, ◌∙◌, arith}
 use Rattle.itm_types.specs.declared.step.Step.{Step}
-use Rattle.itm_types.specs.declared.step.Step.TheVariants.{Cas}
 use Rattle.norec_core.specs.declared.answer.Answer.{Answer}
 use Rattle.norec_core.specs.declared.answer.Next.{Next}
 use Rattle.norec_core.specs.declared.answer.Next.TheVariants.{Step as Asks, Answer as Answers}
 use Rattle.norec_core.specs.Core.{Core}
 use Rattle.norec_core.specs.Moves.{IsResumed}
-use Rattle.norec_core.specs.Order.{asked_from}
-use Rattle.norec_engine.specs.BlockSteps.{TakesClock}
 use Rattle.shared_words.specs.declared.view.View.{View}
 use Rattle.shared_words.specs.declared.pass.Pass.{Pass}
 use Rattle.shared_words.specs.declared.words.Words.{Words}
@@ -29,10 +26,6 @@ waits_for s v e step known i waits = (let here = i.waits in cc)
 known_due : (s : Start) (v : View) (e : Core) (next : Next) (step : Step) → IsDue s v e next → e.waits ≡ Some step → next ≡ Asks step
 known_due s v e (Asks other) step due waits = ap Asks (waits_for s v e other step due waits)
 known_due s v e (Answers a) step due waits = (let here = due.1.waits in absurd (cc))
-
--- an engine that takes the clock for a commit waits for the exchange
-pub clock_waits : (s : Start) (v : View) (e : Core) (step : Step) → InCall s v e step → TakesClock e → e.waits ≡ Some (Cas 0 e.snapshot (e.snapshot + 1))
-clock_waits s v e step i takes = i.asks ∙ ap (asked_from e) takes.stage
 
 -- no steps lead to where more are left
 no_more : (cells : ℕ) (s : Start) (steps : List (Step × ℕ)) (v v' : View) (e e' : Core) (next next' : Next) → IsOver cells v → IsDue s v e next → LeadsOn cells v e next steps v' e' next' → left e' next' ≤ left e next

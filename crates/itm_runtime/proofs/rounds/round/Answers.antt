@@ -40,19 +40,19 @@ loop-cell-preserved g c =
 
 pub step-seen-requires-then-ends_round-clause-lawful : goal.step-seen-requires-then-ends_round-clause-lawful
 step-seen-requires-then-ends_round-clause-lawful g c =
-    let ends = c.ends_round.ensures c.if-ends_round.true in
+    let ends = c.ends_round.ensures.0 c.if-ends_round.true in
     let i = in_call c.args.words.now (view_of c.args.pass.now) c.args.engine.now (Load 0) c.requires.due.0 c.requires.due.1 c.requires.own.over _ _ _ c.loop-cell.invariant (Load 0) ends.waits in
     lawful_of _ _ i.tied (Load 0) i.lawful
 
 pub round_ended-next-requires-clause-fits : goal.round_ended-next-requires-clause-fits
 round_ended-next-requires-clause-fits g c =
-    let ends = c.ends_round.ensures c.if-ends_round.true in
+    let ends = c.ends_round.ensures.0 c.if-ends_round.true in
     let i = in_call c.args.words.now (view_of c.args.pass.now) c.args.engine.now (Load 0) c.requires.due.0 c.requires.due.1 c.requires.own.over _ _ _ c.loop-cell.invariant (Load 0) ends.waits in
     fits_of c.requires.due.0 _ _ _ _ (Load 0) i c.step-seen-then-ends_round.ensures.turn
 
 pub returns-then-ends_round : goal.returns-then-ends_round
 returns-then-ends_round g c =
-    let ends = c.ends_round.ensures c.if-ends_round.true in
+    let ends = c.ends_round.ensures.0 c.if-ends_round.true in
     let seen = c.step-seen-then-ends_round in
     one_further c.args.words.now (view_of c.args.pass.now) c.args.engine.now (Load 0) c.requires.due.0 c.requires.due.1 c.requires.own.over _ _ _ c.loop-cell.invariant (Load 0) ends.waits
     seen.new.pass _ _ seen.result (record { turn = seen.ensures.turn; moves = seen.ensures.moves }) seen.ensures.own c.round_ended-next.ensures

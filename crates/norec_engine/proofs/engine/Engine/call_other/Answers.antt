@@ -1,7 +1,7 @@
 use Rattle.std.proofs.lemmas.Result.{err_from_is_err_and}
 use Rattle.std.proofs.Common.{false, refl}
 use Rattle.norec_engine.proofs.EitherTurns.{called_in, idle_sound, left_sound, sound_call, starved_in}
-use Rattle.norec_engine.proofs.engine.Engine.call_into.Goals as goal
+use Rattle.norec_engine.proofs.engine.Engine.call_other.Goals as goal
 
 pub call-requires : goal.call-requires
 call-requires c =
