@@ -121,27 +121,30 @@ impl<P: Player> Actor<P> {
         let seen = memory.apply(step);
         let mut answer = Answer::Reply(Reply::Done);
         let next = self.engine.resume_into(seen, &mut answer);
-        self.proceed(ended, next, answer);
+        self.proceed(ended, next, &mut answer);
         self.follow(from);
     }
 
     /// The call in progress waits for a step, or what comes of its answer is recorded. The call stays where it is while it
-    /// waits.
+    /// waits, and the answer is moved only where there is one.
     #[inline(always)]
-    fn proceed(&mut self, ended: &mut Vec<Attempt>, next: Option<Step>, answer: Answer)
+    fn proceed(&mut self, ended: &mut Vec<Attempt>, next: Option<Step>, answer: &mut Answer)
         requires waits { is_waiting self.old.status ≡ true }
         requires due { InProgress self.old.status
-            (λ call. MayRecord P.Player (record self.old { status = Status.Ready }) call (next_in next answer)) }
+            (λ call. MayRecord P.Player (record self.old { status = Status.Ready }) call (next_in next answer.old)) }
         requires acts { InProgress self.old.status
-            (λ call. MayRunOn (record self.old { status = Status.Ready }) call (next_in next answer)) }
+            (λ call. MayRunOn (record self.old { status = Status.Ready }) call (next_in next answer.old)) }
         requires place { count_of self.old ≤ (rows_in ended.old).room }
         ensures acts { IsActing self.new }
         ensures recorded { InProgress self.old.status
-            (λ call. WritesDown P.Player (rows_in ended.old) (record self.old { status = Status.Ready }) call (next_in next answer) (rows_in ended.new) self.new) }
+            (λ call. WritesDown P.Player (rows_in ended.old) (record self.old { status = Status.Ready }) call (next_in next answer.old) (rows_in ended.new) self.new) }
     {
         match next {
             Some(next) => self.wait(next),
-            None => self.end_call(ended, answer),
+            None => {
+                let answer = mem::replace(answer, Answer::Reply(Reply::Done));
+                self.end_call(ended, answer);
+            }
         }
     }
 

@@ -18,7 +18,11 @@ pub(crate) fn gather_all(alloc: Global, all: Vec<Done>) -> Result<(Attempts, Vec
     for done in all {
         let Done { attempts: its, end } = done;
         let mut its = its.into_vec();
-        attempts.append(&mut its)?;
+        if attempts.is_empty() {
+            attempts = its;
+        } else {
+            attempts.append(&mut its)?;
+        }
         ends.reserve(1)?;
         ends.push_reserved(end);
     }

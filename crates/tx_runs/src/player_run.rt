@@ -203,6 +203,7 @@ impl<P: Player> PlayerRun<P> {
     }
 
     /// The innermost block runs again from this arena, and the player goes back to just after its begin.
+    #[inline(never)]
     fn renew(&mut self, ran: &[Ran], arena: &[u8])
         requires deep { 0 < P.Player.depth self.old.player }
         requires room { (is_open at : _) → MayGoBack (record { is_open = is_open; at = at; ran = ran.now; arena = arena.now }) self.old.current }
@@ -254,7 +255,7 @@ impl<P: Player> PlayerRun<P> {
 
     /// The open attempt is over, at this position, with these actions that have run in it; one that is to be opened is not
     /// told.
-    #[inline(always)]
+    #[inline(never)]
     pub fn stop(&mut self, ended: &mut Vec<Attempt>, outcome: Outcome, at: u64, ran: &[Ran])
         requires room { MayStop at ran.now self.old.current }
         requires place { MayTell self.old.current ended.old }
