@@ -94,8 +94,16 @@ impl Registers {
         ensures { self.new ≡ with_bytes self.old to (of_bytes value.now) }
     {
         let mut bytes = [0; 32];
-        let (front, _) = bytes.split_at_mut(value.len());
-        front.copy_from_slice(value);
+        match value.as_array::<8>() {
+            Some(word) => {
+                let (low, _) = bytes.split_at_mut(8);
+                low.copy_from_slice(word);
+            }
+            None => {
+                let (front, _) = bytes.split_at_mut(value.len());
+                front.copy_from_slice(value);
+            }
+        }
         self.bytes[to.index()] = bytes;
     }
 

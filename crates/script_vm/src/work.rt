@@ -1,6 +1,6 @@
 //! What a thread does between its calls.
 
-ghost use Rattle.std.specs.Prelude.{◌≡◌, ◌≤◌, List, ◌∷◌, length, IfNone, IfSome};
+ghost use Rattle.std.specs.Prelude.{◌≡◌, ◌+◌, ◌^◌, ◌<◌, ◌≤◌, ℕ, List, ◌∷◌, length, IfNone, IfSome};
 ghost use Rattle.script_program.specs.declared.instruction.Instruction.{Instruction};
 ghost use Rattle.script_vm.specs.Work.{computed, chosen_by, worked, settled, groups_in};
 
@@ -58,6 +58,26 @@ fn work(instruction: &Instruction, registers: &mut Registers) -> Option<Stage>
     Some(Stage::Runs)
 }
 
+/// Passes over instructions up to the first that is done again, or to the end; answers the code from there on. Few are passed
+/// over, so its code stands apart.
+#[inline(never)]
+fn passed<'p>(stage: Stage, code: &'p [Instruction]) -> &'p [Instruction]
+    requires { groups_in stage + length code.now < 2 ^ 64 }
+    ensures passed { (registers : List (List ℕ)) → worked Stage.Runs registers result.now ≡ worked stage registers code.now }
+    ensures shorter { length result.now ≤ length code.now }
+{
+    let mut rest = code;
+    let mut stage = stage;
+    while let Some((first, more)) = rest.split_first() {
+        if let Stage::Runs = stage {
+            return rest;
+        }
+        stage = stage.past(first);
+        rest = more;
+    }
+    rest
+}
+
 /// Does the work up to the next call, or to the end; answers the code from there on.
 pub fn settle<'p>(code: &'p [Instruction], registers: &mut Registers) -> &'p [Instruction]
     requires { length code.now ≤ MAX_INSTRUCTIONS }
@@ -65,16 +85,12 @@ pub fn settle<'p>(code: &'p [Instruction], registers: &mut Registers) -> &'p [In
     ensures shorter { length result.now ≤ length code.now }
 {
     let mut rest = code;
-    let mut stage = Stage::Runs;
     while let Some((first, more)) = rest.split_first() {
-        stage = match stage {
-            Stage::Runs => match work(first, registers) {
-                Some(next) => next,
-                None => return rest,
-            },
-            Stage::ToElse(_) | Stage::ToEnd(_) => stage.past(first),
-        };
-        rest = more;
+        match work(first, registers) {
+            None => return rest,
+            Some(Stage::Runs) => rest = more,
+            Some(stage) => rest = passed(stage, more),
+        }
     }
     rest
 }

@@ -3,6 +3,7 @@
 
 mod attempts;
 mod bodies;
+mod digits;
 mod equality;
 mod history;
 mod page;

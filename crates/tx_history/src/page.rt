@@ -7,6 +7,7 @@ ghost use Rattle.tx_history.specs.Bounds.{IsWord, PieceFits};
 ghost use Rattle.tx_history.specs.Pages.{Carries, Spells};
 ghost use Rattle.tx_history.specs.Spelling.{spelled};
 
+use crate::digits::word_digits;
 use crate::pieces::{Piece, put_bytes};
 use arrayvec::ArrayVec;
 use itoa::Buffer;
@@ -192,11 +193,12 @@ impl<'a, W: Write> Page<'a, W> {
         ensures { Carries W.contents self.old self.new
             (take at text.now ++ encode_lower word.now ++ drop (at + 16) text.now) }
     {
+        let Some(word) = word.as_array::<8>() else {
+            unreachable!();
+        };
         let mut text = *text;
         let whole = &mut text[..];
-        let written = hex::encode_to_slice(word, &mut whole[at..at + 16]);
-        let holds = written.is_ok();
-        prove!(holds);
+        whole[at..at + 16].copy_from_slice(&word_digits(word));
         self.text(&text);
     }
 
