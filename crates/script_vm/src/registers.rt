@@ -66,8 +66,17 @@ impl Registers {
     pub fn datum(&self, width: Width, register: Register) -> Datum
         ensures { result ≡ datum self.now width register }
     {
-        let (low, _) = self.bytes(register).split_at(usize::from(width.size()));
-        Datum::new(width, low)
+        let bytes = self.bytes(register);
+        match width {
+            Width::U8 => {
+                let (word, _) = bytes.split_at(8);
+                Datum::new(Width::U8, word)
+            }
+            _ => {
+                let (low, _) = bytes.split_at(usize::from(width.size()));
+                Datum::new(width, low)
+            }
+        }
     }
 
     /// Puts 32 bytes in a register.
@@ -93,17 +102,27 @@ impl Registers {
         requires { length value.now ≤ 32 }
         ensures { self.new ≡ with_bytes self.old to (of_bytes value.now) }
     {
-        let mut bytes = [0; 32];
         match value.as_array::<8>() {
             Some(word) => {
+                let mut bytes = [0; 32];
                 let (low, _) = bytes.split_at_mut(8);
                 low.copy_from_slice(word);
+                self.bytes[to.index()] = bytes;
             }
-            None => {
-                let (front, _) = bytes.split_at_mut(value.len());
-                front.copy_from_slice(value);
-            }
+            None => self.put_other(to, value),
         }
+    }
+
+    /// Puts bytes that are no word in a register, the rest zero. Its code stands apart, so that of an answer stays small.
+    #[inline(never)]
+    #[tactic(auto, using(crate::proofs::Padding::padded))]
+    fn put_other(&mut self, to: Register, value: &[u8])
+        requires { length value.now ≤ 32 }
+        ensures { self.new ≡ with_bytes self.old to (of_bytes value.now) }
+    {
+        let mut bytes = [0; 32];
+        let (front, _) = bytes.split_at_mut(value.len());
+        front.copy_from_slice(value);
         self.bytes[to.index()] = bytes;
     }
 

@@ -93,7 +93,8 @@ impl<'p> Script<'p> {
         self.blocks.open_beyond();
     }
 
-    /// Takes the reply to a begin.
+    /// Takes the reply to a begin. Its code stands apart, as that of the aborts does: the usual replies need few registers then.
+    #[inline(never)]
     fn take_begun(&mut self, code: Register, more: &'p [Instruction], reply: &Reply)
         requires within { length self.old.blocks ≤ self.old.deepest }
         requires short { length more.now < MAX_INSTRUCTIONS }
@@ -127,6 +128,7 @@ impl<'p> Script<'p> {
     }
 
     /// Takes the reply to an abort of the innermost block.
+    #[inline(never)]
     fn take_inner(&mut self, more: &'p [Instruction], reply: &Reply)
         requires within { length self.old.blocks ≤ self.old.deepest }
         requires short { length more.now < MAX_INSTRUCTIONS }
@@ -144,6 +146,7 @@ impl<'p> Script<'p> {
     }
 
     /// Takes the reply to an abort of all blocks.
+    #[inline(never)]
     fn take_outer(&mut self, more: &'p [Instruction], reply: &Reply)
         requires within { length self.old.blocks ≤ self.old.deepest }
         requires short { length more.now < MAX_INSTRUCTIONS }
