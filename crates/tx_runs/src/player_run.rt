@@ -226,12 +226,16 @@ impl<P: Player> PlayerRun<P> {
         ensures same { (self.new.thread ≡ self.old.thread) × (self.new.retries ≡ self.old.retries) }
         ensures places { (ran : List Ran) → KeepsPlaces ran self.old.current self.new.current }
     {
-        if let Current::Begins(mut open) = mem::replace(&mut self.current, Current::Outside) {
-            if is_open {
-                open.enter(at);
-                self.again = true;
-                self.current = Current::Within(open);
-            }
+        if !is_open {
+            self.current = Current::Outside;
+            return;
+        }
+        if let Current::Begins(open) = mem::replace(&mut self.current, Current::Outside) {
+            self.current = Current::Within(open);
+        }
+        if let Current::Within(open) = &mut self.current {
+            open.enter(at);
+            self.again = true;
         }
     }
 
