@@ -108,7 +108,12 @@ impl<P: Player> Actor<P> {
 
     /// The operation that it waits for: the call goes on, or is answered.
     #[inline(always)]
-    pub(crate) fn step(&mut self, memory: &mut Memory, ended: &mut Vec<Attempt>)
+    pub(crate) fn step(
+        &mut self,
+        memory: &mut Memory,
+        ended: &mut Vec<Attempt>,
+        answer: &mut Answer,
+    )
         requires sound { IsSound P.Player memory.old (rows_in ended.old) self.old }
         requires reads { ReadsAt self.old }
         requires waits { is_waiting self.old.status ≡ true }
@@ -119,9 +124,8 @@ impl<P: Player> Actor<P> {
         };
         let from = self.engine.snapshot();
         let seen = memory.apply(step);
-        let mut answer = Answer::Reply(Reply::Done);
-        let next = self.engine.resume_into(seen, &mut answer);
-        self.proceed(ended, next, &mut answer);
+        let next = self.engine.resume_into(seen, answer);
+        self.proceed(ended, next, answer);
         self.follow(from);
     }
 
@@ -141,27 +145,25 @@ impl<P: Player> Actor<P> {
     {
         match next {
             Some(next) => self.wait(next),
-            None => {
-                let answer = mem::replace(answer, Answer::Reply(Reply::Done));
-                self.end_call(ended, answer);
-            }
+            None => self.end_call(ended, answer),
         }
     }
 
     /// The call in progress is answered, and what comes of that is recorded. Its code stands apart, so that of the events that
     /// end no call stays small.
     #[inline(never)]
-    fn end_call(&mut self, ended: &mut Vec<Attempt>, answer: Answer)
+    fn end_call(&mut self, ended: &mut Vec<Attempt>, answer: &mut Answer)
         requires waits { is_waiting self.old.status ≡ true }
         requires answered { InProgress self.old.status
-            (λ call. MayRecord P.Player (record self.old { status = Status.Ready }) call (Answers answer)) }
-        requires acts { InProgress self.old.status (λ call. MayRun (record self.old { status = Status.Ready }) call answer) }
+            (λ call. MayRecord P.Player (record self.old { status = Status.Ready }) call (Answers answer.old)) }
+        requires acts { InProgress self.old.status (λ call. MayRun (record self.old { status = Status.Ready }) call answer.old) }
         requires place { count_of self.old ≤ (rows_in ended.old).room }
         ensures acts { IsActing self.new }
         ensures recorded { InProgress self.old.status
-            (λ call. WritesDown P.Player (rows_in ended.old) (record self.old { status = Status.Ready }) call (Answers answer) (rows_in ended.new) self.new) }
+            (λ call. WritesDown P.Player (rows_in ended.old) (record self.old { status = Status.Ready }) call (Answers answer.old) (rows_in ended.new) self.new) }
     {
         if let Status::Waits { call, .. } = mem::replace(&mut self.status, Status::Ready) {
+            let answer = mem::replace(answer, Answer::Reply(Reply::Done));
             self.settle(ended, call, answer);
         }
     }

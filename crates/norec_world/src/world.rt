@@ -10,7 +10,10 @@ use crate::memory::Memory;
 use crate::operation::{Operation, Told};
 use crate::setup::Setup;
 use crate::start::{Terms, start_all};
-use itm_types::{MAX_ACTORS, MAX_ARENA, MAX_COMMITS, MAX_MEMORY, MAX_PATIENCE, MAX_RETRIES, Step};
+use itm_types::{
+    MAX_ACTORS, MAX_ARENA, MAX_COMMITS, MAX_MEMORY, MAX_PATIENCE, MAX_RETRIES, Reply, Step,
+};
+use norec_core::Answer;
 use std::alloc::{AllocError, Global};
 use std::marker::Model;
 use tx_attempts::{Attempt, Bytes};
@@ -29,6 +32,8 @@ pub struct World<P: Player> {
     /// The attempts that have ended, in the order in which they did. There is room for those that are under way.
     ended: Vec<Attempt>,
     events: u64,
+    /// Where an engine puts its answer to a step: one place for all, so that none is cleared for each event.
+    answer: Answer,
 }
 
 impl<P: Player> Model for World<P> {
@@ -96,6 +101,7 @@ impl<P: Player> World<P> {
             actors,
             ended,
             events: 0,
+            answer: Answer::Reply(Reply::Done),
         })
     }
 
@@ -169,7 +175,7 @@ impl<P: Player> World<P> {
         ensures less { LeavesLess P.Player actor result self.old self.new }
     {
         let a = &mut self.actors[actor as usize];
-        a.step(&mut self.memory, &mut self.ended);
+        a.step(&mut self.memory, &mut self.ended, &mut self.answer);
         let goes_on = a.waits();
         a.work(alloc, &self.memory, &mut self.ended);
         self.events = self.events.saturating_add(1);
@@ -185,7 +191,7 @@ impl<P: Player> World<P> {
         ensures less { LeavesLess P.Player actor result.goes_on self.old self.new }
     {
         let acting = &mut self.actors[actor as usize];
-        acting.step(&mut self.memory, &mut self.ended);
+        acting.step(&mut self.memory, &mut self.ended, &mut self.answer);
         let goes_on = acting.waits();
         let calls = acting.calls();
         acting.work(alloc, &self.memory, &mut self.ended);
