@@ -3,6 +3,7 @@
 
 mod equality;
 mod gate;
+mod places;
 mod run;
 mod sink;
 mod worked;

@@ -13,6 +13,7 @@ ghost use Rattle.tx_worker.specs.Workers.{Bounds, IsPrepared, IsToldBy, IsUnprep
 ghost use Rattle.tx_worker.specs.Works.{Parts};
 
 use crate::gate::Gate;
+use crate::places::prepare;
 use crate::sink::ActionSink;
 use crate::worked::Worked;
 use itm_runtime::Thread;
@@ -98,11 +99,7 @@ impl<P: Player> Worker<P> {
         ensures short { OnErr result (LacksFor self.old.thread.engine call.now self.old.run.current) }
     {
         match &mut self.run.current {
-            Current::Within(open) => {
-                let ahead = ahead_of(self.thread.irrevocable_room(call));
-                let arena = self.thread.arena_ahead(call);
-                open.prepare(call, self.thread.actions(), ahead, arena)
-            }
+            Current::Within(open) => prepare(open, &self.thread, call),
             Current::Begins(_) => Ok(()),
             Current::Outside => match call {
                 Call::Begin { props, .. } => self.prepare_begin(alloc, call, *props),
