@@ -1,5 +1,5 @@
 -- Rows in places that are all filled: what the first places are as rows join and go.
-use Rattle.std.proofs.Common.{◌≡◌, ℕ, zero, suc, ◌<◌, ◌≤◌, List, [], ◌∷◌, ◌++◌, length, take, slice_set, refl, ap, arith}
+use Rattle.std.proofs.Common.{◌≡◌, ℕ, zero, suc, ◌%◌, ◌^◌, ◌<◌, ◌≤◌, List, [], ◌∷◌, ◌++◌, length, take, slice_set, refl, ap, arith}
 use Rattle.itm_types.specs.declared.row.LogRow.{LogRow}
 
 -- a row that is put behind the first ones joins them
@@ -20,3 +20,10 @@ take_twice zero m places l = refl
 take_twice (suc n) zero places l = absurd (omega arith)
 take_twice (suc n) (suc m) [] l = refl
 take_twice (suc n) (suc m) (x ∷ xs) l = ap (λ rows. x ∷ rows) (take_twice n m xs (omega arith))
+
+-- a power of two that is eight or more is made of eights
+pub power_in_eights : (k n : ℕ) → n ≡ 2 ^ k → 8 ≤ n → n % 8 ≡ 0
+power_in_eights zero n is l = absurd (omega (arith, is, l))
+power_in_eights (suc zero) n is l = absurd (omega (arith, is, l))
+power_in_eights (suc (suc zero)) n is l = absurd (omega (arith, is, l))
+power_in_eights (suc (suc (suc k))) n is l = omega (arith, is)

@@ -3,6 +3,7 @@
 ghost use Rattle.std.specs.Prelude.{◌≡◌, ◌+◌, ◌-◌, ◌^◌, ◌<◌, ◌≤◌, ℕ, List, [], ◌∷◌, ◌++◌, IfSome, IsOk, None, OnOk, OnErr, Some, length, slice_get, take, IsTrue, ◌↔◌};
 ghost use Rattle.itm_types.specs.LogRows.{value_of, AreSingle};
 ghost use Rattle.itm_types.specs.Memory.{Agrees};
+ghost use Rattle.value_log.specs.Log.{HasRoomBehind};
 
 use crate::index::Index;
 use crate::rows::Rows;
@@ -10,7 +11,8 @@ use itm_types::LogRow;
 use std::alloc::{AllocError, Global};
 use std::marker::Model;
 
-/// So many rows stand in the log itself, and are looked through; a log with more has an index.
+/// So many rows stand in the log itself, and are looked through; a log with more has an index, and room for whole blocks of as
+/// many.
 pub const INLINE_ROWS: usize = 8;
 
 /// The words that a transaction has read from the memory, each with the value that it found, in the order of first
@@ -84,6 +86,16 @@ impl ValueLog {
         ensures { IsTrue result ↔ (0 < self.now.room) }
     {
         self.rows.len() < self.rows.capacity()
+    }
+
+    /// Whether there is room for one more row by the number of rows alone. (So who knows that number knows it still where the log
+    /// is out of sight.)
+    #[inline(always)]
+    pub fn has_room_behind(&self) -> bool
+        ensures behind { IsTrue result ↔ HasRoomBehind (length self.now.rows) }
+        ensures room { IsTrue result → 0 < self.now.room }
+    {
+        self.rows.have_room_behind()
     }
 
     /// Makes room for so many more rows.

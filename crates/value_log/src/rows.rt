@@ -1,6 +1,7 @@
 //! The rows of a value log, in places that are all filled.
 
-ghost use Rattle.std.specs.Prelude.{◌≡◌, ◌+◌, ◌<◌, ◌≤◌, [], ◌∷◌, ◌++◌, OnErr, OnOk, Some, length, max, slice_get, slice_set, take};
+ghost use Rattle.std.specs.Prelude.{◌≡◌, ◌+◌, ◌%◌, ◌<◌, ◌≤◌, ◌↔◌, [], ◌∷◌, ◌++◌, IsTrue, OnErr, OnOk, Some, length, max, slice_get, slice_set, take};
+ghost use Rattle.value_log.specs.Log.{HasRoomBehind};
 
 use crate::log::INLINE_ROWS;
 use itm_types::LogRow;
@@ -50,6 +51,7 @@ impl Rows {
     pub(crate) fn len(&self) -> usize
         ensures value { result ≡ length self.now.items }
         ensures fits { result ≤ self.now.capacity }
+        ensures some { INLINE_ROWS ≤ self.now.capacity }
     {
         self.len
     }
@@ -60,6 +62,15 @@ impl Rows {
         ensures { result ≡ self.now.capacity }
     {
         self.capacity
+    }
+
+    /// Whether there is room for one more by their number alone: they do not fill whole blocks of `INLINE_ROWS`.
+    #[inline(always)]
+    pub(crate) fn have_room_behind(&self) -> bool
+        ensures behind { IsTrue result ↔ HasRoomBehind (length self.now.items) }
+        ensures room { IsTrue result → length self.now.items < self.now.capacity }
+    {
+        self.len % INLINE_ROWS != 0 || self.len == 0
     }
 
     /// The rows.
@@ -101,8 +112,9 @@ impl Rows {
         }
     }
 
-    /// Makes room for so many more rows.
+    /// Makes room for so many more rows, up to the end of a block.
     pub(crate) fn reserve_exact(&mut self, additional: usize) -> Result<(), AllocError>
+        requires blocks { (length self.old.items + additional) % INLINE_ROWS ≡ 0 }
         ensures items { self.new.items ≡ self.old.items }
         ensures ok { OnOk result (self.new.capacity ≡ max self.old.capacity (length self.old.items + additional)) }
         ensures err { OnErr result (self.new ≡ self.old) }

@@ -17,6 +17,8 @@ invariant_of-self c =
     record {
       all = ap length c.set.ensures ∙ (length-set places len c.args.row ∙ c.self.invariant.all);
       within = omega (arith, below);
+      some = c.self.invariant.some;
+      blocks = c.self.invariant.blocks;
     }
 
 pub returns-clause-items : goal.returns-clause-items
