@@ -29,7 +29,8 @@ use Rattle.norec_revocable.specs.Moves.{CallTurns, StepGoesTo, StepTurns}
 use Rattle.norec_revocable.specs.OuterBegins.{BeginTurns}
 use Rattle.norec_engine.specs.Modes.{engine_in, IsSoundIn}
 use Rattle.norec_engine.specs.BlockSteps.{FreesClock, IsBegun, TakesClock, begins_outer}
-use Rattle.norec_engine.proofs.EitherTurns.{called_in, idle_sound, is_idle, resumed_in, revocable_call, revocable_step}
+use Rattle.norec_engine.proofs.EitherTurns.{resumed_in, revocable_step}
+use Rattle.norec_engine.proofs.IdleEngines.{asks_for, left_is, left_sound, sound_idle}
 use Rattle.norec_engine.proofs.FastSteps.{outside_revocable}
 use Rattle.norec_engine.proofs.WholeReads.{mode_is, stage_is}
 
@@ -64,18 +65,6 @@ module _ (b : Bool) (d : Data) (p : Pending) (c : Core) (view : engine_in b d (p
 
   pub free_at : c.stage ≡ at.Free → (p ≡ waits.Free) × IsSound d at.Free
   free_at is = (let here = free_waits d p (stage ∙ is) in (here, sound_for waits.Free here))
-
-idle_waits : (d : Data) (p : Pending) → phase_of d p ≡ at.Idle → p ≡ waits.Idle
-idle_waits d waits.Idle is = refl
-idle_waits d p is = absurd (cc)
-
--- between two calls of a revocable transaction
-module _ (b : Bool) (d : Data) (p : Pending) (c : Core) (view : engine_in b d (phase_of d p) ≡ c) (sound : IsSoundIn b d (phase_of d p)) (none : c.waits ≡ None) where
-  pub idle_at : p ≡ waits.Idle
-  idle_at = idle_waits d p (is_idle d p b c view none)
-
-  pub sound_idle : b ≡ false → IsSound d at.Idle
-  sound_idle mode = subst (λ (x : Bool). IsSoundIn x d at.Idle) mode (idle_sound d p b c view sound none)
 
 -- ## An outermost begin that stays revocable
 
@@ -133,24 +122,14 @@ module _ (b : Bool) (d : Data) (p : Pending) (c : Core) (view : engine_in b d (p
   pub outer_fits : (seen : ℕ) → c.clock ≤ seen → d.clock ≤ seen
   outer_fits seen fits = subst (λ (n : ℕ). n ≤ seen) (sym (ap (λ (e : Core). e.clock) view) ∙ clock_is b d (phase_of d p)) fits
 
-  -- nothing is waited for before it, and nothing after it
   pub outer_left : (new : Data) → IsSound new at.Idle → IsSoundIn b new (phase_of new p)
-  outer_left new s =
-      subst (λ (q : Pending). IsSoundIn b new (phase_of new q)) (sym (idle_at b d p c view sound none))
-      (subst (λ (m : Bool). IsSoundIn m new at.Idle) (sym outer_mode) s)
-
-  left_is : (last new : Data) → core last at.Idle ≡ core new at.Idle → engine_in b last at.Idle ≡ engine_in b new (phase_of new p)
-  left_is last new same =
-      subst (λ (m : Bool). engine_in m last at.Idle ≡ engine_in m new at.Idle) (sym outer_mode) same
-      ∙ ap (λ (q : Pending). engine_in b new (phase_of new q)) (sym (idle_at b d p c view sound none))
+  outer_left = left_sound b d p c view sound none outer_mode
 
   pub outer_waits : (mid : Data) → IsSound (counted mid) (phase_of mid waits.Begin) → IsSoundIn b (counted mid) (phase_of (counted mid) waits.Begin)
   outer_waits mid s = subst (λ (m : Bool). IsSoundIn m (counted mid) (phase_of (counted mid) waits.Begin)) (sym outer_mode) s
 
   pub outer_called : (room : ℕ) (again : Bool) (mid : Data) → CallTurns d (Begin props room) again (Wait waits.Begin) mid → IsCalled c (Begin props room) again (Asks (steps.Load 0)) (engine_in b (counted mid) (phase_of (counted mid) waits.Begin))
-  outer_called room again mid t =
-      called_in d p b c view (Wait waits.Begin) mid (Asks (steps.Load 0)) (counted mid) waits.Begin b (record { state = refl; pending = refl; mode = refl; next = refl })
-      sound none (Begin props room) again (revocable_call b d (Begin props room) again _ _ outer_mode t)
+  outer_called room again mid t = asks_for b d p c view sound none outer_mode (Begin props room) again waits.Begin mid t
 
   pub outer_begun : (room : ℕ) (again : Bool) (clock code : ℕ) (end : CallEnd) (new : Data) → BeginTurns d props room again clock end new → end ≡ (if again then EnteredAgain else Entered) → code ≡ (if again then 9 else 5)
       → IsBegun c props room again clock code (engine_in b new (phase_of new p))
@@ -163,7 +142,7 @@ module _ (b : Bool) (d : Data) (p : Pending) (c : Core) (view : engine_in b d (p
       record {
         mid = engine_in b mid (phase_of mid waits.Begin);
         called = outer_called room again t.mid t.called;
-        resumed = subst (IsResumed (engine_in b mid (phase_of mid waits.Begin)) clock (Answers (Reply (Code code)))) (left_is t.last new t.same) resumed;
+        resumed = subst (IsResumed (engine_in b mid (phase_of mid waits.Begin)) clock (Answers (Reply (Code code)))) (left_is b d p c view sound none outer_mode t.last new t.same) resumed;
       }
 
 -- ## What the engine waits for then

@@ -4,6 +4,7 @@ pub mod HeldTurns
 pub mod SettledEngines
 pub mod RevocableTurns
 pub mod EitherTurns
+pub mod IdleEngines
 pub mod WholeReads
 pub mod WholeWrites
 pub mod FastSteps

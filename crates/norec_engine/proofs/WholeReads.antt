@@ -1,15 +1,22 @@
 -- The steps of a read of one whole word, for the engine as its callers see it.
-use Rattle.std.proofs.Common.{◌≡◌, inl, ℕ, Bool, true, false, None, refl, sym, ap, subst, ◌∙◌}
+use Rattle.std.proofs.Common.{◌≡◌, ◌+◌, inl, ℕ, suc, Bool, true, false, None, length, refl, sym, ap, subst, ◌∙◌, arith}
+use Rattle.std.proofs.lemmas.List.{take_all}
 use Rattle.std.specs.Int.{w64, to_le_bytes}
+use Rattle.itm_types.specs.declared.access.ReadHint.{ReadHint}
+use Rattle.itm_types.specs.declared.access.Width.{Width}
+use Rattle.itm_types.specs.declared.call.Call.TheVariants.{Read}
 use Rattle.itm_types.specs.declared.call.Reply.TheVariants.{Bytes}
 use Rattle.itm_types.specs.declared.step.Step.TheVariants as steps
 use Rattle.write_set.specs.Rows.{lookup}
 use Rattle.norec_core.specs.Core.{Core}
-use Rattle.norec_core.specs.Moves.{IsResumed}
+use Rattle.norec_core.specs.Moves.{IsCalled, IsResumed}
+use Rattle.norec_core.specs.Order.{value_reading}
+use Rattle.norec_core.specs.OwnAccesses.{word_of}
 use Rattle.norec_core.specs.Phases.{Phase}
-use Rattle.norec_core.specs.Phases.{Confirm, Load}
+use Rattle.norec_core.specs.Phases.{Confirm, Idle, Load}
 use Rattle.norec_core.specs.Proceeds.{Joins}
 use Rattle.norec_core.specs.declared.answer.Answer.TheVariants.{Reply}
+use Rattle.norec_core.specs.declared.answer.Next.{Next}
 use Rattle.norec_core.specs.declared.answer.Next.TheVariants.{Step as Asks, Answer as Answers}
 use Rattle.norec_core.specs.declared.call_parts.Reading.{Reading}
 use Rattle.norec_data.specs.declared.data.Data.{Data}
@@ -20,12 +27,15 @@ use Rattle.norec_data.specs.declared.turn.Turn.{Turn}
 use Rattle.norec_data.specs.declared.turn.Turn.TheVariants.{End, Wait}
 use Rattle.norec_revocable.specs.Between.{IsWord}
 use Rattle.norec_revocable.specs.InPhases.{IsSound}
-use Rattle.norec_revocable.specs.Moves.{StepGoesTo, StepTurns}
+use Rattle.norec_revocable.specs.Moves.{CallTurns, StepGoesTo, StepTurns}
+use Rattle.norec_revocable.specs.WholeReads.{asking_word, IsNewWord, ReadTurns}
+use Rattle.norec_revocable.proofs.ReadCalls.WholeReads.{is_word}
 use Rattle.norec_data.specs.Turns.{counted}
-use Rattle.norec_data.specs.View.{core, phase_of, rows_before}
+use Rattle.norec_data.specs.View.{core, phase_of, rows_before, step_of}
 use Rattle.norec_engine.specs.Modes.{engine_in, IsSoundIn, IsTaken, StepTurnsIn}
-use Rattle.norec_engine.specs.WholeReads.{ConfirmsWord, IsConfirmed, LoadsWord}
+use Rattle.norec_engine.specs.WholeReads.{ConfirmsWord, IsConfirmed, IsReadAtOnce, LoadsWord, ReadsAtOnce}
 use Rattle.norec_engine.proofs.EitherTurns.{resumed_in, revocable_step}
+use Rattle.norec_engine.proofs.IdleEngines.{asks_for, core_idle, left_is, left_sound, sound_idle}
 
 pub mode_is : (b : Bool) (d : Data) (phase : Phase) → (engine_in b d phase).irrevocable ≡ b
 mode_is true d phase = refl
@@ -123,3 +133,56 @@ module _ (s : Data) (p : Pending) (b : Bool) (old : Core) (view : engine_in b s 
         asked = asked;
         answered = resumed_in (counted d) (waits.Confirm value) b loaded_core refl (End (Word value)) new (Answers (Reply (Bytes (record { items = to_le_bytes w64 value })))) new waits.Idle b taken loaded_in clock step;
       }
+
+-- ## A read that is done at once
+
+-- an engine of these fields, as its callers see it, between two calls
+module _ (b : Bool) (d : Data) (p : Pending) (c : Core) (view : engine_in b d (phase_of d p) ≡ c) (sound : IsSoundIn b d (phase_of d p)) (none : c.waits ≡ None) (width : Width) (place word : ℕ) (reads : ReadsAtOnce c width place word) where
+  mode : b ≡ false
+  mode = sym (mode_is b d (phase_of d p)) ∙ (ap (λ (e : Core). e.irrevocable) view ∙ reads.revocable)
+
+  pub read_sound : IsSound d Idle
+  read_sound = sound_idle b d p c view sound none mode
+
+  pub read_new : IsNewWord (core d Idle) width place word
+  read_new = subst (λ (e : Core). IsNewWord e width place word) (sym (core_idle b d p c view sound none mode)) reads.new
+
+  pub read_left : (new : Data) → IsSound new Idle → IsSoundIn b new (phase_of new p)
+  read_left = left_sound b d p c view sound none mode
+
+  module _ (hint : ReadHint) where
+    abbrev mid : Data
+    mid = asking_word d hint width place
+
+    abbrev asking : Core
+    asking = engine_in b (counted mid) (phase_of (counted mid) waits.Load)
+
+    cell : Asks (step_of mid (phase_of mid waits.Load)) ≡ Asks (steps.Load (word + 1))
+    cell = (let same : suc (word_of (value_reading hint width place)) ≡ word + 1 = omega (arith, reads.new.at_is) in ap (λ (n : ℕ). Asks (steps.Load n)) same)
+
+    pub read_called : CallTurns d (Read hint width place) false (Wait waits.Load) mid → IsCalled c (Read hint width place) false (Asks (steps.Load (word + 1))) asking
+    read_called t = subst (λ (n : Next). IsCalled c (Read hint width place) false n asking) cell (asks_for b d p c view sound none mode (Read hint width place) false waits.Load mid t)
+
+    pub read_loads : LoadsWord asking word
+    read_loads = subst (λ (m : Bool). LoadsWord (engine_in m (counted mid) (phase_of (counted mid) waits.Load)) word) (sym mode) (record {
+      small = omega (arith, reads.new.within, read_new.within, read_sound.bounds.small);
+      revocable = refl;
+      free = refl;
+      reading = value_reading hint width place;
+      stage = refl;
+      is_word = is_word d hint width place word read_new;
+      unwritten = ap (lookup word) (take_all (length d.frames.writes.rows) d.frames.writes.rows (omega arith)) ∙ read_new.unwritten;
+    })
+
+    asking_sound : IsSound (counted mid) (Load mid.reading) → IsSoundIn b (counted mid) (phase_of (counted mid) waits.Load)
+    asking_sound s = subst (λ (m : Bool). IsSoundIn m (counted mid) (phase_of (counted mid) waits.Load)) (sym mode) s
+
+    pub read_done : (value : ℕ) (new : Data) → ReadTurns d hint width place word value new → IsReadAtOnce c (Read hint width place) word value (engine_in b new (phase_of new p))
+    read_done value new t = record {
+      mid = asking;
+      called = read_called t.called;
+      confirmed =
+          (let confirmed = is_confirmed (counted mid) waits.Load b asking refl (asking_sound t.called.sound.sound) word read_loads value (Wait (waits.Confirm value)) (counted mid) refl t.loaded d.snapshot t.last t.confirmed in
+          subst (λ (n : ℕ). IsConfirmed asking value n (Reply (Bytes (record { items = to_le_bytes w64 value }))) (engine_in b new (phase_of new p))) (ap (λ (e : Core). e.snapshot) (core_idle b d p c view sound none mode))
+          (subst (IsConfirmed asking value d.snapshot (Reply (Bytes (record { items = to_le_bytes w64 value })))) (left_is b d p c view sound none mode t.last new t.same) confirmed));
+    }

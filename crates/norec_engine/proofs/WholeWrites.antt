@@ -21,7 +21,8 @@ use Rattle.norec_revocable.specs.InPhases.{IsSound}
 use Rattle.norec_revocable.specs.Moves.{CallTurns}
 use Rattle.norec_engine.specs.Modes.{engine_in, IsSoundIn, IsTaken}
 use Rattle.norec_engine.specs.WholeWrites.{ServesWrite}
-use Rattle.norec_engine.proofs.BlockSteps.{idle_at, mode, sound_idle}
+use Rattle.norec_engine.proofs.BlockSteps.{mode}
+use Rattle.norec_engine.proofs.IdleEngines.{idle_at, sound_idle}
 use Rattle.norec_engine.proofs.EitherTurns.{called_in, revocable_call}
 
 -- what refuses an access is in the fields

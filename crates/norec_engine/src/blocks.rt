@@ -20,7 +20,7 @@ use word_pieces::merge;
 
 /// The code of a block that has begun, `again` where it was begun before.
 #[inline(always)]
-fn entered(again: bool) -> u32
+pub fn entered(again: bool) -> u32
     ensures { result ≡ if again then 9 else 5 }
 {
     if again { ENTERED_AGAIN } else { ENTERED }
@@ -50,17 +50,17 @@ impl Engine {
         let _step = wait(&mut self.state, &mut self.pending, false, Pending::Begin);
     }
 
-    /// The same, and `resume_into` with the clock, which is known already and even: the block begins. The code that tells so.
+    /// The same, and `resume_into` with the clock, which is known already and even: the block begins. `entered` is the code that
+    /// tells so.
     #[inline(always)]
-    pub fn begin_at_once(&mut self, props: Props, again: bool, clock: u64) -> u32
+    pub fn begin_at_once(&mut self, props: Props, again: bool, clock: u64)
         requires idle { self.old.waits ≡ None }
         requires outer { begins_outer self.old props ≡ true }
         requires fits { self.old.clock ≤ clock }
         requires even { clock % 2 ≡ 0 }
-        ensures { (room : ℕ) → IsBegun self.old props room again clock result self.new }
+        ensures { (room : ℕ) → IsBegun self.old props room again clock (if again then 9 else 5) self.new }
     {
         let _end = begin_at_once(&mut self.state, props, again, clock);
-        entered(again)
     }
 
     /// `call_into` of a commit of a revocable transaction that only read: it has committed. The number of commits before it.

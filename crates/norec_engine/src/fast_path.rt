@@ -13,7 +13,7 @@ ghost use Rattle.std.specs.Int.{w64, to_le_bytes};
 ghost use Rattle.norec_core.specs.Moves.{IsCalled, IsResumed};
 ghost use Rattle.norec_core.specs.declared.answer.Next.TheVariants.{Step as Asks, Answer as Answers};
 ghost use Rattle.norec_engine.specs.FastCalls.{ServesCall};
-ghost use Rattle.norec_engine.specs.WholeReads.{LoadsWord, ConfirmsWord, IsConfirmed};
+ghost use Rattle.norec_engine.specs.WholeReads.{LoadsWord, ConfirmsWord, IsConfirmed, IsReadAtOnce, ReadsAtOnce};
 ghost use Rattle.norec_engine.specs.WholeWrites.{ServesWrite};
 
 use crate::engine::Engine;
@@ -22,7 +22,8 @@ use itm_types::{Call, Datum, ReadHint, Reply, Step, Width, WriteHint};
 use norec_core::Answer;
 use norec_data::{CallEnd, Pending, Turn, access_refusal};
 use norec_revocable::{
-    begin_word, confirmed_new, known_number, loaded, write, write_found, write_next, write_served,
+    ask_word, begin_word, confirmed_new, known_number, loaded, read_at_once, word_to_read, write,
+    write_found, write_next, write_served,
 };
 
 impl Engine {
@@ -43,6 +44,44 @@ impl Engine {
         self.state.spent = 1;
         self.pending = Pending::Load;
         Some(word)
+    }
+
+    /// The word of a read that may be done at once: a whole word that is neither written nor logged, where the log has room by the
+    /// number of its rows alone.
+    #[inline(always)]
+    pub fn word_to_read(&self, width: Width, at: u64) -> Option<u32>
+        requires idle { self.now.waits ≡ None }
+        ensures { IfSome result (λ word. ReadsAtOnce self.now width at word) }
+    {
+        if self.irrevocable {
+            return None;
+        }
+        word_to_read(&self.state, width, at)
+    }
+
+    /// `call_into` of such a read, and `resume_into` with the word's value and with the clock, which is still the snapshot: it is
+    /// answered with the bytes of this number.
+    #[inline(always)]
+    pub fn read_at_once(&mut self, word: u32, value: u64)
+        requires idle { self.old.waits ≡ None }
+        requires reads { (width : Width) × (at : ℕ) × ReadsAtOnce self.old width at word }
+        ensures { (hint : ReadHint) (width : Width) (at : ℕ) → ReadsAtOnce self.old width at word → IsReadAtOnce self.old (Call.Read hint width at) word value self.new }
+    {
+        read_at_once(&mut self.state, word, value);
+    }
+
+    /// `call_into` of such a read alone.
+    #[inline(always)]
+    pub fn ask_word(&mut self, hint: ReadHint, width: Width, at: u64)
+        requires idle { self.old.waits ≡ None }
+        requires reads { (word : ℕ) × ReadsAtOnce self.old width at word }
+        ensures called { (word : ℕ) → ReadsAtOnce self.old width at word → IsCalled self.old (Call.Read hint width at) false (Asks (Step.Load (word + 1))) self.new }
+        ensures loads { (word : ℕ) → ReadsAtOnce self.old width at word → LoadsWord self.new word }
+    {
+        prove!(self.state.log.has_room_behind());
+        ask_word(&mut self.state, hint, width, at);
+        self.pending = Pending::Load;
+        self.state.spent = 1;
     }
 
     /// `call_into` of a read of one whole word that is to be had with no step: the answer has the bytes of this number.

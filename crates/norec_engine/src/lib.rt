@@ -11,6 +11,7 @@ mod restarting;
 mod rounds;
 mod turns;
 
+pub use blocks::entered;
 pub use engine::Engine;
 pub use norec_core::{Answer, Next, Undone};
 pub use refused::EngineRefused;

@@ -6,4 +6,6 @@ pub mod JoinedRows
 pub mod WholeWords
 pub mod ReadyReads
 pub mod WholeReads
+pub mod ConfirmedWords
+pub mod ReadsAtOnce
 pub mod KnownReads

@@ -28,5 +28,5 @@ pub use known::known_number;
 pub use mode::irrevocable_room;
 pub use read::{confirmed_new, loaded};
 pub use steps::step_of;
-pub use words::begin_word;
+pub use words::{ask_word, begin_word, read_at_once, word_to_read};
 pub use writes::{write, write_found, write_next, write_served};

@@ -1,9 +1,10 @@
 -- A read of one whole word that is neither written nor logged has come.
-use Rattle.std.proofs.Common.{◌≡◌, ℕ, ◌+◌, ◌*◌, ◌≤◌, ◌||◌, false, [], Option, None, Some, slice_get, is_some, refl, sym, ap, ◌∙◌, arith}
+use Rattle.std.proofs.Common.{◌≡◌, ℕ, ◌+◌, ◌*◌, ◌≤◌, ◌||◌, false, [], Option, None, Some, slice_get, is_some, refl, sym, ap, subst, ◌∙◌, arith, rules}
 use Rattle.arrayvec.specs.ArrayVec.{ArrayVec}
 use Rattle.itm_types.specs.Access.{size_of}
 use Rattle.itm_types.specs.declared.access.ReadHint.{ReadHint}
 use Rattle.itm_types.specs.declared.access.Width.{Width}
+use Rattle.itm_types.specs.declared.call.Call.TheVariants.{Read}
 use Rattle.itm_types.specs.LogRows.{value_of}
 use Rattle.value_log.specs.Log.{Log}
 use Rattle.word_pieces.specs.declared.piece.Piece.{Piece}
@@ -13,20 +14,24 @@ use Rattle.norec_core.specs.Accesses.{count, part, parts}
 use Rattle.norec_core.specs.OwnAccesses.{word_of}
 use Rattle.norec_core.specs.Order.{load_past, load_stage, value_reading}
 use Rattle.norec_core.specs.Rows.{has_mask, is_had}
+use Rattle.norec_core.specs.Core.{Core}
 use Rattle.norec_core.specs.Phases.{Idle, Load}
 use Rattle.norec_core.specs.declared.call_parts.Reading.{Reading}
 use Rattle.norec_core.proofs.Accesses.Readings.{load_here, none_left, part_is}
+use Rattle.norec_data.specs.View.{core}
 use Rattle.norec_data.specs.declared.data.Data.{Data}
 use Rattle.norec_data.specs.declared.pending.Pending.TheVariants as waits
 use Rattle.norec_data.specs.declared.turn.Turn.TheVariants.{Wait}
+use Rattle.norec_data.specs.Turns.{Turns}
 use Rattle.norec_revocable.specs.InPhases.{MayRead, IsSound}
 use Rattle.norec_revocable.specs.Between.{IsSoundTurn, IsWord}
+use Rattle.norec_revocable.specs.Moves.{CallTurns}
 use Rattle.norec_revocable.specs.WholeReads.{IsNewWord}
-use Rattle.norec_revocable.proofs.ReadCalls.Loads.{load_sound}
-use Rattle.norec_revocable.proofs.ReadCalls.ReadyReads.{first_reading, ready, ready_open, ready_reading, settled}
+use Rattle.norec_revocable.proofs.ReadCalls.Loads.{load_proceeds, load_sound}
+use Rattle.norec_revocable.proofs.ReadCalls.ReadyReads.{first_reading, ready, ready_came, ready_open, ready_reading, settled}
 use Rattle.norec_revocable.proofs.ReadCalls.WholeWords.{one_piece}
 
-module _ (s : Data) (hint : ReadHint) (width : Width) (place word : ℕ) (is : IsNewWord s width place word) where
+module _ (s : Data) (hint : ReadHint) (width : Width) (place word : ℕ) (is : IsNewWord (core s Idle) width place word) where
   abbrev pub first : Reading
   first = value_reading hint width place
 
@@ -70,5 +75,17 @@ module _ (s : Data) (hint : ReadHint) (width : Width) (place word : ℕ) (is : I
       missing = record { some = omega (arith, one); unhad = ap (λ l. is_had s.frames.writes.rows l (part first)) rows ∙ unhad };
     }
 
-    pub starts : IsSoundTurn (Wait waits.Load) (record (ready s g log) { reading = first })
+    starts : IsSoundTurn (Wait waits.Load) (record (ready s g log) { reading = first })
     starts = load_sound (ready s g log) first first refl (omega arith) sound.bounds (ready_open s hint width place sound is.is_open within small g log rows) may_read (settled s hint width place sound is.is_open within small) (omega arith)
+
+    pub asks : CallTurns s (Read hint width place) false (Wait waits.Load) (record (ready s g log) { reading = first })
+    asks = record {
+      sound = starts;
+      proceeds =
+          subst (λ (mid : Core). Turns mid (Wait waits.Load) (record (ready s g log) { reading = first })) (ready_came s hint width place sound is.is_open within small g log rows)
+          (load_proceeds (ready s g log) first first refl (omega arith) sound.bounds (ready_open s hint width place sound is.is_open within small g log rows) may_read (settled s hint width place sound is.is_open within small) (omega arith) s.log.rows);
+      stays = search rules;
+      order = search rules;
+      ends = tt;
+      tries = search rules;
+    }

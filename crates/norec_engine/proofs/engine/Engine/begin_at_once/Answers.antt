@@ -1,3 +1,4 @@
+use Rattle.std.proofs.Common.{if◌then◌else◌, refl}
 use Rattle.norec_engine.proofs.BlockSteps.{outer_begun, outer_fits, outer_left, outer_served, outer_sound, outer_stays, outside}
 use Rattle.norec_engine.proofs.engine.Engine.begin_at_once.Goals as goal
 
@@ -21,4 +22,4 @@ invariant_of-self c =
 pub returns : goal.returns
 returns c room =
     let s = c.self.inside in
-    outer_begun s.irrevocable s.state s.pending c.args.self.now c.self.view_is c.self.invariant c.requires.idle c.args.props c.requires.outer room c.args.again c.args.clock c.entered.result c.begin_at_once-end.result c.begin_at_once-end.new.state (c.begin_at_once-end.ensures.turns room) c.begin_at_once-end.ensures.end c.entered.ensures
+    outer_begun s.irrevocable s.state s.pending c.args.self.now c.self.view_is c.self.invariant c.requires.idle c.args.props c.requires.outer room c.args.again c.args.clock (if c.args.again then 9 else 5) c.begin_at_once-end.result c.begin_at_once-end.new.state (c.begin_at_once-end.ensures.turns room) c.begin_at_once-end.ensures.end refl
