@@ -1,5 +1,5 @@
 -- What a begin and a commit come to on the fast path.
-use Rattle.std.specs.Prelude.{◌≡◌, ℕ, ◌+◌, ◌≤◌, Bool, true, false, List}
+use Rattle.std.specs.Prelude.{◌≡◌, ℕ, ◌+◌, ◌≤◌, Bool, true, false, if◌then◌else◌, List}
 use Rattle.itm_types.specs.declared.step.Step.{Step}
 use Rattle.itm_types.specs.declared.call.Call.{Call}
 use Rattle.itm_types.specs.declared.call.Call.TheVariants.{Commit}
@@ -54,7 +54,7 @@ pub record IsUnderway {A : Type 0} (words : Words A) (pass : Pass) (e : Core) (c
 
 -- by what a begin tells
 abbrev pub BeginsSo : {A : Type 0} → Words A → Pass → Core → Call → Bool → Begun → Pass → Core → Type 0
-BeginsSo words pass e call again (begins.Code code) left new = IsServed words pass e call again (Reply (Coded code)) left new
+BeginsSo words pass e call again begins.Entered left new = IsServed words pass e call again (Reply (Coded (if again then 9 else 5))) left new
 BeginsSo words pass e call again (begins.Odd clock) left new = IsUnderway words pass e call again clock left new
 BeginsSo words pass e call again begins.Nothing left new = (left ≡ pass) × (new ≡ e)
 

@@ -36,11 +36,6 @@ bytes_of_number n = to_le_bytes w64 n
 abbrev pub number : ℕ → Datum
 number n = record { width = U8; bytes = record { items = bytes_of_number n }; sized = refl }
 
--- what a read came to that tells its number, else what stops the transaction beside it
-abbrev pub number_or : Option ℕ → Stop → Result ℕ Stop
-number_or (Some n) stop = Ok n
-number_or None stop = Err stop
-
 -- what a write came to that tells whether it is done, else what stops the transaction beside it
 abbrev pub done_or : Bool → Stop → Result (Unit {0}) Stop
 done_or true stop = Ok tt
@@ -55,3 +50,8 @@ answer_to_read (Err stop) = answer_of stop
 abbrev pub answer_to_write : Result (Unit {0}) Stop → Option Answer
 answer_to_write (Ok done) = Some (Reply Done)
 answer_to_write (Err stop) = answer_of stop
+
+-- the same where a write that is done tells its number
+abbrev pub answer_to_put : Result ℕ Stop → Option Answer
+answer_to_put (Ok n) = Some (Reply Done)
+answer_to_put (Err stop) = answer_of stop

@@ -22,8 +22,8 @@ use std::alloc::Allocator;
 /// How far a begin went on the fast path.
 #[derive(Clone, Copy)]
 pub enum Begun {
-    /// The block has begun, which this code tells.
-    Code(u32),
+    /// The block has begun.
+    Entered,
     /// The clock was loaded, and is not even.
     Odd(u64),
     /// Nothing was done.
@@ -65,7 +65,8 @@ pub(crate) fn begin_block<A: Allocator>(
         engine.begin_outer(props, room, again);
         return Begun::Odd(clock);
     }
-    Begun::Code(engine.begin_at_once(props, again, clock))
+    engine.begin_at_once(props, again, clock);
+    Begun::Entered
 }
 
 /// A transaction commits.

@@ -11,6 +11,7 @@ mod slow_path;
 mod stop;
 mod thread;
 mod values;
+mod whole_words;
 
 pub use refused::ThreadRefused;
 pub use stop::Stop;

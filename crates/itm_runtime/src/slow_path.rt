@@ -86,9 +86,19 @@ impl Thread {
         requires own { Owns words.now self.old.pass }
         ensures { IsAnswered words.now (start_of self.old Call.Commit false) result self.new.pass self.new.engine }
     {
-        match self.call_slow(words, &Call::Commit) {
-            Ok(answer) => answer,
-            Err(_) => unreachable!(),
-        }
+        let mut answer = Answer::Reply(Reply::Done);
+        self.commit_told(words, &mut answer);
+        answer
+    }
+
+    /// The same, with the answer where the caller has it.
+    #[inline(never)]
+    fn commit_told<A: Allocator>(&mut self, words: &Words<A>, answer: &mut Answer)
+        requires own { Owns words.now self.old.pass }
+        ensures { IsAnswered words.now (start_of self.old Call.Commit false) answer.new self.new.pass self.new.engine }
+    {
+        let Ok(()) = self.call_told(words, &Call::Commit, answer) else {
+            unreachable!();
+        };
     }
 }

@@ -19,7 +19,7 @@ use itm_types::{
     Call, Datum, Limits, MAX_COMMITS, MAX_PATIENCE, Props, Ran, ReadHint, Reply, Width, WriteHint,
 };
 use norec_core::{Answer, Undone};
-use norec_engine::{Engine, EngineRefused};
+use norec_engine::{Engine, EngineRefused, entered};
 use shared_words::{Pass, Words};
 use std::alloc::{AllocError, Allocator, Global};
 use std::marker::Model;
@@ -90,7 +90,7 @@ impl Thread {
         ensures { Returns (λ a. a) words.now self.old (Call.Begin props room) again result self.new }
     {
         match begin_block(words, &mut self.pass, &mut self.engine, props, room, again) {
-            Begun::Code(code) => Ok(Answer::Reply(Reply::Code(code))),
+            Begun::Entered => Ok(Answer::Reply(Reply::Code(entered(again)))),
             Begun::Odd(clock) => Ok(go_on_from(words, &mut self.pass, &mut self.engine, clock)),
             Begun::Nothing => self.begin_slow(words, props, room, again),
         }
@@ -167,8 +167,15 @@ impl Thread {
         match commit_block(words, &mut self.pass, &mut self.engine) {
             Ended::Wrote(at) => Answer::Committed { at, wrote: true },
             Ended::Read(at) => Answer::Committed { at, wrote: false },
-            Ended::Found(found) => go_on_from(words, &mut self.pass, &mut self.engine, found),
-            Ended::Nothing => self.commit_slow(words),
+            // (named here, so that no room for these is cleared on the fast path)
+            Ended::Found(found) => {
+                let answer = go_on_from(words, &mut self.pass, &mut self.engine, found);
+                answer
+            }
+            Ended::Nothing => {
+                let answer = self.commit_slow(words);
+                answer
+            }
         }
     }
 

@@ -8,7 +8,7 @@ use Rattle.shared_words.specs.declared.pass.Pass.{Pass}
 use Rattle.shared_words.specs.declared.words.Words.{Words}
 use Rattle.shared_words.specs.Passes.{cells_of, IsOver, view_of}
 use Rattle.itm_runtime.specs.Blocks.{IsUnderway}
-use Rattle.itm_runtime.specs.Drives.{Finishes}
+use Rattle.itm_runtime.specs.Drives.{Finishes, HasStepped}
 use Rattle.itm_runtime.specs.InCall.{IsDone}
 use Rattle.itm_runtime.specs.Served.{Start}
 use Rattle.itm_runtime.specs.Ties.{Stands}
@@ -17,19 +17,24 @@ use Rattle.itm_runtime.proofs.Steps.StepChains.{starts}
 
 module _ {A : Type 0} (words : Words A) (p : Pass) (e : Core) (call : Call) (again : Bool) (found : ℕ) (left : Pass) (new : Core) (u : IsUnderway words p e call again found left new) where
   -- its step is done
+  abbrev pub came_to : Start
+  came_to = record { view = view_of p; engine = e; call = call; again = again }
+
+  abbrev pub step_done : Stands (view_of p) e → IsOver (cells_of words) (view_of p) → IsDone (cells_of words) came_to (view_of left) new found
+  step_done stands over =
+      let f = u.finds in record {
+        before = f.before;
+        step = f.step;
+        over = f.over;
+        in_call = due_on (cells_of words) came_to f.steps (view_of p) f.before u.came new u.first (Asks f.step) over (starts (view_of p) e u.came call again stands u.first u.called) f.leads;
+        turn = f.stepped.turn;
+      }
+
   pub underway : Stands (view_of p) e → IsOver (cells_of words) (view_of p) → (s : Start) × IsDone (cells_of words) s (view_of left) new found
-  underway stands over =
-      let f = u.finds in
-      let s : Start = record { view = view_of p; engine = e; call = call; again = again } in (
-        s,
-        record {
-          before = f.before;
-          step = f.step;
-          over = f.over;
-          in_call = due_on (cells_of words) s f.steps (view_of p) f.before u.came new u.first (Asks f.step) over (starts (view_of p) e u.came call again stands u.first u.called) f.leads;
-          turn = f.stepped.turn;
-        },
-      )
+  underway stands over = (came_to, step_done stands over)
+
+  pub step_seen : (stands : Stands (view_of p) e) (over : IsOver (cells_of words) (view_of p)) → HasStepped (step_done stands over).before (step_done stands over).step found (view_of left)
+  step_seen stands over = u.finds.stepped
 
   -- and once the steps that are left are done, all are
   pub goes_on : (a : Answer) (pass : Pass) (last : Core) → Finishes words u.finds.before new (Asks u.finds.step) a pass last → Finishes words (view_of p) u.came u.first a pass last

@@ -1,17 +1,21 @@
-use Rattle.std.proofs.Common.{◌≡◌, ◌∙◌, subst, sym}
+use Rattle.std.proofs.Common.{◌≡◌, ◌∙◌, ℕ, subst, sym}
+use Rattle.itm_types.specs.declared.call.Reply.TheVariants.{Code}
+use Rattle.norec_core.specs.declared.answer.Answer.TheVariants.{Reply}
 use Rattle.itm_types.specs.declared.call.Call.TheVariants.{Begin}
 use Rattle.shared_words.specs.Passes.{Owns}
-use Rattle.itm_runtime.specs.CallResults.{Returns}
-use Rattle.itm_runtime.specs.Standing.{Standing}
+use Rattle.itm_runtime.specs.CallResults.{IsAnswered, Returns}
+use Rattle.itm_runtime.specs.Standing.{Standing, start_of}
 use Rattle.itm_runtime.proofs.Calls.Results.{answered, left_standing}
 use Rattle.itm_runtime.proofs.Calls.Underway.{goes_on, underway}
 use Rattle.itm_runtime.proofs.thread.Thread.begin.Goals as goal
 
-pub returns-in-Code : goal.returns-in-Code
-returns-in-Code g c = answered c.self.inside.pass c.self.invariant c.in-Code.ensures.called c.in-Code.ensures.finishes c.args.self.now c.self.view_is c.requires.own
+pub returns-in-Entered : goal.returns-in-Entered
+returns-in-Entered g c =
+    subst (λ (n : ℕ). IsAnswered c.args.words.now (start_of c.args.self.now (Begin c.args.props c.args.room) c.args.again) (Reply (Code n)) c.begin_block.new.pass c.begin_block.new.engine) (sym c.entered.ensures)
+    (answered c.self.inside.pass c.self.invariant c.in-Entered.ensures.called c.in-Entered.ensures.finishes c.args.self.now c.self.view_is c.requires.own)
 
 pub invariant_of-self : goal.invariant_of-self
-invariant_of-self g c = left_standing c.self.inside.pass c.self.invariant c.in-Code.ensures.called c.in-Code.ensures.finishes c.args.self.now c.self.view_is c.requires.own
+invariant_of-self g c = left_standing c.self.inside.pass c.self.invariant c.in-Entered.ensures.called c.in-Entered.ensures.finishes c.args.self.now c.self.view_is c.requires.own
 
 pub go_on_from-requires-clause-done : goal.go_on_from-requires-clause-done
 go_on_from-requires-clause-done g c = underway c.args.words.now c.self.inside.pass c.self.inside.engine (Begin c.args.props c.args.room) c.args.again c.in-Odd.clock _ _ c.in-Odd.ensures c.self.invariant (subst (λ (t : Standing). Owns c.args.words.now t.pass) (sym c.self.view_is) c.requires.own).over

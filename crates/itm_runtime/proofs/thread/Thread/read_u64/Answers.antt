@@ -1,15 +1,51 @@
-use Rattle.std.proofs.Common.{Option, subst, ℕ}
+use Rattle.std.proofs.Common.{◌≡◌, ◌∙◌, false, subst, sym}
 use Rattle.itm_types.specs.declared.access.ReadHint.TheVariants.{R}
 use Rattle.itm_types.specs.declared.access.Width.TheVariants.{U8}
 use Rattle.itm_types.specs.declared.call.Call.TheVariants.{Read}
+use Rattle.shared_words.specs.Passes.{Owns}
 use Rattle.itm_runtime.specs.CallResults.{Tells}
-use Rattle.itm_runtime.specs.Stops.{answer_to_read, number_or}
+use Rattle.itm_runtime.specs.Standing.{Standing}
+use Rattle.itm_runtime.specs.Stops.{answer_to_read}
+use Rattle.itm_runtime.proofs.Calls.NumberAnswers.{told_of}
+use Rattle.itm_runtime.proofs.Calls.Results.{answered, left_standing}
+use Rattle.itm_runtime.proofs.Calls.Underway.{goes_on, step_done, step_seen}
 use Rattle.itm_runtime.proofs.thread.Thread.read_u64.Goals as goal
 
-pub returns-in-Some : goal.returns-in-Some
-returns-in-Some g c =
-    subst (λ (o : Option ℕ). Tells c.args.words.now c.args.self.now (Read R U8 c.args.at) (answer_to_read (number_or o c.read_number.new.stop)) c.read_number.new.self) c.in-Some.is c.read_number.ensures
+pub returns-in-Number : goal.returns-in-Number
+returns-in-Number g c = answered c.self.inside.pass c.self.invariant c.in-Number.ensures.called c.in-Number.ensures.finishes c.args.self.now c.self.view_is c.requires.own
 
-pub returns-in-None : goal.returns-in-None
-returns-in-None g c =
-    subst (λ (o : Option ℕ). Tells c.args.words.now c.args.self.now (Read R U8 c.args.at) (answer_to_read (number_or o c.read_number.new.stop)) c.read_number.new.self) c.in-None.is c.read_number.ensures
+pub invariant_of-self : goal.invariant_of-self
+invariant_of-self g c = left_standing c.self.inside.pass c.self.invariant c.in-Number.ensures.called c.in-Number.ensures.finishes c.args.self.now c.self.view_is c.requires.own
+
+pub read_from-number-requires-clause-done : goal.read_from-number-requires-clause-done
+read_from-number-requires-clause-done g c =
+    let call = Read R U8 c.args.at in
+    let over = (subst (λ (t : Standing). Owns c.args.words.now t.pass) (sym c.self.view_is) c.requires.own).over in (
+      record { pass = c.self.inside.pass; engine = c.self.inside.engine },
+      c.args.at,
+      step_done c.args.words.now c.self.inside.pass c.self.inside.engine call false c.in-Moved.clock _ _ c.in-Moved.ensures c.self.invariant over,
+      step_seen c.args.words.now c.self.inside.pass c.self.inside.engine call false c.in-Moved.clock _ _ c.in-Moved.ensures c.self.invariant over,
+    )
+
+pub invariant_of-self-in-Moved : goal.invariant_of-self-in-Moved
+invariant_of-self-in-Moved g c =
+    let u = c.in-Moved.ensures in
+    let rest = c.read_from-number.ensures u.finds.before u.finds.step u.finds.stepped in
+    let f = goes_on c.args.words.now c.self.inside.pass c.self.inside.engine (Read R U8 c.args.at) false c.in-Moved.clock _ _ u rest.0 c.read_from-number.new.pass c.read_from-number.new.engine rest.2 in
+    left_standing c.self.inside.pass c.self.invariant u.called f c.args.self.now c.self.view_is c.requires.own
+
+pub returns-in-Moved : goal.returns-in-Moved
+returns-in-Moved g c =
+    let u = c.in-Moved.ensures in
+    let rest = c.read_from-number.ensures u.finds.before u.finds.step u.finds.stepped in
+    let f = goes_on c.args.words.now c.self.inside.pass c.self.inside.engine (Read R U8 c.args.at) false c.in-Moved.clock _ _ u rest.0 c.read_from-number.new.pass c.read_from-number.new.engine rest.2 in
+    told_of (answer_to_read c.read_from-number.result) rest.0 c.args.words.now c.args.self.now (Read R U8 c.args.at) (record { pass = c.read_from-number.new.pass; engine = c.read_from-number.new.engine }) rest.1
+    (answered c.self.inside.pass c.self.invariant u.called f c.args.self.now c.self.view_is c.requires.own)
+
+pub returns-in-Nothing : goal.returns-in-Nothing
+returns-in-Nothing g c =
+    let slow = c.read_number-number in
+    let same = c.in-Nothing.ensures in
+    let here : Standing = record { pass = c.look.new.pass; engine = c.look.new.engine } in
+    let was : here ≡ c.args.self.now = (let is : here ≡ (let o : Standing = record { pass = c.self.inside.pass; engine = c.self.inside.engine } in o) = (λ i. record { pass = same.0 i; engine = same.1 i }) in is) ∙ c.self.view_is in
+    subst (λ (t : Standing). Tells c.args.words.now t (Read R U8 c.args.at) (answer_to_read slow.result) slow.new.self) was slow.ensures

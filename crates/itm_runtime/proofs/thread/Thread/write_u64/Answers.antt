@@ -1,14 +1,14 @@
-use Rattle.std.proofs.Common.{Bool, subst}
-use Rattle.itm_types.specs.declared.access.WriteHint.TheVariants.{W}
-use Rattle.itm_types.specs.declared.call.Call.TheVariants.{Write}
-use Rattle.itm_runtime.specs.CallResults.{Tells}
-use Rattle.itm_runtime.specs.Stops.{answer_to_write, done_or, number}
+use Rattle.itm_types.specs.declared.call.Reply.TheVariants.{Done}
+use Rattle.norec_core.specs.declared.answer.Answer.TheVariants.{Reply}
+use Rattle.itm_runtime.proofs.Calls.Results.{answered, at_once, left_standing}
 use Rattle.itm_runtime.proofs.thread.Thread.write_u64.Goals as goal
 
-pub returns-then-write_number : goal.returns-then-write_number
-returns-then-write_number g c =
-    subst (λ (b : Bool). Tells c.args.words.now c.args.self.now (Write W c.args.at (number c.args.value)) (answer_to_write (done_or b c.write_number.new.stop)) c.write_number.new.self) c.if-write_number.true c.write_number.ensures
+pub returns-then-put : goal.returns-then-put
+returns-then-put g c =
+    let p = c.self.inside.pass in
+    answered p c.self.invariant (c.put.ensures.called c.if-put.true) (at_once p c.self.inside.engine (Reply Done) c.self.view_is c.requires.own c.put.new.engine) c.args.self.now c.self.view_is c.requires.own
 
-pub returns-else-write_number : goal.returns-else-write_number
-returns-else-write_number g c =
-    subst (λ (b : Bool). Tells c.args.words.now c.args.self.now (Write W c.args.at (number c.args.value)) (answer_to_write (done_or b c.write_number.new.stop)) c.write_number.new.self) c.if-write_number.false c.write_number.ensures
+pub invariant_of-self : goal.invariant_of-self
+invariant_of-self g c =
+    let p = c.self.inside.pass in
+    left_standing p c.self.invariant (c.put.ensures.called c.if-put.true) (at_once p c.self.inside.engine (Reply Done) c.self.view_is c.requires.own c.put.new.engine) c.args.self.now c.self.view_is c.requires.own

@@ -1,6 +1,6 @@
 use Rattle.std.proofs.Common.{◌∙◌, Some, ap, subst, sym}
 use Rattle.itm_runtime.specs.Stops.{HasNumber}
-use Rattle.itm_runtime.proofs.numbers.tell_number.Goals as goal
+use Rattle.itm_runtime.proofs.numbers.number_of.Goals as goal
 
 pub number_in-requires : goal.number_in-requires
 number_in-requires c = subst HasNumber (sym c.in-Ok.ensures.ok) (c.requires.number c.in-Ok.ensures.goes_on)

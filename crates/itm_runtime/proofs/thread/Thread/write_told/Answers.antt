@@ -7,7 +7,7 @@ use Rattle.itm_runtime.specs.CallResults.{IsAnswered, IsThreadStarved}
 use Rattle.itm_runtime.specs.Standing.{start_of}
 use Rattle.itm_runtime.specs.Stops.{answer_to_write, done_or, number}
 use Rattle.itm_runtime.proofs.Calls.NumberAnswers.{told_of, write_done}
-use Rattle.itm_runtime.proofs.thread.Thread.write_number_slow.Goals as goal
+use Rattle.itm_runtime.proofs.thread.Thread.write_told.Goals as goal
 
 pub tell_done-requires : goal.tell_done-requires
 tell_done-requires g c =

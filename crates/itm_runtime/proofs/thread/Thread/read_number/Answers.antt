@@ -2,17 +2,16 @@ use Rattle.itm_types.specs.declared.access.ReadHint.TheVariants.{R}
 use Rattle.itm_types.specs.declared.access.Width.TheVariants.{U8}
 use Rattle.itm_types.specs.declared.call.Call.TheVariants.{Read}
 use Rattle.shared_words.specs.Passes.{view_of}
-use Rattle.itm_runtime.specs.Stops.{answer_to_read, number_or}
+use Rattle.itm_runtime.specs.Stops.{answer_to_read}
 use Rattle.itm_runtime.proofs.Calls.NumberAnswers.{read_number, told_of}
-use Rattle.itm_runtime.proofs.thread.Thread.read_number_slow.Goals as goal
+use Rattle.itm_runtime.proofs.thread.Thread.read_number.Goals as goal
 
-pub tell_number-requires : goal.tell_number-requires
-tell_number-requires g c = record {
+pub number_of-requires : goal.number_of-requires
+number_of-requires g c = record {
   number = λ on.
       (let t = c.read_slow.new.self in
       read_number c.args.self.now R c.args.at c.in-Ok.answer (view_of t.pass) t.engine c.in-Ok.ensures.served on);
 }
 
 pub returns-in-Ok : goal.returns-in-Ok
-returns-in-Ok g c =
-    told_of (answer_to_read (number_or c.tell_number.result c.tell_number.new.stop)) c.in-Ok.answer c.args.words.now c.args.self.now (Read R U8 c.args.at) c.read_slow.new.self c.tell_number.ensures c.in-Ok.ensures
+returns-in-Ok g c = told_of (answer_to_read c.number_of.result) c.in-Ok.answer c.args.words.now c.args.self.now (Read R U8 c.args.at) c.read_slow.new.self c.number_of.ensures c.in-Ok.ensures
