@@ -17,7 +17,7 @@ import sys
 
 ROOT = pathlib.Path(__file__).resolve().parent.parent
 CRATES = ROOT / "crates"
-HEADLINE = (CRATES / "norec_world/specs/Headline.antt", "AreOpaque")
+HEADLINE = (CRATES / "world_rules/specs/Headline.antt", "AreOpaque")
 
 NAME = re.compile(r"(?<![.\w])[A-Za-z_]\w*")
 STARTS = re.compile(r"( *)(?:abbrev (?:pub )?|(?:pub )?record |(?:pub )?data )([A-Za-z_]\w*)")

@@ -2,7 +2,7 @@
 use Rattle.std.proofs.Common.{◌≡◌, ℕ, List, length, take, Option, Result, Ok, Err, refl, sym, ap, subst, false}
 use Rattle.std.specs.Prelude.{IfErr, is_ok}
 use Rattle.std.specs.Io.KnownBytes.{Appends}
-use Rattle.norec_world.specs.World.{World}
+use Rattle.world_rules.specs.World.{World}
 use Rattle.run_commands.specs.Scheduled.{Begins, schedule_of}
 use Rattle.script_program.specs.declared.schedule.Item.{Item}
 use Rattle.script_program.specs.Listing.{Listing, threads_of}

@@ -1,7 +1,7 @@
 -- What the program writes, says and answers.
 use Rattle.std.specs.Prelude.{◌≡◌, ◌⊎◌, ℕ, Bool, true, false, List, [], length, take, codes, Option, Result, Ok, Err}
 use Rattle.std.specs.Io.KnownBytes.{Appends}
-use Rattle.norec_world.specs.World.{World}
+use Rattle.world_rules.specs.World.{World}
 use Rattle.run_commands.specs.Scheduled.{Begins, schedule_of}
 use Rattle.script_asm.specs.Assembly.{program_of}
 use Rattle.script_fields.specs.declared.fault.AsmFault.{AsmFault}

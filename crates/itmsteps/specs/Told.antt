@@ -1,7 +1,7 @@
 -- What a writer has once the events of a world were taken.
 use Rattle.std.specs.Prelude.{ℕ, Bool, List, take, Option, Result, Ok, Err}
 use Rattle.std.specs.Io.KnownBytes.{Appends, Keeps}
-use Rattle.norec_world.specs.World.{World}
+use Rattle.world_rules.specs.World.{World}
 use Rattle.script_fields.specs.declared.fault.AsmFault.{AsmFault}
 use Rattle.script_program.specs.declared.schedule.Item.{Item}
 use Rattle.script_vm.specs.Threads.{Thread, thread_rules}

@@ -1,7 +1,6 @@
--- By which calls the innermost block may go back to its begin, and what that leaves of the blocks and the arena.
-use Rattle.std.proofs.Common.{◌≡◌, ℕ, ◌+◌, ◌*◌, ◌&&◌, not, nat_le, nat_lt, Bool, true, false, true≢false, if◌then◌else◌, List, [], ◌∷◌, length, Option, None, Some, refl, sym, ap, ◌∙◌}
+-- By which calls the innermost block may go back to its begin.
+use Rattle.std.proofs.Common.{◌≡◌, ℕ, ◌+◌, ◌*◌, ◌&&◌, not, nat_le, nat_lt, Bool, true, false, true≢false, if◌then◌else◌, List, [], ◌∷◌, length, None, Some, refl, sym, ap, ◌∙◌}
 use Rattle.std.proofs.lemmas.Bool.{and_parts, cond-true}
-use Rattle.itm_types.proofs.KeptBytes.{length-restored}
 use Rattle.itm_types.specs.Access.{size_of}
 use Rattle.itm_types.specs.declared.call.Call.{Call}
 use Rattle.itm_types.specs.declared.call.Call.TheVariants.{Begin, Commit, Copy, CommitAction, Fill, Mode, Read, UndoAction, Write}
@@ -9,15 +8,12 @@ use Rattle.itm_types.specs.declared.call.Copying.{Copying}
 use Rattle.itm_types.specs.declared.call.Props.{Props}
 use Rattle.itm_types.specs.declared.copy.CopyPair.{CopyPair}
 use Rattle.itm_types.specs.declared.copy.CopyPair.TheVariants.{In, Out, Within}
-use Rattle.itm_model.specs.Machine.{back, back_from, entered, irrevocable_from, made_irrevocable, pushed, rolled_back}
-use Rattle.itm_model.specs.State.{Block, Saved, State}
-use Rattle.nest_frames.specs.Nest.{Frame, renewed}
+use Rattle.nest_frames.specs.Nest.{Frame}
 use Rattle.norec_core.specs.Core.{Core, in_transaction, is_outermost, is_within, may_go}
 use Rattle.norec_core.specs.declared.call_parts.Taking.TheVariants as takings
 use Rattle.norec_core.specs.Order.{chunk_from, commit_stage, copy_stage, going_stage, placed_in, stage_at}
 use Rattle.norec_core.specs.Phases.{Phase}
 use Rattle.norec_core.specs.Phases.{Idle}
-use Rattle.norec_core.specs.Restarts.{begun_again}
 use Rattle.norec_core.proofs.Replies.ActionCounts.{registers}
 use Rattle.norec_engine.specs.RestartingCalls.{arena_ahead, can_restart, may_validate, reads_shared}
 
@@ -86,36 +82,3 @@ ahead_revocable e call bytes ahead = by_test (can_restart e call) refl
     by_test : (b : Bool) → can_restart e call ≡ b → e.irrevocable ≡ false
     by_test true can = can_revocable e call can
     by_test false never = absurd (let none : None ≡ Some bytes = sym (ap (λ (b : Bool). if b then Some (length e.arena) else None) never) ∙ ahead in cc)
-
--- ## The arena
-
-entered_long : (s : State) (props : Props) → length (entered s props).arena ≡ length s.arena
-entered_long s props = by_props props.goes_irrevocable
-  where
-    by_mode : (b : Bool) → length (if b then pushed s props else made_irrevocable (pushed s props)).arena ≡ length s.arena
-    by_mode true = refl
-    by_mode false = refl
-
-    by_props : (b : Bool) → length (if b then irrevocable_from (pushed s props) else pushed s props).arena ≡ length s.arena
-    by_props true = by_mode s.irrevocable
-    by_props false = refl
-
-back_long : (s : State) (blocks : List Block) → length (back_from s blocks).arena ≡ length s.arena
-back_long s [] = refl
-back_long s (b ∷ bs) = by_saved b.saved
-  where
-    by_saved : (o : Option Saved) → length (rolled_back s bs o).arena ≡ length s.arena
-    by_saved None = refl
-    by_saved (Some saved) = length-restored saved.kept s.arena
-
--- gone back, the block leaves the arena its length
-pub again_long : (blocks : List Frame) (s : State) → length (begun_again blocks (back s)).arena ≡ length s.arena
-again_long [] s = back_long s s.blocks
-again_long (b ∷ bs) s = entered_long (back s) b.props ∙ back_long s s.blocks
-
--- ## The blocks
-
--- as many are open
-pub renewed_long : (bs : List Frame) → length (renewed bs) ≡ length bs
-renewed_long [] = refl
-renewed_long (b ∷ bs) = refl

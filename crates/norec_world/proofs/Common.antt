@@ -1,114 +1,30 @@
--- The names that more than one proof cites, passed on from one place. Declares nothing.
-pub use Rattle.itm_model.specs.Machine.{after, after_unless, is_open, opened, outside, refusal, reply}
-pub use Rattle.itm_model.specs.Runs.{answers, answers_within, turn}
-pub use Rattle.itm_model.specs.State.{Block, State}
-pub use Rattle.itm_types.proofs.WordLists.{length-words_from, words_of-bytes_of}
-pub use Rattle.itm_types.proofs.Words.{slice_get-set_same}
-pub use Rattle.itm_types.specs.Calls.{is_abort, is_begin}
-pub use Rattle.itm_types.specs.Memory.{Agrees, AllFit, AreWords, bytes_of, IsMemory, words_of}
-pub use Rattle.itm_types.specs.declared.call.Call.{Call}
-pub use Rattle.itm_types.specs.declared.call.Call.TheVariants.{Abort, Begin, Commit, CommitAction, Log, LogBytes, Mode, Read, Save, Write}
-pub use Rattle.itm_types.specs.declared.call.Props.{Props}
-pub use Rattle.itm_types.specs.declared.call.Ran.{Ran}
-pub use Rattle.itm_types.specs.declared.call.Refusal.{Refusal}
-pub use Rattle.itm_types.specs.declared.call.Reply.{Reply as Replied}
-pub use Rattle.itm_types.specs.declared.call.Reply.TheVariants.{Code, Done, Refused}
-pub use Rattle.itm_types.specs.declared.limits.Limits.{Limits}
-pub use Rattle.itm_types.specs.declared.limits.TheConstants.{MAX_ACTORS}
-pub use Rattle.itm_types.specs.declared.step.Step.{Step}
-pub use Rattle.itm_types.specs.declared.step.Step.TheVariants.{Cas, Load, Store}
-pub use Rattle.nest_frames.specs.Nest.{Frame}
-pub use Rattle.norec_core.proofs.Engines.Blocks.{inside_all, none_inside}
-pub use Rattle.norec_core.proofs.Engines.HeldStores.{shut_revocable}
-pub use Rattle.norec_core.proofs.Engines.KeptFields.{handed_is}
-pub use Rattle.norec_core.proofs.Replies.ActionCounts.{LeavesActions, registers}
-pub use Rattle.norec_core.proofs.Replies.AnsweredEngines.{frees, replied_outside, rests, told_plainly}
-pub use Rattle.norec_core.proofs.Replies.ReplyCases.{replied_so, reply_cases}
-pub use Rattle.norec_core.specs.Core.{came, Core, handed_to, in_transaction, irrevocable_room, is_inside, may_go, opening, rolled_back, word_loaded}
-pub use Rattle.norec_core.specs.Effects.{actions_after, blocks_after, recoded, room_left}
-pub use Rattle.norec_core.specs.Moves.{IsResumed}
-pub use Rattle.norec_core.specs.Order.{asked, asked_from, stage_at, stage_from}
-pub use Rattle.norec_core.specs.Phases.{Idle, Phase}
-pub use Rattle.norec_core.specs.Proceeds.{AsksFor, backed, Conflicts, ConflictsIn, Ends, Enters, Got, IsAtOnce, IsBegin, IsLawful, IsLost, IsSettled, IsWithin, MayStarveIn, Proceeds, Replies, RepliesBy, RepliesHeld, RepliesTo, StaysOn, WantsClock}
-pub use Rattle.norec_core.specs.Restarts.{IsRestart}
-pub use Rattle.norec_core.specs.Rows.{write_at}
-pub use Rattle.norec_core.specs.Stands.{block_kept, stands_for, state_in, state_over}
-pub use Rattle.norec_core.specs.Undoing.{after_undoing}
-pub use Rattle.norec_core.specs.declared.answer.Answer.{Answer}
-pub use Rattle.norec_core.specs.declared.answer.Answer.TheVariants.{Busy, Committed, Conflict, Full, Reply, Restarted}
-pub use Rattle.norec_core.specs.declared.answer.Next.{Next}
-pub use Rattle.norec_core.specs.declared.answer.Next.TheVariants.{Answer as Answers, Step as Asks}
+-- The names that more than one answer cites, passed on from one place. Declares nothing.
 pub use Rattle.norec_engine.specs.NextSteps.{ComesInto, next_in}
-pub use Rattle.norec_world.specs.ActionRoom.{AsksAs, goes_in, HasPlace, HasRoomFor, is_held, IsActing, IsPromised, IsRefused, MayRunOn, NoCancel, wanted}
-pub use Rattle.norec_world.specs.Actors.{AreActors, limits_of}
-pub use Rattle.norec_world.specs.Cells.{Cells, cells_after, found}
-pub use Rattle.norec_world.specs.ClockHolder.{ClocksOn, HoldsOn}
-pub use Rattle.norec_world.specs.Commits.{CommitsInOrder}
-pub use Rattle.norec_world.specs.Dates.{AreDated, IsDated}
-pub use Rattle.norec_world.specs.Events.{IsEvent}
-pub use Rattle.norec_world.specs.Headline.{AreCounted, AreOfActors, AreOpaque, bytes_at, first_of}
-pub use Rattle.norec_world.specs.HeldAttempts.{IsHeld, StandsIn}
-pub use Rattle.norec_world.specs.Invariant.{AreRunning, IsWorld}
-pub use Rattle.norec_world.specs.LocalWork.{Acts, Starves, Works}
-pub use Rattle.norec_world.specs.LogAgreement.{AreLaid, Loaded, Sees}
-pub use Rattle.norec_world.specs.Memories.{words_at}
-pub use Rattle.norec_world.specs.Moments.{HasStepped, HasWorked}
-pub use Rattle.norec_world.specs.PlayerRooms.{ComesTo, EndsWithin, TellsRoom}
-pub use Rattle.norec_world.specs.Progress.{LeavesLess, TellsCall, asks_further}
-pub use Rattle.norec_world.specs.Records.{Asks as AsksOf, ReadsAt, Records, status_after, TakesTo, Tells, told}
-pub use Rattle.norec_world.specs.Rows.{AreFrom, AreOpen, AreUnfinished, Rows, rows_in}
-pub use Rattle.norec_world.specs.Runs.{IsBeforeTry, IsInTry, IsRun, RunsFrom, StillRuns}
-pub use Rattle.norec_world.specs.Sound.{AnswerFits, BeginsAt, Falls, GoesOn, HasLess, HasRow, IsAnswered, IsAsked, IsDone, IsDue, IsKept, IsNoMore, IsReady, IsSettledBy, IsSound, IsTied, IsUnasked, IsWaiting, rank, RestsAs, run_left, StatusIs, steps_left, WritesDown}
-pub use Rattle.norec_world.specs.Stages.{active_of, AllOf, begun_in, cancels_in, count_all, count_in, count_of, ends_in, KeepsOthers, moved_to, open_in, pending_of, points_in, with_open, with_room}
-pub use Rattle.norec_world.specs.Starts.{HasStarted, IsFirst, first_engine}
-pub use Rattle.norec_world.specs.Status.{ending_of, is_ready, is_waiting, waiting_step}
-pub use Rattle.norec_world.specs.Tied.{AreTied}
-pub use Rattle.norec_world.specs.Tries.{begins, between, Continues, current_of, EndsAt, GoesOnAfter, IsBetween, outrun, over, Prior, prior_of, runs, shut_out, Tries, TriesAgain, turned_away}
 pub use Rattle.norec_world.specs.Views.{world_of}
-pub use Rattle.norec_world.specs.World.{attempts_of, counted, ending_at, ending_in, event_result, observed, SameOpening, waits_at, World}
-pub use Rattle.norec_world.specs.WorldEvents.{ActorGoes, Goes, HasRead, Leads, passes_of, Takes}
-pub use Rattle.norec_world.specs.declared.actor.Actor.{Actor}
-pub use Rattle.norec_world.specs.declared.actor.Status.{Status}
-pub use Rattle.norec_world.specs.declared.actor.Status.TheVariants.{Ended, Ready, Waits}
-pub use Rattle.norec_world.specs.declared.fault.WorldFault.{WorldFault}
-pub use Rattle.norec_world.specs.declared.schedule.Passes.{Passes}
-pub use Rattle.tx_attempts.specs.Alone.{IsAlone, player_then, state_then}
-pub use Rattle.tx_attempts.specs.Attempts.{alone, alone_whole, ClosedBy, committed_at, is_at, is_committed, memory_left, of_thread, pair_of}
-pub use Rattle.tx_attempts.specs.Counts.{count_at, count_committed, one_where}
-pub use Rattle.tx_attempts.specs.Kept.{Kept, reserved, spent}
-pub use Rattle.tx_attempts.specs.Opacity.{after_try, answered_all, begin_code, begin_of, begin_within, Beginning, Between, EndsAs, follows, IsOpaque, IsRunOf, IsTryAt, LacksClock, takes_clock}
-pub use Rattle.tx_attempts.specs.Restarts.{breaks_of}
-pub use Rattle.tx_attempts.specs.declared.attempt.Attempt.{Attempt}
-pub use Rattle.tx_attempts.specs.declared.attempt.CallRecord.{CallRecord}
-pub use Rattle.tx_attempts.specs.declared.attempt.Outcome.{Outcome}
-pub use Rattle.tx_attempts.specs.declared.attempt.Outcome.TheVariants.{Unfinished}
-pub use Rattle.tx_player.specs.Depth.{depth_after, opens}
-pub use Rattle.tx_player.specs.Replies.{MayReply}
-pub use Rattle.tx_player.specs.Rules.{Obeys, Rules}
-pub use Rattle.tx_runs.proofs.OpenRooms.{on_err, promised_held, promised_none}
-pub use Rattle.tx_runs.proofs.RunLists.{there_is}
-pub use Rattle.tx_runs.specs.OpenAttempts.{promised}
-pub use Rattle.tx_runs.proofs.EngineReplies.{cancels, plain_reply}
-pub use Rattle.tx_runs.proofs.IrrevocableCalls.{asks_no_room, goes_same}
-pub use Rattle.tx_runs.proofs.RunLists.{run_still, run_with}
-pub use Rattle.tx_runs.proofs.Tries.{alone_led, begin_call, by_wrote, IsMadeAlone, try_stops}
-pub use Rattle.tx_runs.specs.Nesting.{IsDeep, IsNested, whole}
-pub use Rattle.tx_runs.specs.Outcomes.{is_done}
-pub use Rattle.tx_runs.specs.PlayerRuns.{KeepsPlaces, stage_of, tally_of}
-pub use Rattle.tx_runs.specs.Runs.{begins_at, run_after}
-pub use Rattle.tx_runs.specs.Tallies.{begins_again, begun, closed, ending_as, over_as, sent_back, Stage, Stand, stand_of, Taken, Tally, took_in, tried, with_call, within}
-pub use Rattle.tx_runs.specs.declared.ending.End.{End}
-pub use Rattle.tx_runs.specs.declared.ending.End.TheVariants.{Finished, GaveUp, NoMemory}
-pub use Rattle.tx_runs.specs.declared.player_run.Current.{Current}
-pub use Rattle.tx_runs.specs.declared.player_run.Current.TheVariants.{Begins, Outside, Within}
-pub use Rattle.tx_runs.specs.declared.player_run.PlayerRun.{PlayerRun}
-pub use Rattle.tx_runs.specs.declared.savepoint.Savepoint.{Savepoint}
-pub use Rattle.user_actions.specs.Actions.{Actions, total}
-pub use Rattle.write_set.specs.Rows.{overlay}
-pub use Rattle.write_set.specs.declared.row.Row.{Row}
-pub use Rattle.std.proofs.lemmas.Bool.{both_ways, cases_Bool, cases_eq, cases_lt, cond-false, cond-true, cond_both, eqb-false, false_from_ne_true, le-ltb, ltb-false, ne_eqb}
-pub use Rattle.std.proofs.lemmas.List.{append-nil, drop_at, get_or-drop}
-pub use Rattle.std.proofs.lemmas.Option.{none-some, same_Some, slice_get-get_or, slice_get_past, slice_get_within}
-pub use Rattle.std.specs.Int.{from_le_bytes, to_le_bytes, w64}
-pub use Rattle.std.specs.List.{AllByRecursion, insert, remove, slice_index_or}
-pub use Rattle.std.specs.Option.{option_and_then}
+pub use Rattle.world_rules.proofs.Commits.ActorLimits.{limits_as, limits_stay}
+pub use Rattle.world_rules.proofs.Commits.CommitCounts.{commits_first, counted_after}
+pub use Rattle.world_rules.proofs.Common.{Actor, after_undoing, AllFit, Answer, Answers, append-nil, AreActors, AreOfActors, AreOpaque, AreOpen, AreTied, AreWords, Asks, AsksOf, Attempt, Begin, Begins, begun, begun_in, bytes_of, Call, Cells, cells_after, CommitsInOrder, Core, count_in, counted, Current, ending_in, ends_in, event_result, first_engine, first_of, from_le_bytes, Goes, HasStarted, HasStepped, HasWorked, in_transaction, irrevocable_room, is_begin, is_ready, is_waiting, IsActing, IsAnswered, IsAsked, IsBetween, IsDue, IsFirst, IsRefused, IsSettled, IsSettledBy, IsTied, IsUnasked, KeepsOthers, Leads, length-words_from, MAX_ACTORS, MayRunOn, Next, NoMemory, observed, on_err, open_in, opening, option_and_then, Outcome, Outside, over_as, passes_of, PlayerRun, prior_of, Ran, Records, reserved, rows_in, RunsFrom, same_Some, SameOpening, slice_get_within, slice_index_or, Stage, stage_of, Stand, stand_of, Starves, status_after, StatusIs, Step, Taken, Takes, tally_of, to_le_bytes, told, took_in, w64, waiting_step, waits_at, whole, with_room, Within, words_of, words_of-bytes_of, World, WritesDown}
+pub use Rattle.world_rules.proofs.Engines.Intakes.{due, now}
+pub use Rattle.world_rules.proofs.Engines.PlayerLaws.{settles}
+pub use Rattle.world_rules.proofs.Engines.SoundSteps.{answer_falls, call_taken, calling, IsStepping, mid_step, rests, same, step_acts, step_clocks, step_lasts, step_taken, stepping, takes_in}
+pub use Rattle.world_rules.proofs.Engines.TiedEngines.{idle_still, opening_settled, tied_undone}
+pub use Rattle.world_rules.proofs.Events.EventWorlds.{calls_after, goes_after, less_after, opaque_as, tells_after, tied_as, world_after}
+pub use Rattle.world_rules.proofs.Events.SoundOthers.{actors_joined, joined_place, told_others, told_sound}
+pub use Rattle.world_rules.proofs.Events.WorkChains.{call_worked, finish_worked, starve_worked, work_more, work_none}
+pub use Rattle.world_rules.proofs.Events.WorldEvents.{call_falls, call_left_at, counted_one, counts_both, ended_there, events_both, goes_no_more, goes_nowhere, leaves_on, LeavesLessSoFar, LeavesNoMore, led_on, mapped_none, mapped_some, no_more_first, no_more_on, not_there, noted, noted_all, noted_counts, opening_both, opening_same, over_less, run_falls, run_left_at, takes_both, takes_one, told_event, waits_still, whole_at}
+pub use Rattle.world_rules.proofs.Events.Worlds.{going_in, next_cell, next_here, read_there, some_waiting, waits_there}
+pub use Rattle.world_rules.proofs.Rooms.LaterActions.{given_up_free, given_up_later, given_up_most}
+pub use Rattle.world_rules.proofs.Rooms.RecordedRoom.{back_within, may_take, recorded_acting}
+pub use Rattle.world_rules.proofs.Runs.Calls.{step_runs, still_at}
+pub use Rattle.world_rules.proofs.Runs.Others.{fresh_runs, laid_first, other_runs, world_opaque, world_tied}
+pub use Rattle.world_rules.proofs.Tries.Dates.{dated_first}
+pub use Rattle.world_rules.proofs.Tries.ReadPositions.{still_reads}
+pub use Rattle.world_rules.proofs.Tries.Stages.{moved_begun, others_place, others_same, others_stopped, others_taken, others_twice, room_less}
+pub use Rattle.world_rules.proofs.Tries.ThreadAttempts.{are_open, opens_none}
+pub use Rattle.world_rules.proofs.Tries.ToldTries.{told_here}
+pub use Rattle.world_rules.proofs.Tries.TryCalls.{step_tries, step_unfinished}
+pub use Rattle.world_rules.proofs.Tries.TryChains.{fed_joined, starts_between}
+pub use Rattle.world_rules.specs.declared.actor.Status.TheVariants.{Ended, Ready, Waits}
+pub use Rattle.world_rules.specs.declared.actor.Status.{Status}
+pub use Rattle.world_rules.specs.declared.fault.WorldFault.{WorldFault}
+pub use Rattle.world_rules.specs.declared.passes.Passes.{Passes}

@@ -1,9 +1,3 @@
--- The room of an irrevocable transaction: for its calls, and for the actions that come to run.
-pub mod LaterActions
-pub mod HeldRoom
-pub mod CallRoom
-pub mod ActionRoom
-pub mod RecordedRoom
-pub mod FedPlayers
+-- The room for what a call to an engine leaves.
+pub mod EngineCalls
 pub mod AskingActors
-pub mod RestartRoom

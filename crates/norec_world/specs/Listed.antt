@@ -2,7 +2,7 @@
 use Rattle.std.specs.Prelude.{List, ◌++◌}
 use Rattle.tx_attempts.specs.declared.attempt.Attempt.{Attempt}
 use Rattle.norec_world.specs.declared.listed.Attempts.{Attempts}
-use Rattle.norec_world.specs.Stages.{opens}
+use Rattle.world_rules.specs.Stages.{opens}
 
 -- those that are left
 abbrev pub left_of : {P : Type 0} → Attempts P → List Attempt

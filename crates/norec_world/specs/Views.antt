@@ -1,7 +1,7 @@
 -- The fields of a world as what contracts see.
 use Rattle.norec_world.specs.declared.world.World.TheInside.{Inside}
-use Rattle.norec_world.specs.Rows.{rows_in}
-use Rattle.norec_world.specs.World.{World}
+use Rattle.world_rules.specs.Rows.{rows_in}
+use Rattle.world_rules.specs.World.{World}
 
 abbrev pub world_of : {P : Type 0} → Inside P → World P
 world_of w = record {

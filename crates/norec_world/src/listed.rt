@@ -1,6 +1,6 @@
 //! The attempts of a world, one after the other.
 
-use crate::actor::Actor;
+use crate::actor::{Actor, attempt};
 use tx_attempts::Attempt;
 use tx_player::Player;
 
@@ -29,7 +29,7 @@ impl<'a, P: Player> Iterator for Attempts<'a, P> {
         }
         while let Some((actor, rest)) = self.actors.split_first() {
             self.actors = rest;
-            if let Some(row) = actor.attempt() {
+            if let Some(row) = attempt(actor) {
                 return Some(row);
             }
         }

@@ -2,7 +2,7 @@
 
 ghost use Rattle.std.specs.Prelude.{◌≡◌, ◌*◌, ◌/◌, ◌%◌, ◌<◌, ◌≤◌, length, slice_set, slice_index};
 ghost use Rattle.itm_types.specs.Memory.{bytes_of, AllFit};
-ghost use Rattle.norec_world.specs.Cells.{IsCell, found, cells_after};
+ghost use Rattle.world_rules.specs.Cells.{IsCell, found, cells_after};
 
 use itm_types::{MAX_MEMORY, Step, get_word, put_word};
 use std::marker::Model;
@@ -16,7 +16,7 @@ pub(crate) struct Memory {
 
 impl Model for Memory {
     ghost use Rattle.itm_types.specs.Memory.{AreWords, words_of};
-    ghost use Rattle.norec_world.specs.Cells.{Cells};
+    ghost use Rattle.world_rules.specs.Cells.{Cells};
 
     ghost Value = { Cells };
 

@@ -2,29 +2,18 @@
 
 ghost use Rattle.std.specs.Prelude.{◌≡◌, ◌+◌, List, Result, length};
 
-use crate::fault::WorldFault;
 use crate::world::World;
 use std::alloc::Global;
 use tx_player::Player;
-
-/// What came of a schedule's entries.
-#[derive(Clone, Copy, Debug, PartialEq, Eq)]
-pub struct Passes {
-    /// Entries that were events, with no fault.
-    pub taken: usize,
-    /// Entries that name no actor, or one that had ended.
-    pub passed: usize,
-    /// Entries that were events, after which the actor had found no memory.
-    pub starved: usize,
-}
+use world_rules::{Passes, WorldFault};
 
 impl<P: Player> World<P> {
-    ghost use Rattle.norec_world.specs.declared.fault.WorldFault.{WorldFault};
-    ghost use Rattle.norec_world.specs.World.{observed, counted, SameOpening};
-    ghost use Rattle.norec_world.specs.Commits.{CommitsInOrder};
-    ghost use Rattle.norec_world.specs.Headline.{AreOpaque};
-    ghost use Rattle.norec_world.specs.Tied.{AreTied};
-    ghost use Rattle.norec_world.specs.WorldEvents.{Leads, passes_of};
+    ghost use Rattle.world_rules.specs.declared.fault.WorldFault.{WorldFault};
+    ghost use Rattle.world_rules.specs.World.{observed, counted, SameOpening};
+    ghost use Rattle.world_rules.specs.Commits.{CommitsInOrder};
+    ghost use Rattle.world_rules.specs.Headline.{AreOpaque};
+    ghost use Rattle.world_rules.specs.Tied.{AreTied};
+    ghost use Rattle.world_rules.specs.WorldEvents.{Leads, passes_of};
 
     /// An event for each entry in turn, passing over those that name no actor or one that has ended.
     pub fn run(&mut self, alloc: Global, schedule: &[u8]) -> Passes

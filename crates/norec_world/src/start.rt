@@ -3,17 +3,18 @@
 ghost use Rattle.std.specs.Prelude.{◌≡◌, ℕ, ◌*◌, ◌<◌, ◌≤◌, [], length, slice_get, None, Some, IfOk, All};
 ghost use Rattle.itm_types.specs.Memory.{AllFit, bytes_of};
 ghost use Rattle.itm_types.specs.declared.limits.TheConstants.{MAX_ACTORS, MAX_ARENA, MAX_COMMITS, MAX_PATIENCE, MAX_RETRIES};
-ghost use Rattle.norec_world.specs.Rows.{rows_in};
-ghost use Rattle.norec_world.specs.Stages.{active_of};
-ghost use Rattle.norec_world.specs.Actors.{AreActors};
-ghost use Rattle.norec_world.specs.World.{ending_in};
-ghost use Rattle.norec_world.specs.Starts.{IsFirst, IsNewActor, HasStarted, first_engine};
-ghost use Rattle.norec_world.specs.Runs.{RunsFrom};
-ghost use Rattle.norec_world.specs.Headline.{first_of};
-ghost use Rattle.norec_world.specs.declared.actor.Actor.{Actor};
+ghost use Rattle.world_rules.specs.Rows.{rows_in};
+ghost use Rattle.world_rules.specs.Stages.{active_of};
+ghost use Rattle.world_rules.specs.Actors.{AreActors};
+ghost use Rattle.world_rules.specs.World.{ending_in};
+ghost use Rattle.world_rules.specs.Starts.{IsFirst, IsNewActor, HasStarted, first_engine};
+ghost use Rattle.world_rules.specs.Runs.{RunsFrom};
+ghost use Rattle.world_rules.specs.Headline.{first_of};
+ghost use Rattle.world_rules.specs.Actor.{Actor};
 
-use crate::actor::Actor;
+use crate::actor::{Actor, ending, fresh};
 use crate::memory::Memory;
+use crate::work::work;
 use itm_types::{Limits, MAX_ACTORS, MAX_MEMORY};
 use norec_engine::Engine;
 use std::alloc::{AllocError, Global};
@@ -90,9 +91,9 @@ fn start<P: Player>(
 {
     let arena = Arena::new(alloc, terms.arena as usize)?;
     let engine = Engine::new(alloc, memory.words(), arena, terms.limits)?;
-    let mut actor = Actor::new(thread, terms.limits.retries, player, engine);
-    actor.work(alloc, memory, ended);
-    match actor.ending() {
+    let mut actor = fresh(thread, terms.limits.retries, player, engine);
+    work(&mut actor, alloc, memory, ended);
+    match ending(&actor) {
         Some(End::NoMemory) => Err(AllocError),
         _ => Ok(actor),
     }

@@ -1,15 +1,13 @@
 //! Actors over one memory.
 
 ghost use Rattle.std.specs.Prelude.{◌≡◌, ℕ, ◌%◌, ◌<◌, ◌≤◌, true, false, [], length, IfOk, None, Some, IsSome, MatchOption, All};
-ghost use Rattle.norec_world.specs.World.{event_result};
+ghost use Rattle.world_rules.specs.World.{event_result};
 
-use crate::actor::Actor;
-use crate::fault::WorldFault;
+use crate::actor::{Actor, attempt, ending, next_step, replies, step, waits};
 use crate::listed::Attempts;
 use crate::memory::Memory;
-use crate::operation::{Operation, Told};
-use crate::setup::Setup;
 use crate::start::{Terms, start_all};
+use crate::work::work;
 use itm_types::{
     MAX_ACTORS, MAX_ARENA, MAX_COMMITS, MAX_MEMORY, MAX_PATIENCE, MAX_RETRIES, Reply, Step,
 };
@@ -19,6 +17,7 @@ use std::marker::Model;
 use tx_attempts::{Attempt, Bytes};
 use tx_player::Player;
 use tx_runs::End;
+use world_rules::{Operation, Setup, Told, WorldFault};
 
 /// Actors over one memory, each with a player and an engine. They take events one at a time: an actor's next load,
 /// store or compare-exchange on a shared cell, and then all that it can do without another one.
@@ -37,12 +36,12 @@ pub struct World<P: Player> {
 }
 
 impl<P: Player> Model for World<P> {
-    ghost use Rattle.norec_world.specs.World.{World};
+    ghost use Rattle.world_rules.specs.World.{World};
 
     ghost Value = { World P };
 
     ghost use Rattle.norec_world.specs.Views.{world_of};
-    ghost use Rattle.norec_world.specs.Invariant.{IsWorld};
+    ghost use Rattle.world_rules.specs.Invariant.{IsWorld};
 
     ghost view = { world_of };
 
@@ -50,20 +49,20 @@ impl<P: Player> Model for World<P> {
 }
 
 impl<P: Player> World<P> {
-    ghost use Rattle.norec_world.specs.World.{observed, counted, ending_at, waits_at, operation_at, attempt_at, memory_of, attempts_of, IsSetUp, SameOpening};
+    ghost use Rattle.world_rules.specs.World.{observed, counted, ending_at, waits_at, operation_at, attempt_at, memory_of, attempts_of, IsSetUp, SameOpening};
     ghost use Rattle.std.specs.Prelude.{slice_get, take, drop};
     ghost use Rattle.std.specs.Option.{option_map};
-    ghost use Rattle.norec_world.specs.Status.{is_waiting};
-    ghost use Rattle.norec_world.specs.Actors.{AreActors};
-    ghost use Rattle.norec_world.specs.Rows.{AreOpen};
-    ghost use Rattle.norec_world.specs.Stages.{opens};
+    ghost use Rattle.world_rules.specs.Status.{is_waiting};
+    ghost use Rattle.world_rules.specs.Actors.{AreActors};
+    ghost use Rattle.world_rules.specs.Rows.{AreOpen};
+    ghost use Rattle.world_rules.specs.Stages.{opens};
     ghost use Rattle.norec_world.specs.Listed.{left_of};
-    ghost use Rattle.norec_world.specs.Starts.{IsNew};
-    ghost use Rattle.norec_world.specs.Commits.{CommitsInOrder};
-    ghost use Rattle.norec_world.specs.Headline.{AreOpaque};
-    ghost use Rattle.norec_world.specs.Tied.{AreTied};
-    ghost use Rattle.norec_world.specs.WorldEvents.{Goes, Takes};
-    ghost use Rattle.norec_world.specs.Progress.{LeavesLess, TellsCall, TellsCalls};
+    ghost use Rattle.world_rules.specs.Starts.{IsNew};
+    ghost use Rattle.world_rules.specs.Commits.{CommitsInOrder};
+    ghost use Rattle.world_rules.specs.Headline.{AreOpaque};
+    ghost use Rattle.world_rules.specs.Tied.{AreTied};
+    ghost use Rattle.world_rules.specs.WorldEvents.{Goes, Takes};
+    ghost use Rattle.world_rules.specs.Progress.{LeavesLess, TellsCall, TellsCalls};
 
     /// A world over this memory, with the clock at 0. Each actor's local work up to its first operation is done.
     pub fn new(alloc: Global, setup: Setup, players: Vec<P>) -> Result<Self, AllocError>
@@ -130,7 +129,7 @@ impl<P: Player> World<P> {
         ensures opaque { AreOpaque P.Player (observed self.now) }
         ensures tied { AreTied P.Player self.now }
     {
-        Some(self.actors.get(actor as usize)?.waits())
+        Some(waits(self.actors.get(actor as usize)?))
     }
 
     /// Whether there is such an actor, and it waits for an operation. Each actor waits for one or has ended.
@@ -152,7 +151,7 @@ impl<P: Player> World<P> {
     pub fn next_operation(&self, actor: u8) -> Option<Operation>
         ensures { result ≡ operation_at self.now actor }
     {
-        let step = self.actors.get(actor as usize)?.next_step()?;
+        let step = next_step(self.actors.get(actor as usize)?)?;
         let found = self.memory.found(step);
         Some(Operation { step, found })
     }
@@ -161,7 +160,7 @@ impl<P: Player> World<P> {
     pub fn open_attempt(&self, actor: u8) -> Option<&Attempt>
         ensures { MatchOption result (attempt_at self.now actor ≡ None) (λ row. attempt_at self.now actor ≡ Some row.now) }
     {
-        self.actors.get(actor as usize)?.attempt()
+        attempt(self.actors.get(actor as usize)?)
     }
 
     /// One event of an actor that waits, as `go`. True just where its call in progress goes on, with fewer steps left; false
@@ -175,9 +174,9 @@ impl<P: Player> World<P> {
         ensures less { LeavesLess P.Player actor result self.old self.new }
     {
         let a = &mut self.actors[actor as usize];
-        a.step(&mut self.memory, &mut self.ended, &mut self.answer);
-        let goes_on = a.waits();
-        a.work(alloc, &self.memory, &mut self.ended);
+        step(a, &mut self.memory, &mut self.ended, &mut self.answer);
+        let goes_on = waits(a);
+        work(a, alloc, &self.memory, &mut self.ended);
         self.events = self.events.saturating_add(1);
         goes_on
     }
@@ -191,10 +190,10 @@ impl<P: Player> World<P> {
         ensures less { LeavesLess P.Player actor result.goes_on self.old self.new }
     {
         let acting = &mut self.actors[actor as usize];
-        acting.step(&mut self.memory, &mut self.ended, &mut self.answer);
-        let goes_on = acting.waits();
-        let calls = acting.calls();
-        acting.work(alloc, &self.memory, &mut self.ended);
+        step(acting, &mut self.memory, &mut self.ended, &mut self.answer);
+        let goes_on = waits(acting);
+        let calls = replies(acting);
+        work(acting, alloc, &self.memory, &mut self.ended);
         self.events = self.events.saturating_add(1);
         Told { goes_on, calls }
     }
@@ -326,7 +325,7 @@ impl<P: Player> World<P> {
     pub fn ending(&self, actor: u8) -> Option<End>
         ensures { result ≡ ending_at self.now actor }
     {
-        self.actors.get(actor as usize)?.ending()
+        ending(self.actors.get(actor as usize)?)
     }
 }
 

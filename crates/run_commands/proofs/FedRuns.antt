@@ -1,11 +1,11 @@
 -- In a world that a program's schedule leads to no thread that found no memory has an irrevocable attempt, nor any open one.
 use Rattle.std.proofs.Common.{inl, inr, ◌≡◌, ℕ, ◌%◌, List, length, Some, sym, ap, subst, ◌∙◌, arith}
 use Rattle.std.proofs.lemmas.List.{length-map}
-use Rattle.norec_world.specs.Commits.{CommitsInOrder}
-use Rattle.norec_world.specs.Tied.{AreTied}
-use Rattle.norec_world.specs.World.{World, ending_at}
-use Rattle.norec_world.proofs.Common.{slice_get_within}
-use Rattle.norec_world.proofs.Events.SoundOthers.{odd_or_even}
+use Rattle.world_rules.specs.Commits.{CommitsInOrder}
+use Rattle.world_rules.specs.Tied.{AreTied}
+use Rattle.world_rules.specs.World.{World, ending_at}
+use Rattle.world_rules.proofs.Common.{slice_get_within}
+use Rattle.world_rules.proofs.Events.SoundOthers.{odd_or_even}
 use Rattle.script_laws.specs.Assembled.{HasNestedCode}
 use Rattle.script_laws.proofs.FedScripts.{are_fed}
 use Rattle.script_program.specs.Listing.{Listing, threads_of}

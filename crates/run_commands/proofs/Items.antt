@@ -1,18 +1,18 @@
 -- Items of a schedule, one after the other, whole or begun.
 use Rattle.std.proofs.Common.{inl, inr, ◌≡◌, ℕ, zero, suc, ◌+◌, ◌<◌, ◌≤◌, ◌-◌, false, List, [], ◌∷◌, ◌++◌, length, take, get_or, replicate, Option, None, Some, IsSome, Result, Err, refl, sym, ap, subst, ◌∙◌, arith}
 use Rattle.std.proofs.lemmas.List.{replicate-append-replicate, take_more}
-use Rattle.norec_world.specs.declared.actor.Actor.{Actor}
-use Rattle.norec_world.specs.declared.actor.Status.{Status}
-use Rattle.norec_world.specs.declared.actor.Status.TheVariants.{Ended as HasEnded}
-use Rattle.norec_world.specs.declared.fault.WorldFault.{WorldFault}
-use Rattle.norec_world.specs.declared.fault.WorldFault.TheVariants.{Ended}
-use Rattle.norec_world.specs.Commits.{CommitsInOrder}
-use Rattle.norec_world.specs.Headline.{AreOpaque}
-use Rattle.norec_world.specs.Status.{ending_of, is_ready, is_waiting}
-use Rattle.norec_world.specs.Tied.{AreTied}
-use Rattle.norec_world.specs.World.{World, ending_at, observed}
-use Rattle.norec_world.specs.WorldEvents.{Goes, Leads}
-use Rattle.norec_world.proofs.Events.WorldEvents.{goes_no_more}
+use Rattle.world_rules.specs.Actor.{Actor}
+use Rattle.world_rules.specs.declared.actor.Status.{Status}
+use Rattle.world_rules.specs.declared.actor.Status.TheVariants.{Ended as HasEnded}
+use Rattle.world_rules.specs.declared.fault.WorldFault.{WorldFault}
+use Rattle.world_rules.specs.declared.fault.WorldFault.TheVariants.{Ended}
+use Rattle.world_rules.specs.Commits.{CommitsInOrder}
+use Rattle.world_rules.specs.Headline.{AreOpaque}
+use Rattle.world_rules.specs.Status.{ending_of, is_ready, is_waiting}
+use Rattle.world_rules.specs.Tied.{AreTied}
+use Rattle.world_rules.specs.World.{World, ending_at, observed}
+use Rattle.world_rules.specs.WorldEvents.{Goes, Leads}
+use Rattle.world_rules.proofs.Events.WorldEvents.{goes_no_more}
 use Rattle.script_program.specs.declared.schedule.Item.{Item}
 use Rattle.script_program.specs.declared.schedule.Item.TheVariants.{Take, Out}
 use Rattle.std.specs.Prelude.{slice_get}

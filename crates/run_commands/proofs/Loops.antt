@@ -1,10 +1,10 @@
 -- Loops of events of one thread.
 use Rattle.std.proofs.Common.{◌≡◌, ℕ, true, Some, IsSome, sym, subst, ◌∙◌}
-use Rattle.norec_world.specs.Sound.{IsNoMore}
-use Rattle.norec_world.specs.World.{World, waits_at}
-use Rattle.norec_world.proofs.Events.Measures.{same_less}
-use Rattle.norec_world.proofs.Events.WorldEvents.{LeavesLessSoFar}
-use Rattle.norec_world.proofs.Events.Worlds.{waiting_there}
+use Rattle.world_rules.specs.Sound.{IsNoMore}
+use Rattle.world_rules.specs.World.{World, waits_at}
+use Rattle.world_rules.proofs.Events.Measures.{same_less}
+use Rattle.world_rules.proofs.Events.WorldEvents.{LeavesLessSoFar}
+use Rattle.world_rules.proofs.Events.Worlds.{waiting_there}
 use Rattle.tx_player.specs.Rules.{Rules}
 
 -- no event yet

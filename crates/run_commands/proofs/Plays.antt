@@ -9,14 +9,14 @@ use Rattle.std.specs.Io.KnownBytes.{Appends}
 use Rattle.std.specs.Prelude.{All, IfOk, IsErr, OnErr, OnOk}
 use Rattle.std.specs.Result.{result_err}
 use Rattle.std.specs.declared.io.Error.{Error}
-use Rattle.norec_world.specs.declared.actor.Actor.{Actor}
-use Rattle.norec_world.specs.Rows.{Rows}
-use Rattle.norec_world.specs.Stages.{opens}
-use Rattle.norec_world.specs.Tries.{Prior, Tries, prior_of, between, begins, runs, over, turned_away, outrun, shut_out}
-use Rattle.norec_world.specs.World.{World, ending_at, event_result, waits_at}
-use Rattle.norec_world.specs.WorldEvents.{Goes}
-use Rattle.norec_world.proofs.Events.WorldEvents.{told_event}
-use Rattle.norec_world.proofs.Events.Worlds.{waits_there}
+use Rattle.world_rules.specs.Actor.{Actor}
+use Rattle.world_rules.specs.Rows.{Rows}
+use Rattle.world_rules.specs.Stages.{opens}
+use Rattle.world_rules.specs.Tries.{Prior, Tries, prior_of, between, begins, runs, over, turned_away, outrun, shut_out}
+use Rattle.world_rules.specs.World.{World, ending_at, event_result, waits_at}
+use Rattle.world_rules.specs.WorldEvents.{Goes}
+use Rattle.world_rules.proofs.Events.WorldEvents.{told_event}
+use Rattle.world_rules.proofs.Events.Worlds.{waits_there}
 use Rattle.tx_attempts.specs.declared.attempt.Attempt.{Attempt}
 use Rattle.tx_history.specs.Bounds.{AttemptFits, HistoryFits, IsWord}
 use Rattle.tx_history.specs.declared.history.Version.{Version}

@@ -3,11 +3,11 @@ use Rattle.std.proofs.Common.{inl, inr, ◌≡◌, ℕ, zero, suc, ◌+◌, ◌<
 use Rattle.std.specs.List.{All, AllByRecursion, range_with_len}
 use Rattle.std.proofs.lemmas.List.Elements.{All-map}
 use Rattle.std.proofs.lemmas.List.FromFn.{get_or-range_with_len, length-range_with_len, map-range_with_len_more}
-use Rattle.norec_world.specs.declared.fault.WorldFault.{WorldFault}
+use Rattle.world_rules.specs.declared.fault.WorldFault.{WorldFault}
 use Rattle.tx_runs.specs.declared.ending.End.{End}
-use Rattle.norec_world.specs.World.{World, SameOpening, ending_at}
-use Rattle.norec_world.specs.WorldEvents.{Goes, Takes}
-use Rattle.norec_world.proofs.Events.WorldEvents.{opening_both, opening_same}
+use Rattle.world_rules.specs.World.{World, SameOpening, ending_at}
+use Rattle.world_rules.specs.WorldEvents.{Goes, Takes}
+use Rattle.world_rules.proofs.Events.WorldEvents.{opening_both, opening_same}
 use Rattle.script_program.specs.declared.schedule.Item.{Item}
 use Rattle.script_program.specs.declared.schedule.Item.TheVariants.{Take, Out}
 use Rattle.script_program.specs.declared.instruction.Instruction.{Instruction}

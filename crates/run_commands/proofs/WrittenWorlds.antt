@@ -3,10 +3,10 @@ use Rattle.std.proofs.Common.{◌≡◌, ℕ, List, length, Option, Result, Ok, 
 use Rattle.std.specs.Io.KnownBytes.{Appends}
 use Rattle.arrayvec.specs.ArrayVec.{ArrayVec}
 use Rattle.tx_runs.specs.declared.ending.End.{End}
-use Rattle.norec_world.specs.Commits.{CommitsInOrder}
-use Rattle.norec_world.specs.Headline.{AreOpaque}
-use Rattle.norec_world.specs.Tied.{AreTied}
-use Rattle.norec_world.specs.World.{World, observed}
+use Rattle.world_rules.specs.Commits.{CommitsInOrder}
+use Rattle.world_rules.specs.Headline.{AreOpaque}
+use Rattle.world_rules.specs.Tied.{AreTied}
+use Rattle.world_rules.specs.World.{World, observed}
 use Rattle.script_program.specs.Listing.{Listing, threads_of}
 use Rattle.script_vm.specs.Threads.{Thread, thread_rules}
 use Rattle.text_commands.specs.declared.failure.Failure.TheVariants.{Writing}

@@ -1,8 +1,8 @@
 -- What the items of a schedule make of a world, whole or begun.
 use Rattle.std.specs.Prelude.{◌≡◌, ◌⊎◌, ℕ, ◌≤◌, List, [], ◌∷◌, replicate, IsSome, Result}
-use Rattle.norec_world.specs.declared.fault.WorldFault.{WorldFault}
-use Rattle.norec_world.specs.World.{World, ending_at}
-use Rattle.norec_world.specs.WorldEvents.{Leads, Takes}
+use Rattle.world_rules.specs.declared.fault.WorldFault.{WorldFault}
+use Rattle.world_rules.specs.World.{World, ending_at}
+use Rattle.world_rules.specs.WorldEvents.{Leads, Takes}
 use Rattle.script_program.specs.declared.schedule.Item.{Item}
 use Rattle.script_program.specs.declared.schedule.Item.TheVariants.{Take, Out}
 use Rattle.tx_player.specs.Rules.{Rules}

@@ -5,10 +5,10 @@ use Rattle.tx_runs.specs.declared.ending.End.TheVariants.{Finished, GaveUp, NoMe
 use Rattle.tx_attempts.specs.declared.attempt.Outcome.TheVariants as outcomes
 use Rattle.world_laws.specs.Solo.{Solo, one_if, solo, without_room}
 use Rattle.world_laws.specs.SoFar.{IsSoFar}
-use Rattle.norec_world.specs.Commits.{CommitsInOrder}
-use Rattle.norec_world.specs.Headline.{AreOpaque}
-use Rattle.norec_world.specs.Tied.{AreTied}
-use Rattle.norec_world.specs.World.{World, ending_at, observed}
+use Rattle.world_rules.specs.Commits.{CommitsInOrder}
+use Rattle.world_rules.specs.Headline.{AreOpaque}
+use Rattle.world_rules.specs.Tied.{AreTied}
+use Rattle.world_rules.specs.World.{World, ending_at, observed}
 use Rattle.script_program.specs.Listing.{Listing, opening_of, threads_of}
 use Rattle.script_vm.specs.Threads.{Thread, opening, thread_rules}
 use Rattle.tx_history.specs.declared.history.History.{History}

@@ -2,12 +2,12 @@
 use Rattle.std.specs.Prelude.{◌≡◌, ℕ, List, [], ◌∷◌, length, map, Option}
 use Rattle.std.specs.List.{range_with_len}
 use Rattle.tx_runs.specs.declared.ending.End.{End}
-use Rattle.norec_world.specs.declared.setup.Setup.{Setup}
-use Rattle.norec_world.specs.World.{IsSetUp, World, ending_at, memory_of, observed}
-use Rattle.norec_world.specs.Commits.{CommitsInOrder}
-use Rattle.norec_world.specs.Headline.{AreOpaque}
-use Rattle.norec_world.specs.Tied.{AreTied}
-use Rattle.norec_world.specs.Starts.{IsNew}
+use Rattle.world_rules.specs.declared.setup.Setup.{Setup}
+use Rattle.world_rules.specs.World.{IsSetUp, World, ending_at, memory_of, observed}
+use Rattle.world_rules.specs.Commits.{CommitsInOrder}
+use Rattle.world_rules.specs.Headline.{AreOpaque}
+use Rattle.world_rules.specs.Tied.{AreTied}
+use Rattle.world_rules.specs.Starts.{IsNew}
 use Rattle.script_program.specs.declared.schedule.Item.{Item}
 use Rattle.script_program.specs.declared.schedule.Item.TheVariants.{Out}
 use Rattle.script_program.specs.Listing.{Listing, opening_of, threads_of}

@@ -1,9 +1,9 @@
 //! Worlds whose events are taken item by item, and whose history is written as they are taken.
 
 ghost use Rattle.std.specs.Prelude.{◌≡◌, ◌<◌, All, IfOk, IsSome, None, OnOk, false, length};
-ghost use Rattle.norec_world.specs.Progress.{LeavesLess};
-ghost use Rattle.norec_world.specs.World.{ending_at, event_result, waits_at};
-ghost use Rattle.norec_world.specs.WorldEvents.{Goes};
+ghost use Rattle.world_rules.specs.Progress.{LeavesLess};
+ghost use Rattle.world_rules.specs.World.{ending_at, event_result, waits_at};
+ghost use Rattle.world_rules.specs.WorldEvents.{Goes};
 ghost use Rattle.script_program.specs.declared.schedule.Item.TheVariants.{Out, Take};
 ghost use Rattle.script_program.specs.Listing.{thread_of};
 ghost use Rattle.tx_history.specs.Bounds.{HistoryFits};

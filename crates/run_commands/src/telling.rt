@@ -3,8 +3,8 @@
 ghost use Rattle.std.specs.Prelude.{◌≡◌, ◌≤◌, ◌++◌, All, None, drop, flat_map, length};
 ghost use Rattle.hex.specs.Hex.{IsBytes};
 ghost use Rattle.norec_world.specs.Listed.{left_of};
-ghost use Rattle.norec_world.specs.Stages.{opens};
-ghost use Rattle.norec_world.specs.World.{memory_of};
+ghost use Rattle.world_rules.specs.Stages.{opens};
+ghost use Rattle.world_rules.specs.World.{memory_of};
 ghost use Rattle.tx_history.specs.Bounds.{AttemptFits, IsWord};
 ghost use Rattle.tx_history.specs.Histories.{attempt_lines, last_line};
 ghost use Rattle.tx_history.specs.Streams.{Sends, fault_of, lines_so_far};

@@ -3,9 +3,9 @@ use Rattle.std.proofs.Common.{◌≡◌, ℕ, zero, suc, ◌≤◌, List, [], �
 use Rattle.std.specs.Prelude.{slice_get, if◌then◌else◌}
 use Rattle.itm_types.specs.declared.call.Call.{Call}
 use Rattle.itm_types.specs.declared.call.Call.TheVariants.{Begin, Mode}
-use Rattle.norec_world.specs.PlayerRooms.{ComesTo, EndsWithin, GoesTo, TellsRoom, going_room}
-use Rattle.norec_world.proofs.Common.{slice_get_within}
-use Rattle.norec_world.proofs.Common.{there_is}
+use Rattle.world_rules.specs.PlayerRooms.{ComesTo, EndsWithin, GoesTo, TellsRoom, going_room}
+use Rattle.world_rules.proofs.Common.{slice_get_within}
+use Rattle.world_rules.proofs.Common.{there_is}
 use Rattle.script_laws.specs.Fed.{AreFed, TellRoom, TellsEachRoom}
 use Rattle.script_program.specs.declared.instruction.Instruction.{Instruction}
 use Rattle.script_program.specs.Listing.{threads_of}

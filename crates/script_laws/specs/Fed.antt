@@ -2,10 +2,10 @@
 use Rattle.std.specs.Prelude.{◌≡◌, ℕ, List, [], map, Some}
 use Rattle.itm_types.specs.declared.call.Call.{Call}
 use Rattle.itm_types.specs.declared.call.Reply.{Reply}
-use Rattle.norec_world.specs.PlayerRooms.{ComesTo, EndsWithin}
+use Rattle.world_rules.specs.PlayerRooms.{ComesTo, EndsWithin}
 use Rattle.tx_player.specs.Replies.{MayReply}
-use Rattle.norec_world.specs.Tied.{AreTied}
-use Rattle.norec_world.specs.World.{World}
+use Rattle.world_rules.specs.Tied.{AreTied}
+use Rattle.world_rules.specs.World.{World}
 use Rattle.script_laws.specs.Assembled.{HasNestedCode}
 use Rattle.script_program.specs.declared.instruction.Instruction.{Instruction}
 use Rattle.script_program.specs.Listing.{Listing, threads_of}

@@ -2,7 +2,7 @@
 use Rattle.std.proofs.Common.{◌≡◌, ℕ, ◌+◌, ◌<◌, Bool, List, [], ◌∷◌, ◌++◌, length, take, get_or, sym, ap, ◌∙◌, append-nil, append_assoc}
 use Rattle.std.proofs.lemmas.Grind.{flat_map-append}
 use Rattle.std.specs.Prelude.{is_some}
-use Rattle.norec_world.specs.World.{World}
+use Rattle.world_rules.specs.World.{World}
 use Rattle.script_program.specs.declared.schedule.Item.{Item}
 use Rattle.tx_player.specs.Rules.{Rules}
 use Rattle.step_table.specs.declared.view.View.{View}

@@ -1,6 +1,6 @@
 -- Marks that are gathered as events are taken.
 use Rattle.std.specs.Prelude.{◌≡◌, List, ◌++◌, Result, Ok, Err}
-use Rattle.norec_world.specs.World.{World}
+use Rattle.world_rules.specs.World.{World}
 use Rattle.step_table.specs.declared.view.View.{View}
 use Rattle.step_table.specs.Rows.{Row}
 use Rattle.step_picture.specs.declared.mark.Mark.{Mark}

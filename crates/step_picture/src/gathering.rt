@@ -1,8 +1,8 @@
 //! Worlds whose events are taken item by item, and what is drawn of them.
 
 ghost use Rattle.std.specs.Prelude.{◌≡◌, ◌<◌, ◌++◌, [], All, IfOk, IsSome, OnOk, false, length};
-ghost use Rattle.norec_world.specs.Progress.{LeavesLess};
-ghost use Rattle.norec_world.specs.World.{waits_at};
+ghost use Rattle.world_rules.specs.Progress.{LeavesLess};
+ghost use Rattle.world_rules.specs.World.{waits_at};
 ghost use Rattle.script_program.specs.declared.schedule.Item.TheVariants.{Out, Take};
 ghost use Rattle.script_program.specs.Listing.{thread_of};
 ghost use Rattle.step_table.specs.Rows.{ItemRows, RowsOf, ScheduleRows, SoMany};

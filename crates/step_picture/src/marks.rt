@@ -2,7 +2,7 @@
 
 ghost use Rattle.std.specs.Prelude.{◌≡◌, ◌≤◌, drop, length};
 ghost use Rattle.std.specs.Option.{option_copied};
-ghost use Rattle.norec_world.specs.World.{attempt_at};
+ghost use Rattle.world_rules.specs.World.{attempt_at};
 ghost use Rattle.step_picture.specs.Marks.{call_came, calls_after, came_of, open_came};
 
 use crate::mark::Came;

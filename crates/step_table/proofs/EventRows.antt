@@ -3,18 +3,18 @@ use Rattle.std.proofs.Common.{◌≡◌, ℕ, ◌≤◌, Bool, true, List, [], �
 use Rattle.std.proofs.lemmas.Grind.{common_steps}
 use Rattle.std.specs.Option.{option_map}
 use Rattle.itm_types.specs.declared.step.Step.{Step}
-use Rattle.norec_world.specs.declared.actor.Actor.{Actor}
-use Rattle.norec_world.specs.declared.operation.Operation.{Operation}
-use Rattle.norec_world.specs.Cells.{found}
-use Rattle.norec_world.specs.Progress.{TellsCall, TellsCalls}
-use Rattle.norec_world.specs.Rows.{Rows}
-use Rattle.norec_world.specs.Sound.{IsNoMore}
-use Rattle.norec_world.specs.Tries.{Prior, Tries, prior_of, between, begins, runs, over, turned_away, outrun, shut_out}
-use Rattle.norec_world.specs.World.{World, attempt_at, ending_at, event_result, operation_at, waits_at}
-use Rattle.norec_world.specs.WorldEvents.{Goes}
-use Rattle.norec_world.proofs.Events.Measures.{same_less}
-use Rattle.norec_world.proofs.Events.WorldEvents.{LeavesLessSoFar, told_event}
-use Rattle.norec_world.proofs.Events.Worlds.{waiting_there, waits_there}
+use Rattle.world_rules.specs.Actor.{Actor}
+use Rattle.world_rules.specs.declared.operation.Operation.{Operation}
+use Rattle.world_rules.specs.Cells.{found}
+use Rattle.world_rules.specs.Progress.{TellsCall, TellsCalls}
+use Rattle.world_rules.specs.Rows.{Rows}
+use Rattle.world_rules.specs.Sound.{IsNoMore}
+use Rattle.world_rules.specs.Tries.{Prior, Tries, prior_of, between, begins, runs, over, turned_away, outrun, shut_out}
+use Rattle.world_rules.specs.World.{World, attempt_at, ending_at, event_result, operation_at, waits_at}
+use Rattle.world_rules.specs.WorldEvents.{Goes}
+use Rattle.world_rules.proofs.Events.Measures.{same_less}
+use Rattle.world_rules.proofs.Events.WorldEvents.{LeavesLessSoFar, told_event}
+use Rattle.world_rules.proofs.Events.Worlds.{waiting_there, waits_there}
 use Rattle.tx_attempts.specs.declared.attempt.Attempt.{Attempt}
 use Rattle.tx_player.specs.Rules.{Rules}
 use Rattle.step_table.specs.Rows.{Row, SoMany}

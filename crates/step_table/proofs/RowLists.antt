@@ -1,7 +1,7 @@
 -- Events of a world, one after another, as a schedule asks for them.
 use Rattle.std.proofs.Common.{inl, inr, ℕ, zero, suc, ◌+◌, ◌<◌, List, [], ◌∷◌, ◌++◌, length, take, get_or, refl, sym, ap, subst, ◌∙◌, arith, append-nil, append_assoc}
 use Rattle.std.proofs.lemmas.List.{length-append, take_more}
-use Rattle.norec_world.specs.World.{World}
+use Rattle.world_rules.specs.World.{World}
 use Rattle.script_program.specs.declared.schedule.Item.{Item}
 use Rattle.script_program.specs.declared.schedule.Item.TheVariants.{Take, Out}
 use Rattle.tx_player.specs.Rules.{Rules}

@@ -1,6 +1,6 @@
 -- What a writer has of the lines of events, item by item.
 use Rattle.std.proofs.Common.{ℕ, ◌+◌, ◌<◌, List, length, take, get_or, Option}
-use Rattle.norec_world.specs.World.{World}
+use Rattle.world_rules.specs.World.{World}
 use Rattle.script_program.specs.declared.schedule.Item.{Item}
 use Rattle.tx_player.specs.Rules.{Rules}
 use Rattle.step_table.specs.declared.view.View.{View}

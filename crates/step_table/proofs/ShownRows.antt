@@ -5,7 +5,7 @@ use Rattle.std.proofs.lemmas.Grind.{flat_map-append}
 use Rattle.std.proofs.lemmas.List.{length-append}
 use Rattle.std.proofs.Math.Seq.{take-append-add, take-length}
 use Rattle.std.specs.Io.KnownBytes.{Appends, Keeps}
-use Rattle.norec_world.specs.World.{World}
+use Rattle.world_rules.specs.World.{World}
 use Rattle.tx_history.specs.Spelling.{IsCut, Puts}
 use Rattle.step_table.specs.declared.view.View.{View}
 use Rattle.step_table.specs.Rows.{Row}

@@ -1,9 +1,9 @@
 -- The events of a world as rows, and which rows a schedule gives.
 use Rattle.std.specs.Prelude.{◌≡◌, ◌⊎◌, ℕ, ◌<◌, ◌≤◌, Bool, List, [], ◌∷◌, ◌++◌, drop, length, Option, Some, IsSome}
 use Rattle.std.specs.Option.{option_map}
-use Rattle.norec_world.specs.Progress.{TellsCalls, goes_on_at}
-use Rattle.norec_world.specs.World.{World, attempt_at, ending_at, event_result, operation_at}
-use Rattle.norec_world.specs.WorldEvents.{Goes}
+use Rattle.world_rules.specs.Progress.{TellsCalls, goes_on_at}
+use Rattle.world_rules.specs.World.{World, attempt_at, ending_at, event_result, operation_at}
+use Rattle.world_rules.specs.WorldEvents.{Goes}
 use Rattle.script_program.specs.declared.schedule.Item.{Item}
 use Rattle.script_program.specs.declared.schedule.Item.TheVariants.{Take, Out}
 use Rattle.step_table.specs.declared.event.Event.{Event}

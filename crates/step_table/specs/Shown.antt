@@ -1,7 +1,7 @@
 -- What a writer has of a table on its way.
 use Rattle.std.specs.Prelude.{ℕ, List, take, Option, Result, Ok, Err}
 use Rattle.std.specs.Io.KnownBytes.{Appends}
-use Rattle.norec_world.specs.World.{World}
+use Rattle.world_rules.specs.World.{World}
 use Rattle.step_table.specs.Rows.{Row}
 
 -- events were taken and their lines written: all that were asked for, or, where a write failed, the first ones and a beginning of their lines

@@ -3,7 +3,7 @@ use Rattle.std.specs.Prelude.{ℕ, ◌*◌, ◌-◌, ◌==◌, ◌&&◌, nat_le,
 use Rattle.std.specs.List.{list_any}
 use Rattle.itm_types.specs.declared.step.Step.{Step}
 use Rattle.itm_types.specs.declared.step.Step.TheVariants.{Load, Store, Cas}
-use Rattle.norec_world.specs.declared.operation.Operation.{Operation}
+use Rattle.world_rules.specs.declared.operation.Operation.{Operation}
 use Rattle.step_table.specs.declared.event.Event.{Event}
 use Rattle.step_table.specs.declared.view.View.{View}
 use Rattle.step_table.specs.Came.{came_text}

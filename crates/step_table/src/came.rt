@@ -2,7 +2,7 @@
 
 ghost use Rattle.std.specs.Prelude.{◌≡◌, ◌≤◌, drop, flat_map, length};
 ghost use Rattle.std.specs.Option.{option_copied};
-ghost use Rattle.norec_world.specs.World.{attempt_at, ending_at};
+ghost use Rattle.world_rules.specs.World.{attempt_at, ending_at};
 ghost use Rattle.tx_history.specs.Histories.{reply_text};
 ghost use Rattle.tx_history.specs.Spelling.{spelled};
 ghost use Rattle.step_table.specs.Said.{said};

@@ -2,8 +2,8 @@
 
 ghost use Rattle.std.specs.Prelude.{◌≡◌, ◌<◌, All, IfOk, IsSome, OnOk, Some, false, length};
 ghost use Rattle.std.specs.Option.{option_map};
-ghost use Rattle.norec_world.specs.Progress.{LeavesLess};
-ghost use Rattle.norec_world.specs.World.{attempt_at, operation_at, waits_at};
+ghost use Rattle.world_rules.specs.Progress.{LeavesLess};
+ghost use Rattle.world_rules.specs.World.{attempt_at, operation_at, waits_at};
 ghost use Rattle.script_program.specs.declared.schedule.Item.TheVariants.{Out, Take};
 ghost use Rattle.script_program.specs.Listing.{thread_of};
 ghost use Rattle.step_table.specs.Rows.{ItemFirst, ItemRows, RowsOf, ScheduleFirst, ScheduleRows, SoMany};

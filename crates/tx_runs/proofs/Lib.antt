@@ -31,3 +31,4 @@ pub mod TriesBack
 pub mod RestartLists
 pub mod Ranks
 pub mod OpenCounts
+pub mod RestartedLengths

@@ -3,10 +3,10 @@ use Rattle.std.proofs.Common.{◌≡◌, [], ◌∷◌, replicate, refl, true, f
 use Rattle.itm_types.specs.declared.access.WriteHint.TheVariants.{W}
 use Rattle.itm_types.specs.declared.call.Call.TheVariants.{Commit, Mode}
 use Rattle.tx_attempts.specs.declared.attempt.Outcome.TheVariants.{Committed, Full}
-use Rattle.norec_world.proofs.Common.{Attempt, Begin, Done, Props, Unfinished, Write}
+use Rattle.world_rules.proofs.Common.{Attempt, Begin, Done, Props, Unfinished, Write}
 use Rattle.tx_runs.specs.declared.ending.End.TheVariants.{Finished, GaveUp}
-use Rattle.norec_world.proofs.Plan.{Plan}
-use Rattle.norec_world.proofs.Examples.{begin, cancelled, commit, counter, counter_rules, fresh, next, plain, plan_rules, planned, refused, two, word, write}
+use Rattle.world_rules.proofs.Plan.{Plan}
+use Rattle.world_rules.proofs.Examples.{begin, cancelled, commit, counter, counter_rules, fresh, next, plain, plan_rules, planned, refused, two, word, write}
 use Rattle.world_laws.specs.Solo.{solo}
 
 counter_alone : solo counter_rules 1 1 0 fresh.player (replicate 8 0) [] ≡ record { attempts = counter ∷ []; memory = 1 ∷ replicate 7 0; commits = 1; held = false; ending = Finished }

@@ -1,6 +1,6 @@
 -- Actors that go on alike.
 use Rattle.std.specs.Prelude.{◌≡◌}
-use Rattle.norec_world.specs.declared.actor.Actor.{Actor}
+use Rattle.world_rules.specs.Actor.{Actor}
 use Rattle.tx_runs.specs.PlayerRuns.{tally_of}
 
 -- all but the buffers

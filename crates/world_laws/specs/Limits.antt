@@ -2,7 +2,7 @@
 use Rattle.std.specs.Prelude.{◌≡◌, suc, ◌≤◌, length, Some}
 use Rattle.itm_types.specs.declared.call.Call.{Call}
 use Rattle.itm_types.specs.declared.limits.TheConstants.{MAX_ARENA, MAX_RETRIES}
-use Rattle.norec_world.specs.World.{World}
+use Rattle.world_rules.specs.World.{World}
 use Rattle.tx_history.specs.Bounds.{HasArenaWidth, IsMemorySize}
 use Rattle.tx_history.specs.declared.history.Version.{Version}
 use Rattle.tx_history.specs.Versions.{MayRestart, thread_limit}

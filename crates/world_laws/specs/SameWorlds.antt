@@ -1,7 +1,7 @@
 -- Two worlds that a schedule cannot tell apart.
 use Rattle.std.specs.Prelude.{◌≡◌, ℕ, length, Some, slice_get}
-use Rattle.norec_world.specs.declared.actor.Actor.{Actor}
-use Rattle.norec_world.specs.World.{World, SameOpening, attempts_of, memory_of, ending_at}
+use Rattle.world_rules.specs.Actor.{Actor}
+use Rattle.world_rules.specs.World.{World, SameOpening, attempts_of, memory_of, ending_at}
 use Rattle.world_laws.specs.Alike.{AreAlike}
 
 module _ {P : Type 0} where

@@ -1,12 +1,12 @@
 -- A schedule decides everything: nothing that a world does is left free, but where memory is refused.
 use Rattle.std.specs.Prelude.{◌≡◌, ℕ, List, Some, IsSome, Result, Err}
 use Rattle.tx_runs.specs.declared.ending.End.TheVariants.{NoMemory as Starved}
-use Rattle.norec_world.specs.declared.fault.WorldFault.{WorldFault}
-use Rattle.norec_world.specs.declared.fault.WorldFault.TheVariants.{NoMemory}
-use Rattle.norec_world.specs.World.{World, SameOpening, ending_at}
-use Rattle.norec_world.specs.WorldEvents.{Goes, Leads, Takes, passes_of}
+use Rattle.world_rules.specs.declared.fault.WorldFault.{WorldFault}
+use Rattle.world_rules.specs.declared.fault.WorldFault.TheVariants.{NoMemory}
+use Rattle.world_rules.specs.World.{World, SameOpening, ending_at}
+use Rattle.world_rules.specs.WorldEvents.{Goes, Leads, Takes, passes_of}
 use Rattle.world_laws.specs.SameWorlds.{SameWorld, ShowSame}
-use Rattle.norec_world.specs.Starts.{IsNew}
+use Rattle.world_rules.specs.Starts.{IsNew}
 use Rattle.tx_player.specs.Rules.{Rules}
 
 module _ {P : Type 0} (rules : Rules P) where

@@ -2,14 +2,14 @@
 use Rattle.std.specs.Prelude.{◌≡◌, ℕ, ◌/◌, ◌%◌, [], ◌∷◌, List, length, replicate, Option, None, Some, Result}
 use Rattle.tx_attempts.specs.declared.attempt.Outcome.TheVariants.{Unfinished}
 use Rattle.tx_runs.specs.declared.ending.End.{End}
-use Rattle.norec_world.specs.World.{World, attempts_of, ending_at, memory_of, observed}
+use Rattle.world_rules.specs.World.{World, attempts_of, ending_at, memory_of, observed}
 use Rattle.world_laws.specs.SoFar.{IsSoFar, HasEnded}
-use Rattle.norec_world.specs.declared.fault.WorldFault.{WorldFault}
-use Rattle.norec_world.specs.Commits.{CommitsInOrder}
-use Rattle.norec_world.specs.Headline.{AreOpaque}
-use Rattle.norec_world.specs.Starts.{IsNew}
-use Rattle.norec_world.specs.Tied.{AreTied}
-use Rattle.norec_world.specs.WorldEvents.{Leads, Takes}
+use Rattle.world_rules.specs.declared.fault.WorldFault.{WorldFault}
+use Rattle.world_rules.specs.Commits.{CommitsInOrder}
+use Rattle.world_rules.specs.Headline.{AreOpaque}
+use Rattle.world_rules.specs.Starts.{IsNew}
+use Rattle.world_rules.specs.Tied.{AreTied}
+use Rattle.world_rules.specs.WorldEvents.{Leads, Takes}
 use Rattle.tx_player.specs.Rules.{Rules}
 
 module _ {P : Type 0} (rules : Rules P) where

@@ -9,11 +9,11 @@ use Rattle.tx_attempts.specs.declared.attempt.Outcome.{Outcome}
 use Rattle.tx_attempts.specs.declared.attempt.Outcome.TheVariants as outcomes
 use Rattle.tx_runs.specs.declared.ending.End.{End}
 use Rattle.tx_runs.specs.declared.ending.End.TheVariants.{Finished, GaveUp, NoMemory}
-use Rattle.norec_world.specs.Headline.{bytes_at}
+use Rattle.world_rules.specs.Headline.{bytes_at}
 use Rattle.tx_attempts.specs.Opacity.{Beginning, begin_code, begin_of}
 use Rattle.tx_attempts.specs.Alone.{IsAlone}
 use Rattle.world_laws.specs.Solo.{Progress, row_of, with_all, without_room, solo, solo_within}
-use Rattle.norec_world.specs.Cells.{Cells}
+use Rattle.world_rules.specs.Cells.{Cells}
 use Rattle.tx_player.specs.Rules.{Rules}
 
 module _ {P : Type 0} (rules : Rules P) (deepest max_commits thread : ℕ) where

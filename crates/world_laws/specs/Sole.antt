@@ -6,17 +6,17 @@ use Rattle.tx_attempts.specs.declared.attempt.Outcome.{Outcome}
 use Rattle.tx_attempts.specs.declared.attempt.Outcome.TheVariants as outcomes
 use Rattle.tx_runs.specs.declared.ending.End.{End}
 use Rattle.tx_runs.specs.declared.ending.End.TheVariants.{Finished, GaveUp, NoMemory}
-use Rattle.norec_world.specs.declared.actor.Actor.{Actor}
+use Rattle.world_rules.specs.Actor.{Actor}
 use Rattle.tx_attempts.specs.Attempts.{is_committed, of_thread}
-use Rattle.norec_world.specs.Headline.{bytes_at}
+use Rattle.world_rules.specs.Headline.{bytes_at}
 use Rattle.tx_attempts.specs.Opacity.{Beginning, Between}
 use Rattle.tx_runs.specs.Runs.{begins_at, run_after}
-use Rattle.norec_world.specs.Rows.{Rows}
-use Rattle.norec_world.specs.Stages.{active_of, pending_of}
+use Rattle.world_rules.specs.Rows.{Rows}
+use Rattle.world_rules.specs.Stages.{active_of, pending_of}
 use Rattle.world_laws.specs.Solo.{one_if}
-use Rattle.norec_world.specs.Status.{ending_of}
+use Rattle.world_rules.specs.Status.{ending_of}
 use Rattle.tx_runs.specs.Outcomes.{is_done}
-use Rattle.norec_world.specs.Tries.{current_of}
+use Rattle.world_rules.specs.Tries.{current_of}
 use Rattle.tx_player.specs.Rules.{Rules}
 
 -- the first try of its block, begun when so many had committed; no inner block of it ran again

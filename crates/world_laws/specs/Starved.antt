@@ -1,13 +1,13 @@
 -- Worlds whose actors found no memory, and what is told of those.
 use Rattle.std.specs.Prelude.{◌≡◌, ℕ, false, List, All, Some, slice_get, Result}
-use Rattle.norec_world.specs.declared.actor.Actor.{Actor}
-use Rattle.norec_world.specs.declared.fault.WorldFault.{WorldFault}
-use Rattle.norec_world.specs.Commits.{CommitsInOrder}
-use Rattle.norec_world.specs.Starts.{IsNew}
-use Rattle.norec_world.specs.Status.{ending_of}
-use Rattle.norec_world.specs.Tied.{AreTied}
-use Rattle.norec_world.specs.World.{World, attempts_of, ending_at}
-use Rattle.norec_world.specs.WorldEvents.{Leads}
+use Rattle.world_rules.specs.Actor.{Actor}
+use Rattle.world_rules.specs.declared.fault.WorldFault.{WorldFault}
+use Rattle.world_rules.specs.Commits.{CommitsInOrder}
+use Rattle.world_rules.specs.Starts.{IsNew}
+use Rattle.world_rules.specs.Status.{ending_of}
+use Rattle.world_rules.specs.Tied.{AreTied}
+use Rattle.world_rules.specs.World.{World, attempts_of, ending_at}
+use Rattle.world_rules.specs.WorldEvents.{Leads}
 use Rattle.tx_attempts.specs.declared.attempt.Outcome.TheVariants.{Unfinished}
 use Rattle.tx_player.specs.Rules.{Rules}
 use Rattle.tx_runs.specs.declared.ending.End.TheVariants.{NoMemory}

@@ -1,5 +1,5 @@
 -- What is told of a world.
-use Rattle.norec_world.specs.World.{World, attempts_of, memory_of}
+use Rattle.world_rules.specs.World.{World, attempts_of, memory_of}
 use Rattle.tx_history.specs.declared.history.History.{History}
 use Rattle.tx_history.specs.declared.history.Version.{Version}
 

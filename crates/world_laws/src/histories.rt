@@ -1,10 +1,10 @@
 //! The histories of worlds: each of them is legal, and what they tell of threads that found no memory.
 
 ghost use Rattle.std.specs.Prelude.{◌≡◌};
-ghost use Rattle.norec_world.specs.Commits.{CommitsInOrder};
-ghost use Rattle.norec_world.specs.Headline.{AreOpaque};
-ghost use Rattle.norec_world.specs.Tied.{AreTied};
-ghost use Rattle.norec_world.specs.World.{World, observed};
+ghost use Rattle.world_rules.specs.Commits.{CommitsInOrder};
+ghost use Rattle.world_rules.specs.Headline.{AreOpaque};
+ghost use Rattle.world_rules.specs.Tied.{AreTied};
+ghost use Rattle.world_rules.specs.World.{World, observed};
 ghost use Rattle.tx_attempts.specs.Outrun.{AreDisturbed, AreOutrun};
 ghost use Rattle.tx_history.specs.Bounds.{AreLimited};
 ghost use Rattle.tx_history.specs.declared.history.Version.{Version};

@@ -4,20 +4,25 @@ use Rattle.tx_runs.proofs.StepCalls.{wants_none, places_for}
 use Rattle.tx_runs.proofs.OpenRooms.{again_none, begins_none, outside_current, reserved_least, reserved_most}
 use Rattle.std.proofs.Common.{◌≡◌, inl, inr, ℕ, zero, suc, ◌+◌, ◌/◌, ◌<◌, ◌≤◌, max, length, not, Bool, true, false, true≢false, List, [], append-nil, Result, Ok, Err, IfOk, OnErr, Option, None, Some, is_some, unwrap_or, refl, sym, ap, subst, ◌∙◌, arith, if◌then◌else◌}
 use Rattle.norec_core.specs.Moves.{IsCalled}
-use Rattle.norec_world.specs.ActionRoom.{BacksIn, BeganIn, NestsAs, NestsBy, NestsReady, opened_by}
+use Rattle.world_rules.specs.ActionRoom.{BacksIn, BeganIn, NestsAs, NestsBy, NestsReady, opened_by}
 use Rattle.norec_engine.specs.RestartingCalls.{arena_ahead}
 use Rattle.tx_runs.specs.OpenAttempts.{HasPlacesFor, LacksPlaces, Open, told_in}
 use Rattle.tx_runs.specs.Savepoints.{AreSavepoints}
 use Rattle.tx_runs.specs.Tallies.{begins, outside}
 use Rattle.norec_engine.proofs.RestartingCalls.{ahead_of_it}
-use Rattle.norec_world.specs.LocalWork.{HasUsedUp}
-use Rattle.norec_world.specs.Records.{Asks as AsksOf}
-use Rattle.norec_world.proofs.Common.{Actor, Answer, Attempt, Begin, Begins, Call, Cells, ComesInto, Core, Current, HasPlace, HasRow, IsAsked, IsKept, IsPromised, IsRefused, IsSound, IsUnasked, KeepsOthers, Kept, MAX_ACTORS, MayRunOn, Next, Props, Ready, Rows, Rules, Savepoint, Stage, Status, Step, Within, active_of, begins_again, begun, came, cancels_in, cases_Bool, count_in, ends_in, asks_no_room, in_transaction, irrevocable_room, is_begin, next_in, none-some, open_in, promised, reserved, same_Some, stage_of, total, with_room, within}
-use Rattle.norec_world.proofs.Engines.SoundSteps.{rests}
-use Rattle.norec_world.proofs.Rooms.ActionRoom.{called_acting, gave_acting}
-use Rattle.norec_world.proofs.Rooms.CallRoom.{backed_came, promised_came, used_of_call, used_of_room, wanted_came}
-use Rattle.norec_world.proofs.Rooms.HeldRoom.{came_room}
-use Rattle.norec_world.proofs.Tries.Stages.{asked_at, others_same, row_is_of, row_open, row_same, row_shut, row_unfinished, stage_out}
+use Rattle.world_rules.specs.LocalWork.{HasUsedUp}
+use Rattle.world_rules.specs.Records.{Asks as AsksOf}
+use Rattle.world_rules.proofs.Common.{Actor, Answer, Attempt, Begin, Begins, Call, Cells, Core, Current, HasPlace, HasRow, IsAsked, IsKept, IsPromised, IsRefused, IsSound, IsUnasked, KeepsOthers, Kept, MAX_ACTORS, MayRunOn, Next, Props, Rows, Rules, Savepoint, Stage, Step, Within, active_of, begins_again, begun, came, cancels_in, cases_Bool, count_in, ends_in, asks_no_room, in_transaction, irrevocable_room, is_begin, none-some, open_in, promised, reserved, same_Some, stage_of, total, with_room, within}
+use Rattle.world_rules.specs.declared.actor.Status.TheVariants.{Ready}
+use Rattle.world_rules.specs.declared.actor.Status.{Status}
+use Rattle.norec_world.proofs.Common.{ComesInto, next_in}
+use Rattle.world_rules.proofs.Engines.SoundSteps.{rests}
+use Rattle.norec_world.proofs.Rooms.EngineCalls.{called_acting}
+use Rattle.world_rules.proofs.Rooms.ActionRoom.{gave_acting}
+use Rattle.world_rules.proofs.Rooms.CallRoom.{backed_came, promised_came, used_of_call, wanted_came}
+use Rattle.norec_world.proofs.Rooms.EngineCalls.{used_of_room}
+use Rattle.world_rules.proofs.Rooms.HeldRoom.{came_room}
+use Rattle.world_rules.proofs.Tries.Stages.{asked_at, others_same, row_is_of, row_open, row_same, row_shut, row_unfinished, stage_out}
 
 pub not_within : (c : Current) → ((o : Open) → c ≡ Within o → ⊥) → open_in (stage_of c) ≡ None
 not_within (Within o) not = absurd (not o refl)

@@ -35,7 +35,7 @@ use Rattle.tx_worker.specs.Positions.{bytes_at}
 use Rattle.tx_worker.specs.Progress.{Course, IsRunning, MayRead, stood}
 use Rattle.tx_worker.specs.Accounts.{Account}
 use Rattle.tx_worker.proofs.Machines.LastEvents.{IsLast}
-use Rattle.norec_engine.proofs.RestartingCalls.{renewed_long}
+use Rattle.tx_runs.proofs.RestartedLengths.{renewed_long}
 use Rattle.tx_worker.proofs.Shapes.{closed, ended_at, goes_on, replied_row, row_with, with_room}
 use Rattle.tx_worker.proofs.Transactions.OpenTries.{try_back, try_on}
 

@@ -5,8 +5,8 @@ use Rattle.tx_attempts.specs.Outrun.{AreDisturbed, IsDisturbed}
 use Rattle.tx_attempts.proofs.DisturbedRuns.{disturbed_run}
 use Rattle.tx_player.specs.Rules.{Rules}
 use Rattle.tx_runs.proofs.RunLists.{there_is}
-use Rattle.norec_world.specs.Headline.{AreOpaque, bytes_at, first_of}
-use Rattle.norec_world.specs.World.{World, attempts_of, observed}
+use Rattle.world_rules.specs.Headline.{AreOpaque, bytes_at, first_of}
+use Rattle.world_rules.specs.World.{World, attempts_of, observed}
 use Rattle.world_laws.proofs.LegalHistories.EachThread.{of_threads}
 
 pub disturbed_world : {P : Type 0} (rules : Rules P) (w : World P) → AreOpaque rules (observed w) → AreDisturbed (attempts_of w)

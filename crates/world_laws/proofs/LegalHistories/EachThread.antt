@@ -3,7 +3,7 @@ use Rattle.std.proofs.Common.{ℕ, ◌<◌, ◌==◌, Bool, true, false, if◌th
 use Rattle.std.proofs.lemmas.List.Elements.{All-nil, All-cons, All-head, All-tail}
 use Rattle.tx_attempts.specs.declared.attempt.Attempt.{Attempt}
 use Rattle.tx_attempts.specs.Attempts.{of_thread}
-use Rattle.norec_world.specs.Headline.{AreOfActors}
+use Rattle.world_rules.specs.Headline.{AreOfActors}
 
 pub of_threads : (Q : Attempt → Type 0) (n : ℕ) (xs : List Attempt) → AreOfActors n xs → ((thread : ℕ) → thread < n → All Q (of_thread thread xs)) → All Q xs
 of_threads Q n [] of each = All-nil Q

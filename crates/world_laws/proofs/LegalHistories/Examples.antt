@@ -1,12 +1,12 @@
 -- Worlds whose one actor found no memory: its attempt has ended, or stays open.
 use Rattle.std.proofs.Common.{◌≡◌, [], ◌∷◌, refl}
 use Rattle.std.proofs.lemmas.List.Elements.{All-cons, All-head, All-nil}
-use Rattle.norec_world.specs.declared.actor.Actor.{Actor}
-use Rattle.norec_world.specs.declared.actor.Status.TheVariants.{Ended}
+use Rattle.world_rules.specs.Actor.{Actor}
+use Rattle.world_rules.specs.declared.actor.Status.TheVariants.{Ended}
 use Rattle.tx_runs.specs.OpenAttempts.{Open}
 use Rattle.tx_runs.specs.declared.player_run.Current.{Current}
 use Rattle.tx_runs.specs.declared.player_run.Current.TheVariants.{Outside, Within}
-use Rattle.norec_world.specs.World.{World, ending_at}
+use Rattle.world_rules.specs.World.{World, ending_at}
 use Rattle.std.specs.Prelude.{Some, true}
 use Rattle.tx_attempts.specs.declared.attempt.Attempt.{Attempt}
 use Rattle.tx_attempts.specs.declared.attempt.Outcome.TheVariants.{NoMemory, Unfinished}

@@ -11,12 +11,12 @@ use Rattle.tx_attempts.specs.Counts.{one_where}
 use Rattle.tx_history.specs.declared.history.History.{History}
 use Rattle.tx_history.specs.Versions.{depth_of}
 use Rattle.tx_history.specs.Legal.{count_holding, is_holding, is_unfinished, memory_at}
-use Rattle.norec_world.specs.declared.actor.Actor.{Actor}
-use Rattle.norec_world.specs.Rows.{AreEnded, AreFrom}
-use Rattle.norec_world.specs.Stages.{active_of, opens, with_open}
-use Rattle.norec_world.specs.Tied.{AreTied}
-use Rattle.norec_world.specs.World.{World}
-use Rattle.norec_world.proofs.Tries.Stages.{row_is_of}
+use Rattle.world_rules.specs.Actor.{Actor}
+use Rattle.world_rules.specs.Rows.{AreEnded, AreFrom}
+use Rattle.world_rules.specs.Stages.{active_of, opens, with_open}
+use Rattle.world_rules.specs.Tied.{AreTied}
+use Rattle.world_rules.specs.World.{World}
+use Rattle.world_rules.proofs.Tries.Stages.{row_is_of}
 use Rattle.norec_core.specs.Core.{in_transaction}
 use Rattle.tx_player.specs.Rules.{Rules}
 

@@ -9,15 +9,15 @@ use Rattle.tx_history.specs.declared.history.Version.{Version}
 use Rattle.tx_history.specs.Legal.{EndsFree, EndsHeld, IsAlone, IsLegal, count_holding, is_holding}
 use Rattle.tx_history.specs.Versions.{depth_of}
 use Rattle.tx_player.specs.Rules.{Rules}
-use Rattle.norec_world.specs.declared.actor.Actor.{Actor}
-use Rattle.norec_world.specs.Commits.{CommitsInOrder}
-use Rattle.norec_world.specs.Headline.{AreOpaque, bytes_at, first_of}
-use Rattle.norec_world.specs.Tied.{AreTied}
-use Rattle.norec_world.specs.Stages.{active_of, opens}
-use Rattle.norec_world.proofs.Tries.Stages.{row_unfinished}
+use Rattle.world_rules.specs.Actor.{Actor}
+use Rattle.world_rules.specs.Commits.{CommitsInOrder}
+use Rattle.world_rules.specs.Headline.{AreOpaque, bytes_at, first_of}
+use Rattle.world_rules.specs.Tied.{AreTied}
+use Rattle.world_rules.specs.Stages.{active_of, opens}
+use Rattle.world_rules.proofs.Tries.Stages.{row_unfinished}
 use Rattle.norec_core.specs.Core.{in_transaction}
-use Rattle.norec_world.specs.World.{World, attempts_of, observed}
-use Rattle.norec_world.proofs.Events.SoundOthers.{odd_or_even}
+use Rattle.world_rules.specs.World.{World, attempts_of, observed}
+use Rattle.world_rules.proofs.Events.SoundOthers.{odd_or_even}
 use Rattle.tx_runs.proofs.RunLists.{there_is}
 use Rattle.world_laws.specs.Told.{told_of}
 use Rattle.tx_history.proofs.Runs.AloneRuns.{IsPlaced, of_run}

@@ -9,9 +9,9 @@ use Rattle.tx_history.specs.declared.history.Version.{Version}
 use Rattle.tx_history.proofs.ToldRestarts.{may_tell}
 use Rattle.tx_runs.specs.Restarts.{RestartAtMost}
 use Rattle.tx_player.specs.Rules.{Rules}
-use Rattle.norec_world.specs.Dates.{AreDated}
-use Rattle.norec_world.specs.Headline.{AreOfActors, AreOpaque, bytes_at, first_of}
-use Rattle.norec_world.specs.World.{World, attempts_of, observed}
+use Rattle.world_rules.specs.Dates.{AreDated}
+use Rattle.world_rules.specs.Headline.{AreOfActors, AreOpaque, bytes_at, first_of}
+use Rattle.world_rules.specs.World.{World, attempts_of, observed}
 use Rattle.tx_runs.proofs.RunLists.{there_is}
 use Rattle.tx_history.proofs.Runs.LimitedRuns.{IsOwn, own_run}
 use Rattle.world_laws.specs.Limits.{HasArenaWidths, IsLimitedWorld}

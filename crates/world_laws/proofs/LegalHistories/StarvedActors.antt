@@ -6,15 +6,15 @@ use Rattle.tx_attempts.specs.declared.attempt.Outcome.{Outcome}
 use Rattle.tx_attempts.specs.declared.attempt.Outcome.TheVariants as outcomes
 use Rattle.tx_player.specs.Rules.{Rules}
 use Rattle.tx_runs.specs.declared.ending.End.TheVariants.{NoMemory}
-use Rattle.norec_world.specs.declared.actor.Actor.{Actor}
-use Rattle.norec_world.specs.declared.fault.WorldFault.{WorldFault}
-use Rattle.norec_world.specs.Rows.{AreEnded}
-use Rattle.norec_world.specs.Starts.{IsNew}
-use Rattle.norec_world.specs.World.{is_event}
-use Rattle.norec_world.proofs.Common.{Goes, GoesOnAfter, IsEvent, Leads, Prior, Rows, Tries, TriesAgain, World, active_of, begins, between, both_ways, cases_Bool, ending_at, ending_of, none-some, option_and_then, outrun, over, runs, shut_out, turned_away}
-use Rattle.norec_world.proofs.Events.SoundOthers.{set_place}
-use Rattle.norec_world.proofs.Events.Worlds.{waits_there}
-use Rattle.norec_world.specs.Stages.{opens}
+use Rattle.world_rules.specs.Actor.{Actor}
+use Rattle.world_rules.specs.declared.fault.WorldFault.{WorldFault}
+use Rattle.world_rules.specs.Rows.{AreEnded}
+use Rattle.world_rules.specs.Starts.{IsNew}
+use Rattle.world_rules.specs.World.{is_event}
+use Rattle.world_rules.proofs.Common.{Goes, GoesOnAfter, IsEvent, Leads, Prior, Rows, Tries, TriesAgain, World, active_of, begins, between, both_ways, cases_Bool, ending_at, ending_of, none-some, option_and_then, outrun, over, runs, shut_out, turned_away}
+use Rattle.world_rules.proofs.Events.SoundOthers.{set_place}
+use Rattle.world_rules.proofs.Events.Worlds.{waits_there}
+use Rattle.world_rules.specs.Stages.{opens}
 use Rattle.world_laws.specs.Starved.{FedLeaveNoneOpen, IsFed}
 use Rattle.world_laws.proofs.LegalHistories.Holders.{each_open, placed_there}
 

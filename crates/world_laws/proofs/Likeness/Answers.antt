@@ -1,11 +1,11 @@
 -- What comes of a call is recorded alike of two actors that are alike.
 use Rattle.std.proofs.Common.{◌≡◌, ℕ, ◌/◌, ◌++◌, refl, sym, ap, subst, ◌∙◌}
-use Rattle.norec_world.proofs.Common.{Answer, Answers, Call, Next, Records, Rows, Rules, Stage, Taken, Tells, stage_of, stand_of, tally_of, told, took_in}
-use Rattle.norec_world.specs.declared.actor.Actor.{Actor}
-use Rattle.norec_world.specs.declared.actor.Status.TheVariants.{Waits}
+use Rattle.world_rules.proofs.Common.{Answer, Answers, Call, Next, Records, Rows, Rules, Stage, Taken, Tells, stage_of, stand_of, tally_of, told, took_in}
+use Rattle.world_rules.specs.Actor.{Actor}
+use Rattle.world_rules.specs.declared.actor.Status.TheVariants.{Waits}
 use Rattle.norec_core.specs.declared.answer.Next.TheVariants.{Step as Steps}
-use Rattle.norec_world.specs.Records.{status_after}
-use Rattle.norec_world.specs.Stages.{moved_to}
+use Rattle.world_rules.specs.Records.{status_after}
+use Rattle.world_rules.specs.Stages.{moved_to}
 use Rattle.tx_runs.specs.declared.player_run.Current.{Current}
 use Rattle.tx_runs.specs.declared.player_run.Current.TheVariants.{Outside, Begins, Within}
 use Rattle.tx_runs.specs.Tallies.{outside, begins, within}

@@ -2,18 +2,18 @@
 use Rattle.std.proofs.Common.{◌≡◌, ℕ, zero, suc, ◌+◌, ◌<◌, cond, IsTrue, List, [], ◌∷◌, ◌++◌, count_by, length, slice_get, Option, None, Some, Result, Err, IsSome, inl, inr, refl, sym, ap, subst, ◌∙◌, arith}
 use Rattle.std.proofs.lemmas.Bool.{cases_lt}
 use Rattle.std.proofs.lemmas.List.Sums.{sum_by-append}
-use Rattle.norec_world.proofs.Common.{Cells, Goes, Rules, World, bytes_of, ending_at, event_result, open_in, waits_at}
-use Rattle.norec_world.specs.declared.actor.Actor.{Actor}
-use Rattle.norec_world.specs.Stages.{opens, with_open}
+use Rattle.world_rules.proofs.Common.{Cells, Goes, Rules, World, bytes_of, ending_at, event_result, open_in, waits_at}
+use Rattle.world_rules.specs.Actor.{Actor}
+use Rattle.world_rules.specs.Stages.{opens, with_open}
 use Rattle.world_laws.specs.Alike.{AreAlike}
 use Rattle.tx_runs.specs.declared.ending.End.{End}
 use Rattle.tx_runs.specs.declared.ending.End.TheVariants.{Finished, GaveUp, NoMemory}
-use Rattle.norec_world.specs.declared.fault.WorldFault.{WorldFault}
-use Rattle.norec_world.specs.declared.fault.WorldFault.TheVariants as faults
-use Rattle.norec_world.specs.World.{is_event}
-use Rattle.norec_world.specs.WorldEvents.{Leads, Takes, is_starved}
+use Rattle.world_rules.specs.declared.fault.WorldFault.{WorldFault}
+use Rattle.world_rules.specs.declared.fault.WorldFault.TheVariants as faults
+use Rattle.world_rules.specs.World.{is_event}
+use Rattle.world_rules.specs.WorldEvents.{Leads, Takes, is_starved}
 use Rattle.world_laws.specs.SameWorlds.{SameWorld, ShowSame}
-use Rattle.norec_world.proofs.Events.WorldEvents.{waits_not_ended}
+use Rattle.world_rules.proofs.Events.WorldEvents.{waits_not_ended}
 use Rattle.world_laws.proofs.Likeness.Worlds.{waits_same, ending_same, goes_alike}
 
 -- as many actors, each of them alike, have the same open attempts

@@ -1,8 +1,8 @@
 -- Two worlds of equal beginning, before their first event, are the same.
 use Rattle.std.proofs.Common.{◌≡◌, ℕ, ◌/◌, List, [], ◌∷◌, ◌++◌, length, Some, slice_get, sym, ap, subst, ◌∙◌, arith}
-use Rattle.norec_world.proofs.Common.{Attempt, Core, HasStarted, Limits, Rules, SameOpening, World, first_engine, option_and_then, ending_of, slice_get_within, tally_of, words_of}
-use Rattle.norec_world.specs.declared.actor.Actor.{Actor}
-use Rattle.norec_world.specs.Starts.{IsNew}
+use Rattle.world_rules.proofs.Common.{Attempt, Core, HasStarted, Limits, Rules, SameOpening, World, first_engine, option_and_then, ending_of, slice_get_within, tally_of, words_of}
+use Rattle.world_rules.specs.Actor.{Actor}
+use Rattle.world_rules.specs.Starts.{IsNew}
 use Rattle.tx_runs.proofs.RunLists.{there_is}
 use Rattle.world_laws.specs.Alike.{AreAlike}
 use Rattle.world_laws.specs.SameWorlds.{SameWorld}

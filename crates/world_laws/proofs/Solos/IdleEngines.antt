@@ -1,13 +1,13 @@
 -- An engine between two calls.
 use Rattle.std.proofs.Common.{◌≡◌, ℕ, zero, suc, Bool, true, false, Some, refl, sym, ap, subst, ◌∙◌, if◌then◌else◌}
-use Rattle.norec_world.proofs.Common.{Acts, Answer, Answers, Asks, Call, Cells, Core, Ends, HasStarted, IsEvent, Next, Proceeds, Rows, Rules, Tells, after_undoing, ending_of, is_waiting, rests}
-use Rattle.norec_world.specs.declared.actor.Actor.{Actor}
-use Rattle.norec_world.specs.declared.actor.Status.{Status}
-use Rattle.norec_world.specs.declared.actor.Status.TheVariants.{Ready, Waits}
+use Rattle.world_rules.proofs.Common.{Acts, Answer, Answers, Asks, Call, Cells, Core, Ends, HasStarted, IsEvent, Next, Proceeds, Rows, Rules, Tells, after_undoing, ending_of, is_waiting, rests}
+use Rattle.world_rules.specs.Actor.{Actor}
+use Rattle.world_rules.specs.declared.actor.Status.{Status}
+use Rattle.world_rules.specs.declared.actor.Status.TheVariants.{Ready, Waits}
 use Rattle.tx_runs.specs.declared.ending.End.{End}
 use Rattle.norec_core.specs.Phases.{Idle}
 use Rattle.norec_core.specs.Core.{rolled_back}
-use Rattle.norec_world.specs.LocalWork.{ActsOn, TakesIn, calls, finishes, starves}
+use Rattle.world_rules.specs.LocalWork.{ActsOn, TakesIn, calls, finishes, starves}
 use Rattle.world_laws.specs.Sole.{IsIdle}
 
 -- ## An answer

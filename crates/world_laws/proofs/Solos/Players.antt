@@ -1,6 +1,6 @@
 -- A player that runs alone, block by block.
 use Rattle.std.proofs.Common.{◌≡◌, ℕ, zero, suc, ◌+◌, ◌<◌, ◌≤◌, Bool, true, false, not, ◌&&◌, ◌||◌, nat_le, is_none, if◌then◌else◌, List, [], ◌∷◌, ◌++◌, map, Option, None, Some, refl, sym, ap, subst, ◌∙◌, arith, cond}
-use Rattle.norec_world.proofs.Common.{Begin, Beginning, Call, CallRecord, IsAlone, Obeys, Props, Rules, State, Unfinished, after, answers, both_ways, false_from_ne_true, takes_clock, answers_within, begin_code, begin_of, begin_within, cond-false, cond-true, is_open, opened, outside, pair_of, player_then, refusal, reply, same_Some, state_then, turn}
+use Rattle.world_rules.proofs.Common.{Begin, Beginning, Call, CallRecord, IsAlone, Obeys, Props, Rules, State, Unfinished, after, answers, both_ways, false_from_ne_true, takes_clock, answers_within, begin_code, begin_of, begin_within, cond-false, cond-true, is_open, opened, outside, pair_of, player_then, refusal, reply, same_Some, state_then, turn}
 use Rattle.tx_runs.specs.declared.ending.End.TheVariants.{Finished, GaveUp}
 use Rattle.world_laws.specs.Solo.{Progress, Solo, ended_as, one_if, row_of, solo_within, stopped, with_first}
 use Rattle.itm_types.specs.declared.call.Reply.{Reply}

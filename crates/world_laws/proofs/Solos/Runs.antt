@@ -4,7 +4,7 @@ use Rattle.std.proofs.Common.{◌≡◌, ℕ, suc, ◌+◌, ◌<◌, ◌≤◌, 
 use Rattle.std.proofs.Math.Nat.{add-zero}
 use Rattle.std.proofs.lemmas.Bool.{or_parts}
 use Rattle.std.proofs.lemmas.List.{append-nil, take-append-drop}
-use Rattle.norec_world.proofs.Common.{Attempt, Begin, Beginning, Between, Block, Call, ClosedBy, Commit, EndsAs, CallRecord, IsAlone, IsOpaque, IsRunOf, Obeys, Outcome, Refusal, Rules, State, Write, after, after_try, after_unless, alone, answered_all, answers, answers_within, begin_code, begin_of, bytes_at, committed_at, false_from_ne_true, follows, is_at, is_committed, is_done, is_open, memory_left, opened, outside, pair_of, player_then, Props, refusal, reply, run_after, state_then, turn}
+use Rattle.world_rules.proofs.Common.{Attempt, Begin, Beginning, Between, Block, Call, ClosedBy, Commit, EndsAs, CallRecord, IsAlone, IsOpaque, IsRunOf, Obeys, Outcome, Refusal, Rules, State, Write, after, after_try, after_unless, alone, answered_all, answers, answers_within, begin_code, begin_of, bytes_at, committed_at, false_from_ne_true, follows, is_at, is_committed, is_done, is_open, memory_left, opened, outside, pair_of, player_then, Props, refusal, reply, run_after, state_then, turn}
 use Rattle.itm_model.specs.Runs.{answers_through, unbroken}
 use Rattle.tx_attempts.specs.Opacity.{answers_on}
 use Rattle.tx_attempts.specs.Restarts.{breaks_of}

@@ -2,7 +2,7 @@
 use Rattle.std.proofs.Common.{◌≡◌, ℕ, ◌%◌, Bool, true, false, not, ◌&&◌, ◌||◌, nat_lt, if◌then◌else◌, List, [], ◌∷◌, ◌++◌, length, map, replicate, Option, None, Some, refl, sym, ap, subst, ◌∙◌}
 use Rattle.std.proofs.lemmas.Bool.{or_left, or_parts}
 use Rattle.std.specs.Option.{option_map}
-use Rattle.norec_world.proofs.Common.{Begin, Block, Call, Commit, CallRecord, IsAlone, Props, Refusal, Rules, State, after, after_unless, append-nil, false_from_ne_true, is_open, opened, outside, pair_of, refusal, state_then, takes_clock}
+use Rattle.world_rules.proofs.Common.{Begin, Block, Call, Commit, CallRecord, IsAlone, Props, Refusal, Rules, State, after, after_unless, append-nil, false_from_ne_true, is_open, opened, outside, pair_of, refusal, state_then, takes_clock}
 use Rattle.itm_model.specs.Runs.{unbroken}
 use Rattle.itm_types.specs.declared.call.Reply.{Reply}
 use Rattle.itm_types.specs.declared.call.Refusal.TheVariants.{IsIrrevocable, NoAbort}

@@ -1,5 +1,5 @@
 use Rattle.std.proofs.Common.{suc, ◌<◌, Bool, arith, refl, sym, subst, ◌∙◌}
-use Rattle.norec_world.proofs.Events.WorldEvents.{call_falls, call_left_at, leaves_on, over_less, takes_one, waits_still}
+use Rattle.world_rules.proofs.Events.WorldEvents.{call_falls, call_left_at, leaves_on, over_less, takes_one, waits_still}
 use Rattle.script_program.specs.declared.schedule.Item.TheVariants.{Out}
 use Rattle.run_commands.specs.Items.{ItemBegins}
 use Rattle.run_commands.proofs.Loops.{less_first}

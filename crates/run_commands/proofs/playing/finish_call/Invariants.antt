@@ -1,7 +1,7 @@
 use Rattle.std.proofs.Common.{◌≡◌, ℕ, length, true, Ok, IsSome}
-use Rattle.norec_world.specs.World.{waits_at}
-use Rattle.norec_world.specs.WorldEvents.{Takes}
-use Rattle.norec_world.proofs.Events.WorldEvents.{LeavesLessSoFar, call_left_at}
+use Rattle.world_rules.specs.World.{waits_at}
+use Rattle.world_rules.specs.WorldEvents.{Takes}
+use Rattle.world_rules.proofs.Events.WorldEvents.{LeavesLessSoFar, call_left_at}
 use Rattle.run_commands.specs.Plays.{SendsEnded}
 use Rattle.run_commands.proofs.playing.finish_call.Given as goal
 

@@ -1,6 +1,6 @@
 use Rattle.std.proofs.Common.{◌≡◌, ℕ, length, Ok}
-use Rattle.norec_world.specs.WorldEvents.{Takes}
-use Rattle.norec_world.proofs.Events.WorldEvents.{LeavesNoMore, run_left_at, whole_at}
+use Rattle.world_rules.specs.WorldEvents.{Takes}
+use Rattle.world_rules.proofs.Events.WorldEvents.{LeavesNoMore, run_left_at, whole_at}
 use Rattle.run_commands.specs.Plays.{SendsEnded}
 use Rattle.run_commands.proofs.playing.run_out.Given as goal
 

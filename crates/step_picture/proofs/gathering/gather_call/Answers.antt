@@ -1,5 +1,5 @@
 use Rattle.std.proofs.Common.{◌<◌, Bool, refl, sym, subst, ◌∙◌}
-use Rattle.norec_world.proofs.Events.WorldEvents.{call_falls, call_left_at, leaves_on, over_less, waits_still}
+use Rattle.world_rules.proofs.Events.WorldEvents.{call_falls, call_left_at, leaves_on, over_less, waits_still}
 use Rattle.step_table.specs.Rows.{RowsOf, SoMany}
 use Rattle.step_table.proofs.EventRows.{less_first}
 use Rattle.step_table.proofs.RowLists.{both_of, none_of}

@@ -1,6 +1,6 @@
 use Rattle.std.proofs.Common.{◌≡◌, length, true, IsSome}
-use Rattle.norec_world.specs.World.{waits_at}
-use Rattle.norec_world.proofs.Events.WorldEvents.{LeavesLessSoFar, call_left_at}
+use Rattle.world_rules.specs.World.{waits_at}
+use Rattle.world_rules.proofs.Events.WorldEvents.{LeavesLessSoFar, call_left_at}
 use Rattle.step_table.specs.Rows.{RowsOf}
 use Rattle.step_table.proofs.ShownRows.{Written}
 use Rattle.step_table.proofs.showing.finish_call.Given as goal

@@ -1,7 +1,7 @@
 use Rattle.std.proofs.Common.{[], refl, ◌∙◌, arith}
 use Rattle.std.proofs.KnownBytes.{Appends-nil}
 use Rattle.std.proofs.lemmas.Result.{err_from_is_err_and}
-use Rattle.norec_world.proofs.Events.WorldEvents.{no_more_first, no_more_on, run_falls}
+use Rattle.world_rules.proofs.Events.WorldEvents.{no_more_first, no_more_on, run_falls}
 use Rattle.step_table.specs.Rows.{RowsOf}
 use Rattle.step_table.proofs.RowLists.{both_of, none_of}
 use Rattle.step_table.proofs.ShownRows.{written_begun, written_on}

@@ -1,5 +1,5 @@
 use Rattle.norec_world.proofs.{AreOpen, World, are_open, opaque_as, tied_as, subst}
-use Rattle.norec_world.specs.Stages.{opens}
+use Rattle.world_rules.specs.Stages.{opens}
 use Rattle.norec_world.proofs.world.World.attempts.Goals as goal
 
 pub returns-clause-unfinished : goal.returns-clause-unfinished

@@ -30,4 +30,4 @@ returns-clause-tells g c =
 
 pub returns-clause-calls : goal.returns-clause-calls
 returns-clause-calls g c =
-    calls_after g.met.P.Player.laws c.self.view_is c.self.invariant c.args.actor c.index_mut-acting.result.now c.requires c.index_mut-acting.ensures.value c.step.ensures c.work.ensures.worked c.work.ensures.done c.calls-calls.result c.calls-calls.ensures c.saturating_add-self-inside.result
+    calls_after g.met.P.Player.laws c.self.view_is c.self.invariant c.args.actor c.index_mut-acting.result.now c.requires c.index_mut-acting.ensures.value c.step.ensures c.work.ensures.worked c.work.ensures.done c.replies-calls.result c.replies-calls.ensures c.saturating_add-self-inside.result

@@ -1,5 +1,5 @@
 use Rattle.norec_world.proofs.{◌≡◌, Some, slice_get, ap, ◌∙◌, next_cell, next_here, read_there, world_of}
-use Rattle.norec_world.specs.World.{operation_at}
+use Rattle.world_rules.specs.World.{operation_at}
 use Rattle.norec_world.proofs.world.World.next_operation.Goals.{In_ok-step}
 use Rattle.norec_world.proofs.world.World.next_operation.Goals as goal
 

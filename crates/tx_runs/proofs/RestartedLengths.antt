@@ -1,0 +1,41 @@
+-- What a block that goes back to its begin leaves: the arena its length, and as many blocks open.
+use Rattle.std.proofs.Common.{◌≡◌, Bool, true, false, if◌then◌else◌, List, [], ◌∷◌, length, Option, None, Some, refl, ◌∙◌}
+use Rattle.itm_types.proofs.KeptBytes.{length-restored}
+use Rattle.itm_types.specs.declared.call.Props.{Props}
+use Rattle.itm_model.specs.Machine.{back, back_from, entered, irrevocable_from, made_irrevocable, pushed, rolled_back}
+use Rattle.itm_model.specs.State.{Block, Saved, State}
+use Rattle.nest_frames.specs.Nest.{Frame, renewed}
+use Rattle.norec_core.specs.Restarts.{begun_again}
+
+-- ## The arena
+
+entered_long : (s : State) (props : Props) → length (entered s props).arena ≡ length s.arena
+entered_long s props = by_props props.goes_irrevocable
+  where
+    by_mode : (b : Bool) → length (if b then pushed s props else made_irrevocable (pushed s props)).arena ≡ length s.arena
+    by_mode true = refl
+    by_mode false = refl
+
+    by_props : (b : Bool) → length (if b then irrevocable_from (pushed s props) else pushed s props).arena ≡ length s.arena
+    by_props true = by_mode s.irrevocable
+    by_props false = refl
+
+back_long : (s : State) (blocks : List Block) → length (back_from s blocks).arena ≡ length s.arena
+back_long s [] = refl
+back_long s (b ∷ bs) = by_saved b.saved
+  where
+    by_saved : (o : Option Saved) → length (rolled_back s bs o).arena ≡ length s.arena
+    by_saved None = refl
+    by_saved (Some saved) = length-restored saved.kept s.arena
+
+-- gone back, the block leaves the arena its length
+pub again_long : (blocks : List Frame) (s : State) → length (begun_again blocks (back s)).arena ≡ length s.arena
+again_long [] s = back_long s s.blocks
+again_long (b ∷ bs) s = entered_long (back s) b.props ∙ back_long s s.blocks
+
+-- ## The blocks
+
+-- as many are open
+pub renewed_long : (bs : List Frame) → length (renewed bs) ≡ length bs
+renewed_long [] = refl
+renewed_long (b ∷ bs) = refl
