@@ -1,5 +1,5 @@
 -- What a begin and a commit come to on the fast path.
-use Rattle.std.specs.Prelude.{◌≡◌, ℕ, ◌+◌, ◌≤◌, Bool, true, false, if◌then◌else◌, List}
+use Rattle.std.specs.Prelude.{◌≡◌, ℕ, ◌+◌, ◌≤◌, Bool, true, false, if◌then◌else◌, List, length}
 use Rattle.itm_types.specs.declared.step.Step.{Step}
 use Rattle.itm_types.specs.declared.call.Call.{Call}
 use Rattle.itm_types.specs.declared.call.Call.TheVariants.{Commit}
@@ -37,6 +37,12 @@ pub record RowStored {A : Type 0} (words : Words A) (v : View) (e : Core) (row l
   pub few : after ≤ row + 1
   pub steps : List (Step × ℕ)
   pub leads : LeadsOn (cells_of words) v (storing e row loads) (Asks (next_step e row)) steps (view_of pass) (storing e (row + 1) after) (Asks (next_step e (row + 1)))
+
+-- in the commit of `e`, each row was stored, with so many loads, and the clock was freed: by the steps that were asked for from here on
+pub record RowsStored {A : Type 0} (words : Words A) (v : View) (from : Core) (next : Next) (e : Core) (loads : ℕ) (pass : Pass) : Type 0 where
+  pub few : loads ≤ length e.writes
+  pub freed : ℕ
+  pub finds : Finds words v from next freed pass (storing e (length e.writes) loads)
 
 -- the call came to the engine, and all its steps were done, up to this answer
 pub record IsServed {A : Type 0} (words : Words A) (pass : Pass) (e : Core) (call : Call) (again : Bool) (a : Answer) (left : Pass) (new : Core) : Type 0 where

@@ -1,12 +1,12 @@
 //! Outermost begins and commits on the fast path, as functions whose answers come in registers and not through memory: what
 //! stands at each of a program's sites of them is a call and a test.
 
-ghost use Rattle.std.specs.Prelude.{◌≡◌, ◌+◌, ◌^◌, ◌<◌, ◌≤◌, ℕ, IfErr, IfOk, length, true};
+ghost use Rattle.std.specs.Prelude.{◌≡◌, ◌+◌, ◌^◌, ◌<◌, ◌≤◌, IfErr, IfOk, length};
 ghost use Rattle.norec_core.specs.declared.answer.Next.TheVariants.{Step as Asks};
-ghost use Rattle.norec_engine.specs.BlockSteps.{StoresRows, TakesClock, next_step, storing};
+ghost use Rattle.norec_engine.specs.BlockSteps.{StoresRows, WritesBack, exchanging, next_step, storing};
 ghost use Rattle.shared_words.specs.declared.view.View.{View};
 ghost use Rattle.shared_words.specs.Passes.{Owns, cells_of, view_of};
-ghost use Rattle.itm_runtime.specs.Blocks.{BeginsSo, CommitsSo, Finds, RowStored};
+ghost use Rattle.itm_runtime.specs.Blocks.{BeginsSo, CommitsSo, Finds, RowStored, RowsStored};
 ghost use Rattle.itm_runtime.specs.Drives.{Finishes, HasStepped};
 ghost use Rattle.itm_runtime.specs.InCall.{InCall, IsDone};
 ghost use Rattle.itm_runtime.specs.Served.{Start};
@@ -69,7 +69,7 @@ pub(crate) fn begin_block<A: Allocator>(
     Begun::Entered
 }
 
-/// A transaction commits.
+/// A transaction commits. The engine is told of it once all its steps are done.
 #[inline(never)]
 pub(crate) fn commit_block<A: Allocator>(
     words: &Words<A>,
@@ -80,10 +80,13 @@ pub(crate) fn commit_block<A: Allocator>(
     requires stands { Stands (view_of pass.old) engine.old }
     ensures { CommitsSo words.now pass.old engine.old result pass.new engine.new }
 {
-    if engine.commit_writes() {
-        return match take_clock(words, pass, engine) {
-            Ok(at) => Ended::Wrote(at),
-            Err(found) => Ended::Found(found),
+    if engine.commit_takes() {
+        return match write_back(words, pass, engine) {
+            Ok(loads) => Ended::Wrote(engine.commit_at_once(loads)),
+            Err(found) => {
+                let _step = engine.commit_writes();
+                Ended::Found(found)
+            }
         };
     }
     match engine.commit_reads() {
@@ -92,18 +95,18 @@ pub(crate) fn commit_block<A: Allocator>(
     }
 }
 
-/// Takes the clock, and stores the rows. How many had committed before; or what else was found in the clock.
+/// Takes the clock, stores the rows, and frees the clock. How many words were loaded for it; or what else was found in the clock.
 #[inline(always)]
-pub(crate) fn take_clock<A: Allocator>(
+pub(crate) fn write_back<A: Allocator>(
     words: &Words<A>,
     pass: &mut Pass,
-    engine: &mut Engine,
-) -> Result<u64, u64>
+    engine: &Engine,
+) -> Result<usize, u64>
     requires own { Owns words.now pass.old }
-    requires takes { TakesClock engine.old }
-    requires due { (s : Start) × InCall s (view_of pass.old) engine.old (Step.Cas 0 engine.old.snapshot (engine.old.snapshot + 1)) }
-    ensures wrote { IfOk result (λ at. Finishes words.now (view_of pass.old) engine.old (Asks (Step.Cas 0 engine.old.snapshot (engine.old.snapshot + 1))) (Answer.Committed at true) pass.new engine.new) }
-    ensures found { IfErr result (λ n. Finds words.now (view_of pass.old) engine.old (Asks (Step.Cas 0 engine.old.snapshot (engine.old.snapshot + 1))) n pass.new engine.new) }
+    requires back { WritesBack engine.now }
+    requires due { (s : Start) × InCall s (view_of pass.old) (exchanging engine.now) (Step.Cas 0 engine.now.snapshot (engine.now.snapshot + 1)) }
+    ensures stored { IfOk result (λ loads. RowsStored words.now (view_of pass.old) (exchanging engine.now) (Asks (Step.Cas 0 engine.now.snapshot (engine.now.snapshot + 1))) (exchanging engine.now) loads pass.new) }
+    ensures found { IfErr result (λ n. Finds words.now (view_of pass.old) (exchanging engine.now) (Asks (Step.Cas 0 engine.now.snapshot (engine.now.snapshot + 1))) n pass.new (exchanging engine.now)) }
 {
     let snapshot = engine.snapshot();
     let rows = engine.rows();
@@ -114,20 +117,20 @@ pub(crate) fn take_clock<A: Allocator>(
     Ok(store_rows(words, pass, engine, rows))
 }
 
-/// Stores the rows, and frees the clock. The engine is told of them all at once, after the last one.
+/// Stores the rows, and frees the clock. How many words were loaded for it.
 #[inline(always)]
 fn store_rows<A: Allocator>(
     words: &Words<A>,
     pass: &mut Pass,
-    engine: &mut Engine,
+    engine: &Engine,
     rows: usize,
-) -> u64
+) -> usize
     requires own { Owns words.now pass.old }
-    requires takes { TakesClock engine.old }
-    requires stores { StoresRows engine.old }
-    requires rows { rows ≡ length engine.old.writes }
-    requires due { (s : Start) × InCall s (view_of pass.old) (storing engine.old 0 0) (next_step engine.old 0) }
-    ensures { Finishes words.now (view_of pass.old) (storing engine.old 0 0) (Asks (next_step engine.old 0)) (Answer.Committed result true) pass.new engine.new }
+    requires back { WritesBack engine.now }
+    requires stores { StoresRows (exchanging engine.now) }
+    requires rows { rows ≡ length engine.now.writes }
+    requires due { (s : Start) × InCall s (view_of pass.old) (storing (exchanging engine.now) 0 0) (next_step engine.now 0) }
+    ensures { RowsStored words.now (view_of pass.old) (storing (exchanging engine.now) 0 0) (Asks (next_step engine.now 0)) (exchanging engine.now) result pass.new }
 {
     let mut row = 0;
     let mut loads = 0;
@@ -135,9 +138,8 @@ fn store_rows<A: Allocator>(
         loads = store_row(words, pass, engine, row, loads);
         row += 1;
     }
-    let clock = engine.rows_stored(loads);
-    let freed = words.step(pass, Step::Store(0, clock));
-    engine.clock_freed(freed)
+    let _freed = words.step(pass, Step::Store(0, engine.clock_to_free()));
+    loads
 }
 
 /// Stores a row: after a load of the word, where it has a part of it. The number of such loads so far.
@@ -150,13 +152,13 @@ fn store_row<A: Allocator>(
     loads: usize,
 ) -> usize
     requires own { Owns words.now pass.old }
-    requires takes { TakesClock engine.now }
-    requires stores { StoresRows engine.now }
+    requires back { WritesBack engine.now }
+    requires stores { StoresRows (exchanging engine.now) }
     requires within { row < length engine.now.writes }
     requires few { loads ≤ row }
     requires fits { row + 1 < 2 ^ 64 }
-    requires due { (s : Start) × InCall s (view_of pass.old) (storing engine.now row loads) (next_step engine.now row) }
-    ensures { RowStored words.now (view_of pass.old) engine.now row loads pass.new result }
+    requires due { (s : Start) × InCall s (view_of pass.old) (storing (exchanging engine.now) row loads) (next_step engine.now row) }
+    ensures { RowStored words.now (view_of pass.old) (exchanging engine.now) row loads pass.new result }
 {
     let (cell, whole) = engine.row_to_store(row);
     if let Some(value) = whole {

@@ -3,7 +3,7 @@
 //! A program has many sites of these calls. On the fast path each is a call and a test: `whole_words` has the functions. What leads
 //! off it is one more call, of a function whose result is written whole, so that on the fast path no room for it is cleared.
 
-ghost use Rattle.std.specs.Prelude.{◌≡◌, ℕ, Some, false};
+ghost use Rattle.std.specs.Prelude.{◌≡◌, ℕ, IfOk, Some, false};
 ghost use Rattle.itm_types.specs.declared.call.Call.{Call};
 ghost use Rattle.itm_types.specs.declared.step.Step.{Step};
 ghost use Rattle.norec_core.specs.declared.answer.Next.TheVariants.{Step as Asks};
@@ -145,7 +145,8 @@ impl Thread {
         value: u64,
     ) -> Result<u64, Stop>
         requires own { Owns words.now self.old.pass }
-        ensures { Tells words.now self.old (Call.Write WriteHint.W at (number value)) (answer_to_put result) self.new }
+        ensures told { Tells words.now self.old (Call.Write WriteHint.W at (number value)) (answer_to_put result) self.new }
+        ensures number { IfOk result (λ n. n ≡ value) }
     {
         let mut stop = Stop::Memory;
         if self.write_told(words, at, value, &mut stop) {

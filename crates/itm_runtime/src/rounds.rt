@@ -2,9 +2,9 @@
 //!
 //! Each function does the step that is asked for and those that come with it, and tells the next one.
 
-ghost use Rattle.std.specs.Prelude.{◌+◌};
+ghost use Rattle.std.specs.Prelude.{◌≡◌, ◌+◌};
 ghost use Rattle.norec_core.specs.Phases.{RoundStart};
-ghost use Rattle.norec_engine.specs.BlockSteps.{TakesClock};
+ghost use Rattle.norec_engine.specs.BlockSteps.{TakesClock, exchanging};
 ghost use Rattle.norec_engine.specs.NextSteps.{next_in};
 ghost use Rattle.norec_engine.specs.Rounds.{Validates};
 ghost use Rattle.shared_words.specs.Passes.{Owns, view_of};
@@ -12,7 +12,7 @@ ghost use Rattle.itm_runtime.specs.Drives.{StepsOn};
 ghost use Rattle.itm_runtime.specs.InCall.{InCall};
 ghost use Rattle.itm_runtime.specs.Served.{Start};
 
-use crate::blocks::take_clock;
+use crate::blocks::write_back;
 use itm_types::Step;
 use norec_core::Answer;
 use norec_engine::Engine;
@@ -57,11 +57,13 @@ pub(crate) fn commit_again<A: Allocator>(
 ) -> Option<Step>
     requires own { Owns words.now pass.old }
     requires takes { TakesClock engine.old }
+    requires asked { exchanging engine.old ≡ engine.old }
     requires due { (s : Start) × InCall s (view_of pass.old) engine.old (Step.Cas 0 engine.old.snapshot (engine.old.snapshot + 1)) }
     ensures { StepsOn words.now (view_of pass.old) engine.old (Step.Cas 0 engine.old.snapshot (engine.old.snapshot + 1)) pass.new engine.new (next_in result answer.new) }
 {
-    match take_clock(words, pass, engine) {
-        Ok(at) => {
+    match write_back(words, pass, engine) {
+        Ok(loads) => {
+            let at = engine.rows_stored(loads);
             *answer = Answer::Committed { at, wrote: true };
             None
         }

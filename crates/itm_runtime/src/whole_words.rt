@@ -1,7 +1,7 @@
 //! Reads and writes of numbers on the fast path, as functions whose answers come in registers: what stands at each of a
 //! program's sites of them is a call and a test.
 
-ghost use Rattle.std.specs.Prelude.{◌≡◌, ◌+◌, ℕ, IfErr, IfOk, false, true};
+ghost use Rattle.std.specs.Prelude.{◌≡◌, ◌≢◌, ◌+◌, ◌≤◌, IfErr, IfOk, false, length, true};
 ghost use Rattle.norec_core.specs.declared.answer.Next.TheVariants.{Step as Asks, Answer as Answers};
 ghost use Rattle.norec_core.specs.Moves.{IsCalled};
 ghost use Rattle.norec_engine.specs.WholeReads.{LoadsWord, ReadsAtOnce};
@@ -20,6 +20,9 @@ use norec_core::Answer;
 use norec_engine::Engine;
 use shared_words::{Pass, Words};
 use std::alloc::Allocator;
+
+/// The rows of so many written words are looked at one by one.
+const FEW_WRITES: usize = 8;
 
 /// How far a read of a number went on the fast path.
 #[derive(Clone, Copy)]
@@ -51,16 +54,36 @@ pub(crate) fn look<A: Allocator>(
     requires stands { Stands (view_of pass.old) engine.old }
     ensures { LooksSo words.now pass.old engine.old (Call.Read ReadHint.R Width.U8 at) result pass.new engine.new }
 {
-    if engine.has_writes() {
+    let written = engine.written();
+    if written == 0 {
+        look_here(words, pass, engine, at)
+    } else if written <= FEW_WRITES {
         look_beside_writes(words, pass, engine, at)
     } else {
-        look_here(words, pass, engine, at)
+        look_among_writes(words, pass, engine, at)
     }
 }
 
-/// The same, where words are written. (Apart: the look for a row is a call, and what has one saves registers.)
+/// The same, where few words are written. (Apart: their rows are looked at one by one, which is much code.)
 #[inline(never)]
 fn look_beside_writes<A: Allocator>(
+    words: &Words<A>,
+    pass: &mut Pass,
+    engine: &mut Engine,
+    at: u64,
+) -> Looked
+    requires own { Owns words.now pass.old }
+    requires stands { Stands (view_of pass.old) engine.old }
+    requires few { length engine.old.writes ≤ 8 }
+    ensures { LooksSo words.now pass.old engine.old (Call.Read ReadHint.R Width.U8 at) result pass.new engine.new }
+{
+    prove!(engine.written() <= FEW_WRITES);
+    look_here(words, pass, engine, at)
+}
+
+/// The same, where more are. (Apart: the look for a row is a call, and what has one saves registers.)
+#[inline(never)]
+fn look_among_writes<A: Allocator>(
     words: &Words<A>,
     pass: &mut Pass,
     engine: &mut Engine,
@@ -154,6 +177,7 @@ fn load_both<A: Allocator>(
     requires due { (s : Start) × InCall s (view_of pass.old) engine.old (Step.Load (word + 1)) }
     ensures number { IfOk result (λ n. Finishes words.now (view_of pass.old) engine.old (Asks (Step.Load (word + 1))) (Answer.Reply (Reply.Bytes (record { items = bytes_of_number n }))) pass.new engine.new) }
     ensures moved { IfErr result (λ clock. Finds words.now (view_of pass.old) engine.old (Asks (Step.Load (word + 1))) clock pass.new engine.new) }
+    ensures other { IfErr result (λ clock. clock ≢ engine.old.snapshot) }
 {
     let value = words.step(pass, Step::Load(word + 1));
     let clock = words.step(pass, Step::Load(0));

@@ -22,13 +22,13 @@ use Rattle.norec_data.specs.declared.end.CallEnd.TheVariants.{Committed, Entered
 use Rattle.norec_data.specs.declared.turn.Turn.{Turn}
 use Rattle.norec_data.specs.declared.turn.Turn.TheVariants.{End, Wait}
 use Rattle.norec_data.specs.Ends.{answer_of, told}
-use Rattle.norec_data.specs.View.{core, in_block, phase_of}
+use Rattle.norec_data.specs.View.{in_block, phase_of}
 use Rattle.norec_revocable.specs.InPhases.{IsSound}
 use Rattle.norec_data.specs.Turns.{counted}
 use Rattle.norec_revocable.specs.Moves.{CallTurns, StepGoesTo, StepTurns}
 use Rattle.norec_revocable.specs.OuterBegins.{BeginTurns}
 use Rattle.norec_engine.specs.Modes.{engine_in, IsSoundIn}
-use Rattle.norec_engine.specs.BlockSteps.{FreesClock, IsBegun, TakesClock, begins_outer}
+use Rattle.norec_engine.specs.BlockSteps.{IsBegun, begins_outer}
 use Rattle.norec_engine.proofs.EitherTurns.{resumed_in, revocable_step}
 use Rattle.norec_engine.proofs.IdleEngines.{asks_for, left_is, left_sound, sound_idle}
 use Rattle.norec_engine.proofs.FastSteps.{outside_revocable}
@@ -39,10 +39,6 @@ use Rattle.norec_engine.proofs.WholeReads.{mode_is, stage_is}
 exchange_waits : (d : Data) (p : Pending) (t : Taking) → phase_of d p ≡ at.Exchange t → p ≡ waits.Exchange
 exchange_waits d waits.Exchange t is = refl
 exchange_waits d p t is = absurd (cc)
-
-free_waits : (d : Data) (p : Pending) → phase_of d p ≡ at.Free → p ≡ waits.Free
-free_waits d waits.Free is = refl
-free_waits d p is = absurd (cc)
 
 same_taking : (a b : Taking) → at.Exchange a ≡ at.Exchange b → a ≡ b
 same_taking a b is = cc
@@ -62,9 +58,6 @@ module _ (b : Bool) (d : Data) (p : Pending) (c : Core) (view : engine_in b d (p
   exchange_at is =
       let here = exchange_waits d p takings.Commit (stage ∙ is) in
       (here, same_taking d.taking takings.Commit (sym (ap (phase_of d) here) ∙ (stage ∙ is)), sound_for waits.Exchange here)
-
-  pub free_at : c.stage ≡ at.Free → (p ≡ waits.Free) × IsSound d at.Free
-  free_at is = (let here = free_waits d p (stage ∙ is) in (here, sound_for waits.Free here))
 
 -- ## An outermost begin that stays revocable
 
@@ -144,27 +137,6 @@ module _ (b : Bool) (d : Data) (p : Pending) (c : Core) (view : engine_in b d (p
         called = outer_called room again t.mid t.called;
         resumed = subst (IsResumed (engine_in b mid (phase_of mid waits.Begin)) clock (Answers (Reply (Code code)))) (left_is b d p c view sound none outer_mode t.last new t.same) resumed;
       }
-
--- ## What the engine waits for then
-
-module _ (b : Bool) (d : Data) (p : Pending) (mode : b ≡ false) where
-  pub takes_at : p ≡ waits.Exchange → d.taking ≡ takings.Commit → 0 < length d.frames.writes.rows → TakesClock (engine_in b d (phase_of d p))
-  takes_at is taking some =
-      subst (λ (m : Bool). TakesClock (engine_in m d (phase_of d p))) (sym mode)
-      (subst (λ (q : Pending). TakesClock (core d (phase_of d q))) (sym is) (record { revocable = refl; stage = ap at.Exchange taking; some = some }))
-
-  pub frees_at : p ≡ waits.Free → FreesClock (engine_in b d (phase_of d p))
-  frees_at is =
-      subst (λ (m : Bool). FreesClock (engine_in m d (phase_of d p))) (sym mode)
-      (subst (λ (q : Pending). FreesClock (core d (phase_of d q))) (sym is) (record { revocable = refl; stage = refl }))
-
-  -- the rows that it stores
-  pub rows_exchanged : p ≡ waits.Exchange → (engine_in b d (phase_of d p)).writes ≡ d.frames.writes.rows
-  rows_exchanged is = λ i. (engine_in (mode i) d (phase_of d (is i))).writes
-
-pub snapshot_is : (b : Bool) (d : Data) (phase : Phase) → (engine_in b d phase).snapshot ≡ d.snapshot
-snapshot_is true d phase = refl
-snapshot_is false d phase = refl
 
 -- ## The clock that is freed
 

@@ -1,11 +1,13 @@
 -- The rows of a commit, as the engine's callers see them stored.
-use Rattle.std.proofs.Common.{◌≡◌, ℕ, ◌+◌, ◌*◌, ◌<◌, ◌≤◌, Bool, false, [], length, List, Option, None, Some, true, arith, refl, sym, ap, subst, ◌∙◌}
+use Rattle.std.proofs.Common.{◌≡◌, ℕ, ◌+◌, ◌*◌, ◌<◌, ◌≤◌, Bool, false, [], inl, inr, length, List, Option, None, Some, true, arith, refl, sym, ap, subst, ◌∙◌}
+use Rattle.itm_types.specs.declared.call.Call.TheVariants.{Commit as CommitCall}
 use Rattle.write_set.specs.declared.row.Row.{Row}
 use Rattle.itm_types.specs.declared.step.Step.{Step}
+use Rattle.itm_types.specs.declared.step.Step.TheVariants.{Cas}
 use Rattle.norec_core.specs.Core.{Core}
 use Rattle.norec_core.specs.Phases.{Phase}
 use Rattle.norec_core.specs.Phases as at
-use Rattle.norec_core.specs.Moves.{IsResumed}
+use Rattle.norec_core.specs.Moves.{IsCalled, IsResumed}
 use Rattle.norec_core.specs.Order.{step_in}
 use Rattle.norec_core.specs.declared.answer.Next.TheVariants.{Step as Asks}
 use Rattle.norec_core.specs.declared.call_parts.Taking.{Taking}
@@ -17,11 +19,17 @@ use Rattle.norec_data.specs.declared.turn.Turn.TheVariants.{Wait}
 use Rattle.norec_data.specs.Turns.{counted}
 use Rattle.norec_data.specs.View.{core, in_block, phase_of}
 use Rattle.norec_revocable.specs.Between as fields
+use Rattle.norec_revocable.specs.CommitCalls.{asking_commit}
 use Rattle.norec_revocable.specs.InPhases.{IsSound}
+use Rattle.norec_revocable.specs.Moves.{CallTurns}
+use Rattle.norec_revocable.proofs.CommitCalls.{asks}
 use Rattle.norec_revocable.proofs.StoredRows.{after_row, after_taking, asking, asks_next, last_stage, may_first, may_store, part_loaded, part_stage, sound_load, whole_stage}
-use Rattle.norec_engine.specs.Modes.{engine_in}
-use Rattle.norec_engine.specs.BlockSteps.{IsWhole, StoresRows, merging, next_step, part_store, storing}
+use Rattle.norec_engine.specs.Modes.{engine_in, IsSoundIn}
+use Rattle.norec_engine.specs.BlockSteps.{CommitTakes, IsWhole, StoresRows, TakesClock, WritesBack, exchanging, merging, next_step, part_store, storing}
+use Rattle.norec_engine.proofs.BlockSteps.{exchange_at, mode}
+use Rattle.norec_engine.proofs.IdleEngines.{asks_for, core_idle, sound_idle}
 use Rattle.norec_engine.proofs.RevocableTurns.{resumed}
+use Rattle.norec_engine.proofs.WholeReads.{stage_is}
 
 -- the engine with these fields, as it takes the clock to commit what is written
 module _ (d : Data) (commit : d.taking ≡ takings.Commit) (sound : IsSound d (at.Exchange d.taking)) where
@@ -104,9 +112,71 @@ module _ (d : Data) (commit : d.taking ≡ takings.Commit) (sound : IsSound d (a
         (stored (Some found) (row + loads + 2) row (loads + 1) seen (omega (arith, few)) (omega (arith, within)) (omega arith));
   }
 
--- an engine of these fields, as its callers see it, in a revocable transaction
-pub taken_as : (b : Bool) (d : Data) (p : Pending) (c : Core) → engine_in b d (phase_of d p) ≡ c → b ≡ false → p ≡ waits.Exchange → d.taking ≡ takings.Commit → core d (at.Exchange takings.Commit) ≡ c
-taken_as b d p c view revocable is commit = sym ((λ i. engine_in (revocable i) d (phase_of d (is i))) ∙ ap (λ (t : Taking). core d (at.Exchange t)) commit) ∙ view
+-- ## As its callers see it
+
+-- the fields as the clock is asked for, to commit what is written
+abbrev pub asking_fields : Data → ℕ → ℕ → ℕ → Data
+asking_fields d spent entry tries = record d { taking = takings.Commit; spent = spent; entry = entry; tries = tries }
+
+-- these fields are those of the engine once it asks for it
+pub record Exchanges (d : Data) (c : Core) : Type 0 where
+  pub spent : ℕ
+  pub entry : ℕ
+  pub tries : ℕ
+  pub same : core (asking_fields d spent entry tries) (at.Exchange takings.Commit) ≡ exchanging c
+  pub sound : IsSound (asking_fields d spent entry tries) (at.Exchange takings.Commit)
+
+module _ (b : Bool) (d : Data) (p : Pending) (c : Core) (view : engine_in b d (phase_of d p) ≡ c) (sound : IsSoundIn b d (phase_of d p)) where
+  -- it waits for the clock already
+  waiting : TakesClock c → (core d (at.Exchange takings.Commit) ≡ c) × IsSound (record d { taking = takings.Commit }) (at.Exchange takings.Commit)
+  waiting t =
+      let here = exchange_at b d p c view sound t.revocable t.stage in
+      let shown = (λ i. engine_in (mode b d p c view sound t.revocable i) d (phase_of d (here.0 i))) ∙ ap (λ (k : Taking). core d (at.Exchange k)) here.1 in
+      (sym shown ∙ view, subst (λ (k : Taking). IsSound (record d { taking = k }) (at.Exchange k)) here.1 here.2)
+
+  exchanges_waiting : TakesClock c → Exchanges d c
+  exchanges_waiting t = (let w = waiting t in record { spent = d.spent; entry = d.entry; tries = d.tries; same = ap exchanging w.0; sound = w.1 })
+
+  pub shown_taking : TakesClock c → core d (at.Exchange takings.Commit) ≡ c
+  shown_taking t = (waiting t).0
+
+  -- as it waits for it, it is as it is seen
+  pub exchanging_now : TakesClock c → exchanging c ≡ c
+  exchanging_now t = (let w = waiting t in sym (ap exchanging w.0) ∙ w.0)
+
+  -- or a commit comes now
+  module _ (t : CommitTakes c) where
+    none : c.waits ≡ None
+    none =
+        let here = sym (stage_is b d (phase_of d p)) ∙ (ap (λ (e : Core). e.stage) view ∙ t.stage) in
+        sym (ap (λ (e : Core). e.waits) view) ∙ (λ i. (engine_in (mode b d p c view sound t.revocable i) d (here i)).waits)
+
+    pub comes_idle : core d at.Idle ≡ c
+    comes_idle = core_idle b d p c view sound none (mode b d p c view sound t.revocable)
+
+    pub comes_sound : IsSound d at.Idle
+    comes_sound = sound_idle b d p c view sound none (mode b d p c view sound t.revocable)
+
+    pub comes_shown : CommitTakes (core d at.Idle)
+    comes_shown = subst CommitTakes (sym comes_idle) t
+
+    called : CallTurns d CommitCall false (Wait waits.Exchange) (asking_commit d)
+    called = (let i = comes_shown in asks d comes_sound i.outermost i.some i.free)
+
+    exchanges_coming : Exchanges d c
+    exchanges_coming = record { spent = 1; entry = length d.log.rows; tries = 0; same = ap exchanging comes_idle; sound = called.sound.sound }
+
+    pub commit_comes : IsCalled c CommitCall false (Asks (Cas 0 c.snapshot (c.snapshot + 1))) (exchanging c)
+    commit_comes =
+        let m = mode b d p c view sound t.revocable in
+        let mid = counted (asking_commit d) in
+        subst (λ (e : Core). IsCalled c CommitCall false (Asks (Cas 0 e.snapshot (e.snapshot + 1))) (exchanging e)) comes_idle
+        (subst (λ (x : Bool). IsCalled c CommitCall false (Asks (Cas 0 d.snapshot (d.snapshot + 1))) (engine_in x mid (at.Exchange takings.Commit))) m
+        (asks_for b d p c view sound none m CommitCall false waits.Exchange (asking_commit d) called))
+
+  pub exchanges : WritesBack c → Exchanges d c
+  exchanges (inl t) = exchanges_waiting t
+  exchanges (inr t) = exchanges_coming t
 
 -- once each row is stored
 pub stored_as : (b : Bool) (d new : Data) (loads : ℕ) (c : Core) → b ≡ false → d.taking ≡ takings.Commit → core d (at.Exchange takings.Commit) ≡ c → IsSound d (at.Exchange d.taking) → new ≡ fields.storing d d.got (length d.frames.writes.rows + loads + 1)

@@ -1,16 +1,16 @@
 -- The steps of an outermost begin, and of a commit that stores whole words.
-use Rattle.std.specs.Prelude.{◌≡◌, ℕ, suc, ◌+◌, ◌<◌, ◌≤◌, ◌||◌, not, Bool, true, false, [], None, Some, length}
-use Rattle.itm_types.specs.declared.call.Call.TheVariants.{Begin}
+use Rattle.std.specs.Prelude.{◌≡◌, ◌⊎◌, ℕ, suc, ◌+◌, ◌/◌, ◌<◌, ◌≤◌, ◌||◌, not, Bool, true, false, if◌then◌else◌, [], None, Some, length}
+use Rattle.itm_types.specs.declared.call.Call.TheVariants.{Begin, Commit as CommitCall}
 use Rattle.itm_types.specs.declared.call.Props.{Props}
 use Rattle.itm_types.specs.declared.call.Reply.TheVariants.{Code}
 use Rattle.itm_types.specs.declared.step.Step.{Step}
-use Rattle.itm_types.specs.declared.step.Step.TheVariants.{Load, Store as StoreIn}
+use Rattle.itm_types.specs.declared.step.Step.TheVariants.{Cas, Load, Store as StoreIn}
 use Rattle.word_pieces.specs.Masks.{whole}
 use Rattle.norec_core.specs.declared.answer.Answer.TheVariants.{Reply}
 use Rattle.norec_core.specs.declared.answer.Next.TheVariants.{Step as Asks, Answer as Answers}
-use Rattle.norec_core.specs.Core.{Core, in_transaction}
+use Rattle.norec_core.specs.Core.{Core, in_transaction, is_outermost}
 use Rattle.norec_core.specs.Moves.{IsCalled, IsResumed}
-use Rattle.norec_core.specs.Phases.{Exchange, Store, Free}
+use Rattle.norec_core.specs.Phases.{Phase, Exchange, Idle, Store}
 use Rattle.norec_core.specs.Order.{step_in, store_stage}
 use Rattle.norec_core.specs.Rows.{value_into, write_at}
 use Rattle.norec_core.specs.declared.call_parts.Taking.TheVariants.{Commit}
@@ -30,6 +30,35 @@ pub record TakesClock (e : Core) : Type 0 where
   pub revocable : e.irrevocable ≡ false
   pub stage : e.stage ≡ Exchange Commit
   pub some : 0 < length e.writes
+
+-- between two calls: a commit that comes now takes the clock
+pub record CommitTakes (e : Core) : Type 0 where
+  pub revocable : e.irrevocable ≡ false
+  pub stage : e.stage ≡ Idle
+  pub outermost : is_outermost e.blocks ≡ true
+  pub some : 0 < length e.writes
+  pub free : e.snapshot / 2 < e.max_commits
+
+-- what is written is to be stored: by a commit that waits for the clock, or that comes now
+abbrev pub WritesBack : Core → Type 0
+WritesBack e = TakesClock e ⊎ CommitTakes e
+
+-- between two calls
+abbrev pub is_idle : Phase → Bool
+is_idle Idle = true
+is_idle _ = false
+
+-- as that commit waits for the clock
+abbrev pub exchanging : Core → Core
+exchanging e = record e {
+  doing = Some CommitCall;
+  again = false;
+  waits = Some (Cas 0 e.snapshot (e.snapshot + 1));
+  stage = Exchange Commit;
+  spent = if is_idle e.stage then 1 else e.spent;
+  tries = if is_idle e.stage then 0 else e.tries;
+  entry = if is_idle e.stage then length e.log else e.entry;
+}
 
 -- the row is one of a whole word
 abbrev pub IsWhole : Core → ℕ → Type 0
@@ -57,8 +86,3 @@ pub record StoresRows (e : Core) : Type 0 where
   pub whole : (row loads seen : ℕ) → row < length e.writes → IsWhole e row → loads ≤ row → IsResumed (storing e row loads) seen (Asks (next_step e (row + 1))) (storing e (row + 1) loads)
   pub load : (row loads found : ℕ) → row < length e.writes → ¬ IsWhole e row → loads ≤ row → IsResumed (storing e row loads) found (Asks (part_store e row found)) (merging e row loads found)
   pub part : (row loads found seen : ℕ) → row < length e.writes → loads ≤ row → IsResumed (merging e row loads found) seen (Asks (next_step e (row + 1))) (storing e (row + 1) (loads + 1))
-
--- each row is stored, and it frees the clock
-pub record FreesClock (e : Core) : Type 0 where
-  pub revocable : e.irrevocable ≡ false
-  pub stage : e.stage ≡ Free

@@ -1,18 +1,18 @@
 //! Outermost begins and commits on the fast path, of a block that stays revocable.
 //!
 //! Each function does one step of the call, or a begin with its step, and makes no answer: who calls it knows which one it is.
-//! Where the step leads to anything else, it changes nothing, and tells so. Only the rows of a commit are stored with no change
-//! to the engine, which is told of them together.
+//! Where the step leads to anything else, it changes nothing, and tells so. A commit changes nothing until all its steps are done:
+//! an atomic step waits for the stores before it.
 
 ghost use Rattle.std.specs.Prelude.{◌≡◌, ◌+◌, ◌/◌, ◌%◌, ◌<◌, ◌≤◌, ℕ, IfNone, IfSome, None, Some, length, true, false, if◌then◌else◌};
 ghost use Rattle.norec_core.specs.Moves.{IsCalled, IsResumed};
 ghost use Rattle.norec_core.specs.declared.answer.Next.TheVariants.{Step as Asks, Answer as Answers};
 ghost use Rattle.norec_core.specs.Rows.{value_into, write_at};
-ghost use Rattle.norec_engine.specs.BlockSteps.{FreesClock, IsBegun, IsWhole, StoresRows, TakesClock, begins_outer, next_step, storing};
+ghost use Rattle.norec_engine.specs.BlockSteps.{CommitTakes, IsBegun, IsWhole, StoresRows, TakesClock, WritesBack, begins_outer, exchanging, next_step, storing};
 
 use crate::engine::Engine;
 use crate::turns::wait;
-use itm_types::{Call, ENTERED, ENTERED_AGAIN, Props, Reply, Step};
+use itm_types::{Call, ENTERED, ENTERED_AGAIN, Props, Step};
 use norec_core::Answer;
 use norec_data::Pending;
 use norec_revocable::{ask_free, begin_at_once, begin_outer, commit_reads, commit_writes, freed};
@@ -77,14 +77,13 @@ impl Engine {
         Some(self.state.snapshot / 2)
     }
 
-    /// The same of one that wrote: the clock is to be taken.
+    /// Whether a commit that comes now takes the clock: the transaction is revocable, one block is open, something is written, and
+    /// fewer have committed than may.
     #[inline(always)]
-    pub fn commit_writes(&mut self) -> bool
-        requires idle { self.old.waits ≡ None }
-        ensures none { result ≡ false → self.new ≡ self.old }
-        ensures called { result ≡ true → IsCalled self.old Call.Commit false (Asks (Step.Cas 0 self.old.snapshot (self.old.snapshot + 1))) self.new }
-        ensures takes { result ≡ true → TakesClock self.new }
-        ensures snapshot { self.new.snapshot ≡ self.old.snapshot }
+    pub fn commit_takes(&self) -> bool
+        requires idle { self.now.waits ≡ None }
+        ensures takes { (result ≡ true → CommitTakes self.now) × (CommitTakes self.now → result ≡ true) }
+        ensures called { CommitTakes self.now → IsCalled self.now Call.Commit false (Asks (Step.Cas 0 self.now.snapshot (self.now.snapshot + 1))) (exchanging self.now) }
     {
         if self.irrevocable
             || !self.state.is_outermost()
@@ -93,34 +92,25 @@ impl Engine {
         {
             return false;
         }
-        commit_writes(&mut self.state);
-        let _step = wait(&mut self.state, &mut self.pending, false, Pending::Exchange);
         true
     }
 
-    /// The same, with the step that takes the clock.
+    /// `call_into` of such a commit: the clock is to be taken.
     #[inline(always)]
-    pub(crate) fn commit_step(&mut self) -> Option<Step>
+    pub fn commit_writes(&mut self) -> Step
         requires idle { self.old.waits ≡ None }
-        ensures none { IfNone result (self.new ≡ self.old) }
-        ensures called { IfSome result (λ step. IsCalled self.old Call.Commit false (Asks step) self.new) }
+        requires takes { CommitTakes self.old }
+        ensures state { self.new ≡ exchanging self.old }
+        ensures step { result ≡ Step.Cas 0 self.old.snapshot (self.old.snapshot + 1) }
     {
-        if self.irrevocable
-            || !self.state.is_outermost()
-            || self.state.frames.len() == 0
-            || self.state.limits.max_commits <= self.state.snapshot / 2
-        {
-            return None;
-        }
         commit_writes(&mut self.state);
-        let step = wait(&mut self.state, &mut self.pending, false, Pending::Exchange);
-        Some(step)
+        wait(&mut self.state, &mut self.pending, false, Pending::Exchange)
     }
 
     /// The cell of a row, and the value that is stored there, where the row is one of a whole word.
     #[inline(always)]
     pub fn row_to_store(&self, row: usize) -> (u32, Option<u64>)
-        requires takes { TakesClock self.now }
+        requires back { WritesBack self.now }
         requires within { row < length self.now.writes }
         ensures cell { result.0 ≡ (write_at self.now.writes row).word + 1 }
         ensures whole { IfSome result.1 (λ value. IsWhole self.now row × (next_step self.now row ≡ Step.Store result.0 value)) }
@@ -138,7 +128,7 @@ impl Engine {
     /// The value that is stored of a row that has a part of its word, into what was found there.
     #[inline(always)]
     pub fn part_over(&self, row: usize, found: u64) -> u64
-        requires takes { TakesClock self.now }
+        requires back { WritesBack self.now }
         requires within { row < length self.now.writes }
         ensures { result ≡ value_into (write_at self.now.writes row) (Some found) }
     {
@@ -146,38 +136,47 @@ impl Engine {
         merge(found, written.mask, written.value)
     }
 
-    /// `resume_into` with all that was found as the clock was taken, and then the rows stored, with so many loads: the clock is
-    /// to be freed. What it is freed with.
+    /// What the clock is freed with, once the rows are stored.
+    #[inline(always)]
+    pub fn clock_to_free(&self) -> u64
+        requires back { WritesBack self.now }
+        ensures { next_step self.now (length self.now.writes) ≡ Step.Store 0 result }
+    {
+        self.state.snapshot + 2
+    }
+
+    /// `resume_into` with all that was found as the clock was taken, then the rows stored, with so many loads, and the clock freed: the
+    /// transaction has committed. The number of commits before it.
     #[inline(always)]
     pub fn rows_stored(&mut self, loads: usize) -> u64
         requires takes { TakesClock self.old }
         requires few { loads ≤ length self.old.writes }
-        ensures storing { self.new ≡ storing self.old (length self.old.writes) loads }
-        ensures step { next_step self.old (length self.old.writes) ≡ Step.Store 0 result }
-        ensures frees { FreesClock self.new }
+        ensures { (seen : ℕ) → IsResumed (storing self.old (length self.old.writes) loads) seen (Answers (Answer.Committed result true)) self.new }
     {
         ask_free(&mut self.state, loads);
-        self.pending = Pending::Free;
-        self.state.snapshot + 2
+        self.pending = Pending::Idle;
+        let _turn = freed(&mut self.state);
+        self.state.snapshot / 2
     }
 
-    /// The same with the clock freed: the transaction has committed. The number of commits before it.
+    /// The same of a commit that comes now.
     #[inline(always)]
-    pub fn clock_freed(&mut self, seen: u64) -> u64
-        requires frees { FreesClock self.old }
-        ensures { IsResumed self.old seen (Answers (Answer.Committed result true)) self.new }
+    pub fn commit_at_once(&mut self, loads: usize) -> u64
+        requires idle { self.old.waits ≡ None }
+        requires takes { CommitTakes self.old }
+        requires few { loads ≤ length self.old.writes }
+        ensures { (seen : ℕ) → IsResumed (storing (exchanging self.old) (length self.old.writes) loads) seen (Answers (Answer.Committed result true)) self.new }
     {
-        let _turn = freed(&mut self.state);
-        self.pending = Pending::Idle;
-        self.state.snapshot / 2
+        let _step = self.commit_writes();
+        self.rows_stored(loads)
     }
 
     /// The number of rows that are written. The clause tells how they are stored.
     #[inline(always)]
     pub fn rows(&self) -> usize
-        requires commits { TakesClock self.now }
+        requires back { WritesBack self.now }
         ensures count { result ≡ length self.now.writes }
-        ensures stores { StoresRows self.now }
+        ensures stores { StoresRows (exchanging self.now) }
     {
         self.state.frames.len()
     }

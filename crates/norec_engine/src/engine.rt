@@ -171,8 +171,8 @@ impl Engine {
                 }
             }
             Call::Commit => {
-                if let Some(step) = self.commit_step() {
-                    return Ok(Some(step));
+                if self.commit_takes() {
+                    return Ok(Some(self.commit_writes()));
                 }
             }
             _ => {}

@@ -4,11 +4,11 @@
 //! of the fast path does one thing of all that, and stands where it is called: a driver that knows what most often comes
 //! next has no dispatch, and moves no answer about.
 //!
-//! Where anything else is to be done, such a function changes nothing, and tells so by `None`; no one else tests for it. The
-//! driver then takes the slow path: it hands the same to the general function, in a function of its own that does the whole
-//! rest of the call. What came back onto the fast path would have to be told apart there.
+//! Where anything else is to be done, such a function changes nothing, and tells so. The driver then takes the slow path: it
+//! hands the same to the general function, in a function of its own that does the whole rest of the call. What came back onto
+//! the fast path would have to be told apart there. (`call_into` looks once more, for who has no fast path of his own.)
 
-ghost use Rattle.std.specs.Prelude.{◌≡◌, ◌+◌, ℕ, IfNone, IfSome, IsTrue, OnSome, None, length, true, false, ◌<◌, ◌↔◌};
+ghost use Rattle.std.specs.Prelude.{◌≡◌, ◌+◌, ℕ, IfNone, IfSome, OnSome, None, length, true, false};
 ghost use Rattle.std.specs.Int.{w64, to_le_bytes};
 ghost use Rattle.norec_core.specs.Moves.{IsCalled, IsResumed};
 ghost use Rattle.norec_core.specs.declared.answer.Next.TheVariants.{Step as Asks, Answer as Answers};
@@ -148,13 +148,13 @@ impl Engine {
         number
     }
 
-    /// Whether a word is written, between two calls.
+    /// The number of words that are written, between two calls.
     #[inline(always)]
-    pub fn has_writes(&self) -> bool
+    pub fn written(&self) -> usize
         requires idle { self.now.waits ≡ None }
-        ensures { IsTrue result ↔ (0 < length self.now.writes) }
+        ensures { result ≡ length self.now.writes }
     {
-        self.state.frames.len() > 0
+        self.state.frames.len()
     }
 
     /// Whether the fast path does a write: one in one word, in a revocable transaction, that is not refused. The clause says so

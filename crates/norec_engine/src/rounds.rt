@@ -3,12 +3,12 @@
 //! `resume_into` dispatches over all phases. Who asks first which step of a round is waited for hands its value in by that
 //! phase's own function. (A test before the step alone would not do: across an atomic step compilers forget what it found.)
 
-ghost use Rattle.std.specs.Prelude.{◌≡◌, ℕ, IfSome, true};
+ghost use Rattle.std.specs.Prelude.{◌≡◌, ℕ, IfNone, IfSome, true};
 ghost use Rattle.norec_core.specs.Aims.{Aim};
 ghost use Rattle.norec_core.specs.Moves.{IsResumed};
 ghost use Rattle.norec_core.specs.Phases.{RoundEnd, RoundRow, RoundStart};
 ghost use Rattle.norec_core.specs.Proceeds.{Fits};
-ghost use Rattle.norec_engine.specs.BlockSteps.{TakesClock};
+ghost use Rattle.norec_engine.specs.BlockSteps.{TakesClock, exchanging};
 ghost use Rattle.norec_engine.specs.NextSteps.{next_in};
 ghost use Rattle.norec_engine.specs.Rounds.{Validates};
 
@@ -48,10 +48,11 @@ impl Engine {
         )
     }
 
-    /// The cell of the logged word that a round of a revocable transaction waits for, where it tells one.
+    /// The cell of the logged word that a round of a revocable transaction waits for, where it waits for one.
     #[inline(always)]
     pub fn row_ahead(&self) -> Option<u32>
-        ensures { IfSome result (λ cell. (row : ℕ) × Validates self.now (λ aim. RoundRow aim row) cell) }
+        ensures some { IfSome result (λ cell. (row : ℕ) × Validates self.now (λ aim. RoundRow aim row) cell) }
+        ensures none { IfNone result ((row cell : ℕ) → Validates self.now (λ aim. RoundRow aim row) cell → ⊥) }
     {
         match self.pending {
             Pending::RoundRow(row) => {
@@ -111,10 +112,11 @@ impl Engine {
         )
     }
 
-    /// Where it says so, it waits for the exchange that takes the clock, to commit what is written.
+    /// Whether it waits for the exchange that takes the clock, to commit what is written.
     #[inline(always)]
     pub fn takes_clock(&self) -> bool
-        ensures { result ≡ true → TakesClock self.now }
+        ensures takes { (result ≡ true → TakesClock self.now) × (TakesClock self.now → result ≡ true) }
+        ensures asked { TakesClock self.now → exchanging self.now ≡ self.now }
     {
         match (self.pending, self.state.taking) {
             (Pending::Exchange, Taking::Commit) => true,

@@ -7,3 +7,4 @@ pub mod ReadCalls
 pub mod Counts
 pub mod Holding
 pub mod StoredRows
+pub mod CommitCalls

@@ -6,3 +6,4 @@ pub mod Between
 pub mod WholeReads
 pub mod Moves
 pub mod OuterBegins
+pub mod CommitCalls

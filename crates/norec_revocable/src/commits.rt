@@ -9,6 +9,7 @@ ghost use Rattle.norec_revocable.specs.InPhases.{IsSound};
 ghost use Rattle.norec_revocable.specs.Between.{between, moved, in_stores, left_by, storing, MayExchange, InStores};
 ghost use Rattle.norec_data.specs.Turns.{Turns};
 ghost use Rattle.norec_core.specs.Order.{exchange_stage, store_stage};
+ghost use Rattle.norec_revocable.specs.CommitCalls.{asking_commit};
 ghost use Rattle.norec_revocable.specs.Moves.{GoesTo, StepGoesTo, StepTurns, CallTurns};
 
 use crate::mode::go_irrevocable;
@@ -96,8 +97,7 @@ pub fn commit_writes(state: &mut Data)
     requires some { 0 < length state.old.frames.writes.rows }
     requires free { state.old.snapshot / 2 < state.old.limits.max_commits }
     ensures turns { CallTurns state.old Call.Commit false (Turn.Wait Pending.Exchange) state.new }
-    ensures frames { state.new.frames ≡ state.old.frames }
-    ensures taking { state.new.taking ≡ Taking.Commit }
+    ensures state { state.new ≡ asking_commit state.old }
 {
     state.start_call();
     state.tries = 0;
@@ -211,6 +211,8 @@ pub fn freed(state: &mut Data) -> Turn
     ensures goes { StepGoesTo state.old phases.Free 0 result state.new }
     ensures end { result ≡ Turn.End CallEnd.Committed }
 {
+    // (what ends a block within others is not compiled here)
+    prove!(state.is_outermost());
     state.clock = state.snapshot + 2;
     finish(state);
     Turn::End(CallEnd::Committed)

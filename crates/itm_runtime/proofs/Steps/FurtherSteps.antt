@@ -1,5 +1,5 @@
 -- Steps that are known ahead, as steps of the call.
-use Rattle.std.proofs.Common.{◌≡◌, ℕ, ◌+◌, ◌<◌, ◌≤◌, List, [], ◌∷◌, ◌++◌, Some, refl, sym, ap, subst, ◌∙◌, arith}
+use Rattle.std.proofs.Common.{◌≡◌, ℕ, ◌+◌, ◌<◌, ◌≤◌, List, [], ◌∷◌, ◌++◌, Some, refl, sym, ap, subst, arith}
 use Rattle.itm_types.specs.declared.step.Step.{Step}
 use Rattle.norec_core.specs.declared.answer.Answer.{Answer}
 use Rattle.norec_core.specs.declared.answer.Next.{Next}
@@ -17,6 +17,15 @@ use Rattle.itm_runtime.specs.InCall.{InCall, IsDue, left}
 use Rattle.itm_runtime.specs.Served.{Start}
 use Rattle.itm_runtime.proofs.Steps.DrivenCalls.{due_on, leads_further}
 use Rattle.itm_runtime.proofs.Steps.StepChains.{at_step, goes, smaller}
+
+-- all steps were done, and the engine is told of the last one
+pub found_finishes : {A : Type 0} (words : Words A) (v : View) (e : Core) (next : Next) (pass : Pass) (mid new : Core) (n : ℕ) (a : Answer) → Finds words v e next n pass mid → IsResumed mid n (Answers a) new → Finishes words v e next a pass new
+found_finishes words v e next pass mid new n a f resumed = record {
+  own = f.own;
+  steps = f.steps ++ (f.step, n) ∷ [];
+  leads = leads_further (cells_of words) f.steps ((f.step, n) ∷ []) v f.before (view_of pass) e mid new next (Asks f.step) (Answers a) f.leads
+      (refl, view_of pass, new, Answers a, record { stepped = f.stepped; over = f.own.over; resumed = resumed }, (refl, refl, refl));
+}
 
 -- the step that the engine waits for
 pub waits_for : (s : Start) (v : View) (e : Core) (step known : Step) → InCall s v e step → e.waits ≡ Some known → step ≡ known

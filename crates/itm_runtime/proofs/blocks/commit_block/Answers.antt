@@ -1,18 +1,46 @@
-use Rattle.std.proofs.Common.{ℕ, ◌+◌, false, subst, sym}
+use Rattle.std.proofs.Common.{◌+◌, false, inr, subst, sym}
 use Rattle.itm_types.specs.declared.call.Call.TheVariants.{Commit}
 use Rattle.itm_types.specs.declared.step.Step.TheVariants.{Cas}
+use Rattle.norec_core.specs.Core.{Core}
 use Rattle.norec_core.specs.declared.answer.Next.TheVariants.{Step as Asks}
+use Rattle.norec_engine.specs.BlockSteps.{exchanging}
 use Rattle.shared_words.specs.Passes.{view_of}
-use Rattle.itm_runtime.specs.InCall.{InCall}
-use Rattle.itm_runtime.specs.Served.{Start}
+use Rattle.itm_runtime.specs.Blocks.{Finds}
+use Rattle.itm_runtime.proofs.Steps.FurtherSteps.{found_finishes}
 use Rattle.itm_runtime.proofs.Steps.StepChains.{starts}
 use Rattle.itm_runtime.proofs.blocks.commit_block.Goals as goal
 
-pub take_clock-requires-clause-due : goal.take_clock-requires-clause-due
-take_clock-requires-clause-due g c =
+pub commit_at_once-requires : goal.commit_at_once-requires
+commit_at_once-requires g c = record { idle = c.requires.stands.waits; takes = c.commit_takes.ensures.takes.0 c.if-commit_takes.true; few = c.in-Ok.ensures.stored.few }
+
+pub write_back-requires : goal.write_back-requires
+write_back-requires g c =
     let v = view_of c.args.pass.now in
     let e = c.args.engine.now in
-    let new = c.commit_writes.new.self in
-    let s : Start = record { view = v; engine = e; call = Commit; again = false } in
-    let i : InCall s v new (Cas 0 e.snapshot (e.snapshot + 1)) = starts v e new Commit false c.requires.stands (Asks (Cas 0 e.snapshot (e.snapshot + 1))) (c.commit_writes.ensures.called c.if-commit_writes.true) in
-    (s, subst (λ (k : ℕ). InCall s v new (Cas 0 k (k + 1))) (sym c.commit_writes.ensures.snapshot) i)
+    let takes = c.commit_takes.ensures.takes.0 c.if-commit_takes.true in
+    record {
+      own = c.requires.own;
+      back = inr takes;
+      due = (record { view = v; engine = e; call = Commit; again = false }, starts v e (exchanging e) Commit false c.requires.stands (Asks (Cas 0 e.snapshot (e.snapshot + 1))) (c.commit_takes.ensures.called takes));
+    }
+
+pub returns-in-Ok : goal.returns-in-Ok
+returns-in-Ok g c =
+    let e = c.args.engine.now in
+    let r = c.in-Ok.ensures.stored in
+    record {
+      came = exchanging e;
+      first = Asks (Cas 0 e.snapshot (e.snapshot + 1));
+      called = c.commit_takes.ensures.called (c.commit_takes.ensures.takes.0 c.if-commit_takes.true);
+      finishes = found_finishes c.args.words.now (view_of c.args.pass.now) (exchanging e) _ _ _ _ _ _ r.finds (c.commit_at_once.ensures r.freed);
+    }
+
+pub returns-in-Err : goal.returns-in-Err
+returns-in-Err g c =
+    let e = c.args.engine.now in
+    record {
+      came = exchanging e;
+      first = Asks (Cas 0 e.snapshot (e.snapshot + 1));
+      called = c.commit_takes.ensures.called (c.commit_takes.ensures.takes.0 c.if-commit_takes.true);
+      finds = subst (λ (x : Core). Finds c.args.words.now (view_of c.args.pass.now) (exchanging e) (Asks (Cas 0 e.snapshot (e.snapshot + 1))) c.in-Err.found c.write_back.new.pass x) (sym c.commit_writes-step.ensures.state) c.in-Err.ensures.found;
+    }

@@ -3,7 +3,7 @@ use Rattle.itm_types.specs.declared.step.Step.{Step}
 use Rattle.itm_types.specs.declared.step.Step.TheVariants.{Load, Store}
 use Rattle.norec_core.specs.Rows.{value_into, write_at}
 use Rattle.norec_core.specs.declared.answer.Next.TheVariants.{Step as Asks}
-use Rattle.norec_engine.specs.BlockSteps.{IsWhole, merging, next_step, part_store, storing}
+use Rattle.norec_engine.specs.BlockSteps.{IsWhole, exchanging, merging, next_step, part_store, storing}
 use Rattle.shared_words.specs.Passes.{cells_of, view_of}
 use Rattle.itm_runtime.specs.InCall.{InCall}
 use Rattle.itm_runtime.proofs.Steps.StepChains.{cell_within, goes, got_there, lawful_of}
@@ -17,7 +17,7 @@ same_store cell word value stored c v = λ i. Store ((sym (c ∙ add-one word)) 
 pub step-stored-requires : goal.step-stored-requires
 step-stored-requires g c =
     let s = c.requires.due.0 in
-    let e = c.args.engine.now in
+    let e = exchanging c.args.engine.now in
     let row = c.args.row in
     let to = c.row_to_store-cell.result in
     let step = Store to.0 c.in-Some.value in
@@ -28,7 +28,7 @@ step-stored-requires g c =
 pub returns-in-Some : goal.returns-in-Some
 returns-in-Some g c =
     let s = c.requires.due.0 in
-    let e = c.args.engine.now in
+    let e = exchanging c.args.engine.now in
     let row = c.args.row in
     let loads = c.args.loads in
     let to = c.row_to_store-cell.result in
@@ -47,7 +47,7 @@ returns-in-Some g c =
 pub step-found-requires : goal.step-found-requires
 step-found-requires g c =
     let s = c.requires.due.0 in
-    let e = c.args.engine.now in
+    let e = exchanging c.args.engine.now in
     let row = c.args.row in
     let to = c.row_to_store-cell.result in
     let part = subst (λ (o : Option ℕ). IfNone o ((¬ IsWhole e row) × (next_step e row ≡ Load to.0))) c.in_default.is c.row_to_store-cell.ensures.part in
@@ -60,7 +60,7 @@ overflow_add-result g c = omega (arith, c.requires.few, c.requires.fits)
 pub step_over-stored-requires : goal.step_over-stored-requires
 step_over-stored-requires g c =
     let s = c.requires.due.0 in
-    let e = c.args.engine.now in
+    let e = exchanging c.args.engine.now in
     let row = c.args.row in
     let loads = c.args.loads in
     let words = cells_of c.args.words.now in
@@ -83,7 +83,7 @@ step_over-stored-requires g c =
 pub returns : goal.returns
 returns g c =
     let s = c.requires.due.0 in
-    let e = c.args.engine.now in
+    let e = exchanging c.args.engine.now in
     let row = c.args.row in
     let loads = c.args.loads in
     let to = c.row_to_store-cell.result in

@@ -1,9 +1,8 @@
-use Rattle.std.proofs.Common.{◌≡◌, ℕ, [], ◌∷◌, ◌++◌, length, refl, subst, sym, arith}
+use Rattle.std.proofs.Common.{◌≡◌, ℕ, [], ◌++◌, length, refl, subst, arith}
 use Rattle.itm_types.specs.declared.step.Step.{Step}
 use Rattle.itm_types.specs.declared.step.Step.TheVariants.{Store}
-use Rattle.norec_core.specs.Core.{Core}
 use Rattle.norec_core.specs.declared.answer.Next.TheVariants.{Step as Asks}
-use Rattle.norec_engine.specs.BlockSteps.{next_step, storing}
+use Rattle.norec_engine.specs.BlockSteps.{exchanging, next_step, storing}
 use Rattle.shared_words.specs.Passes.{cells_of, view_of}
 use Rattle.itm_runtime.specs.Drives.{LeadsOn}
 use Rattle.itm_runtime.specs.InCall.{InCall}
@@ -14,7 +13,7 @@ use Rattle.itm_runtime.proofs.blocks.store_rows.Goals as goal
 pub loop-row-init : goal.loop-row-init
 loop-row-init g c = record {
   own = c.requires.own;
-  takes = c.requires.takes;
+  back = c.requires.back;
   stores = c.requires.stores;
   rows = c.requires.rows;
   far = omega arith;
@@ -28,7 +27,7 @@ loop-row-init g c = record {
 pub store_row-loads-requires : goal.store_row-loads-requires
 store_row-loads-requires g c =
     let inv = c.loop-row.invariant in
-    record { own = inv.own; takes = inv.takes; stores = inv.stores; within = omega (arith, inv.rows, c.loop-row-test.true); few = inv.few; fits = omega (arith, c.loop-row-test.true, c.ranges.rows.fits); due = (inv.start, inv.due) }
+    record { own = inv.own; back = inv.back; stores = inv.stores; within = omega (arith, inv.rows, c.loop-row-test.true); few = inv.few; fits = omega (arith, c.loop-row-test.true, c.ranges.rows.fits); due = (inv.start, inv.due) }
 
 pub loop-row-preserved : goal.loop-row-preserved
 loop-row-preserved g c =
@@ -38,7 +37,7 @@ loop-row-preserved g c =
     let next = Asks (next_step c.args.engine.now c.loop-row.row) in
     record {
       own = on.own;
-      takes = inv.takes;
+      back = inv.back;
       stores = inv.stores;
       rows = inv.rows;
       far = omega (arith, c.loop-row-test.true);
@@ -51,46 +50,40 @@ loop-row-preserved g c =
 
 -- ## The clock is freed
 
-pub rows_stored-clock-requires : goal.rows_stored-clock-requires
-rows_stored-clock-requires g c =
-    let inv = c.loop-row.invariant in
-    record { takes = inv.takes; few = omega (arith, inv.few, inv.far, inv.rows) }
-
 pub step-freed-requires : goal.step-freed-requires
 step-freed-requires g c =
     let inv = c.loop-row.invariant in
-    let e = c.args.engine.now in
+    let e = exchanging c.args.engine.now in
     let view = view_of c.loop-row.pass in
     let loads = c.loop-row.loads in
-    let step = Store 0 c.rows_stored-clock.result in
+    let step = Store 0 c.clock_to_free.result in
     let last : c.loop-row.row ≡ length e.writes = omega (arith, inv.far, inv.rows, c.loop-row-test.false) in
     let all = subst (λ (n : ℕ). InCall inv.start view (storing e n loads) (next_step e n)) last inv.due in
-    let i = subst (λ (s : Step). InCall inv.start view (storing e (length e.writes) loads) s) c.rows_stored-clock.ensures.step all in
+    let i = subst (λ (s : Step). InCall inv.start view (storing e (length e.writes) loads) s) c.clock_to_free.ensures all in
     record { own = inv.own; cell = cell_within _ _ _ step inv.own.over i.tied i.lawful; lawful = lawful_of _ _ i.tied step i.lawful }
 
 pub returns : goal.returns
 returns g c =
     let inv = c.loop-row.invariant in
     let words = cells_of c.args.words.now in
-    let e = c.args.engine.now in
-    let first = storing c.args.engine.now 0 0 in
-    let next = Asks (next_step c.args.engine.now 0) in
+    let e = exchanging c.args.engine.now in
+    let first = storing e 0 0 in
+    let next = Asks (next_step e 0) in
     let view = view_of c.loop-row.pass in
     let loads = c.loop-row.loads in
-    let step = Store 0 c.rows_stored-clock.result in
+    let step = Store 0 c.clock_to_free.result in
     let last : c.loop-row.row ≡ length e.writes = omega (arith, inv.far, inv.rows, c.loop-row-test.false) in
     let all = subst (λ (n : ℕ). LeadsOn words (view_of c.args.pass.now) first next inv.steps view (storing e n loads) (Asks (next_step e n))) last inv.leads in
-    let asks = subst (λ (s : Step). LeadsOn words (view_of c.args.pass.now) first next inv.steps view (storing e (length e.writes) loads) (Asks s)) c.rows_stored-clock.ensures.step all in
-    let leads = subst (λ (x : Core). LeadsOn words (view_of c.args.pass.now) first next inv.steps view x (Asks step)) (sym c.rows_stored-clock.ensures.storing) asks in
     record {
-      own = c.step-freed.ensures.own;
-      steps = inv.steps ++ (step, c.step-freed.result) ∷ [];
-      leads = leads_further words inv.steps ((step, c.step-freed.result) ∷ []) _ _ _ _ _ _ _ (Asks step) _ leads (
-        refl,
-        view_of c.step-freed.new.pass,
-        c.clock_freed.new.self,
-        _,
-        record { stepped = record { turn = c.step-freed.ensures.turn; moves = c.step-freed.ensures.moves }; over = c.step-freed.ensures.own.over; resumed = c.clock_freed.ensures },
-        (refl, refl, refl),
-      );
+      few = omega (arith, inv.few, inv.far, inv.rows);
+      freed = c.step-freed.result;
+      finds = record {
+        own = c.step-freed.ensures.own;
+        steps = inv.steps;
+        before = view;
+        step = step;
+        over = inv.own.over;
+        leads = subst (λ (s : Step). LeadsOn words (view_of c.args.pass.now) first next inv.steps view (storing e (length e.writes) loads) (Asks s)) c.clock_to_free.ensures all;
+        stepped = record { turn = c.step-freed.ensures.turn; moves = c.step-freed.ensures.moves };
+      };
     }

@@ -1,26 +1,25 @@
 use Rattle.std.proofs.Common.{◌≡◌, ◌≤◌, ◌-◌, List, ℕ, length}
 use Rattle.itm_types.specs.declared.step.Step.{Step}
 use Rattle.norec_core.specs.declared.answer.Next.TheVariants.{Step as Asks}
-use Rattle.norec_engine.specs.BlockSteps.{StoresRows, TakesClock, next_step, storing}
+use Rattle.norec_engine.specs.BlockSteps.{StoresRows, WritesBack, exchanging, next_step, storing}
 use Rattle.shared_words.specs.Passes.{cells_of, Owns, view_of}
 use Rattle.itm_runtime.specs.Drives.{LeadsOn}
 use Rattle.itm_runtime.specs.InCall.{InCall}
 use Rattle.itm_runtime.specs.Served.{Start}
 use Rattle.itm_runtime.proofs.blocks.store_rows.Given as goal
 
--- the engine is still the one that takes the clock
 abbrev pub invariant-loop-row : goal.invariant-loop-row
 invariant-loop-row g l = record {
   own : Owns l.words l.pass;
-  takes : TakesClock l.engine;
-  stores : StoresRows l.engine;
+  back : WritesBack l.engine;
+  stores : StoresRows (exchanging l.engine);
   rows : l.rows ≡ length l.engine.writes;
   far : l.row ≤ l.rows;
   few : l.loads ≤ l.row;
   start : Start;
-  due : InCall start (view_of l.pass) (storing l.engine l.row l.loads) (next_step l.engine l.row);
+  due : InCall start (view_of l.pass) (storing (exchanging l.engine) l.row l.loads) (next_step l.engine l.row);
   steps : List (Step × ℕ);
-  leads : LeadsOn (cells_of l.words) (view_of l.fn.pass) (storing l.fn.engine 0 0) (Asks (next_step l.fn.engine 0)) steps (view_of l.pass) (storing l.engine l.row l.loads) (Asks (next_step l.engine l.row));
+  leads : LeadsOn (cells_of l.words) (view_of l.fn.pass) (storing (exchanging l.fn.engine) 0 0) (Asks (next_step l.fn.engine 0)) steps (view_of l.pass) (storing (exchanging l.engine) l.row l.loads) (Asks (next_step l.engine l.row));
 }
 
 abbrev pub decreases-loop-row : goal.decreases-loop-row

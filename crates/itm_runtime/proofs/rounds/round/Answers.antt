@@ -15,25 +15,25 @@ loop-cell-init g c =
 pub step-seen-requires-in-Some-clause-cell : goal.step-seen-requires-in-Some-clause-cell
 step-seen-requires-in-Some-clause-cell g c =
     let on = c.loop-cell.invariant in
-    let i = in_call c.args.words.now (view_of c.args.pass.now) c.args.engine.now (Load 0) c.requires.due.0 c.requires.due.1 c.requires.own.over _ _ _ on (Load c.in-Some.cell) c.in-Some.ensures.1.waits in
+    let i = in_call c.args.words.now (view_of c.args.pass.now) c.args.engine.now (Load 0) c.requires.due.0 c.requires.due.1 c.requires.own.over _ _ _ on (Load c.in-Some.cell) c.in-Some.ensures.some.1.waits in
     cell_within (cells_of c.args.words.now) _ _ (Load c.in-Some.cell) on.own.over i.tied i.lawful
 
 pub step-seen-requires-in-Some-clause-lawful : goal.step-seen-requires-in-Some-clause-lawful
 step-seen-requires-in-Some-clause-lawful g c =
     let on = c.loop-cell.invariant in
-    let i = in_call c.args.words.now (view_of c.args.pass.now) c.args.engine.now (Load 0) c.requires.due.0 c.requires.due.1 c.requires.own.over _ _ _ on (Load c.in-Some.cell) c.in-Some.ensures.1.waits in
+    let i = in_call c.args.words.now (view_of c.args.pass.now) c.args.engine.now (Load 0) c.requires.due.0 c.requires.due.1 c.requires.own.over _ _ _ on (Load c.in-Some.cell) c.in-Some.ensures.some.1.waits in
     lawful_of _ _ i.tied (Load c.in-Some.cell) i.lawful
 
 pub loop-cell-smaller : goal.loop-cell-smaller
 loop-cell-smaller g c =
     let seen = c.step-seen-in-Some in
-    fewer_left c.args.words.now (view_of c.args.pass.now) c.args.engine.now (Load 0) c.requires.due.0 c.requires.due.1 c.requires.own.over _ _ _ c.loop-cell.invariant (Load c.in-Some.cell) c.in-Some.ensures.1.waits
+    fewer_left c.args.words.now (view_of c.args.pass.now) c.args.engine.now (Load 0) c.requires.due.0 c.requires.due.1 c.requires.own.over _ _ _ c.loop-cell.invariant (Load c.in-Some.cell) c.in-Some.ensures.some.1.waits
     seen.new.pass _ _ seen.result (record { turn = seen.ensures.turn; moves = seen.ensures.moves }) seen.ensures.own c.row_loaded-next.ensures
 
 pub loop-cell-preserved : goal.loop-cell-preserved
 loop-cell-preserved g c =
     let seen = c.step-seen-in-Some in
-    one_further c.args.words.now (view_of c.args.pass.now) c.args.engine.now (Load 0) c.requires.due.0 c.requires.due.1 c.requires.own.over _ _ _ c.loop-cell.invariant (Load c.in-Some.cell) c.in-Some.ensures.1.waits
+    one_further c.args.words.now (view_of c.args.pass.now) c.args.engine.now (Load 0) c.requires.due.0 c.requires.due.1 c.requires.own.over _ _ _ c.loop-cell.invariant (Load c.in-Some.cell) c.in-Some.ensures.some.1.waits
     seen.new.pass _ _ seen.result (record { turn = seen.ensures.turn; moves = seen.ensures.moves }) seen.ensures.own c.row_loaded-next.ensures
 
 -- ## The clock at the end

@@ -24,27 +24,30 @@ step-clock-requires g c =
     record { own = c.step-value.ensures.own; cell = next.0; lawful = next.1 }
 
 pub returns-then-clock-snapshot : goal.returns-then-clock-snapshot
-returns-then-clock-snapshot g c = record {
-  came = c.ask_word.new.self;
-  first = Asks (Load (c.args.word + 1));
-  called = c.ask_word.ensures.called c.args.word c.requires.reads;
-  finds = record {
-    own = c.step-clock.ensures.own;
-    steps = (Load (c.args.word + 1), c.step-value.result) ∷ [];
-    before = view_of c.step-value.new.pass;
-    step = Load 0;
-    over = c.step-value.ensures.own.over;
-    leads = (
-      refl,
-      view_of c.step-value.new.pass,
-      c.load_fast.new.self,
-      _,
-      record { stepped = record { turn = c.step-value.ensures.turn; moves = c.step-value.ensures.moves }; over = c.step-value.ensures.own.over; resumed = c.load_fast.ensures.resumed },
-      (refl, refl, refl),
-    );
-    stepped = record { turn = c.step-clock.ensures.turn; moves = c.step-clock.ensures.moves };
-  };
-}
+returns-then-clock-snapshot g c = (
+  record {
+    came = c.ask_word.new.self;
+    first = Asks (Load (c.args.word + 1));
+    called = c.ask_word.ensures.called c.args.word c.requires.reads;
+    finds = record {
+      own = c.step-clock.ensures.own;
+      steps = (Load (c.args.word + 1), c.step-value.result) ∷ [];
+      before = view_of c.step-value.new.pass;
+      step = Load 0;
+      over = c.step-value.ensures.own.over;
+      leads = (
+        refl,
+        view_of c.step-value.new.pass,
+        c.load_fast.new.self,
+        _,
+        record { stepped = record { turn = c.step-value.ensures.turn; moves = c.step-value.ensures.moves }; over = c.step-value.ensures.own.over; resumed = c.load_fast.ensures.resumed },
+        (refl, refl, refl),
+      );
+      stepped = record { turn = c.step-clock.ensures.turn; moves = c.step-clock.ensures.moves };
+    };
+  },
+  λ is. c.if-clock-snapshot.true (is ∙ sym c.snapshot.ensures),
+)
 
 pub returns : goal.returns
 returns g c =

@@ -23,20 +23,20 @@ read_from-number-requires-clause-done g c =
     let over = (subst (λ (t : Standing). Owns c.args.words.now t.pass) (sym c.self.view_is) c.requires.own).over in (
       record { pass = c.self.inside.pass; engine = c.self.inside.engine },
       c.args.at,
-      step_done c.args.words.now c.self.inside.pass c.self.inside.engine call false c.in-Moved.clock _ _ c.in-Moved.ensures c.self.invariant over,
-      step_seen c.args.words.now c.self.inside.pass c.self.inside.engine call false c.in-Moved.clock _ _ c.in-Moved.ensures c.self.invariant over,
+      step_done c.args.words.now c.self.inside.pass c.self.inside.engine call false c.in-Moved.clock _ _ c.in-Moved.ensures.0 c.self.invariant over,
+      step_seen c.args.words.now c.self.inside.pass c.self.inside.engine call false c.in-Moved.clock _ _ c.in-Moved.ensures.0 c.self.invariant over,
     )
 
 pub invariant_of-self-in-Moved : goal.invariant_of-self-in-Moved
 invariant_of-self-in-Moved g c =
-    let u = c.in-Moved.ensures in
+    let u = c.in-Moved.ensures.0 in
     let rest = c.read_from-number.ensures u.finds.before u.finds.step u.finds.stepped in
     let f = goes_on c.args.words.now c.self.inside.pass c.self.inside.engine (Read R U8 c.args.at) false c.in-Moved.clock _ _ u rest.0 c.read_from-number.new.pass c.read_from-number.new.engine rest.2 in
     left_standing c.self.inside.pass c.self.invariant u.called f c.args.self.now c.self.view_is c.requires.own
 
 pub returns-in-Moved : goal.returns-in-Moved
 returns-in-Moved g c =
-    let u = c.in-Moved.ensures in
+    let u = c.in-Moved.ensures.0 in
     let rest = c.read_from-number.ensures u.finds.before u.finds.step u.finds.stepped in
     let f = goes_on c.args.words.now c.self.inside.pass c.self.inside.engine (Read R U8 c.args.at) false c.in-Moved.clock _ _ u rest.0 c.read_from-number.new.pass c.read_from-number.new.engine rest.2 in
     told_of (answer_to_read c.read_from-number.result) rest.0 c.args.words.now c.args.self.now (Read R U8 c.args.at) (record { pass = c.read_from-number.new.pass; engine = c.read_from-number.new.engine }) rest.1

@@ -15,8 +15,8 @@ overflow_add-result c =
     let here : row_at s.state.log.rows row ≡ c.row-logged.result = get_or_from_slice_get s.state.log.rows row c.row-logged.result _ c.row-logged.ensures in
     omega (arith, less, ap (λ (r : LogRow). r.word) here, sound.bounds.small)
 
-pub returns-in-RoundRow : goal.returns-in-RoundRow
-returns-in-RoundRow c =
+pub returns-in-RoundRow-clause-some : goal.returns-in-RoundRow-clause-some
+returns-in-RoundRow-clause-some c =
     let s = c.self.inside in
     let row = c.in-RoundRow.row in
     let here : row_at s.state.log.rows row ≡ c.row-logged.result = get_or_from_slice_get s.state.log.rows row c.row-logged.result _ c.row-logged.ensures in

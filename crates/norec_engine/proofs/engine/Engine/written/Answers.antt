@@ -1,12 +1,11 @@
-use Rattle.std.proofs.Common.{◌≡◌, ℕ, Bool, true, false, None, IsTrue, length, ◌<◌, ◌↔◌, nat_lt, refl, sym, ap, subst, ◌∙◌}
-use Rattle.std.proofs.lemmas.Bool.{lt-ltb, ltb-true}
+use Rattle.std.proofs.Common.{◌≡◌, Bool, true, false, None, length, refl, sym, ap, ◌∙◌}
 use Rattle.norec_core.specs.Core.{Core}
 use Rattle.norec_data.specs.declared.data.Data.{Data}
 use Rattle.norec_data.specs.declared.pending.Pending.{Pending}
 use Rattle.norec_data.specs.declared.pending.Pending.TheVariants as waits
 use Rattle.norec_data.specs.View.{phase_of}
 use Rattle.norec_engine.specs.Modes.{engine_in}
-use Rattle.norec_engine.proofs.engine.Engine.has_writes.Goals as goal
+use Rattle.norec_engine.proofs.engine.Engine.written.Goals as goal
 
 -- between two calls the rows are those of the write set
 rows_of : (b : Bool) (d : Data) (p : Pending) → (engine_in b d (phase_of d p)).waits ≡ None → (engine_in b d (phase_of d p)).writes ≡ d.frames.writes.rows
@@ -19,4 +18,4 @@ returns c =
     let s = c.self.inside in
     let none = ap (λ (e : Core). e.waits) c.self.view_is ∙ c.requires.idle in
     let rows = ap (λ (e : Core). e.writes) (sym c.self.view_is) ∙ rows_of s.irrevocable s.state s.pending none in
-    subst (λ (n : ℕ). IsTrue (nat_lt 0 c.len.result) ↔ (0 < n)) (c.len.ensures.len ∙ ap length (sym rows)) (ltb-true 0 c.len.result, lt-ltb 0 c.len.result)
+    c.len.ensures.len ∙ ap length (sym rows)

@@ -2,17 +2,17 @@ use Rattle.std.proofs.Common.{◌≡◌, ℕ, ◌+◌, ◌∙◌, [], ◌∷◌,
 use Rattle.itm_types.specs.declared.step.Step.TheVariants.{Cas}
 use Rattle.norec_core.specs.declared.answer.Next.TheVariants.{Step as Asks}
 use Rattle.norec_core.specs.Moves.{IsResumed}
-use Rattle.norec_engine.specs.BlockSteps.{next_step, storing}
+use Rattle.norec_engine.specs.BlockSteps.{exchanging, next_step, storing}
 use Rattle.shared_words.specs.Passes.{cells_of, view_of}
 use Rattle.itm_runtime.specs.InCall.{InCall}
 use Rattle.itm_runtime.proofs.Steps.StepChains.{cell_within, goes, lawful_of}
-use Rattle.itm_runtime.proofs.blocks.take_clock.Goals as goal
+use Rattle.itm_runtime.proofs.blocks.write_back.Goals as goal
 
 pub step-found-requires : goal.step-found-requires
 step-found-requires g c =
     let s = c.requires.due.0 in
     let n = c.snapshot-snapshot.result in
-    let i = subst (λ (k : ℕ). InCall s (view_of c.args.pass.now) c.args.engine.now (Cas 0 k (k + 1))) (sym c.snapshot-snapshot.ensures) c.requires.due.1 in
+    let i = subst (λ (k : ℕ). InCall s (view_of c.args.pass.now) (exchanging c.args.engine.now) (Cas 0 k (k + 1))) (sym c.snapshot-snapshot.ensures) c.requires.due.1 in
     record { own = c.requires.own; cell = cell_within _ _ _ (Cas 0 n (n + 1)) c.requires.own.over i.tied i.lawful; lawful = lawful_of _ _ i.tied (Cas 0 n (n + 1)) i.lawful }
 
 pub overflow_add-snapshot : goal.overflow_add-snapshot
@@ -38,7 +38,7 @@ returns-then-found-snapshot-clause-found g c =
 pub store_rows-requires : goal.store_rows-requires
 store_rows-requires g c =
     let s = c.requires.due.0 in
-    let e = c.args.engine.now in
+    let e = exchanging c.args.engine.now in
     let n = c.snapshot-snapshot.result in
     let i = subst (λ (k : ℕ). InCall s (view_of c.args.pass.now) e (Cas 0 k (k + 1))) (sym c.snapshot-snapshot.ensures) c.requires.due.1 in
     let stores = c.rows-rows.ensures.stores in
@@ -46,22 +46,31 @@ store_rows-requires g c =
     let resumed = subst (λ (k : ℕ). IsResumed e k (Asks (next_step e 0)) (storing e 0 0)) same stores.first in
     record {
       own = c.step-found.ensures.own;
-      takes = c.requires.takes;
+      back = c.requires.back;
       stores = stores;
       rows = c.rows-rows.ensures.count;
       due = (s, goes (cells_of c.args.words.now) (view_of c.args.pass.now) (view_of c.step-found.new.pass) c.requires.own.over c.step-found.ensures.own.over e (storing e 0 0) (Cas 0 n (n + 1)) c.step-found.result c.step-found.ensures.turn (Asks (next_step e 0)) resumed s i);
     }
 
 -- what the rows come to, with the step that took the clock
-pub returns-clause-wrote : goal.returns-clause-wrote
-returns-clause-wrote g c =
-    let e = c.args.engine.now in
+pub returns-clause-stored : goal.returns-clause-stored
+returns-clause-stored g c =
+    let e = exchanging c.args.engine.now in
     let n = c.snapshot-snapshot.result in
     let same : e.snapshot ≡ c.step-found.result = sym c.snapshot-snapshot.ensures ∙ sym c.if-found-snapshot.false in
     let resumed = subst (λ (k : ℕ). IsResumed e k (Asks (next_step e 0)) (storing e 0 0)) same c.rows-rows.ensures.stores.first in
-    let f = c.store_rows.ensures in
+    let r = c.store_rows.ensures in
+    let f = r.finds in
     record {
-      own = f.own;
-      steps = (Cas 0 n (n + 1), c.step-found.result) ∷ f.steps;
-      leads = (ap (λ (k : ℕ). Cas 0 k (k + 1)) c.snapshot-snapshot.ensures, view_of c.step-found.new.pass, storing e 0 0, Asks (next_step e 0), record { stepped = record { turn = c.step-found.ensures.turn; moves = c.step-found.ensures.moves }; over = c.step-found.ensures.own.over; resumed = resumed }, f.leads);
+      few = r.few;
+      freed = r.freed;
+      finds = record {
+        own = f.own;
+        steps = (Cas 0 n (n + 1), c.step-found.result) ∷ f.steps;
+        before = f.before;
+        step = f.step;
+        over = f.over;
+        leads = (ap (λ (k : ℕ). Cas 0 k (k + 1)) c.snapshot-snapshot.ensures, view_of c.step-found.new.pass, storing e 0 0, Asks (next_step e 0), record { stepped = record { turn = c.step-found.ensures.turn; moves = c.step-found.ensures.moves }; over = c.step-found.ensures.own.over; resumed = resumed }, f.leads);
+        stepped = f.stepped;
+      };
     }

@@ -1,0 +1,18 @@
+use Rattle.std.proofs.Common.{◌≡◌, ◌+◌, [], length, ap, refl, subst, sym}
+use Rattle.itm_types.specs.declared.step.Step.TheVariants.{Store}
+use Rattle.norec_core.specs.Core.{Core}
+use Rattle.norec_core.specs.Order.{step_in}
+use Rattle.norec_core.specs.declared.call_parts.Taking.TheVariants.{Commit}
+use Rattle.norec_revocable.proofs.StoredRows.{last_stage}
+use Rattle.norec_engine.specs.BlockSteps.{next_step}
+use Rattle.norec_engine.proofs.RowSteps.{exchanges}
+use Rattle.norec_engine.proofs.engine.Engine.clock_to_free.Goals as goal
+
+pub returns : goal.returns
+returns c =
+    let s = c.self.inside in
+    let x = exchanges s.irrevocable s.state s.pending c.args.self.now c.self.view_is c.self.invariant c.requires.back in
+    let d = s.state in
+    let rows = d.frames.writes.rows in
+    let step : step_in d.log.rows d.snapshot rows [] _ ≡ Store 0 (d.snapshot + 2) = sym (ap (step_in d.log.rows d.snapshot rows []) (last_stage Commit rows (length rows) refl)) in
+    subst (λ (e : Core). next_step e (length e.writes) ≡ Store 0 (d.snapshot + 2)) x.same step
