@@ -1,8 +1,8 @@
 //! Outermost begins and commits on the fast path, of a block that stays revocable.
 //!
-//! Each function does one step of the call, or a begin with its step, and makes no answer: who calls it knows which one it is.
-//! Where the step leads to anything else, it changes nothing, and tells so. A commit changes nothing until all its steps are done:
-//! an atomic step waits for the stores before it.
+//! Who calls these functions does the atomic steps of a call himself, and knows which they are. No function makes an answer; where a
+//! step leads to anything else, nothing is changed, and the function tells so. The engine is told of a commit at the end, where its
+//! first exchange takes the clock: an atomic step waits for the stores before it.
 
 ghost use Rattle.std.specs.Prelude.{◌≡◌, ◌+◌, ◌/◌, ◌%◌, ◌<◌, ◌≤◌, ℕ, IfNone, IfSome, None, Some, length, true, false, if◌then◌else◌};
 ghost use Rattle.norec_core.specs.Moves.{IsCalled, IsResumed};
@@ -77,7 +77,7 @@ impl Engine {
         Some(self.state.snapshot / 2)
     }
 
-    /// Whether a commit that comes now takes the clock: the transaction is revocable, one block is open, something is written, and
+    /// Whether a commit that comes now asks for the clock: the transaction is revocable, one block is open, something is written, and
     /// fewer have committed than may.
     #[inline(always)]
     pub fn commit_takes(&self) -> bool

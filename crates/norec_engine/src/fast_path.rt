@@ -6,7 +6,7 @@
 //!
 //! Where anything else is to be done, such a function changes nothing, and tells so. The driver then takes the slow path: it
 //! hands the same to the general function, in a function of its own that does the whole rest of the call. What came back onto
-//! the fast path would have to be told apart there. (`call_into` looks once more, for who has no fast path of his own.)
+//! the fast path would have to be told apart there. (`call_into` looks once more, for callers that have no fast path of their own.)
 
 ghost use Rattle.std.specs.Prelude.{◌≡◌, ◌+◌, ℕ, IfNone, IfSome, OnSome, None, length, true, false};
 ghost use Rattle.std.specs.Int.{w64, to_le_bytes};
