@@ -6,7 +6,7 @@ ghost use Rattle.user_actions.specs.Actions.{total};
 ghost use Rattle.norec_core.specs.Proceeds.{IsUndone};
 ghost use Rattle.norec_core.specs.Restarts.{IsRestart};
 ghost use Rattle.norec_core.specs.Undoing.{after_undoing, undone_of};
-ghost use Rattle.norec_engine.specs.RestartingCalls.{arena_ahead};
+ghost use Rattle.norec_core.specs.RestartingCalls.{arena_ahead};
 ghost use Rattle.shared_words.specs.Passes.{Owns, commits_known, view_of, cells_of};
 ghost use Rattle.itm_runtime.specs.Ties.{Stands};
 ghost use Rattle.itm_runtime.specs.CallResults.{IsAnswered, Returns};

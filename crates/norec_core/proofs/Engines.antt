@@ -5,3 +5,4 @@ pub mod KeptFields
 pub mod BlocksAgain
 pub mod HeldStores
 pub mod IrrevocableCalls
+pub mod RestartingCalls

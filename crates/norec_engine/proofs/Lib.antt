@@ -8,7 +8,6 @@ pub mod IdleEngines
 pub mod WholeReads
 pub mod WholeWrites
 pub mod FastSteps
-pub mod RestartingCalls
 pub mod BlockSteps
 pub mod RoundSteps
 pub mod RowSteps

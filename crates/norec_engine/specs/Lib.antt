@@ -3,6 +3,5 @@ pub mod NextSteps
 pub mod FastCalls
 pub mod WholeReads
 pub mod WholeWrites
-pub mod RestartingCalls
 pub mod BlockSteps
 pub mod Rounds

@@ -6,7 +6,7 @@ ghost use Rattle.norec_core.specs.Core.{in_transaction, opening, irrevocable_roo
 ghost use Rattle.norec_core.specs.Proceeds.{IsUndone, Fits};
 ghost use Rattle.norec_data.specs.View.{phase_of};
 ghost use Rattle.norec_engine.specs.Modes.{IsSoundIn};
-ghost use Rattle.norec_engine.specs.RestartingCalls.{arena_ahead, can_restart};
+ghost use Rattle.norec_core.specs.RestartingCalls.{arena_ahead, can_restart};
 ghost use Rattle.norec_core.specs.Undoing.{undone_of, after_undoing};
 ghost use Rattle.norec_engine.specs.NextSteps.{next_in, ComesInto};
 ghost use Rattle.norec_core.specs.Moves.{IsResumed};

@@ -1,7 +1,7 @@
 //! Which calls may make the innermost block go back to its begin.
 
 ghost use Rattle.std.specs.Prelude.{◌≡◌};
-ghost use Rattle.norec_engine.specs.RestartingCalls.{may_validate as validates, reads_shared as reads};
+ghost use Rattle.norec_core.specs.RestartingCalls.{may_validate as validates, reads_shared as reads};
 
 use itm_types::{Call, CopyPair};
 

@@ -9,7 +9,7 @@ use Rattle.itm_types.specs.declared.call.Ran.{Ran}
 use Rattle.norec_core.specs.declared.answer.Answer.{Answer}
 use Rattle.norec_core.specs.Core.{Core, in_transaction, irrevocable_room}
 use Rattle.norec_core.specs.Proceeds.{MayStarve}
-use Rattle.norec_engine.specs.RestartingCalls.{arena_ahead}
+use Rattle.norec_core.specs.RestartingCalls.{arena_ahead}
 use Rattle.user_actions.specs.Actions.{total}
 use Rattle.shared_words.specs.declared.view.View.{View}
 use Rattle.shared_words.specs.InGlobal.{Words}

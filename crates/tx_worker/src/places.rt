@@ -3,7 +3,7 @@
 ghost use Rattle.std.specs.Prelude.{◌≡◌, ◌+◌, ◌^◌, ◌<◌, ◌≤◌, OnOk, OnErr, length, unwrap_or};
 ghost use Rattle.user_actions.specs.Actions.{total};
 ghost use Rattle.norec_core.specs.Core.{irrevocable_room};
-ghost use Rattle.norec_engine.specs.RestartingCalls.{arena_ahead};
+ghost use Rattle.norec_core.specs.RestartingCalls.{arena_ahead};
 ghost use Rattle.tx_attempts.specs.Kept.{reserved};
 ghost use Rattle.tx_runs.specs.OpenAttempts.{HasPlacesFor, LacksPlaces};
 

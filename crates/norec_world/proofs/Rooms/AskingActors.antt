@@ -5,11 +5,11 @@ use Rattle.tx_runs.proofs.OpenRooms.{again_none, begins_none, outside_current, r
 use Rattle.std.proofs.Common.{◌≡◌, inl, inr, ℕ, zero, suc, ◌+◌, ◌/◌, ◌<◌, ◌≤◌, max, length, not, Bool, true, false, true≢false, List, [], append-nil, Result, Ok, Err, IfOk, OnErr, Option, None, Some, is_some, unwrap_or, refl, sym, ap, subst, ◌∙◌, arith, if◌then◌else◌}
 use Rattle.norec_core.specs.Moves.{IsCalled}
 use Rattle.world_rules.specs.ActionRoom.{BacksIn, BeganIn, NestsAs, NestsBy, NestsReady, opened_by}
-use Rattle.norec_engine.specs.RestartingCalls.{arena_ahead}
+use Rattle.norec_core.specs.RestartingCalls.{arena_ahead}
 use Rattle.tx_runs.specs.OpenAttempts.{HasPlacesFor, LacksPlaces, Open, told_in}
 use Rattle.tx_runs.specs.Savepoints.{AreSavepoints}
 use Rattle.tx_runs.specs.Tallies.{begins, outside}
-use Rattle.norec_engine.proofs.RestartingCalls.{ahead_of_it}
+use Rattle.norec_core.proofs.Engines.RestartingCalls.{ahead_of_it}
 use Rattle.world_rules.specs.LocalWork.{HasUsedUp}
 use Rattle.world_rules.specs.Records.{Asks as AsksOf}
 use Rattle.world_rules.proofs.Common.{Actor, Answer, Attempt, Begin, Begins, Call, Cells, Core, Current, HasPlace, HasRow, IsAsked, IsKept, IsPromised, IsRefused, IsSound, IsUnasked, KeepsOthers, Kept, MAX_ACTORS, MayRunOn, Next, Props, Rows, Rules, Savepoint, Stage, Step, Within, active_of, begins_again, begun, came, cancels_in, cases_Bool, count_in, ends_in, asks_no_room, in_transaction, irrevocable_room, is_begin, none-some, open_in, promised, reserved, same_Some, stage_of, total, with_room, within}

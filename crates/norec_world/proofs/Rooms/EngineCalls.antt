@@ -3,8 +3,8 @@ use Rattle.std.proofs.Common.{◌≡◌, ◌&&◌, not, nat_lt, ℕ, ◌+◌, �
 use Rattle.std.proofs.lemmas.Bool.{and_parts}
 use Rattle.std.proofs.Math.Bool.{and-true}
 use Rattle.norec_core.specs.Core.{is_within}
-use Rattle.norec_engine.specs.RestartingCalls.{can_restart, may_validate, arena_ahead}
-use Rattle.norec_engine.proofs.RestartingCalls.{idle_so, ahead_revocable}
+use Rattle.norec_core.specs.RestartingCalls.{can_restart, may_validate, arena_ahead}
+use Rattle.norec_core.proofs.Engines.RestartingCalls.{idle_so, ahead_revocable}
 use Rattle.world_rules.specs.ActionRoom.{may_go_back, BacksIn, BeganIn, NestsBy, StartsEmpty, counted}
 use Rattle.world_rules.proofs.Common.{Answer, Answers, Asks, Call, Core, IsAtOnce, IsSettled, Next, Proceeds, Step, asked, asked_from, in_transaction, stage_at, total, Actor, Attempt, Current, HasPlace, HasRoomFor, HasRow, MayRunOn, Within, active_of, came, cancels_in, ends_in, is_abort, is_begin, pending_of, registers, stage_of, wanted, asks_no_room, irrevocable_room, open_in, promised, promised_held, same_Some}
 use Rattle.norec_world.proofs.Common.{ComesInto, next_in}

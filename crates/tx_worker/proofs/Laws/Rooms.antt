@@ -10,7 +10,7 @@ use Rattle.norec_core.specs.declared.answer.Answer.{Answer}
 use Rattle.norec_core.specs.declared.answer.Answer.TheVariants.{Busy, Committed, Conflict, Full, Reply, Restarted}
 use Rattle.norec_core.specs.Core.{Core, in_transaction, irrevocable_room}
 use Rattle.norec_core.specs.Restarts.{IsRestart}
-use Rattle.norec_engine.specs.RestartingCalls.{arena_ahead}
+use Rattle.norec_core.specs.RestartingCalls.{arena_ahead}
 use Rattle.user_actions.specs.Actions.{total}
 use Rattle.shared_words.specs.InGlobal.{Words}
 use Rattle.shared_words.specs.Passes.{cells_of, commits_known, view_of}

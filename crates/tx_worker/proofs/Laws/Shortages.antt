@@ -5,8 +5,8 @@ use Rattle.itm_types.specs.declared.call.Call.{Call}
 use Rattle.user_actions.specs.Actions.{total}
 use Rattle.norec_core.specs.Core.{Core, irrevocable_room}
 use Rattle.norec_core.specs.Proceeds.{MayStarve, MayStarveIn}
-use Rattle.norec_engine.specs.RestartingCalls.{arena_ahead}
-use Rattle.norec_engine.proofs.RestartingCalls.{ahead_revocable}
+use Rattle.norec_core.specs.RestartingCalls.{arena_ahead}
+use Rattle.norec_core.proofs.Engines.RestartingCalls.{ahead_revocable}
 use Rattle.shared_words.specs.InGlobal.{Words}
 use Rattle.tx_attempts.specs.declared.attempt.Attempt.{Attempt}
 use Rattle.tx_player.specs.Rules.{Rules}

@@ -10,9 +10,9 @@ use Rattle.norec_core.specs.Order.{stage_at}
 use Rattle.norec_core.specs.Phases.{Idle}
 use Rattle.norec_core.specs.Stands.{stands_for}
 use Rattle.norec_core.proofs.Replies.ActionCounts.{registers}
-use Rattle.norec_engine.specs.RestartingCalls.{can_restart, may_validate}
+use Rattle.norec_core.specs.RestartingCalls.{can_restart, may_validate}
 use Rattle.tx_runs.proofs.RestartedLengths.{again_long}
-use Rattle.norec_engine.proofs.RestartingCalls.{idle_so, validates_none}
+use Rattle.norec_core.proofs.Engines.RestartingCalls.{idle_so, validates_none}
 use Rattle.shared_words.specs.declared.view.View.{View}
 use Rattle.itm_runtime.specs.Served.{Served, Start}
 use Rattle.itm_runtime.specs.Ties.{Stands}

@@ -15,7 +15,7 @@ use Rattle.norec_core.specs.Order.{chunk_from, commit_stage, copy_stage, going_s
 use Rattle.norec_core.specs.Phases.{Phase}
 use Rattle.norec_core.specs.Phases.{Idle}
 use Rattle.norec_core.proofs.Replies.ActionCounts.{registers}
-use Rattle.norec_engine.specs.RestartingCalls.{arena_ahead, can_restart, may_validate, reads_shared}
+use Rattle.norec_core.specs.RestartingCalls.{arena_ahead, can_restart, may_validate, reads_shared}
 
 -- ## Calls that ask for no step
 
