@@ -10,8 +10,8 @@ use Rattle.itm_types.specs.declared.call.Reply.TheVariants.{Done}
 use Rattle.itm_model.specs.Machine.{bytes_reply}
 use Rattle.norec_core.specs.declared.answer.Answer.TheVariants.{Reply}
 use Rattle.shared_words.specs.InGlobal.{Words}
-use Rattle.itm_runtime.specs.CallResults.{IsAnswered, Tells}
-use Rattle.itm_runtime.specs.Standing.{Standing, start_of}
+use Rattle.call_rules.specs.CallResults.{IsAnswered, Tells}
+use Rattle.call_rules.specs.Standing.{Standing, start_of}
 use Rattle.itm_runtime.specs.Stops.{answer_to_read, bytes_of_number, number}
 use Rattle.itm_runtime.specs.declared.stop.Stop.{Stop}
 use Rattle.typed_cells.specs.Reads.{read_as}

@@ -20,7 +20,7 @@ use Rattle.itm_model.specs.Runs.{replies, state_after}
 use Rattle.itm_model.specs.State.{State}
 use Rattle.shared_words.specs.InGlobal.{Words}
 use Rattle.shared_words.specs.Passes.{view_of}
-use Rattle.itm_runtime.specs.Standing.{Standing}
+use Rattle.call_rules.specs.Standing.{Standing}
 use Rattle.itm_runtime.specs.Stops.{bytes_of_number, number}
 use Rattle.transactions.specs.Plain.{IsPlain, IsPlainRun, Makings, begun_at}
 use Rattle.transactions.specs.Lent.{Lent}

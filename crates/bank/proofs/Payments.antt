@@ -4,7 +4,7 @@ use Rattle.std.specs.Borrow.{MutBor}
 use Rattle.std.specs.Fn.{Called, CalledAtMut, Mut}
 use Rattle.transactions.specs.Plain.{IsPlainBlock, IsPlainIn, Makings}
 use Rattle.shared_words.specs.InGlobal.{Words}
-use Rattle.itm_runtime.specs.Standing.{Standing}
+use Rattle.call_rules.specs.Standing.{Standing}
 use Rattle.itm_runtime.specs.declared.stop.Stop.{Stop}
 use Rattle.transactions.specs.Blocks.{KeepsBlocks, StaysWithin}
 use Rattle.transactions.specs.Lent.{Lent}

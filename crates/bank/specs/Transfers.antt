@@ -11,9 +11,9 @@ use Rattle.itm_types.specs.Slices.{slice, with_slice}
 use Rattle.itm_model.specs.Machine.{bytes_reply}
 use Rattle.shared_words.specs.InGlobal.{Words}
 use Rattle.shared_words.specs.Passes.{view_of}
-use Rattle.itm_runtime.specs.Standing.{Standing}
+use Rattle.call_rules.specs.Standing.{Standing}
 use Rattle.itm_runtime.specs.Stops.{bytes_of_number, number}
-use Rattle.itm_runtime.specs.Ties.{memory_of}
+use Rattle.call_rules.specs.Ties.{memory_of}
 use Rattle.transactions.specs.Blocks.{StaysWithin}
 use Rattle.transactions.specs.Lent.{Lent}
 use Rattle.transactions.specs.Plain.{Calls, Deed, Makes, block_of}

@@ -6,8 +6,8 @@ use Rattle.std_alloc.specs.declared.vec.lodged.Lodged.{Lodged}
 use Rattle.itm_types.specs.declared.call.Call.{Call}
 use Rattle.norec_core.specs.declared.answer.Answer.{Answer}
 use Rattle.shared_words.specs.declared.words.Words.{Words}
-use Rattle.itm_runtime.specs.CallResults.{IsAnswered, IsThreadStarved, Tells}
-use Rattle.itm_runtime.specs.Standing.{Standing, start_of}
+use Rattle.call_rules.specs.CallResults.{IsAnswered, IsThreadStarved, Tells}
+use Rattle.call_rules.specs.Standing.{Standing, start_of}
 use Rattle.itm_c.specs.Told.{Comes}
 use Rattle.itm_c.specs.declared.client.Client.{Client}
 

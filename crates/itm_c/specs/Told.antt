@@ -6,8 +6,8 @@ use Rattle.itm_types.specs.declared.access.ReadHint.TheVariants.{R}
 use Rattle.itm_types.specs.declared.call.Call.{Call}
 use Rattle.itm_types.specs.declared.call.Call.TheVariants.{Read}
 use Rattle.norec_core.specs.declared.answer.Answer.{Answer}
-use Rattle.itm_runtime.specs.CallResults.{IsAnswered, IsThreadStarved}
-use Rattle.itm_runtime.specs.Standing.{start_of}
+use Rattle.call_rules.specs.CallResults.{IsAnswered, IsThreadStarved}
+use Rattle.call_rules.specs.Standing.{start_of}
 use Rattle.itm_c.specs.Codes.{code_of, value_in}
 use Rattle.itm_c.specs.Kept.{HoldsClient}
 use Rattle.itm_c.specs.declared.client.Client.{Client}

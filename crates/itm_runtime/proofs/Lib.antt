@@ -1,4 +1,3 @@
-pub mod LaterViews
-pub mod Steps
-pub mod Calls
+pub mod DueSteps
+pub mod NumberAnswers
 pub mod Examples

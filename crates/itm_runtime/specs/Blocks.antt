@@ -9,27 +9,17 @@ use Rattle.norec_core.specs.declared.answer.Answer.TheVariants.{Reply, Committed
 use Rattle.norec_core.specs.declared.answer.Next.{Next}
 use Rattle.norec_core.specs.declared.answer.Next.TheVariants.{Step as Asks}
 use Rattle.norec_core.specs.Core.{Core}
-use Rattle.norec_core.specs.Moves.{IsCalled}
 use Rattle.norec_engine.specs.BlockSteps.{next_step, storing}
 use Rattle.shared_words.specs.declared.view.View.{View}
 use Rattle.shared_words.specs.declared.pass.Pass.{Pass}
 use Rattle.shared_words.specs.declared.words.Words.{Words}
-use Rattle.shared_words.specs.Passes.{cells_of, IsOver, Owns, view_of}
+use Rattle.shared_words.specs.Passes.{cells_of, Owns, view_of}
 use Rattle.itm_runtime.specs.declared.blocks.Begun.{Begun}
 use Rattle.itm_runtime.specs.declared.blocks.Begun.TheVariants as begins
 use Rattle.itm_runtime.specs.declared.blocks.Ended.{Ended}
 use Rattle.itm_runtime.specs.declared.blocks.Ended.TheVariants as ends
-use Rattle.itm_runtime.specs.Drives.{Finishes, HasStepped, LeadsOn}
-
--- steps of the call in progress were done; the last one found this, which the engine has not been handed
-pub record Finds {A : Type 0} (words : Words A) (v : View) (e : Core) (next : Next) (found : ℕ) (pass : Pass) (new : Core) : Type 0 where
-  pub own : Owns words pass
-  pub steps : List (Step × ℕ)
-  pub before : View
-  pub step : Step
-  pub over : IsOver (cells_of words) before
-  pub leads : LeadsOn (cells_of words) v e next steps before new (Asks step)
-  pub stepped : HasStepped before step found (view_of pass)
+use Rattle.call_rules.specs.Drives.{LeadsOn}
+use Rattle.call_rules.specs.Underway.{Finds, IsServed, IsUnderway}
 
 -- in a commit that has taken the clock, with so many loads, the row was stored by these steps, and the next one is asked for: after so many loads
 pub record RowStored {A : Type 0} (words : Words A) (v : View) (e : Core) (row loads : ℕ) (pass : Pass) (after : ℕ) : Type 0 where
@@ -43,20 +33,6 @@ pub record RowsStored {A : Type 0} (words : Words A) (v : View) (from : Core) (n
   pub few : loads ≤ length e.writes
   pub freed : ℕ
   pub finds : Finds words v from next freed pass (storing e (length e.writes) loads)
-
--- the call came to the engine, and all its steps were done, up to this answer
-pub record IsServed {A : Type 0} (words : Words A) (pass : Pass) (e : Core) (call : Call) (again : Bool) (a : Answer) (left : Pass) (new : Core) : Type 0 where
-  pub came : Core
-  pub first : Next
-  pub called : IsCalled e call again first came
-  pub finishes : Finishes words (view_of pass) came first a left new
-
--- or they were done up to one that found this
-pub record IsUnderway {A : Type 0} (words : Words A) (pass : Pass) (e : Core) (call : Call) (again : Bool) (found : ℕ) (left : Pass) (new : Core) : Type 0 where
-  pub came : Core
-  pub first : Next
-  pub called : IsCalled e call again first came
-  pub finds : Finds words (view_of pass) came first found left new
 
 -- by what a begin tells
 abbrev pub BeginsSo : {A : Type 0} → Words A → Pass → Core → Call → Bool → Begun → Pass → Core → Type 0

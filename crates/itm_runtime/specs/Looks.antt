@@ -8,7 +8,7 @@ use Rattle.shared_words.specs.declared.pass.Pass.{Pass}
 use Rattle.shared_words.specs.declared.words.Words.{Words}
 use Rattle.itm_runtime.specs.declared.whole_words.Looked.{Looked}
 use Rattle.itm_runtime.specs.declared.whole_words.Looked.TheVariants.{Number, Moved, Nothing}
-use Rattle.itm_runtime.specs.Blocks.{IsServed, IsUnderway}
+use Rattle.call_rules.specs.Underway.{IsServed, IsUnderway}
 use Rattle.itm_runtime.specs.Stops.{bytes_of_number}
 
 abbrev pub LooksSo : {A : Type 0} → Words A → Pass → Core → Call → Looked → Pass → Core → Type 0

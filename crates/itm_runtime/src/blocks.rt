@@ -6,11 +6,12 @@ ghost use Rattle.norec_core.specs.declared.answer.Next.TheVariants.{Step as Asks
 ghost use Rattle.norec_engine.specs.BlockSteps.{StoresRows, WritesBack, exchanging, next_step, storing};
 ghost use Rattle.shared_words.specs.declared.view.View.{View};
 ghost use Rattle.shared_words.specs.Passes.{Owns, cells_of, view_of};
-ghost use Rattle.itm_runtime.specs.Blocks.{BeginsSo, CommitsSo, Finds, RowStored, RowsStored};
-ghost use Rattle.itm_runtime.specs.Drives.{Finishes, HasStepped};
-ghost use Rattle.itm_runtime.specs.InCall.{InCall, IsDone};
-ghost use Rattle.itm_runtime.specs.Served.{Start};
-ghost use Rattle.itm_runtime.specs.Ties.{Stands};
+ghost use Rattle.itm_runtime.specs.Blocks.{BeginsSo, CommitsSo, RowStored, RowsStored};
+ghost use Rattle.call_rules.specs.Underway.{Finds};
+ghost use Rattle.call_rules.specs.Drives.{Finishes, HasStepped};
+ghost use Rattle.call_rules.specs.InCall.{InCall, IsDone};
+ghost use Rattle.call_rules.specs.Served.{Start};
+ghost use Rattle.call_rules.specs.Ties.{Stands};
 
 use crate::drive::resume;
 use itm_types::{Call, Props, Reply, Step};

@@ -9,10 +9,10 @@ ghost use Rattle.itm_types.specs.declared.step.Step.{Step};
 ghost use Rattle.norec_core.specs.declared.answer.Next.TheVariants.{Step as Asks};
 ghost use Rattle.shared_words.specs.declared.view.View.{View};
 ghost use Rattle.shared_words.specs.Passes.{Owns, cells_of, view_of};
-ghost use Rattle.itm_runtime.specs.CallResults.{Tells};
-ghost use Rattle.itm_runtime.specs.Drives.{FinishesSo, HasStepped};
-ghost use Rattle.itm_runtime.specs.InCall.{IsDone};
-ghost use Rattle.itm_runtime.specs.Standing.{Standing, start_of};
+ghost use Rattle.call_rules.specs.CallResults.{Tells};
+ghost use Rattle.call_rules.specs.Drives.{FinishesSo, HasStepped};
+ghost use Rattle.call_rules.specs.InCall.{IsDone};
+ghost use Rattle.call_rules.specs.Standing.{Standing, start_of};
 ghost use Rattle.itm_runtime.specs.Stops.{GoesOn, HasNumber, answer_to_put, answer_to_read, answer_to_write, done_or, number};
 
 use crate::blocks::go_on_from;

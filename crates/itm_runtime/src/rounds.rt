@@ -8,9 +8,9 @@ ghost use Rattle.norec_engine.specs.BlockSteps.{TakesClock, exchanging};
 ghost use Rattle.norec_engine.specs.NextSteps.{next_in};
 ghost use Rattle.norec_engine.specs.Rounds.{Validates};
 ghost use Rattle.shared_words.specs.Passes.{Owns, view_of};
-ghost use Rattle.itm_runtime.specs.Drives.{StepsOn};
-ghost use Rattle.itm_runtime.specs.InCall.{InCall};
-ghost use Rattle.itm_runtime.specs.Served.{Start};
+ghost use Rattle.call_rules.specs.Drives.{StepsOn};
+ghost use Rattle.call_rules.specs.InCall.{InCall};
+ghost use Rattle.call_rules.specs.Served.{Start};
 
 use crate::blocks::write_back;
 use itm_types::Step;

@@ -5,8 +5,8 @@
 
 ghost use Rattle.std.specs.Prelude.{false};
 ghost use Rattle.shared_words.specs.Passes.{Owns};
-ghost use Rattle.itm_runtime.specs.CallResults.{IsAnswered, Returns};
-ghost use Rattle.itm_runtime.specs.Standing.{start_of};
+ghost use Rattle.call_rules.specs.CallResults.{IsAnswered, Returns};
+ghost use Rattle.call_rules.specs.Standing.{start_of};
 
 use crate::drive::finish;
 use crate::thread::Thread;

@@ -8,9 +8,9 @@ ghost use Rattle.norec_core.specs.Restarts.{IsRestart};
 ghost use Rattle.norec_core.specs.Undoing.{after_undoing, undone_of};
 ghost use Rattle.norec_core.specs.RestartingCalls.{arena_ahead};
 ghost use Rattle.shared_words.specs.Passes.{Owns, commits_known, view_of, cells_of};
-ghost use Rattle.itm_runtime.specs.Ties.{Stands};
-ghost use Rattle.itm_runtime.specs.CallResults.{IsAnswered, Returns};
-ghost use Rattle.itm_runtime.specs.Standing.{start_of};
+ghost use Rattle.call_rules.specs.Ties.{Stands};
+ghost use Rattle.call_rules.specs.CallResults.{IsAnswered, Returns};
+ghost use Rattle.call_rules.specs.Standing.{start_of};
 
 use crate::blocks::{Begun, Ended, begin_block, commit_block, go_on_from};
 use crate::drive::{finish, finish_read};
@@ -36,12 +36,12 @@ pub struct Thread {
 }
 
 impl Model for Thread {
-    ghost use Rattle.itm_runtime.specs.Standing.{Standing};
+    ghost use Rattle.call_rules.specs.Standing.{Standing};
 
     ghost Value = { Standing };
 
     ghost use Rattle.shared_words.specs.Passes.{view_of};
-    ghost use Rattle.itm_runtime.specs.Ties.{Stands};
+    ghost use Rattle.call_rules.specs.Ties.{Stands};
 
     ghost view = { λ t. record { pass = t.pass; engine = t.engine } };
 

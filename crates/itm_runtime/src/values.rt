@@ -3,7 +3,7 @@
 ghost use Rattle.std.specs.Prelude.{◌≡◌, Some};
 ghost use Rattle.itm_types.specs.declared.call.Call.{Call};
 ghost use Rattle.shared_words.specs.Passes.{Owns};
-ghost use Rattle.itm_runtime.specs.CallResults.{Tells};
+ghost use Rattle.call_rules.specs.CallResults.{Tells};
 ghost use Rattle.itm_runtime.specs.Stops.{answer_to_write};
 
 use crate::stop::Stop;

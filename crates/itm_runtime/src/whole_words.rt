@@ -7,13 +7,13 @@ ghost use Rattle.norec_core.specs.Moves.{IsCalled};
 ghost use Rattle.norec_engine.specs.WholeReads.{LoadsWord, ReadsAtOnce};
 ghost use Rattle.norec_engine.specs.WholeWrites.{ServesWrite};
 ghost use Rattle.shared_words.specs.Passes.{Owns, view_of};
-ghost use Rattle.itm_runtime.specs.Blocks.{Finds};
-ghost use Rattle.itm_runtime.specs.Drives.{Finishes};
-ghost use Rattle.itm_runtime.specs.InCall.{InCall};
+ghost use Rattle.call_rules.specs.Underway.{Finds};
+ghost use Rattle.call_rules.specs.Drives.{Finishes};
+ghost use Rattle.call_rules.specs.InCall.{InCall};
 ghost use Rattle.itm_runtime.specs.Looks.{LooksSo};
-ghost use Rattle.itm_runtime.specs.Served.{Start};
+ghost use Rattle.call_rules.specs.Served.{Start};
 ghost use Rattle.itm_runtime.specs.Stops.{bytes_of_number, number};
-ghost use Rattle.itm_runtime.specs.Ties.{Stands};
+ghost use Rattle.call_rules.specs.Ties.{Stands};
 
 use itm_types::{Call, Datum, ReadHint, Reply, Step, Width, WriteHint};
 use norec_core::Answer;

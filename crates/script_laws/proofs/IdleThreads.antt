@@ -7,7 +7,7 @@ use Rattle.norec_core.specs.Undoing.{after_undoing}
 use Rattle.norec_core.proofs.Engines.HeldStores.{shut_revocable}
 use Rattle.shared_words.specs.InGlobal.{Words}
 use Rattle.shared_words.specs.declared.pass.Pass.{Pass}
-use Rattle.itm_runtime.specs.Standing.{Standing}
+use Rattle.call_rules.specs.Standing.{Standing}
 use Rattle.script_laws.specs.Assembled.{HasNestedCode}
 use Rattle.script_laws.specs.Idle.{ComeBackIdle, NoneStayHeld}
 use Rattle.script_program.specs.declared.instruction.Instruction.{Instruction}

@@ -13,10 +13,10 @@ use Rattle.norec_core.specs.Core.{Core, in_transaction, irrevocable_room, is_ins
 use Rattle.norec_core.proofs.Replies.ReplyCases.{Ways, reply_cases}
 use Rattle.shared_words.specs.InGlobal.{Words}
 use Rattle.shared_words.specs.Passes.{Owns, cells_of, commits_known, view_of}
-use Rattle.itm_runtime.specs.CallResults.{IsAnswered}
-use Rattle.itm_runtime.specs.Served.{Start}
-use Rattle.itm_runtime.specs.Standing.{Standing, start_of}
-use Rattle.itm_runtime.specs.Ties.{Stands}
+use Rattle.call_rules.specs.CallResults.{IsAnswered}
+use Rattle.call_rules.specs.Served.{Start}
+use Rattle.call_rules.specs.Standing.{Standing, start_of}
+use Rattle.call_rules.specs.Ties.{Stands}
 use Rattle.script_program.specs.declared.instruction.Instruction.{Instruction}
 use Rattle.script_vm.specs.Nesting.{Nests}
 use Rattle.script_vm.specs.ThreadLaws.{thread_laws}
@@ -41,7 +41,7 @@ use Rattle.tx_worker.specs.Progress.{Course, IsRunning}
 use Rattle.tx_worker.specs.Works.{course_of}
 use Rattle.tx_worker.proofs.Laws.Answers.{both}
 use Rattle.tx_worker.proofs.Machines.LastEvents.{IsLast, last_event}
-use Rattle.itm_runtime.proofs.LaterViews.{went_self}
+use Rattle.call_rules.proofs.LaterViews.{went_self}
 use Rattle.script_laws.proofs.RepliedThreads.{HasLeft, deeper_begins, engine_fits, entered_may, one_deeper, open_room, replied_player, reserved_least, told_as_asked, tried_so}
 
 -- ## Before the first call

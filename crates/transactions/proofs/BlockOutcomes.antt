@@ -19,18 +19,18 @@ use Rattle.norec_core.specs.Stands.{stands_for}
 use Rattle.shared_words.specs.Commits.{StartsWith}
 use Rattle.shared_words.specs.InGlobal.{Words}
 use Rattle.shared_words.specs.Passes.{view_of}
-use Rattle.itm_runtime.specs.CallResults.{IsAnswered, Tells}
-use Rattle.itm_runtime.specs.Served.{came_over}
-use Rattle.itm_runtime.specs.Standing.{Standing, start_of}
+use Rattle.call_rules.specs.CallResults.{IsAnswered, Tells}
+use Rattle.call_rules.specs.Served.{came_over}
+use Rattle.call_rules.specs.Standing.{Standing, start_of}
 use Rattle.itm_runtime.specs.Stops.{GoesOn, answer_of}
 use Rattle.itm_runtime.specs.declared.stop.Stop.{Stop}
 use Rattle.itm_runtime.specs.declared.stop.Stop.TheVariants as stops
-use Rattle.itm_runtime.proofs.Calls.Restarts.{cancel_whole, commit_whole}
+use Rattle.call_rules.proofs.Calls.Restarts.{cancel_whole, commit_whole}
 use Rattle.transactions.specs.Lent.{IsKept, Lent}
 use Rattle.transactions.specs.Blocks.{Enters, HasGoneBack, IsAsBefore, IsWithin, IsWithinStill, Leaves, StaysWithin}
 use Rattle.transactions.specs.Runs.{usual}
 use Rattle.transactions.proofs.InnerBlocks.{HasEntered, committed, fresh_begun, goes_abort, goes_commit, has_entered, taken_back, within_self, begin_idle}
-use Rattle.itm_runtime.proofs.LaterViews.{went_on}
+use Rattle.call_rules.proofs.LaterViews.{went_on}
 use Rattle.transactions.proofs.Looks.{engine_open}
 use Rattle.transactions.proofs.LastEngines.{arena_left, last, mid, replied, writes_left}
 use Rattle.transactions.proofs.Within.{begins, begins_more, on_self, on_twice, ran_more, ran_none, ran_twice, replied_on}

@@ -5,9 +5,9 @@ use Rattle.std.specs.Fn.{CalledAtMut, Mut}
 use Rattle.norec_core.specs.Core.{in_transaction}
 use Rattle.shared_words.specs.Passes.{view_of}
 use Rattle.itm_types.specs.declared.call.Call.TheVariants.{Abort, Begin, Commit}
-use Rattle.itm_runtime.specs.CallResults.{Tells}
-use Rattle.itm_runtime.specs.Served.{Went}
-use Rattle.itm_runtime.specs.Standing.{Standing}
+use Rattle.call_rules.specs.CallResults.{Tells}
+use Rattle.call_rules.specs.Served.{Went}
+use Rattle.call_rules.specs.Standing.{Standing}
 use Rattle.itm_runtime.specs.Stops.{answer_of}
 use Rattle.itm_runtime.specs.declared.stop.Stop.{Stop}
 use Rattle.itm_runtime.specs.declared.stop.Stop.TheVariants as stops
@@ -16,7 +16,7 @@ use Rattle.transactions.specs.declared.stopped.Stopped.TheVariants.{Engine, Canc
 use Rattle.transactions.specs.Lent.{IsKept, Lent}
 use Rattle.transactions.specs.Blocks.{EndsBlockBy, EntersNot, HasGoneBack, HasRunBlock, IsAsBefore, IsToldAgain, IsUndoneUnless, KeepsBlocks, Leaves, StaysWithin, TellsBlock, block_told}
 use Rattle.transactions.specs.Runs.{KeepsBody, KeepsLent, usual}
-use Rattle.itm_runtime.proofs.LaterViews.{went_self}
+use Rattle.call_rules.proofs.LaterViews.{went_self}
 use Rattle.transactions.proofs.BlockOutcomes.{abort_back, abort_kept, back_self, before_twice, before_within, commit_failed, commit_kept, commit_within, not_entered, back_served}
 
 -- nothing is changed

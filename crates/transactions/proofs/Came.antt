@@ -4,7 +4,7 @@ use Rattle.std.specs.Borrow.{MutBor}
 use Rattle.std.specs.Fn.{Mut}
 use Rattle.shared_words.specs.InGlobal.{Words}
 use Rattle.shared_words.specs.Passes.{view_of}
-use Rattle.itm_runtime.specs.Standing.{Standing}
+use Rattle.call_rules.specs.Standing.{Standing}
 use Rattle.transactions.specs.declared.failed.Failed.{Failed}
 use Rattle.transactions.specs.declared.failed.Failed.TheVariants as failures
 use Rattle.transactions.specs.declared.stopped.Stopped.{Stopped}
@@ -13,7 +13,7 @@ use Rattle.transactions.specs.declared.tried.Tried.TheVariants.{Failed as Fails}
 use Rattle.transactions.specs.Lent.{IsKept, IsLeft, Lent, mine_of}
 use Rattle.transactions.specs.Plain.{IsPlainRun, Makings}
 use Rattle.transactions.specs.Runs.{ComesTo, HasLooked, IsCancelled, KeepsBody, KeepsLent, mine_left}
-use Rattle.itm_runtime.proofs.LaterViews.{went_on}
+use Rattle.call_rules.proofs.LaterViews.{went_on}
 use Rattle.transactions.proofs.Plain.{plain_run}
 use Rattle.transactions.proofs.Tries.{rebased}
 

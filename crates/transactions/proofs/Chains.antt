@@ -8,9 +8,9 @@ use Rattle.norec_core.specs.declared.answer.Answer.TheVariants as answers
 use Rattle.norec_core.specs.Core.{in_transaction}
 use Rattle.shared_words.proofs.ListPlaces.{starts_le}
 use Rattle.shared_words.specs.Passes.{view_of}
-use Rattle.itm_runtime.specs.CallResults.{IsAnswered}
-use Rattle.itm_runtime.specs.Standing.{Standing, start_of}
-use Rattle.itm_runtime.specs.Ties.{Stands}
+use Rattle.call_rules.specs.CallResults.{IsAnswered}
+use Rattle.call_rules.specs.Standing.{Standing, start_of}
+use Rattle.call_rules.specs.Ties.{Stands}
 use Rattle.transactions.specs.declared.failed.Failed.{Failed}
 use Rattle.transactions.specs.declared.failed.Failed.TheVariants as failures
 use Rattle.transactions.specs.declared.stopped.Stopped.{Stopped}

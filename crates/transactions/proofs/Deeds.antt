@@ -1,7 +1,7 @@
 -- What a body does, part after part.
 use Rattle.std.proofs.Common.{List, [], ◌∷◌, ◌++◌, subst}
 use Rattle.shared_words.specs.InGlobal.{Words}
-use Rattle.itm_runtime.specs.Standing.{Standing}
+use Rattle.call_rules.specs.Standing.{Standing}
 use Rattle.transactions.specs.Plain.{Calls, Deed, Makes, TakesBack}
 
 pub makes_then : (words : Words) (a b c : Standing) (xs ys : List Deed) → Makes words a xs b → Makes words b ys c → Makes words a (xs ++ ys) c

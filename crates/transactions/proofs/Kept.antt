@@ -15,14 +15,14 @@ use Rattle.norec_core.specs.Stands.{stands_for}
 use Rattle.shared_words.specs.declared.view.View.{View}
 use Rattle.shared_words.specs.InGlobal.{Words}
 use Rattle.shared_words.specs.Passes.{Owns, view_of}
-use Rattle.itm_runtime.specs.CallResults.{Tells}
-use Rattle.itm_runtime.specs.Standing.{Standing, start_of}
-use Rattle.itm_runtime.specs.Served.{Served, Went, came_over}
+use Rattle.call_rules.specs.CallResults.{Tells}
+use Rattle.call_rules.specs.Standing.{Standing, start_of}
+use Rattle.call_rules.specs.Served.{Served, Went, came_over}
 use Rattle.itm_runtime.specs.Stops.{GoesOn, answer_to_read, answer_to_write}
 use Rattle.itm_runtime.specs.declared.stop.Stop.{Stop}
 use Rattle.itm_runtime.specs.declared.stop.Stop.TheVariants.{Refused, Conflict, Restarted, Busy, Full, Memory}
 use Rattle.transactions.specs.Lent.{IsKept, Lent, mine_of}
-use Rattle.itm_runtime.proofs.LaterViews.{went_self}
+use Rattle.call_rules.proofs.LaterViews.{went_self}
 use Rattle.transactions.proofs.Modes.{KeepsMode, stays_revocable}
 
 module _ (words : Words) (old : Standing) (call : Call) (new : Standing) where

@@ -20,12 +20,12 @@ use Rattle.norec_core.proofs.Replies.ReplyCases.{reply_cases}
 use Rattle.shared_words.specs.declared.view.View.{View}
 use Rattle.shared_words.specs.InGlobal.{Words}
 use Rattle.shared_words.specs.Passes.{cells_of, view_of}
-use Rattle.itm_runtime.specs.CallResults.{IsAnswered}
-use Rattle.itm_runtime.specs.Drives.{Drives, IsDriven, LeadsOn}
-use Rattle.itm_runtime.specs.Served.{Start}
-use Rattle.itm_runtime.specs.Standing.{Standing, start_of}
-use Rattle.itm_runtime.specs.Ties.{memory_of}
-use Rattle.itm_runtime.proofs.Steps.CallsInHand.{is_memory}
+use Rattle.call_rules.specs.CallResults.{IsAnswered}
+use Rattle.call_rules.specs.Drives.{Drives, IsDriven, LeadsOn}
+use Rattle.call_rules.specs.Served.{Start}
+use Rattle.call_rules.specs.Standing.{Standing, start_of}
+use Rattle.call_rules.specs.Ties.{memory_of}
+use Rattle.call_rules.proofs.Steps.CallsInHand.{is_memory}
 
 -- it has kept what the call came with
 pub record IsLast (s : Start) (a : Answer) (e : Core) : Type 0 where

@@ -15,10 +15,10 @@ use Rattle.norec_core.specs.Stands.{stands_for, state_in}
 use Rattle.norec_core.proofs.Engines.Machines.{open_is}
 use Rattle.shared_words.specs.declared.view.View.{View}
 use Rattle.shared_words.specs.Passes.{view_of}
-use Rattle.itm_runtime.specs.Served.{Served, Start, came_over, left_over}
-use Rattle.itm_runtime.specs.Standing.{Standing, start_of}
+use Rattle.call_rules.specs.Served.{Served, Start, came_over, left_over}
+use Rattle.call_rules.specs.Standing.{Standing, start_of}
 use Rattle.itm_runtime.specs.Stops.{GoesOn, answer_of}
-use Rattle.itm_runtime.specs.Ties.{Stands}
+use Rattle.call_rules.specs.Ties.{Stands}
 use Rattle.itm_runtime.specs.declared.stop.Stop.{Stop}
 use Rattle.itm_runtime.specs.declared.stop.Stop.TheVariants as stops
 use Rattle.transactions.specs.declared.tried.Tried.{Tried}

@@ -10,8 +10,8 @@ use Rattle.norec_core.specs.declared.answer.Answer.TheVariants.{Reply, Committed
 use Rattle.norec_core.specs.Core.{Core, in_transaction}
 use Rattle.norec_core.specs.Stands.{stands_for, state_in}
 use Rattle.shared_words.specs.declared.view.View.{View}
-use Rattle.itm_runtime.specs.Served.{Start, Served, came_over, left_over, mine_after}
-use Rattle.itm_runtime.specs.Ties.{Stands}
+use Rattle.call_rules.specs.Served.{Start, Served, came_over, left_over, mine_after}
+use Rattle.call_rules.specs.Ties.{Stands}
 use Rattle.transactions.specs.Runs.{usual}
 
 -- the call's effect leaves a revocable transaction so

@@ -32,13 +32,13 @@ use Rattle.norec_core.proofs.Replies.AnsweredEngines.{told_plainly}
 use Rattle.shared_words.specs.Commits.{StartsWith}
 use Rattle.shared_words.specs.InGlobal.{Words}
 use Rattle.shared_words.specs.Passes.{view_of}
-use Rattle.itm_runtime.specs.CallResults.{IsAnswered}
-use Rattle.itm_runtime.specs.Served.{Start, came_over, left_over, memory_in}
-use Rattle.itm_runtime.specs.Standing.{Standing, start_of}
+use Rattle.call_rules.specs.CallResults.{IsAnswered}
+use Rattle.call_rules.specs.Served.{Start, came_over, left_over, memory_in}
+use Rattle.call_rules.specs.Standing.{Standing, start_of}
 use Rattle.itm_runtime.specs.Stops.{GoesOn}
-use Rattle.itm_runtime.specs.Ties.{Stands, memory_of}
+use Rattle.call_rules.specs.Ties.{Stands, memory_of}
 use Rattle.itm_runtime.specs.declared.stop.Stop.TheVariants as stops
-use Rattle.itm_runtime.proofs.Steps.CallsInHand.{is_memory}
+use Rattle.call_rules.proofs.Steps.CallsInHand.{is_memory}
 use Rattle.transactions.specs.Lent.{Lent}
 use Rattle.transactions.specs.Blocks.{IsTakenBack}
 use Rattle.transactions.specs.Plain.{Calls, Deed, IsPlain, IsPlainRun, Makes, Makings, Stays, TakesBack, begun_at, calls_of, committed_at, replies_of, state_with, with_gone}

@@ -6,8 +6,8 @@ use Rattle.itm_types.specs.declared.call.Call.TheVariants.{Begin, Commit}
 use Rattle.itm_types.specs.declared.call.Reply.TheVariants.{Code, Done}
 use Rattle.norec_core.specs.declared.answer.Answer.TheVariants.{Reply}
 use Rattle.shared_words.specs.InGlobal.{Words}
-use Rattle.itm_runtime.specs.CallResults.{IsAnswered}
-use Rattle.itm_runtime.specs.Standing.{start_of}
+use Rattle.call_rules.specs.CallResults.{IsAnswered}
+use Rattle.call_rules.specs.Standing.{start_of}
 use Rattle.itm_runtime.specs.declared.stop.Stop.{Stop}
 use Rattle.transactions.specs.declared.stopped.Stopped.{Stopped}
 use Rattle.transactions.specs.declared.stopped.Stopped.TheVariants.{Engine, Cancelled}

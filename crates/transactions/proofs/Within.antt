@@ -23,8 +23,8 @@ use Rattle.norec_core.specs.Restarts.{Restarts}
 use Rattle.shared_words.specs.Commits.{StartsWith}
 use Rattle.shared_words.specs.InGlobal.{Words}
 use Rattle.shared_words.specs.Passes.{cells_of, view_of}
-use Rattle.itm_runtime.specs.CallResults.{IsAnswered, Tells}
-use Rattle.itm_runtime.specs.Standing.{Standing, start_of}
+use Rattle.call_rules.specs.CallResults.{IsAnswered, Tells}
+use Rattle.call_rules.specs.Standing.{Standing, start_of}
 use Rattle.transactions.specs.Blocks.{CameToRun, IsFresh, IsWithin, IsWithinStill, ReadsOn}
 use Rattle.transactions.specs.Lent.{Lent}
 use Rattle.transactions.specs.Runs.{usual}

@@ -15,8 +15,8 @@ use Rattle.norec_core.specs.declared.answer.Answer.{Answer}
 use Rattle.norec_core.specs.declared.answer.Answer.TheVariants.{Reply}
 use Rattle.norec_core.specs.Core.{Core, in_transaction}
 use Rattle.shared_words.specs.Commits.{StartsWith}
-use Rattle.itm_runtime.specs.CallResults.{IsAnswered, Tells}
-use Rattle.itm_runtime.specs.Standing.{Standing, start_of}
+use Rattle.call_rules.specs.CallResults.{IsAnswered, Tells}
+use Rattle.call_rules.specs.Standing.{Standing, start_of}
 use Rattle.itm_runtime.specs.Stops.{GoesOn, answer_of}
 use Rattle.itm_runtime.specs.declared.stop.Stop.{Stop}
 use Rattle.itm_runtime.specs.declared.stop.Stop.TheVariants.{Refused, Restarted}

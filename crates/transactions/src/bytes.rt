@@ -7,7 +7,7 @@ ghost use Rattle.itm_types.specs.declared.call.Call.{Call};
 ghost use Rattle.itm_types.specs.declared.access.ReadHint.{ReadHint};
 ghost use Rattle.itm_types.specs.declared.access.WriteHint.{WriteHint};
 ghost use Rattle.itm_types.specs.declared.access.Width.{Width};
-ghost use Rattle.itm_runtime.specs.CallResults.{Tells};
+ghost use Rattle.call_rules.specs.CallResults.{Tells};
 ghost use Rattle.itm_runtime.specs.Stops.{answer_to_write};
 ghost use Rattle.transactions.specs.Widths.{HasValue, answer_as, number_16, number_32, number_8};
 

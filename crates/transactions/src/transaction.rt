@@ -7,7 +7,7 @@ ghost use Rattle.itm_types.specs.declared.call.Call.{Call};
 ghost use Rattle.itm_types.specs.declared.access.ReadHint.{ReadHint};
 ghost use Rattle.itm_types.specs.declared.access.WriteHint.{WriteHint};
 ghost use Rattle.itm_types.specs.declared.access.Width.{Width};
-ghost use Rattle.itm_runtime.specs.CallResults.{Tells};
+ghost use Rattle.call_rules.specs.CallResults.{Tells};
 ghost use Rattle.itm_runtime.specs.Stops.{answer_to_read, answer_to_write, number};
 
 use itm_runtime::{Stop, Thread};

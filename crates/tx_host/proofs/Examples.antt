@@ -4,8 +4,8 @@ use Rattle.norec_core.specs.declared.answer.Answer.TheVariants.{Busy, Full}
 use Rattle.shared_words.specs.InGlobal.{Words}
 use Rattle.shared_words.specs.Passes.{Owns, view_of}
 use Rattle.script_vm.specs.Threads.{opening}
-use Rattle.itm_runtime.specs.Standing.{Standing}
-use Rattle.itm_runtime.specs.Ties.{Stands}
+use Rattle.call_rules.specs.Standing.{Standing}
+use Rattle.call_rules.specs.Ties.{Stands}
 use Rattle.tx_attempts.specs.declared.attempt.Attempt.{Attempt}
 use Rattle.tx_attempts.specs.declared.attempt.Outcome.TheVariants.{Conflict, ReadOnly}
 use Rattle.tx_runs.specs.declared.ending.End.TheVariants.{Finished, GaveUp}

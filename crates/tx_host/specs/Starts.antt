@@ -10,8 +10,8 @@ use Rattle.shared_words.specs.Views.{cut_right, opening as unwritten}
 use Rattle.script_program.specs.declared.instruction.Instruction.{Instruction}
 use Rattle.script_program.specs.Listing.{Listing, threads_of}
 use Rattle.script_vm.specs.Threads.{Thread, opening as script_opening}
-use Rattle.itm_runtime.specs.Standing.{Standing}
-use Rattle.itm_runtime.specs.Ties.{Stands}
+use Rattle.call_rules.specs.Standing.{Standing}
+use Rattle.call_rules.specs.Ties.{Stands}
 use Rattle.tx_worker.specs.declared.worked.Worked.{Worked}
 use Rattle.tx_host.specs.declared.start.Ready.{Ready}
 use Rattle.tx_host.specs.declared.start.Started.{Started}

@@ -6,7 +6,7 @@ ghost use Rattle.norec_core.specs.Core.{in_transaction};
 ghost use Rattle.shared_words.specs.Passes.{Owns, view_of};
 ghost use Rattle.script_program.specs.Listing.{threads_of};
 ghost use Rattle.script_vm.specs.Threads.{depth_of};
-ghost use Rattle.itm_runtime.specs.Ties.{Stands};
+ghost use Rattle.call_rules.specs.Ties.{Stands};
 ghost use Rattle.tx_host.specs.Starts.{AllReady, IsUnused, Prepares, Starts};
 
 use itm_runtime::Thread;

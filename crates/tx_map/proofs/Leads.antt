@@ -7,8 +7,8 @@ use Rattle.itm_types.specs.Memory.{bytes_of}
 use Rattle.itm_model.specs.Runs.{state_after}
 use Rattle.shared_words.specs.InGlobal.{Words}
 use Rattle.shared_words.specs.Passes.{view_of}
-use Rattle.itm_runtime.specs.Standing.{Standing}
-use Rattle.itm_runtime.specs.Ties.{memory_of}
+use Rattle.call_rules.specs.Standing.{Standing}
+use Rattle.call_rules.specs.Ties.{memory_of}
 use Rattle.transactions.specs.Plain.{IsPlain, IsPlainRun, Makings, begun_at, calls_of}
 use Rattle.transactions.specs.Lent.{Lent}
 use Rattle.transactions.specs.Runs.{KeepsBody}

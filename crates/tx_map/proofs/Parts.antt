@@ -11,8 +11,8 @@ use Rattle.itm_model.specs.Machine.{bytes_reply}
 use Rattle.itm_model.specs.Runs.{state_after}
 use Rattle.itm_model.specs.State.{State}
 use Rattle.shared_words.specs.InGlobal.{Words}
-use Rattle.itm_runtime.specs.CallResults.{Tells}
-use Rattle.itm_runtime.specs.Standing.{Standing}
+use Rattle.call_rules.specs.CallResults.{Tells}
+use Rattle.call_rules.specs.Standing.{Standing}
 use Rattle.itm_runtime.specs.Stops.{answer_to_read, answer_to_write, bytes_of_number, number}
 use Rattle.itm_runtime.specs.declared.stop.Stop.{Stop}
 use Rattle.transactions.specs.Plain.{Calls, calls_of}

@@ -4,12 +4,12 @@ use Rattle.std.proofs.lemmas.Option.{none-some, same_Some}
 use Rattle.std.specs.Result.{result_ok}
 use Rattle.shared_words.specs.declared.view.View.{View}
 use Rattle.shared_words.specs.Passes.{view_of}
-use Rattle.itm_runtime.specs.Served.{mine_if}
+use Rattle.call_rules.specs.Served.{mine_if}
 use Rattle.transactions.specs.declared.failed.Failed.{Failed}
 use Rattle.transactions.specs.declared.tried.Done.{Done}
 use Rattle.transactions.specs.Lent.{IsKept, IsLeft, Lent, mine_of}
 use Rattle.transactions.specs.Runs.{mine_left}
-use Rattle.itm_runtime.proofs.LaterViews.{went_on, went_self}
+use Rattle.call_rules.proofs.LaterViews.{went_on, went_self}
 use Rattle.tx_map.specs.declared.table.Put.{Put}
 use Rattle.tx_map.specs.declared.table.Put.TheVariants.{Added, Again, Full}
 use Rattle.tx_map.specs.Puts.{HasGot, HasPut, added_of, is_put}

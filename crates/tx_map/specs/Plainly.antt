@@ -3,7 +3,7 @@ use Rattle.std.specs.Prelude.{◌≡◌, ◌||◌, ℕ, Bool, false, List}
 use Rattle.itm_model.specs.Runs.{replies, state_after}
 use Rattle.itm_model.specs.State.{State}
 use Rattle.shared_words.specs.InGlobal.{Words}
-use Rattle.itm_runtime.specs.Standing.{Standing}
+use Rattle.call_rules.specs.Standing.{Standing}
 use Rattle.transactions.specs.Plain.{Deed, Makes, calls_of, replies_of}
 
 -- the bytes go so from the one state to the other: on the way something is written, or nothing is and they stay

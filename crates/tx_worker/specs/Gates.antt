@@ -1,6 +1,6 @@
 -- What gates may answer.
 use Rattle.std.specs.Prelude.{◌≡◌, ℕ, min, Bool, true, false}
-use Rattle.itm_runtime.specs.Standing.{Standing}
+use Rattle.call_rules.specs.Standing.{Standing}
 
 -- which calls of a thread, by the thread's number and the call's, a gate may shut out, and which it may let through
 pub record Gating : Type 0 where

@@ -1,7 +1,7 @@
 -- Attempts among the commits that a pass has seen.
 use Rattle.std.specs.Prelude.{◌≡◌, ℕ, suc, ◌<◌, ◌≤◌, true, if◌then◌else◌, List, [], ◌∷◌, length}
 use Rattle.itm_types.specs.Memory.{bytes_of}
-use Rattle.itm_runtime.specs.Ties.{memory_of}
+use Rattle.call_rules.specs.Ties.{memory_of}
 use Rattle.shared_words.specs.declared.view.View.{View}
 use Rattle.tx_attempts.specs.declared.attempt.Attempt.{Attempt}
 use Rattle.tx_attempts.specs.declared.attempt.Outcome.TheVariants.{Unfinished}

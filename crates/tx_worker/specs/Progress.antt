@@ -6,8 +6,8 @@ use Rattle.norec_core.specs.Stands.{stands_for}
 use Rattle.shared_words.specs.declared.view.View.{View}
 use Rattle.shared_words.specs.Passes.{commits_known}
 use Rattle.shared_words.specs.Views.{held}
-use Rattle.itm_runtime.specs.Ties.{memory_of}
-use Rattle.itm_runtime.specs.Served.{Went}
+use Rattle.call_rules.specs.Ties.{memory_of}
+use Rattle.call_rules.specs.Served.{Went}
 use Rattle.tx_attempts.specs.declared.attempt.Attempt.{Attempt}
 use Rattle.tx_attempts.specs.Opacity.{Between, IsRunOf}
 use Rattle.tx_attempts.specs.Outrun.{AreOutrun}

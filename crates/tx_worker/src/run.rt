@@ -4,7 +4,7 @@ ghost use Rattle.std.specs.Prelude.{◌≡◌, ◌^◌, ◌<◌, ◌≤◌, fals
 ghost use Rattle.itm_types.specs.declared.limits.TheConstants.{MAX_RETRIES};
 ghost use Rattle.norec_core.specs.Core.{in_transaction};
 ghost use Rattle.shared_words.specs.Passes.{Owns, view_of};
-ghost use Rattle.itm_runtime.specs.Ties.{Stands};
+ghost use Rattle.call_rules.specs.Ties.{Stands};
 ghost use Rattle.tx_worker.specs.Works.{Works};
 
 use crate::gate::Gate;

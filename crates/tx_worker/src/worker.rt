@@ -4,7 +4,7 @@ ghost use Rattle.std.specs.Prelude.{◌≡◌, ◌/◌, ◌<◌, ◌≤◌, Bool
 ghost use Rattle.norec_core.specs.Core.{irrevocable_room};
 ghost use Rattle.shared_words.specs.Passes.{Owns, commits_known, view_of};
 ghost use Rattle.shared_words.specs.InGlobal.{Words as WordsValue};
-ghost use Rattle.itm_runtime.specs.CallResults.{Returns};
+ghost use Rattle.call_rules.specs.CallResults.{Returns};
 ghost use Rattle.tx_runs.specs.OpenAttempts.{Open};
 ghost use Rattle.tx_runs.specs.PlayerRuns.{MayStop, MayTell};
 ghost use Rattle.tx_runs.specs.Tallies.{begun, stand_of};

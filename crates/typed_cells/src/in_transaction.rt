@@ -5,7 +5,7 @@ ghost use Rattle.itm_types.specs.declared.call.Call.{Call};
 ghost use Rattle.itm_types.specs.declared.access.ReadHint.{ReadHint};
 ghost use Rattle.itm_types.specs.declared.access.WriteHint.{WriteHint};
 ghost use Rattle.itm_types.specs.declared.access.Width.{Width};
-ghost use Rattle.itm_runtime.specs.CallResults.{Tells};
+ghost use Rattle.call_rules.specs.CallResults.{Tells};
 ghost use Rattle.itm_runtime.specs.Stops.{answer_to_read, answer_to_write, number};
 ghost use Rattle.itm_runtime.specs.declared.stop.Stop.{Stop as Stopping};
 ghost use Rattle.transactions.specs.Blocks.{StaysWithin};

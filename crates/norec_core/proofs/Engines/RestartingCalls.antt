@@ -23,7 +23,8 @@ off : (b : Bool) (stage : Phase) → stage ≡ Idle → (if b then stage else Id
 off true stage e = e
 off false stage e = refl
 
-inner : (bs : List Frame) → is_within bs ≡ true → is_outermost bs ≡ false
+-- a block within another one is not the outermost
+pub inner : (bs : List Frame) → is_within bs ≡ true → is_outermost bs ≡ false
 inner [] w = refl
 inner (b ∷ []) w = absurd (cc)
 inner (b ∷ p ∷ bs) w = refl

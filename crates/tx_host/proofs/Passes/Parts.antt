@@ -10,8 +10,8 @@ use Rattle.shared_words.specs.Passes.{Owns, view_of}
 use Rattle.shared_words.specs.Views.{cut_left, cut_right, opening as unwritten}
 use Rattle.script_program.specs.Listing.{Listing}
 use Rattle.script_vm.specs.Threads.{Thread, depth_of, opening as script_opening}
-use Rattle.itm_runtime.specs.Standing.{Standing}
-use Rattle.itm_runtime.specs.Ties.{Stands}
+use Rattle.call_rules.specs.Standing.{Standing}
+use Rattle.call_rules.specs.Ties.{Stands}
 use Rattle.tx_host.specs.declared.start.Ready.{Ready}
 use Rattle.tx_host.specs.declared.start.WorksOn.{WorksOn}
 use Rattle.tx_host.specs.Starts.{IsFor, IsFresh, IsReady, IsUnused, code_of}

@@ -10,7 +10,7 @@ use Rattle.shared_words.specs.Steps.{Joined}
 use Rattle.shared_words.proofs.ListPlaces.{starts_self}
 use Rattle.script_program.specs.Listing.{Listing}
 use Rattle.script_vm.specs.Threads.{Thread, thread_rules}
-use Rattle.itm_runtime.specs.Standing.{Standing}
+use Rattle.call_rules.specs.Standing.{Standing}
 use Rattle.tx_attempts.specs.declared.attempt.Attempt.{Attempt}
 use Rattle.tx_attempts.specs.Attempts.{alone}
 use Rattle.tx_attempts.specs.Opacity.{Between, IsRunOf, after_try}

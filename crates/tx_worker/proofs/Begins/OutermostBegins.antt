@@ -21,8 +21,8 @@ use Rattle.norec_core.specs.declared.answer.Answer.TheVariants.{Busy, Committed,
 use Rattle.shared_words.specs.declared.view.View.{View}
 use Rattle.shared_words.specs.Passes.{commits_known}
 use Rattle.shared_words.specs.Views.{held}
-use Rattle.itm_runtime.specs.Served.{IsUndone, Meets, Served, Start, Went, came_over, left_over, memory_in, mine_after}
-use Rattle.itm_runtime.specs.Ties.{Stands, memory_of}
+use Rattle.call_rules.specs.Served.{IsUndone, Meets, Served, Start, Went, came_over, left_over, memory_in, mine_after}
+use Rattle.call_rules.specs.Ties.{Stands, memory_of}
 use Rattle.tx_attempts.specs.Opacity.{begin_code}
 use Rattle.tx_attempts.specs.declared.attempt.Attempt.{Attempt}
 use Rattle.tx_player.specs.Depth.{depth_after}

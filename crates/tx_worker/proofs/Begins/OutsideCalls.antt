@@ -21,8 +21,8 @@ use Rattle.norec_core.specs.Stands.{stands_for, state_in, state_over}
 use Rattle.norec_core.specs.declared.answer.Answer.{Answer}
 use Rattle.norec_core.specs.declared.answer.Answer.TheVariants.{Busy, Committed, Conflict, Full, Reply, Restarted}
 use Rattle.shared_words.specs.declared.view.View.{View}
-use Rattle.itm_runtime.specs.Served.{GoesBegin, Served, Start, came_over, left_over}
-use Rattle.itm_runtime.specs.Ties.{Stands}
+use Rattle.call_rules.specs.Served.{GoesBegin, Served, Start, came_over, left_over}
+use Rattle.call_rules.specs.Ties.{Stands}
 use Rattle.tx_attempts.specs.Opacity.{stays_outside}
 use Rattle.tx_player.specs.Depth.{depth_after}
 use Rattle.tx_player.specs.Rules.{Obeys, Rules}

@@ -6,10 +6,10 @@ use Rattle.norec_core.specs.Core.{Core, in_transaction, irrevocable_room}
 use Rattle.shared_words.specs.declared.view.View.{View}
 use Rattle.shared_words.specs.InGlobal.{Words}
 use Rattle.shared_words.specs.Passes.{Owns, cells_of, commits_known, view_of}
-use Rattle.itm_runtime.specs.CallResults.{IsAnswered}
-use Rattle.itm_runtime.specs.Served.{Served, Start}
-use Rattle.itm_runtime.specs.Standing.{Standing, start_of}
-use Rattle.itm_runtime.specs.Ties.{Stands}
+use Rattle.call_rules.specs.CallResults.{IsAnswered}
+use Rattle.call_rules.specs.Served.{Served, Start}
+use Rattle.call_rules.specs.Standing.{Standing, start_of}
+use Rattle.call_rules.specs.Ties.{Stands}
 use Rattle.tx_player.specs.Rules.{Obeys, Rules}
 use Rattle.tx_runs.specs.declared.ending.End.{End}
 use Rattle.tx_runs.specs.Tallies.{Stage, outside, within, Taken, begins_again, begun, stage_at, took_in, stand_of}

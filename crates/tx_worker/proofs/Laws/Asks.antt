@@ -9,8 +9,8 @@ use Rattle.norec_core.specs.Core.{in_transaction, irrevocable_room}
 use Rattle.norec_core.specs.Proceeds.{MayStarve}
 use Rattle.shared_words.specs.InGlobal.{Words}
 use Rattle.shared_words.specs.Passes.{commits_known, view_of}
-use Rattle.itm_runtime.specs.CallResults.{IsAnswered, IsThreadStarved}
-use Rattle.itm_runtime.specs.Standing.{Standing, start_of}
+use Rattle.call_rules.specs.CallResults.{IsAnswered, IsThreadStarved}
+use Rattle.call_rules.specs.Standing.{Standing, start_of}
 use Rattle.tx_attempts.specs.declared.attempt.Attempt.{Attempt}
 use Rattle.tx_player.specs.Rules.{Rules}
 use Rattle.tx_runs.specs.declared.player_run.Current.{Current}

@@ -5,8 +5,8 @@ use Rattle.nest_frames.specs.Nest.{Frame}
 use Rattle.norec_core.specs.Core.{in_transaction, is_inside}
 use Rattle.shared_words.specs.InGlobal.{Words}
 use Rattle.shared_words.specs.Passes.{Owns, commits_known, view_of}
-use Rattle.itm_runtime.specs.Standing.{Standing}
-use Rattle.itm_runtime.specs.Ties.{Stands}
+use Rattle.call_rules.specs.Standing.{Standing}
+use Rattle.call_rules.specs.Ties.{Stands}
 use Rattle.tx_attempts.specs.declared.attempt.Attempt.{Attempt}
 use Rattle.tx_attempts.proofs.LaterClocks.{outrun_none}
 use Rattle.tx_player.specs.Rules.{Rules}
@@ -19,7 +19,7 @@ use Rattle.tx_worker.specs.Positions.{AreFew, AreOver}
 use Rattle.tx_worker.specs.Progress.{HasRun, IsRunning}
 use Rattle.tx_worker.specs.Workers.{IsWorking, bounds_of}
 use Rattle.tx_worker.specs.Works.{course_of}
-use Rattle.itm_runtime.proofs.LaterViews.{went_self}
+use Rattle.call_rules.proofs.LaterViews.{went_self}
 
 none_open : (bs : List Frame) → is_inside bs ≡ false → length bs ≡ 0
 none_open [] e = refl

@@ -11,8 +11,8 @@ use Rattle.norec_core.specs.declared.answer.Answer.TheVariants.{Busy, Committed,
 use Rattle.norec_core.specs.Core.{Core, in_transaction}
 use Rattle.shared_words.specs.declared.view.View.{View}
 use Rattle.shared_words.specs.Passes.{commits_known}
-use Rattle.itm_runtime.specs.Served.{Served, Start, mine_after}
-use Rattle.itm_runtime.specs.Ties.{Stands}
+use Rattle.call_rules.specs.Served.{Served, Start, mine_after}
+use Rattle.call_rules.specs.Ties.{Stands}
 use Rattle.tx_attempts.specs.declared.attempt.Attempt.{Attempt}
 use Rattle.tx_player.specs.Rules.{Obeys, Rules}
 use Rattle.tx_runs.specs.declared.ending.End.{End}

@@ -8,8 +8,8 @@ use Rattle.norec_core.specs.declared.answer.Answer.{Answer}
 use Rattle.norec_core.specs.declared.answer.Answer.TheVariants.{Busy, Committed, Conflict, Full, Reply, Restarted}
 use Rattle.norec_core.specs.Core.{Core, in_transaction}
 use Rattle.shared_words.specs.declared.view.View.{View}
-use Rattle.itm_runtime.specs.Served.{Served, Start}
-use Rattle.itm_runtime.specs.Ties.{Stands}
+use Rattle.call_rules.specs.Served.{Served, Start}
+use Rattle.call_rules.specs.Ties.{Stands}
 use Rattle.tx_attempts.specs.declared.attempt.Attempt.{Attempt}
 use Rattle.tx_attempts.specs.declared.attempt.Outcome.TheVariants as outcomes
 use Rattle.tx_player.specs.Rules.{Obeys, Rules}

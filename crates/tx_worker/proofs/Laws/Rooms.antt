@@ -14,8 +14,8 @@ use Rattle.norec_core.specs.RestartingCalls.{arena_ahead}
 use Rattle.user_actions.specs.Actions.{total}
 use Rattle.shared_words.specs.InGlobal.{Words}
 use Rattle.shared_words.specs.Passes.{cells_of, commits_known, view_of}
-use Rattle.itm_runtime.specs.Served.{Served, Start}
-use Rattle.itm_runtime.specs.Standing.{start_of}
+use Rattle.call_rules.specs.Served.{Served, Start}
+use Rattle.call_rules.specs.Standing.{start_of}
 use Rattle.tx_attempts.specs.declared.attempt.Attempt.{Attempt}
 use Rattle.tx_attempts.specs.declared.attempt.Outcome.{Outcome}
 use Rattle.tx_attempts.specs.Kept.{reserved}

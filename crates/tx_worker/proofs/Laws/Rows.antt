@@ -10,9 +10,9 @@ use Rattle.user_actions.specs.Actions.{total}
 use Rattle.shared_words.specs.declared.view.View.{View}
 use Rattle.shared_words.specs.InGlobal.{Words}
 use Rattle.shared_words.specs.Passes.{Owns, view_of}
-use Rattle.itm_runtime.specs.Served.{Served, Start}
-use Rattle.itm_runtime.specs.Standing.{Standing, start_of}
-use Rattle.itm_runtime.specs.Ties.{Stands}
+use Rattle.call_rules.specs.Served.{Served, Start}
+use Rattle.call_rules.specs.Standing.{Standing, start_of}
+use Rattle.call_rules.specs.Ties.{Stands}
 use Rattle.itm_types.specs.declared.call.Reply.{Reply as Replied}
 use Rattle.itm_types.specs.declared.call.Reply.TheVariants.{Done}
 use Rattle.tx_attempts.specs.declared.attempt.Attempt.{Attempt}

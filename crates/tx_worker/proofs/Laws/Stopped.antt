@@ -8,7 +8,7 @@ use Rattle.tx_runs.specs.declared.player_run.Current.TheVariants.{Outside, Begin
 use Rattle.tx_runs.specs.OpenAttempts.{told_in}
 use Rattle.tx_runs.specs.PlayerRuns.{MayStop, MayTell, stage_of}
 use Rattle.tx_worker.specs.declared.worker.Worker.{Worker}
-use Rattle.itm_runtime.specs.Standing.{Standing}
+use Rattle.call_rules.specs.Standing.{Standing}
 use Rattle.tx_runs.specs.declared.ending.End.TheVariants.{Finished, GaveUp, NoMemory}
 use Rattle.tx_worker.specs.Accounts.{Account, account_of}
 use Rattle.tx_worker.specs.Calls.{StopsAs, StopsAt}

@@ -12,9 +12,9 @@ use Rattle.norec_core.specs.Effects.{room_left}
 use Rattle.norec_core.specs.Proceeds.{Replies, RepliesHeld}
 use Rattle.norec_core.specs.declared.answer.Answer.TheVariants.{Reply}
 use Rattle.shared_words.specs.declared.view.View.{View}
-use Rattle.itm_runtime.proofs.Calls.ActionRoom.{room_entered}
-use Rattle.itm_runtime.specs.Served.{Served, Start}
-use Rattle.itm_runtime.specs.Ties.{Stands}
+use Rattle.call_rules.proofs.Calls.ActionRoom.{room_entered}
+use Rattle.call_rules.specs.Served.{Served, Start}
+use Rattle.call_rules.specs.Ties.{Stands}
 use Rattle.tx_runs.proofs.IrrevocableCalls.{abort_runs, asks_no_room, goes_no_action, goes_no_cancel, goes_same, left_least, plain_goes, room_by_call}
 use Rattle.tx_runs.specs.OpenAttempts.{promised}
 use Rattle.tx_runs.proofs.OpenRooms.{none_asked, promised_held, promised_none}

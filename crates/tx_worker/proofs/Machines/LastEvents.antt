@@ -14,14 +14,14 @@ use Rattle.norec_core.proofs.Replies.AnsweredEngines.{rests}
 use Rattle.shared_words.specs.declared.view.View.{View}
 use Rattle.shared_words.specs.Passes.{IsOver}
 use Rattle.shared_words.specs.Steps.{StepTells}
-use Rattle.itm_runtime.specs.Drives.{Drives, IsDriven, LeadsOn}
-use Rattle.itm_runtime.specs.InCall.{InCall, IsDue}
-use Rattle.itm_runtime.specs.Served.{Start}
-use Rattle.itm_runtime.specs.Ties.{Stands}
-use Rattle.itm_runtime.proofs.Steps.CallsInHand.{IsMid, both}
-use Rattle.itm_runtime.proofs.Steps.HandedValues.{hands}
-use Rattle.itm_runtime.proofs.Steps.NewCalls.{comes}
-use Rattle.itm_runtime.proofs.Steps.StepChains.{goes, starts}
+use Rattle.call_rules.specs.Drives.{Drives, IsDriven, LeadsOn}
+use Rattle.call_rules.specs.InCall.{InCall, IsDue}
+use Rattle.call_rules.specs.Served.{Start}
+use Rattle.call_rules.specs.Ties.{Stands}
+use Rattle.call_rules.proofs.Steps.CallsInHand.{IsMid, both}
+use Rattle.call_rules.proofs.Steps.HandedValues.{hands}
+use Rattle.call_rules.proofs.Steps.NewCalls.{comes}
+use Rattle.call_rules.proofs.Steps.StepChains.{goes, starts}
 
 -- the answer comes of this engine; unless a block goes back, no row of its log is gone, and the snapshot does not fall
 pub record IsLast (s : Start) (v : View) (a : Answer) (e : Core) : Type 0 where

@@ -27,8 +27,8 @@ use Rattle.norec_core.specs.Undoing.{after_undoing}
 use Rattle.norec_core.specs.declared.answer.Answer.{Answer}
 use Rattle.norec_core.specs.declared.answer.Answer.TheVariants.{Busy, Committed, Conflict, Full, Reply, Restarted}
 use Rattle.shared_words.specs.declared.view.View.{View}
-use Rattle.itm_runtime.specs.Served.{IsUndone, Served, Start, came_over, left_over}
-use Rattle.itm_runtime.specs.Ties.{Stands}
+use Rattle.call_rules.specs.Served.{IsUndone, Served, Start, came_over, left_over}
+use Rattle.call_rules.specs.Ties.{Stands}
 use Rattle.tx_worker.proofs.Machines.PlainStates.{stands_actions, stands_open}
 
 -- where there are no more, there are at most so many more

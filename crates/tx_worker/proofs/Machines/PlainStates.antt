@@ -5,8 +5,8 @@ use Rattle.nest_frames.specs.Nest.{Frame}
 use Rattle.norec_core.specs.Core.{Core, in_transaction, is_inside}
 use Rattle.norec_core.specs.Stands.{stands_for}
 use Rattle.shared_words.specs.declared.view.View.{View}
-use Rattle.itm_runtime.proofs.Steps.CallsInHand.{is_memory}
-use Rattle.itm_runtime.specs.Ties.{Stands, memory_of}
+use Rattle.call_rules.proofs.Steps.CallsInHand.{is_memory}
+use Rattle.call_rules.specs.Ties.{Stands, memory_of}
 use Rattle.tx_runs.specs.OpenTries.{ReadsFrom}
 use Rattle.tx_worker.specs.Progress.{MayRead}
 pub use Rattle.tx_runs.proofs.EngineStates.{stands_actions, stands_arena, stands_blocks, stands_mode, stands_open}

@@ -14,8 +14,8 @@ use Rattle.norec_core.specs.RestartingCalls.{can_restart, may_validate}
 use Rattle.tx_runs.proofs.RestartedLengths.{again_long}
 use Rattle.norec_core.proofs.Engines.RestartingCalls.{idle_so, validates_none}
 use Rattle.shared_words.specs.declared.view.View.{View}
-use Rattle.itm_runtime.specs.Served.{Served, Start}
-use Rattle.itm_runtime.specs.Ties.{Stands}
+use Rattle.call_rules.specs.Served.{Served, Start}
+use Rattle.call_rules.specs.Ties.{Stands}
 use Rattle.tx_worker.proofs.Machines.PlainActions.{agrees_cut}
 use Rattle.tx_worker.proofs.Machines.PlainStates.{stands_arena}
 

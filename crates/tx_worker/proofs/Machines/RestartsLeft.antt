@@ -6,7 +6,7 @@ use Rattle.norec_core.specs.declared.answer.Answer.{Answer}
 use Rattle.norec_core.specs.declared.answer.Answer.TheVariants.{Reply, Restarted}
 use Rattle.norec_core.specs.Core.{Core, in_transaction}
 use Rattle.shared_words.specs.declared.view.View.{View}
-use Rattle.itm_runtime.specs.Served.{Served, Start}
+use Rattle.call_rules.specs.Served.{Served, Start}
 use Rattle.tx_runs.specs.Ranks.{restarts_left}
 use Rattle.tx_runs.proofs.RestartsLeft.{left_inside, left_most, left_outside}
 

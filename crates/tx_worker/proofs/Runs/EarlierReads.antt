@@ -12,9 +12,9 @@ use Rattle.norec_core.specs.Effects.{recoded}
 use Rattle.norec_core.specs.Stands.{blocks_over, stands_for, state_in}
 use Rattle.norec_core.proofs.Replies.AnsweredEngines.{told_plainly}
 use Rattle.shared_words.specs.declared.view.View.{View}
-use Rattle.itm_runtime.proofs.Steps.CallsInHand.{is_memory}
-use Rattle.itm_runtime.specs.Served.{Meets, Served, Start, came_over, left_over, memory_in}
-use Rattle.itm_runtime.specs.Ties.{Stands, memory_of}
+use Rattle.call_rules.proofs.Steps.CallsInHand.{is_memory}
+use Rattle.call_rules.specs.Served.{Meets, Served, Start, came_over, left_over, memory_in}
+use Rattle.call_rules.specs.Ties.{Stands, memory_of}
 use Rattle.tx_player.specs.Depth.{depth_after, is_code}
 use Rattle.tx_runs.proofs.PlainCalls.{AllSaved, CanGoBack, depth_then}
 use Rattle.tx_worker.proofs.Runs.LaterCommits.{memory_later}

@@ -3,9 +3,9 @@ use Rattle.std.proofs.Common.{◌≡◌, ℕ, zero, suc, ◌+◌, ◌≤◌, Boo
 use Rattle.itm_types.specs.Memory.{bytes_of}
 use Rattle.shared_words.specs.declared.view.View.{View}
 use Rattle.shared_words.specs.Commits.{StartsWith, after, memory_at}
-use Rattle.itm_runtime.specs.Served.{Went}
-use Rattle.itm_runtime.specs.Ties.{memory_of}
-use Rattle.itm_runtime.proofs.LaterViews.{went_on}
+use Rattle.call_rules.specs.Served.{Went}
+use Rattle.call_rules.specs.Ties.{memory_of}
+use Rattle.call_rules.proofs.LaterViews.{went_on}
 use Rattle.tx_attempts.specs.declared.attempt.Attempt.{Attempt}
 use Rattle.tx_attempts.specs.Attempts.{alone, is_committed}
 use Rattle.tx_attempts.specs.Opacity.{Between, IsTryAt, after_try}

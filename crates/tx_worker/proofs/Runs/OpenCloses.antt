@@ -9,8 +9,8 @@ use Rattle.norec_core.specs.Stands.{stands_for}
 use Rattle.user_actions.specs.Actions.{Actions}
 use Rattle.shared_words.specs.declared.view.View.{View}
 use Rattle.shared_words.specs.Passes.{commits_known}
-use Rattle.itm_runtime.specs.Served.{Start, Went}
-use Rattle.itm_runtime.specs.Ties.{Stands, memory_of}
+use Rattle.call_rules.specs.Served.{Start, Went}
+use Rattle.call_rules.specs.Ties.{Stands, memory_of}
 use Rattle.tx_attempts.proofs.AloneCalls.{player_snoc}
 use Rattle.tx_attempts.proofs.ToldRuns.{telling}
 use Rattle.tx_attempts.specs.Restarts.{ran_on}

@@ -10,8 +10,8 @@ use Rattle.nest_frames.specs.Nest.{Frame}
 use Rattle.norec_core.specs.Core.{Core, in_transaction, is_inside}
 use Rattle.norec_core.specs.Stands.{stands_for}
 use Rattle.shared_words.specs.declared.view.View.{View}
-use Rattle.itm_runtime.specs.Served.{Went}
-use Rattle.itm_runtime.specs.Ties.{Stands, memory_of}
+use Rattle.call_rules.specs.Served.{Went}
+use Rattle.call_rules.specs.Ties.{Stands, memory_of}
 use Rattle.tx_attempts.specs.Alone.{state_then}
 use Rattle.tx_attempts.specs.Attempts.{alone, is_committed}
 use Rattle.tx_attempts.specs.Opacity.{EndsAs, IsTryAt, LacksClock, after_try, begin_code, ran_of}

@@ -16,10 +16,10 @@ use Rattle.norec_core.proofs.Engines.KeptFields.{came_restarted}
 use Rattle.norec_core.proofs.Replies.AnsweredEngines.{rests}
 use Rattle.norec_core.proofs.Replies.ReplyCases.{Ways, reply_cases}
 use Rattle.shared_words.specs.declared.view.View.{View}
-use Rattle.itm_runtime.proofs.Calls.Closes.{read_so_far}
-use Rattle.itm_runtime.proofs.Steps.CallsInHand.{is_memory}
-use Rattle.itm_runtime.specs.Served.{Meets, Served, Start}
-use Rattle.itm_runtime.specs.Ties.{Stands, memory_of}
+use Rattle.call_rules.proofs.Calls.Closes.{read_so_far}
+use Rattle.call_rules.proofs.Steps.CallsInHand.{is_memory}
+use Rattle.call_rules.specs.Served.{Meets, Served, Start}
+use Rattle.call_rules.specs.Ties.{Stands, memory_of}
 use Rattle.tx_attempts.specs.declared.attempt.Attempt.{Attempt}
 use Rattle.tx_player.specs.Rules.{Obeys, Rules}
 use Rattle.tx_runs.specs.declared.savepoint.Savepoint.{Savepoint}
@@ -33,7 +33,7 @@ use Rattle.tx_runs.proofs.TriesStep.{moves_on, told_on}
 use Rattle.tx_worker.proofs.Machines.LastEvents.{IsLast}
 use Rattle.tx_worker.proofs.Machines.PlainStates.{stands_actions}
 use Rattle.tx_worker.proofs.Runs.EarlierReads.{met_here, position_read, told_plain}
-use Rattle.itm_runtime.proofs.LaterViews.{went_self}
+use Rattle.call_rules.proofs.LaterViews.{went_self}
 use Rattle.tx_worker.proofs.Runs.OpenRuns.{open_whole, stood_whole}
 use Rattle.tx_worker.proofs.Shapes.{replied_row, with_room}
 use Rattle.tx_worker.specs.Accounts.{Account}

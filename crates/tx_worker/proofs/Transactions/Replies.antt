@@ -16,8 +16,8 @@ use Rattle.norec_core.specs.Stands.{stands_for, state_in}
 use Rattle.norec_core.proofs.Engines.Blocks.{none_inside}
 use Rattle.norec_core.proofs.Engines.HeldStores.{shut_revocable}
 use Rattle.shared_words.specs.declared.view.View.{View}
-use Rattle.itm_runtime.specs.Served.{Meets, Served, Start, came_over, mine_if}
-use Rattle.itm_runtime.specs.Ties.{Stands, memory_of}
+use Rattle.call_rules.specs.Served.{Meets, Served, Start, came_over, mine_if}
+use Rattle.call_rules.specs.Ties.{Stands, memory_of}
 use Rattle.tx_attempts.specs.declared.attempt.Outcome.TheVariants as outcomes
 use Rattle.tx_player.specs.Depth.{depth_after}
 use Rattle.tx_player.specs.Rules.{Obeys, Rules}

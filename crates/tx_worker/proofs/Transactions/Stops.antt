@@ -12,9 +12,9 @@ use Rattle.norec_core.specs.Core.{Core, in_transaction, rolled_back}
 use Rattle.norec_core.specs.Stands.{stands_for}
 use Rattle.norec_core.specs.Undoing.{after_undoing}
 use Rattle.shared_words.specs.declared.view.View.{View}
-use Rattle.itm_runtime.proofs.Steps.CallsInHand.{is_memory}
-use Rattle.itm_runtime.specs.Served.{IsUndone, Served, Start, Went}
-use Rattle.itm_runtime.specs.Ties.{Stands, memory_of}
+use Rattle.call_rules.proofs.Steps.CallsInHand.{is_memory}
+use Rattle.call_rules.specs.Served.{IsUndone, Served, Start, Went}
+use Rattle.call_rules.specs.Ties.{Stands, memory_of}
 use Rattle.itm_types.specs.declared.call.Ran.{Ran}
 use Rattle.tx_attempts.specs.Attempts.{alone}
 use Rattle.tx_attempts.proofs.ToldRuns.{telling}
@@ -30,7 +30,7 @@ use Rattle.tx_runs.specs.Nesting.{IsNested}
 use Rattle.tx_worker.proofs.Machines.ClockCalls.{wants_revocable, wants_taking}
 use Rattle.tx_worker.proofs.Runs.OpenRuns.{alone_told, arena_given_up, led, led_told, made_open, open_whole, ran_given_up, ran_standing, stood_whole, stop_ended, stop_mine, whole}
 use Rattle.tx_worker.proofs.Runs.EarlierReads.{position_read}
-use Rattle.itm_runtime.proofs.LaterViews.{went_self}
+use Rattle.call_rules.proofs.LaterViews.{went_self}
 use Rattle.tx_worker.proofs.Runs.LaterCommits.{known_more}
 use Rattle.tx_worker.proofs.Machines.PlainStates.{may_here, stands_actions, stands_arena, stands_mode, stands_open}
 use Rattle.tx_worker.specs.Positions.{bytes_at, positions}

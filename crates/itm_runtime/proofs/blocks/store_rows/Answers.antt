@@ -4,10 +4,10 @@ use Rattle.itm_types.specs.declared.step.Step.TheVariants.{Store}
 use Rattle.norec_core.specs.declared.answer.Next.TheVariants.{Step as Asks}
 use Rattle.norec_engine.specs.BlockSteps.{exchanging, next_step, storing}
 use Rattle.shared_words.specs.Passes.{cells_of, view_of}
-use Rattle.itm_runtime.specs.Drives.{LeadsOn}
-use Rattle.itm_runtime.specs.InCall.{InCall}
-use Rattle.itm_runtime.proofs.Steps.DrivenCalls.{due_on, leads_further}
-use Rattle.itm_runtime.proofs.Steps.StepChains.{cell_within, lawful_of}
+use Rattle.call_rules.specs.Drives.{LeadsOn}
+use Rattle.call_rules.specs.InCall.{InCall}
+use Rattle.call_rules.proofs.Steps.DrivenCalls.{due_on, leads_further}
+use Rattle.call_rules.proofs.Steps.StepChains.{cell_within, lawful_of}
 use Rattle.itm_runtime.proofs.blocks.store_rows.Goals as goal
 
 pub loop-row-init : goal.loop-row-init

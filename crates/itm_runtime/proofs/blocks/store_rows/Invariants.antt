@@ -3,9 +3,9 @@ use Rattle.itm_types.specs.declared.step.Step.{Step}
 use Rattle.norec_core.specs.declared.answer.Next.TheVariants.{Step as Asks}
 use Rattle.norec_engine.specs.BlockSteps.{StoresRows, WritesBack, exchanging, next_step, storing}
 use Rattle.shared_words.specs.Passes.{cells_of, Owns, view_of}
-use Rattle.itm_runtime.specs.Drives.{LeadsOn}
-use Rattle.itm_runtime.specs.InCall.{InCall}
-use Rattle.itm_runtime.specs.Served.{Start}
+use Rattle.call_rules.specs.Drives.{LeadsOn}
+use Rattle.call_rules.specs.InCall.{InCall}
+use Rattle.call_rules.specs.Served.{Start}
 use Rattle.itm_runtime.proofs.blocks.store_rows.Given as goal
 
 abbrev pub invariant-loop-row : goal.invariant-loop-row

@@ -4,8 +4,8 @@ use Rattle.norec_core.specs.declared.answer.Next.TheVariants.{Step as Asks}
 use Rattle.norec_core.specs.Moves.{IsResumed}
 use Rattle.norec_engine.specs.BlockSteps.{exchanging, next_step, storing}
 use Rattle.shared_words.specs.Passes.{cells_of, view_of}
-use Rattle.itm_runtime.specs.InCall.{InCall}
-use Rattle.itm_runtime.proofs.Steps.StepChains.{cell_within, goes, lawful_of}
+use Rattle.call_rules.specs.InCall.{InCall}
+use Rattle.call_rules.proofs.Steps.StepChains.{cell_within, goes, lawful_of}
 use Rattle.itm_runtime.proofs.blocks.write_back.Goals as goal
 
 pub step-found-requires : goal.step-found-requires

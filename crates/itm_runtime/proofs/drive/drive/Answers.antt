@@ -3,10 +3,11 @@ use Rattle.norec_core.specs.declared.answer.Next.{Next}
 use Rattle.norec_core.specs.declared.answer.Next.TheVariants.{Step as Asks}
 use Rattle.norec_engine.specs.NextSteps.{next_in}
 use Rattle.shared_words.specs.Passes.{cells_of, view_of}
-use Rattle.itm_runtime.specs.Drives.{LeadsOn}
-use Rattle.itm_runtime.specs.InCall.{left}
-use Rattle.itm_runtime.proofs.Steps.DrivenCalls.{answer_due, due_on, leads_further, step_due}
-use Rattle.itm_runtime.proofs.Steps.StepChains.{at_step}
+use Rattle.call_rules.specs.Drives.{LeadsOn}
+use Rattle.call_rules.specs.InCall.{left}
+use Rattle.call_rules.proofs.Steps.DrivenCalls.{due_on, leads_further}
+use Rattle.itm_runtime.proofs.DueSteps.{answer_due, step_due}
+use Rattle.call_rules.proofs.Steps.StepChains.{at_step}
 use Rattle.itm_runtime.proofs.drive.drive.Goals as goal
 
 pub go_on-next-requires : goal.go_on-next-requires

@@ -1,8 +1,8 @@
 use Rattle.std.proofs.Common.{[], refl, subst, sym}
 use Rattle.norec_core.specs.declared.answer.Next.{Next}
 use Rattle.shared_words.specs.Passes.{view_of}
-use Rattle.itm_runtime.specs.Drives.{Finishes}
-use Rattle.itm_runtime.proofs.Steps.DrivenCalls.{none_due}
+use Rattle.call_rules.specs.Drives.{Finishes}
+use Rattle.itm_runtime.proofs.DueSteps.{none_due}
 use Rattle.itm_runtime.proofs.drive.finish.Goals as goal
 
 pub returns-in-None : goal.returns-in-None

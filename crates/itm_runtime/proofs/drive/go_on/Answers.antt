@@ -1,8 +1,8 @@
 use Rattle.std.proofs.Common.{subst}
 use Rattle.itm_types.specs.declared.step.Step.TheVariants.{Load}
 use Rattle.shared_words.specs.Passes.{view_of}
-use Rattle.itm_runtime.specs.InCall.{InCall}
-use Rattle.itm_runtime.proofs.Steps.FurtherSteps.{waits_for}
+use Rattle.call_rules.specs.InCall.{InCall}
+use Rattle.call_rules.proofs.Steps.FurtherSteps.{waits_for}
 use Rattle.itm_runtime.proofs.drive.go_on.Goals as goal
 
 pub round-requires : goal.round-requires

@@ -1,5 +1,5 @@
 use Rattle.std.proofs.Common.{◌∙◌}
-use Rattle.itm_runtime.proofs.Calls.NumberAnswers.{number_is}
+use Rattle.itm_runtime.proofs.NumberAnswers.{number_is}
 use Rattle.itm_runtime.proofs.whole_words.datum_of.Goals as goal
 
 pub returns : goal.returns

@@ -8,7 +8,7 @@ use Rattle.norec_core.specs.declared.answer.Answer.TheVariants.{Reply}
 use Rattle.norec_core.specs.declared.answer.Next.TheVariants.{Step as Asks}
 use Rattle.norec_engine.specs.WholeReads.{IsConfirmed}
 use Rattle.shared_words.specs.Passes.{cells_of, view_of}
-use Rattle.itm_runtime.proofs.Steps.WordReads.{clock_next, word_first}
+use Rattle.call_rules.proofs.Steps.WordReads.{clock_next, word_first}
 use Rattle.itm_runtime.proofs.whole_words.look_at_once.Goals as goal
 
 pub step-value-requires : goal.step-value-requires

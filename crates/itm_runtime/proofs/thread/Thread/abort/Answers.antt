@@ -1,5 +1,5 @@
 use Rattle.shared_words.specs.Passes.{view_of}
-use Rattle.itm_runtime.proofs.Calls.Rollbacks.{stands_undone}
+use Rattle.call_rules.proofs.Calls.Rollbacks.{stands_undone}
 use Rattle.itm_runtime.proofs.thread.Thread.abort.Goals as goal
 
 pub invariant_of-self : goal.invariant_of-self

@@ -3,7 +3,7 @@ use Rattle.itm_types.specs.declared.access.Width.TheVariants.{U8}
 use Rattle.itm_types.specs.declared.call.Call.TheVariants.{Read}
 use Rattle.shared_words.specs.Passes.{view_of}
 use Rattle.itm_runtime.specs.Stops.{answer_to_read}
-use Rattle.itm_runtime.proofs.Calls.NumberAnswers.{read_number, told_of}
+use Rattle.itm_runtime.proofs.NumberAnswers.{read_number, told_of}
 use Rattle.itm_runtime.proofs.thread.Thread.read_number.Goals as goal
 
 pub number_of-requires : goal.number_of-requires

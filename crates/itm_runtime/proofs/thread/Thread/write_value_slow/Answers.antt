@@ -3,9 +3,9 @@ use Rattle.itm_types.specs.declared.access.WriteHint.TheVariants.{W}
 use Rattle.itm_types.specs.declared.call.Call.TheVariants.{Write}
 use Rattle.norec_core.specs.declared.answer.Answer.{Answer}
 use Rattle.shared_words.specs.Passes.{view_of}
-use Rattle.itm_runtime.specs.CallResults.{IsAnswered}
-use Rattle.itm_runtime.specs.Standing.{start_of}
-use Rattle.itm_runtime.proofs.Calls.NumberAnswers.{write_done}
+use Rattle.call_rules.specs.CallResults.{IsAnswered}
+use Rattle.call_rules.specs.Standing.{start_of}
+use Rattle.itm_runtime.proofs.NumberAnswers.{write_done}
 use Rattle.itm_runtime.proofs.thread.Thread.write_value_slow.Goals as goal
 
 pub returns : goal.returns

@@ -6,9 +6,9 @@ use Rattle.norec_core.specs.Core.{Core}
 use Rattle.shared_words.specs.InGlobal.{Words}
 use Rattle.shared_words.specs.Passes.{view_of}
 use Rattle.shared_words.specs.declared.pass.Pass.{Pass}
-use Rattle.itm_runtime.specs.CallResults.{IsAnswered}
-use Rattle.itm_runtime.specs.Standing.{Standing, start_of}
-use Rattle.itm_runtime.specs.Ties.{Stands}
+use Rattle.call_rules.specs.CallResults.{IsAnswered}
+use Rattle.call_rules.specs.Standing.{Standing, start_of}
+use Rattle.call_rules.specs.Ties.{Stands}
 use Rattle.transactions.specs.Lent.{Lent}
 use Rattle.transactions.specs.Runs.{usual}
 use Rattle.transactions.proofs.transaction.Transaction.begun.Goals as goal

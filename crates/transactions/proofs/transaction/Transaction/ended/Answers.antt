@@ -5,10 +5,10 @@ use Rattle.norec_core.specs.Core.{Core}
 use Rattle.shared_words.specs.InGlobal.{Words}
 use Rattle.shared_words.specs.Passes.{Owns, view_of}
 use Rattle.shared_words.specs.declared.pass.Pass.{Pass}
-use Rattle.itm_runtime.specs.CallResults.{IsAnswered}
-use Rattle.itm_runtime.specs.Served.{Went}
-use Rattle.itm_runtime.specs.Standing.{Standing, start_of}
-use Rattle.itm_runtime.specs.Ties.{Stands}
+use Rattle.call_rules.specs.CallResults.{IsAnswered}
+use Rattle.call_rules.specs.Served.{Went}
+use Rattle.call_rules.specs.Standing.{Standing, start_of}
+use Rattle.call_rules.specs.Ties.{Stands}
 use Rattle.transactions.specs.Lent.{Lent, mine_of}
 use Rattle.transactions.specs.Runs.{LeftBy, commit_told}
 use Rattle.transactions.proofs.Tries.{again_told, gave_up}

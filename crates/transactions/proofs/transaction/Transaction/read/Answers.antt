@@ -2,9 +2,9 @@ use Rattle.std.proofs.Common.{◌∙◌, Some, ap, false, rules, subst, sym}
 use Rattle.itm_types.specs.declared.access.ReadHint.TheVariants.{R}
 use Rattle.itm_types.specs.declared.call.Call.TheVariants.{Read}
 use Rattle.shared_words.specs.Passes.{view_of}
-use Rattle.itm_runtime.specs.CallResults.{IsAnswered}
-use Rattle.itm_runtime.specs.Standing.{start_of}
-use Rattle.itm_runtime.proofs.Calls.NumberAnswers.{told_of}
+use Rattle.call_rules.specs.CallResults.{IsAnswered}
+use Rattle.call_rules.specs.Standing.{start_of}
+use Rattle.itm_runtime.proofs.NumberAnswers.{told_of}
 use Rattle.transactions.specs.Widths.{HasValue}
 use Rattle.transactions.proofs.WidthReads.{read_value}
 use Rattle.transactions.proofs.Within.{lent_within}

@@ -5,8 +5,8 @@ use Rattle.norec_core.specs.Core.{Core}
 use Rattle.shared_words.specs.InGlobal.{Words}
 use Rattle.shared_words.specs.Passes.{Owns, view_of}
 use Rattle.shared_words.specs.declared.pass.Pass.{Pass}
-use Rattle.itm_runtime.specs.CallResults.{IsAnswered}
-use Rattle.itm_runtime.specs.Standing.{Standing, start_of}
+use Rattle.call_rules.specs.CallResults.{IsAnswered}
+use Rattle.call_rules.specs.Standing.{Standing, start_of}
 use Rattle.transactions.proofs.Modes.{keeps_abort, stays_revocable}
 use Rattle.transactions.proofs.transaction.Transaction.take_back.Goals as goal
 

@@ -1,6 +1,6 @@
 use Rattle.std.proofs.Common.{◌≡◌, ◌∙◌, ◌⊎◌, inl, inr, false, ◌+◌, ◌*◌, ◌%◌, ◌<◌, ap, subst}
 use Rattle.shared_words.specs.Passes.{view_of}
-use Rattle.itm_runtime.proofs.LaterViews.{went_on}
+use Rattle.call_rules.proofs.LaterViews.{went_on}
 use Rattle.tx_map.specs.Plainly.{Does}
 use Rattle.tx_map.specs.Slots.{slot_of}
 use Rattle.tx_map.proofs.Finds.{Reads, stops_here, walks_on}

@@ -1,5 +1,5 @@
 use Rattle.std.proofs.Common.{Bool, refl, sym, subst}
-use Rattle.itm_runtime.specs.CallResults.{Returns}
+use Rattle.call_rules.specs.CallResults.{Returns}
 use Rattle.tx_worker.proofs.Laws.Rooms.{not_told}
 use Rattle.tx_worker.proofs.worker.Worker.ask.Goals as goal
 

@@ -1,0 +1,3 @@
+pub mod LaterViews
+pub mod Steps
+pub mod Calls

@@ -1,0 +1,22 @@
+-- Outside a transaction the clock may be loaded before the call that asks for it has come.
+use Rattle.std.proofs.Common.{◌≡◌, ℕ, ◌<◌, ◌≤◌, Bool, true, false, refl, sym, ◌∙◌, arith}
+use Rattle.itm_types.specs.declared.step.Step.TheVariants.{Load}
+use Rattle.norec_core.specs.Core.{Core, in_transaction}
+use Rattle.shared_words.specs.declared.view.View.{View}
+use Rattle.shared_words.specs.Passes.{IsOver}
+use Rattle.shared_words.specs.Steps.{Lawful, StepTells}
+use Rattle.call_rules.specs.Ties.{Stands}
+
+free_outside : (b : Bool) (v : View) (e : Core) → v.holds ≡ b → Stands v e → in_transaction e ≡ false → b ≡ false
+free_outside false v e is t closed = refl
+free_outside true v e is t closed = (let inside = (t.settled.holder (sym t.holds ∙ is)).0 in absurd (cc))
+
+pub may_look : (v : View) (e : Core) → Stands v e → in_transaction e ≡ false → Lawful v (Load 0)
+may_look v e t closed = λ z. free_outside v.holds v e refl t closed
+
+pub clock_within : (cells : ℕ) (v : View) → IsOver cells v → 0 < cells
+clock_within cells v o = let size = o.size in omega arith
+
+-- what it finds is no earlier than what the engine knows
+pub clock_fits : (v w : View) (e : Core) (n : ℕ) → Stands v e → StepTells v (Load 0) n w → e.clock ≤ n
+clock_fits v w e n t turn = (let late = (turn.0 refl).1.late in let behind = t.behind in omega arith)

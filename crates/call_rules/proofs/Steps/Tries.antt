@@ -1,0 +1,221 @@
+-- How often a call has tried as it gives up, and what asks for a step outside a transaction.
+use Rattle.std.proofs.Common.{◌≡◌, ◌≢◌, ℕ, zero, suc, ◌+◌, ◌*◌, ◌/◌, ◌%◌, ◌≤◌, ◌==◌, ◌&&◌, not, nat_le, nat_lt, Bool, true, false, List, [], ◌∷◌, length, if◌then◌else◌, is_none, Option, None, Some, refl, ap, subst, ◌∙◌, arith}
+use Rattle.std.proofs.lemmas.Bool.{ltb-false}
+use mathlib.Core.Logic.{dite}
+use native.Mathlib.Decide.{ℕ_discrete}
+use Rattle.itm_types.specs.Access.{size_of}
+use Rattle.itm_types.specs.declared.call.Call.{Call}
+use Rattle.itm_types.specs.declared.call.Call.TheVariants as calls
+use Rattle.itm_types.specs.declared.step.Step.{Step}
+use Rattle.itm_types.specs.declared.step.Step.TheVariants.{Cas, Store}
+use Rattle.itm_types.specs.declared.step.Step.TheVariants as steps
+use Rattle.nest_frames.specs.Nest.{Frame, stays_revocable}
+use Rattle.norec_core.specs.declared.answer.Answer.{Answer}
+use Rattle.norec_core.specs.declared.answer.Answer.TheVariants.{Conflict, Restarted, Busy, Full}
+use Rattle.norec_core.specs.Aims.{Aim}
+use Rattle.norec_core.specs.Aims as aims
+use Rattle.norec_core.specs.declared.call_parts.Opening.{Opening}
+use Rattle.norec_core.specs.Phases.{Phase}
+use Rattle.norec_core.specs.Phases.{Idle, Begin, Take, Confirm, RoundStart, RoundRow, RoundEnd, RoundBack, Exchange, Free}
+use Rattle.norec_core.specs.declared.call_parts.Taking.TheVariants as takings
+use Rattle.norec_core.specs.Copies.{copy_refusal}
+use Rattle.norec_core.specs.Core.{Core, in_transaction, is_inside, is_outermost, may_go}
+use Rattle.norec_core.specs.Endings.{IsEnding, aimed_ending, ending_from}
+use Rattle.norec_core.specs.Order.{asked, asked_from, again_stage, begin_stage, commit_stage, copying_stage, fill_from, going_stage, place_from, placed_in, read_stage, row_stage, stage_at, stage_from, tries_after, tries_at, try_stage, value_writing}
+use Rattle.norec_core.specs.Order.{value_reading}
+use Rattle.norec_core.specs.Rows.{row_at}
+use Rattle.norec_core.specs.Proceeds.{IsLawful, TakesFor}
+use Rattle.shared_words.specs.declared.view.View.{View}
+use Rattle.shared_words.specs.Steps.{StepTells}
+use Rattle.call_rules.specs.Served.{GoesBegin}
+use Rattle.call_rules.specs.InCall.{IsOpening, pending}
+use Rattle.call_rules.proofs.Steps.CallsInHand.{both}
+
+-- ## Looks
+
+pub looks_on : (v w : View) (n : ℕ) (step : Step) → StepTells v step n w → v.looks ≤ w.looks
+looks_on v w n (steps.Load zero) u = let is : w.looks ≡ v.looks + 1 = ap (λ (x : View). x.looks) (u.0 refl).0 in omega arith
+looks_on v w n (steps.Load (suc word)) u = by_holds v.holds refl
+  where
+    by_holds : (b : Bool) → v.holds ≡ b → v.looks ≤ w.looks
+    by_holds true h = let is : w.looks ≡ v.looks = ap (λ (x : View). x.looks) ((u.1 word (let x : suc word ≡ word + 1 = omega arith in x)).1 h).0 in omega arith
+    by_holds false h = let is : w.looks ≡ v.looks = ap (λ (x : View). x.looks) ((u.1 word (let x : suc word ≡ word + 1 = omega arith in x)).0 h) in omega arith
+looks_on v w n (Store zero value) u = let is : w.looks ≡ v.looks = ap (λ (x : View). x.looks) (u.0 refl).0 in omega arith
+looks_on v w n (Store (suc word) value) u = let is : w.looks ≡ v.looks = ap (λ (x : View). x.looks) (u.1 word (let x : suc word ≡ word + 1 = omega arith in x)) in omega arith
+looks_on v w n (Cas cell from to) u = dite (ℕ_discrete n from)
+    (λ (hit : n ≡ from). (let is : w.looks ≡ v.looks + 1 = ap (λ (x : View). x.looks) (u.0 hit).0 in let r : v.looks ≤ w.looks = omega arith in r))
+    (λ (miss : n ≢ from). (let is : w.looks ≡ v.looks + 1 = ap (λ (x : View). x.looks) (u.1 miss).0 in let r : v.looks ≤ w.looks = omega arith in r))
+
+-- a load of the clock is a look
+looks_more : (v w : View) (n : ℕ) (step : Step) → step ≡ steps.Load 0 → StepTells v step n w → v.looks + 1 ≤ w.looks
+looks_more v w n step is u =
+    let there : StepTells v (steps.Load 0) n w = subst (λ (x : Step). StepTells v x n w) is u in
+    let more : w.looks ≡ v.looks + 1 = ap (λ (x : View). x.looks) (there.0 refl).0 in
+    omega arith
+
+pub pended : (v w : View) (n : ℕ) (c : Core) (step : Step) → Some step ≡ asked c → StepTells v step n w → (p : Phase) → c.stage ≡ p → v.looks + pending p ≤ w.looks
+pended v w n c step asks u (Begin b) is = looks_more v w n step (let x : Some step ≡ Some (steps.Load 0) = asks ∙ ap (asked_from c) is in cc) u
+pended v w n c step asks u (RoundStart aim) is = looks_more v w n step (let x : Some step ≡ Some (steps.Load 0) = asks ∙ ap (asked_from c) is in cc) u
+pended v w n c step asks u p is = (let on = looks_on v w n step u in omega arith)
+
+-- ## Tries
+
+pub first_tries : (p : Phase) → tries_at p ≤ pending p
+first_tries (Begin b) = (let r : 1 ≤ 1 = omega arith in r)
+first_tries (RoundStart aim) = (let r : 0 ≤ 1 = omega arith in r)
+first_tries p = (let r : 0 ≤ 0 = omega arith in r)
+
+pub next_tries : (p : Phase) (a t l : ℕ) → a + t ≤ l → a + tries_after p t ≤ l + pending p
+next_tries Idle a t l x = (let r : a + 0 ≤ l + 0 = omega arith in r)
+next_tries (Begin b) a t l x = (let r : a + suc t ≤ l + 1 = omega arith in r)
+next_tries (RoundStart aim) a t l x = (let r : a + suc t ≤ l + 1 = omega arith in r)
+next_tries p a t l x = (let r : a + t ≤ l + 0 = omega arith in r)
+
+-- ## The stage outside a transaction
+
+idle_opens : Idle ≢ Idle → IsOpening Idle
+idle_opens n = absurd (n refl)
+
+if_opens : (b : Bool) (x y : Phase) → (x ≢ Idle → IsOpening x) → (y ≢ Idle → IsOpening y) → (if b then x else y) ≢ Idle → IsOpening (if b then x else y)
+if_opens true x y f g n = f n
+if_opens false x y f g n = g n
+
+pub next_opens : (c : Core) (p : Phase) (seen : ℕ) → IsOpening p → stage_from c p seen ≢ Idle → IsOpening (stage_from c p seen)
+next_opens c (Begin b) seen o n =
+    if_opens (seen % 2 == 0) (begin_stage c.max_commits b seen) (again_stage c b)
+    (if_opens b.props.goes_irrevocable (if nat_lt (seen / 2) c.max_commits then Take b else Idle) Idle (if_opens (nat_lt (seen / 2) c.max_commits) (Take b) Idle (λ x. tt) idle_opens) idle_opens)
+    (if_opens (nat_lt c.tries c.patience) (Begin b) Idle (λ x. tt) idle_opens) n
+next_opens c (Take b) seen o n =
+    if_opens (seen == c.snapshot) Idle (again_stage c b) idle_opens (if_opens (nat_lt c.tries c.patience) (Begin b) Idle (λ x. tt) idle_opens) n
+next_opens c p seen o n = absurd o
+
+none_outermost : (bs : List Frame) → is_inside bs ≡ false → is_outermost bs ≡ false
+none_outermost [] e = refl
+none_outermost (b ∷ bs) e = absurd (cc)
+
+begin_opens : (b go : Bool) (x : Phase) (o : Opening) → b ≡ false → (if b then x else (if go then Begin o else Idle)) ≢ Idle → IsOpening (if b then x else (if go then Begin o else Idle))
+begin_opens true go x o e n = absurd (cc)
+begin_opens false go x o e n = if_opens go (Begin o) Idle (λ y. tt) idle_opens n
+
+pub first_opens : (c : Core) (call : Call) (again : Bool) → in_transaction c ≡ false → stage_at c call again ≢ Idle → IsOpening (stage_at c call again)
+first_opens c (calls.Begin props room) again e n = begin_opens (in_transaction c) (may_go c.blocks props) _ _ e n
+first_opens c calls.Commit again e n = absurd (n (ap (λ (b : Bool). if b then commit_stage c else Idle) (none_outermost c.blocks e)))
+first_opens c (calls.Mode room) again e n = absurd (n (ap (λ (b : Bool). going_stage c (if b && not (stays_revocable c.blocks) && not c.irrevocable then Some room else None) (takings.Mode room)) e))
+first_opens c (calls.Read hint width place) again e n = absurd (n (ap (λ (b : Bool). if b && nat_le (place + size_of width) (8 * c.words) then read_stage c (value_reading hint width place) else Idle) e))
+first_opens c (calls.Write hint place value) again e n = absurd (n (ap (λ (b : Bool). if b && nat_le (place + size_of value.width) (8 * c.words) then placed_in c (place_from Idle (value_writing hint place value.width)) else Idle) e))
+first_opens c (calls.Copy k) again e n = absurd (n (ap (λ (b : Bool). if is_none (copy_refusal b c.words (length c.arena) k) then copying_stage c k else Idle) e))
+first_opens c (calls.Fill hint to byte size) again e n = absurd (n (ap (λ (b : Bool). if b && nat_le (to + size) (8 * c.words) then placed_in c (fill_from hint to byte size 0) else Idle) e))
+first_opens c call again e n = absurd (n refl)
+
+-- ## Giving up
+
+-- no try is left
+none_left : (tries patience : ℕ) (x : Phase) → x ≢ Idle → (if nat_lt tries patience then x else Idle) ≡ Idle → patience ≤ tries
+none_left tries patience x some is = by_more (nat_lt tries patience) refl is
+  where
+    by_more : (b : Bool) → nat_lt tries patience ≡ b → (if b then x else Idle) ≡ Idle → patience ≤ tries
+    by_more true e is = absurd (some is)
+    by_more false e is = ltb-false tries patience e
+
+not_begin : (b : Opening) → Begin b ≢ Idle
+not_begin b e = absurd (cc)
+
+not_round : (aim : Aim) → RoundStart aim ≢ Idle
+not_round aim e = absurd (cc)
+
+not_row : (rows : ℕ) (aim : Aim) (row : ℕ) → row_stage rows aim row ≢ Idle
+not_row rows aim row = by (nat_lt row rows)
+  where
+    by : (b : Bool) → (if b then RoundRow aim row else RoundEnd aim) ≢ Idle
+    by true e = absurd (cc)
+    by false e = absurd (cc)
+
+module _ (c : Core) (seen clock : ℕ) where
+  abbrev Lost : Answer
+  Lost = Conflict clock None
+
+  -- another clock was found than was wanted
+  by_same : (b : Bool) (x y : Phase) → y ≢ Idle → IsEnding (if b then None else Some (Conflict seen None)) Lost → (if b then x else (if nat_lt c.tries c.patience then y else Idle)) ≡ Idle → c.patience ≤ c.tries
+  by_same true x y some g is = absurd g
+  by_same false x y some g is = none_left c.tries c.patience y some is
+
+  pub not_at_begin : (even goes : Bool) → IsEnding (if even then (if goes then Some (Full (seen / 2)) else None) else Some (Busy seen)) Lost → ⊥
+  not_at_begin true true g = absurd (cc)
+  not_at_begin true false g = g
+  not_at_begin false goes g = absurd (cc)
+
+  by_even : (b : Bool) (aim : Aim) → (if b then row_stage (length c.log) aim 0 else try_stage c.tries c.patience aim) ≡ Idle → c.patience ≤ c.tries
+  by_even true aim is = absurd (not_row (length c.log) aim 0 is)
+  by_even false aim is = none_left c.tries c.patience (RoundStart aim) (not_round aim) is
+
+  by_end : (b : Bool) (aim : Aim) (x : Phase) → IsEnding (if b then aimed_ending aim seen else Some (Conflict seen None)) Lost → (if b then x else try_stage c.tries c.patience aim) ≡ Idle → c.patience ≤ c.tries
+  by_end true (aims.Read r) x g is = absurd g
+  by_end true (aims.Take taking) x g is = absurd (cc)
+  by_end false aim x g is = none_left c.tries c.patience (RoundStart aim) (not_round aim) is
+
+  by_back : (b : Bool) (aim : Aim) (word : ℕ) → IsEnding (if b then Some (Restarted seen word) else Some (Conflict seen None)) Lost → (if b then Idle else try_stage c.tries c.patience aim) ≡ Idle → c.patience ≤ c.tries
+  by_back true aim word g is = absurd (cc)
+  by_back false aim word g is = none_left c.tries c.patience (RoundStart aim) (not_round aim) is
+
+  pub lost_last : (p : Phase) → IsEnding (ending_from c p seen) Lost → stage_from c p seen ≡ Idle → c.patience ≤ c.tries
+  lost_last (Begin b) g is = absurd (not_at_begin (seen % 2 == 0) b.props.goes_irrevocable g)
+  lost_last (Take b) g is = by_same (seen == c.snapshot) _ (Begin b) (not_begin b) g is
+  lost_last (Confirm r value) g is = by_same (seen == c.snapshot) _ (RoundStart (aims.Read r)) (not_round (aims.Read r)) g is
+  lost_last (RoundStart aim) g is = by_even (seen % 2 == 0) aim is
+  lost_last (RoundRow aim row) g is = absurd (cc)
+  lost_last (RoundEnd aim) g is = by_end (seen == c.clock) aim _ g is
+  lost_last (RoundBack aim row) g is = by_back (seen == c.clock) aim (row_at c.log row).word g is
+  lost_last (Exchange taking) g is = by_same (seen == c.snapshot) _ (RoundStart (aims.Take taking)) (not_round (aims.Take taking)) g is
+  lost_last Free g is = absurd (cc)
+  lost_last p g is = absurd g
+
+  -- a begin alone is busy
+  busy_begin : (even goes : Bool) (b : Opening) (x : Phase) → IsEnding (if even then (if goes then Some (Full (seen / 2)) else None) else Some (Busy seen)) (Busy clock) → (if even then x else again_stage c b) ≡ Idle → c.patience ≤ c.tries
+  busy_begin true true b x g is = absurd (cc)
+  busy_begin true false b x g is = absurd g
+  busy_begin false goes b x g is = none_left c.tries c.patience (Begin b) (not_begin b) is
+
+  not_busy : (b : Bool) → IsEnding (if b then None else Some (Conflict seen None)) (Busy clock) → ⊥
+  not_busy true g = g
+  not_busy false g = absurd (cc)
+
+  not_busy_end : (b : Bool) (aim : Aim) → IsEnding (if b then aimed_ending aim seen else Some (Conflict seen None)) (Busy clock) → ⊥
+  not_busy_end true (aims.Read r) g = g
+  not_busy_end true (aims.Take taking) g = absurd (cc)
+  not_busy_end false aim g = absurd (cc)
+
+  not_busy_back : (b : Bool) (word : ℕ) → IsEnding (if b then Some (Restarted seen word) else Some (Conflict seen None)) (Busy clock) → ⊥
+  not_busy_back true word g = absurd (cc)
+  not_busy_back false word g = absurd (cc)
+
+  pub busy_last : (p : Phase) → IsEnding (ending_from c p seen) (Busy clock) → stage_from c p seen ≡ Idle → c.patience ≤ c.tries
+  busy_last (Begin b) g is = busy_begin (seen % 2 == 0) b.props.goes_irrevocable b _ g is
+  busy_last (Take b) g is = absurd (not_busy (seen == c.snapshot) g)
+  busy_last (Confirm r value) g is = absurd (not_busy (seen == c.snapshot) g)
+  busy_last (RoundStart aim) g is = absurd (cc)
+  busy_last (RoundRow aim row) g is = absurd (cc)
+  busy_last (RoundEnd aim) g is = absurd (not_busy_end (seen == c.clock) aim g)
+  busy_last (RoundBack aim row) g is = absurd (not_busy_back (seen == c.clock) (row_at c.log row).word g)
+  busy_last (Exchange taking) g is = absurd (not_busy (seen == c.snapshot) g)
+  busy_last Free g is = absurd (cc)
+  busy_last p g is = absurd g
+
+-- a begin alone loses the clock outside, and it goes irrevocable
+not_begun : (c : Core) (seen clock : ℕ) (word : Option ℕ) (even goes : Bool) → IsEnding (if even then (if goes then Some (Full (seen / 2)) else None) else Some (Busy seen)) (Conflict clock word) → ⊥
+not_begun c seen clock word true true g = absurd (cc)
+not_begun c seen clock word true false g = g
+not_begun c seen clock word false goes g = absurd (cc)
+
+takes_goes : (c : Core) (call : Call) → in_transaction c ≡ false → TakesFor c (Some call) → GoesBegin call
+takes_goes c (calls.Begin props room) closed t = t closed
+takes_goes c call closed t = absurd (both (in_transaction c) t closed)
+
+lawful_take : (c : Core) (step : Step) (from to : ℕ) → step ≡ Cas 0 from to → IsLawful c step → TakesFor c c.doing
+lawful_take c step from to is l = (let there : IsLawful c (Cas 0 from to) = subst (IsLawful c) is l in there.2)
+
+pub goes_begin : (c : Core) (call : Call) (step : Step) (seen clock : ℕ) (word : Option ℕ) → in_transaction c ≡ false → c.doing ≡ Some call → Some step ≡ asked c → IsLawful c step → (p : Phase) → c.stage ≡ p → IsOpening p → IsEnding (ending_from c p seen) (Conflict clock word) → GoesBegin call
+goes_begin c call step seen clock word closed doing asks lawful (Begin b) is o g = absurd (not_begun c seen clock word (seen % 2 == 0) b.props.goes_irrevocable g)
+goes_begin c call step seen clock word closed doing asks lawful (Take b) is o g =
+    let same : step ≡ Cas 0 c.snapshot (c.snapshot + 1) = (let x : Some step ≡ Some (Cas 0 c.snapshot (c.snapshot + 1)) = asks ∙ ap (asked_from c) is in cc) in
+    takes_goes c call closed (subst (TakesFor c) doing (lawful_take c step c.snapshot (c.snapshot + 1) same lawful))
+goes_begin c call step seen clock word closed doing asks lawful p is o g = absurd o
