@@ -17,7 +17,7 @@ use Rattle.tx_host.specs.declared.report.HostFault.TheVariants.{Held, NoMemory, 
 use Rattle.tx_host.specs.declared.report.Report.{Report}
 use Rattle.tx_host.specs.Reports.{Ran, StaysHeld}
 use Rattle.tx_runs.specs.declared.ending.End.{End}
-use Rattle.tx_worker.specs.Gates.{all_let}
+use Rattle.worker_rules.specs.Gates.{all_let}
 use Rattle.run_commands.specs.Threading.{IsThreadedRun, TellsRun, failure_of, threading}
 
 module _ (p : Listing) (r : Report) (o n : Option (List ℕ)) (ran : Ran all_let p r) (limited : AreLimited r.history) (fits : HistoryFits r.history) where

@@ -17,7 +17,7 @@ use Rattle.tx_host.specs.declared.report.HostFault.TheVariants as faults
 use Rattle.tx_host.specs.declared.report.Report.{Report}
 use Rattle.tx_host.specs.Reports.{Ran}
 use Rattle.tx_runs.specs.declared.ending.End.{End}
-use Rattle.tx_worker.specs.Gates.{all_let}
+use Rattle.worker_rules.specs.Gates.{all_let}
 use Rattle.run_commands.specs.Endings.{ending_lines, endings_status}
 
 -- a run of the program on threads, after which they stand so, and the text of its history

@@ -21,12 +21,12 @@ use Rattle.tx_runs.specs.declared.ending.End.{End}
 use Rattle.tx_runs.specs.declared.ending.End.TheVariants.{Finished, GaveUp, NoMemory}
 use Rattle.tx_runs.specs.Nesting.{IsDeep}
 use Rattle.tx_runs.proofs.RunLists.{there_is}
-use Rattle.tx_worker.specs.declared.worked.Worked.{Worked}
-use Rattle.tx_worker.specs.Accounts.{Account, first_account}
-use Rattle.tx_worker.specs.Gates.{Gating, call_number}
-use Rattle.tx_worker.specs.Calls.{StopsAt}
-use Rattle.tx_worker.specs.Works.{IsRow, Parts, is_held}
-use Rattle.tx_worker.proofs.Laws.Answers.{both}
+use Rattle.worker_rules.specs.Worked.{Worked}
+use Rattle.worker_rules.specs.Accounts.{Account, first_account}
+use Rattle.worker_rules.specs.Gates.{Gating, call_number}
+use Rattle.worker_rules.specs.Calls.{StopsAt}
+use Rattle.worker_rules.specs.Works.{IsRow, Parts, is_held}
+use Rattle.worker_rules.proofs.Laws.Answers.{both}
 use Rattle.script_laws.proofs.KeptThreads.{IsKept, course, first_kept, kept_all, some_open}
 
 -- ## Where it stops

@@ -34,13 +34,13 @@ use Rattle.tx_runs.specs.Tallies.{Stage, Taken, begins_again, begun, gone_back, 
 use Rattle.tx_runs.proofs.EngineReplies.{engine_may}
 use Rattle.tx_runs.proofs.IrrevocableCalls.{goes_same}
 use Rattle.tx_runs.proofs.Players.{nested_outside}
-use Rattle.tx_worker.specs.Accounts.{Account, account_after, first_account}
-use Rattle.tx_worker.specs.Gates.{Gating}
-use Rattle.tx_worker.specs.Calls.{HasMade, IsMade, asked}
-use Rattle.tx_worker.specs.Progress.{Course, IsRunning}
-use Rattle.tx_worker.specs.Works.{course_of}
-use Rattle.tx_worker.proofs.Laws.Answers.{both}
-use Rattle.tx_worker.proofs.Machines.LastEvents.{IsLast, last_event}
+use Rattle.worker_rules.specs.Accounts.{Account, account_after, first_account}
+use Rattle.worker_rules.specs.Gates.{Gating}
+use Rattle.worker_rules.specs.Calls.{HasMade, IsMade, asked}
+use Rattle.worker_rules.specs.Progress.{Course, IsRunning}
+use Rattle.worker_rules.specs.Works.{course_of}
+use Rattle.worker_rules.proofs.Laws.Answers.{both}
+use Rattle.worker_rules.proofs.Machines.LastEvents.{IsLast, last_event}
 use Rattle.call_rules.proofs.LaterViews.{went_self}
 use Rattle.script_laws.proofs.RepliedThreads.{HasLeft, deeper_begins, engine_fits, entered_may, one_deeper, open_room, replied_player, reserved_least, told_as_asked, tried_so}
 

@@ -11,9 +11,9 @@ use Rattle.script_program.specs.Listing.{Listing}
 use Rattle.script_vm.specs.Nesting.{Nests}
 use Rattle.script_vm.specs.Threads.{opening, thread_rules}
 use Rattle.tx_host.specs.Reports.{StaysHeld}
-use Rattle.tx_worker.specs.Gates.{Gating}
-use Rattle.tx_worker.specs.declared.worked.Worked.{Worked}
-use Rattle.tx_worker.specs.Works.{IsRow, is_held}
+use Rattle.worker_rules.specs.Gates.{Gating}
+use Rattle.worker_rules.specs.Worked.{Worked}
+use Rattle.worker_rules.specs.Works.{IsRow, is_held}
 
 -- whichever calls a thread of nested code makes, and however they end, also where memory is refused to it: it gives its pass back, which does not hold the clock. As many of its blocks may be open as of its engine
 abbrev pub ComeBackIdle : Type 0

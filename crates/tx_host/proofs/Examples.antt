@@ -13,8 +13,8 @@ use Rattle.script_program.specs.Listing.{Listing, codes_of}
 use Rattle.tx_history.specs.declared.history.Version.TheVariants.{One, Two, Three}
 use Rattle.tx_history.specs.Depths.{depth_from}
 use Rattle.tx_history.specs.Versions.{depth_of}
-use Rattle.tx_worker.specs.Accounts.{first_account}
-use Rattle.tx_worker.specs.Gates.{all_let}
+use Rattle.worker_rules.specs.Accounts.{first_account}
+use Rattle.worker_rules.specs.Gates.{all_let}
 use Rattle.tx_host.specs.declared.join.Done.{Done}
 use Rattle.tx_host.specs.Courses.{EndsBy, first_of}
 use Rattle.tx_host.specs.Joins.{attempts_in, ends_in}

@@ -14,9 +14,9 @@ use Rattle.tx_runs.specs.declared.ending.End.{End}
 use Rattle.tx_runs.specs.declared.ending.End.TheVariants.{Finished, GaveUp, NoMemory}
 use Rattle.tx_runs.specs.declared.savepoint.Savepoint.{Savepoint}
 use Rattle.tx_runs.specs.Tallies.{Stage, Stand, Taken, Tally, begins, outside, over_as, replied, sent_back, took_in, tried, went_on, within, stand_of}
-use Rattle.tx_worker.specs.Accounts.{Account}
-use Rattle.tx_worker.specs.Gates.{Gating}
-use Rattle.tx_worker.specs.Calls.{StopsAt, asked}
+use Rattle.worker_rules.specs.Accounts.{Account}
+use Rattle.worker_rules.specs.Gates.{Gating}
+use Rattle.worker_rules.specs.Calls.{StopsAt, asked}
 use Rattle.tx_host.specs.Rows.{EndsWhere, IsLast}
 
 went_on_end : {P : Type 0} (open_still : Bool) (t : Tally P) (row : Attempt) (points : List Savepoint) (s : Stand) → (went_on open_still t row points s).end ≡ None

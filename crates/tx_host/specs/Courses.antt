@@ -11,7 +11,7 @@ use Rattle.tx_runs.specs.declared.ending.End.{End}
 use Rattle.tx_runs.specs.declared.ending.End.TheVariants.{Finished, GaveUp, NoMemory}
 use Rattle.tx_runs.specs.Restarts.{RestartAtMost}
 use Rattle.tx_runs.specs.Runs.{begins_at, run_after}
-use Rattle.tx_worker.specs.Positions.{AreOwn, AreSince}
+use Rattle.worker_rules.specs.Positions.{AreOwn, AreSince}
 
 -- a thread of the program, with this code, before its first try, with an arena of zeros
 abbrev pub first_of : Listing → List Instruction → Between Thread

@@ -6,9 +6,9 @@ use Rattle.script_program.specs.Listing.{Listing, threads_of}
 use Rattle.tx_attempts.specs.declared.attempt.Attempt.{Attempt}
 use Rattle.tx_attempts.specs.Outrun.{AreOutrun}
 use Rattle.tx_runs.specs.declared.ending.End.{End}
-use Rattle.tx_worker.specs.Gates.{Gating}
-use Rattle.tx_worker.specs.Positions.{AreFew, AreLeft, bytes_at, positions}
-use Rattle.tx_worker.specs.Works.{AreHeld}
+use Rattle.worker_rules.specs.Gates.{Gating}
+use Rattle.worker_rules.specs.Positions.{AreFew, AreLeft, bytes_at, positions}
+use Rattle.worker_rules.specs.Works.{AreHeld}
 use Rattle.tx_host.specs.declared.join.Done.{Done}
 use Rattle.tx_host.specs.Courses.{IsCourse}
 use Rattle.tx_host.specs.Numbers.{Numbered}

@@ -12,8 +12,8 @@ use Rattle.tx_attempts.specs.Counts.{count_at, count_committed, one_where}
 use Rattle.tx_attempts.specs.Outrun.{AreDisturbed, AreOutrun}
 use Rattle.tx_history.specs.Legal.{IsLegal, memory_at}
 use Rattle.tx_runs.specs.declared.ending.End.{End}
-use Rattle.tx_worker.specs.Gates.{Gating}
-use Rattle.tx_worker.specs.Positions.{bytes_at, positions}
+use Rattle.worker_rules.specs.Gates.{Gating}
+use Rattle.worker_rules.specs.Positions.{bytes_at, positions}
 use Rattle.tx_host.specs.declared.report.Report.{Report}
 use Rattle.tx_host.specs.Courses.{IsCourse}
 use Rattle.tx_host.specs.Rows.{HeldAmong, WasRun}

@@ -13,11 +13,11 @@ use Rattle.call_rules.specs.Ties.{Stands}
 use Rattle.tx_attempts.specs.declared.attempt.Attempt.{Attempt}
 use Rattle.tx_runs.specs.declared.ending.End.{End}
 use Rattle.tx_runs.specs.declared.ending.End.TheVariants.{Finished, GaveUp, NoMemory}
-use Rattle.tx_worker.specs.declared.worked.Worked.{Worked}
-use Rattle.tx_worker.specs.Gates.{Gating, call_number}
-use Rattle.tx_worker.specs.Accounts.{Account}
-use Rattle.tx_worker.specs.Calls.{IsMade, IsShut}
-use Rattle.tx_worker.specs.Works.{IsRow, is_held, view_left}
+use Rattle.worker_rules.specs.Worked.{Worked}
+use Rattle.worker_rules.specs.Gates.{Gating, call_number}
+use Rattle.worker_rules.specs.Accounts.{Account}
+use Rattle.worker_rules.specs.Calls.{IsMade, IsShut}
+use Rattle.worker_rules.specs.Works.{IsRow, is_held, view_left}
 use Rattle.tx_host.specs.Starts.{IsFresh}
 
 -- after this answer to a call in the try `nth` of its block there is no further one: no commit more may be, or a conflict was found or the clock was held, and no try is left

@@ -12,7 +12,7 @@ use Rattle.script_program.specs.Listing.{Listing, threads_of}
 use Rattle.script_vm.specs.Threads.{Thread, opening as script_opening}
 use Rattle.call_rules.specs.Standing.{Standing}
 use Rattle.call_rules.specs.Ties.{Stands}
-use Rattle.tx_worker.specs.declared.worked.Worked.{Worked}
+use Rattle.worker_rules.specs.Worked.{Worked}
 use Rattle.tx_host.specs.declared.start.Ready.{Ready}
 use Rattle.tx_host.specs.declared.start.Started.{Started}
 use Rattle.tx_host.specs.declared.start.WorksOn.{WorksOn}

@@ -4,7 +4,7 @@ ghost use Rattle.std.specs.Prelude.{◌≡◌, ◌≤◌, true, false, [], IfOk,
 ghost use Rattle.shared_words.specs.Passes.{Owns, view_of};
 ghost use Rattle.shared_words.specs.Steps.{Joined as JoinedViews};
 ghost use Rattle.script_program.specs.Listing.{Listing};
-ghost use Rattle.tx_worker.specs.Works.{IsBack, is_held};
+ghost use Rattle.worker_rules.specs.Works.{IsBack, is_held};
 ghost use Rattle.tx_host.specs.Starts.{Promised};
 ghost use Rattle.tx_host.specs.Joins.{Joins};
 ghost use Rattle.tx_host.specs.Rows.{HeldAmong};

@@ -34,7 +34,7 @@ pub(crate) struct WorksOn<'a, G> {
 
 impl<'a, G: Gate> Promise<Worked> for WorksOn<'a, G> {
     ghost use Rattle.script_vm.specs.Threads.{thread_rules};
-    ghost use Rattle.tx_worker.specs.Works.{Works};
+    ghost use Rattle.worker_rules.specs.Works.{Works};
 
     ghost kept_by = { λ p w. Works thread_rules p.words.now p.start.value p.player.value p.number p.retries G.answers w };
 }

@@ -11,7 +11,7 @@ pub struct GateShut;
 /// Calls are numbered from 0 over the whole run of a thread.
 pub trait Gate {
     ghost use Rattle.std.specs.Prelude.{◌≡◌, true, OnErr, OnOk};
-    ghost use Rattle.tx_worker.specs.Gates.{Gating};
+    ghost use Rattle.worker_rules.specs.Gates.{Gating};
 
     /// Which calls it may shut out, and which it may let through.
     ghost answers: { Gating };
@@ -30,7 +30,7 @@ pub trait Gate {
 pub struct Open;
 
 impl Gate for Open {
-    ghost use Rattle.tx_worker.specs.Gates.{all_let};
+    ghost use Rattle.worker_rules.specs.Gates.{all_let};
 
     ghost answers = { all_let };
 

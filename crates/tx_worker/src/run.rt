@@ -5,7 +5,7 @@ ghost use Rattle.itm_types.specs.declared.limits.TheConstants.{MAX_RETRIES};
 ghost use Rattle.norec_core.specs.Core.{in_transaction};
 ghost use Rattle.shared_words.specs.Passes.{Owns, view_of};
 ghost use Rattle.call_rules.specs.Ties.{Stands};
-ghost use Rattle.tx_worker.specs.Works.{Works};
+ghost use Rattle.worker_rules.specs.Works.{Works};
 
 use crate::gate::Gate;
 use crate::sink::ActionSink;

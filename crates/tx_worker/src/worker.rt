@@ -8,9 +8,9 @@ ghost use Rattle.call_rules.specs.CallResults.{Returns};
 ghost use Rattle.tx_runs.specs.OpenAttempts.{Open};
 ghost use Rattle.tx_runs.specs.PlayerRuns.{MayStop, MayTell};
 ghost use Rattle.tx_runs.specs.Tallies.{begun, stand_of};
-ghost use Rattle.tx_worker.specs.Accounts.{account_of, told};
-ghost use Rattle.tx_worker.specs.Workers.{Bounds, IsPrepared, IsToldBy, IsUnprepared, LacksFor, again_for, told_by};
-ghost use Rattle.tx_worker.specs.Works.{Parts};
+ghost use Rattle.worker_rules.specs.Accounts.{account_of, told};
+ghost use Rattle.worker_rules.specs.Workers.{Bounds, IsPrepared, IsToldBy, IsUnprepared, LacksFor, again_for, told_by};
+ghost use Rattle.worker_rules.specs.Works.{Parts};
 
 use crate::gate::Gate;
 use crate::places::prepare;
@@ -21,6 +21,7 @@ use itm_types::{Call, Props};
 use norec_core::{Answer, Undone};
 use shared_words::{Pass, Words};
 use std::alloc::{AllocError, Global};
+use std::marker::Model;
 use tx_attempts::{Attempt, Attempts, Outcome};
 use tx_player::Player;
 use tx_runs::{Current, End, PlayerRun, ahead_of, told_of};
@@ -36,9 +37,17 @@ pub(crate) struct Worker<P> {
     pub(crate) calls: u64,
 }
 
+impl<P> Model for Worker<P> {
+    ghost use Rattle.worker_rules.specs.Worker.{Worker as WorkerValue};
+
+    ghost Value = { WorkerValue P };
+
+    ghost view = { λ w. record { run = w.run; thread = w.thread; ended = w.ended; calls = w.calls } };
+}
+
 impl<P: Player> Worker<P> {
-    ghost use Rattle.tx_worker.specs.Progress.{Course};
-    ghost use Rattle.tx_worker.specs.Workers.{IsWorking, IsStopped, GoesOnOrStops, GoesOnOrStopsAt, IsAsked, IsHungry};
+    ghost use Rattle.worker_rules.specs.Progress.{Course};
+    ghost use Rattle.worker_rules.specs.Workers.{IsWorking, IsStopped, GoesOnOrStops, GoesOnOrStopsAt, IsAsked, IsHungry};
 
     /// The player's next call, where the gate lets it through. Answers how the thread ended, if it did.
     pub(crate) fn call_next<G: Gate, A: ActionSink>(

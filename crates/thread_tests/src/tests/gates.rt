@@ -56,7 +56,7 @@ impl<'a> InTurns<'a> {
 }
 
 impl<'a> Gate for InTurns<'a> {
-    ghost use Rattle.tx_worker.specs.Gates.{any_answer};
+    ghost use Rattle.worker_rules.specs.Gates.{any_answer};
 
     ghost answers = { any_answer };
 
@@ -91,7 +91,7 @@ pub(super) struct ShutsAt {
 }
 
 impl Gate for ShutsAt {
-    ghost use Rattle.tx_worker.specs.Gates.{any_answer};
+    ghost use Rattle.worker_rules.specs.Gates.{any_answer};
 
     ghost answers = { any_answer };
 
@@ -128,7 +128,7 @@ fn digit_of(call: u64) -> u64 {
 }
 
 impl Gate for Tallies {
-    ghost use Rattle.tx_worker.specs.Gates.{all_let};
+    ghost use Rattle.worker_rules.specs.Gates.{all_let};
 
     ghost answers = { all_let };
 

@@ -37,7 +37,7 @@ impl ActionSink for Digits {
 
 /// As a gate, a digit for each call that it is asked about and for each one that it is told of.
 impl Gate for Digits {
-    ghost use Rattle.tx_worker.specs.Gates.{all_let};
+    ghost use Rattle.worker_rules.specs.Gates.{all_let};
 
     ghost answers = { all_let };
 
@@ -78,7 +78,7 @@ impl ActionSink for Meanwhile {
 }
 
 impl Gate for Meanwhile {
-    ghost use Rattle.tx_worker.specs.Gates.{any_answer};
+    ghost use Rattle.worker_rules.specs.Gates.{any_answer};
 
     ghost answers = { any_answer };
 

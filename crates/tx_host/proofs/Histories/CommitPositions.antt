@@ -9,7 +9,7 @@ use Rattle.tx_attempts.specs.declared.attempt.Attempt.{Attempt}
 use Rattle.tx_attempts.specs.Attempts.{alone, committed_at, is_at, is_committed, memory_after, memory_left}
 use Rattle.tx_attempts.specs.Counts.{count_at, count_committed, one_where}
 use Rattle.tx_runs.proofs.ClockCalls.{both_true}
-use Rattle.tx_worker.specs.Positions.{AreFew, AreLeft, bytes_at, positions}
+use Rattle.worker_rules.specs.Positions.{AreFew, AreLeft, bytes_at, positions}
 
 -- ## How many
 

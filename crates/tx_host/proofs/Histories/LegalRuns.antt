@@ -16,9 +16,9 @@ use Rattle.tx_history.specs.Versions.{depth_of}
 use Rattle.tx_history.specs.Legal.{count_holding, is_holding, is_unfinished, memory_at}
 use Rattle.tx_runs.specs.Runs.{begins_at}
 use Rattle.tx_history.proofs.Runs.AloneRuns.{IsPlaced, of_run}
-use Rattle.tx_worker.specs.Gates.{Gating}
-use Rattle.tx_worker.specs.Positions.{bytes_at}
-use Rattle.tx_worker.specs.Works.{AreHeld}
+use Rattle.worker_rules.specs.Gates.{Gating}
+use Rattle.worker_rules.specs.Positions.{bytes_at}
+use Rattle.worker_rules.specs.Works.{AreHeld}
 use Rattle.tx_host.specs.declared.join.Done.{Done}
 use Rattle.tx_host.specs.Courses.{first_of}
 use Rattle.tx_host.specs.Joins.{Did, attempts_in}

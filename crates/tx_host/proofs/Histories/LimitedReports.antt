@@ -14,8 +14,8 @@ use Rattle.tx_history.specs.Bounds.{AreLimited, HasArenaWidth, IsLimited, IsMemo
 use Rattle.tx_history.specs.Legal.{memory_at}
 use Rattle.tx_history.proofs.ToldRestarts.{may_tell}
 use Rattle.tx_history.specs.Versions.{MayRestart, thread_limit}
-use Rattle.tx_worker.specs.Gates.{Gating}
-use Rattle.tx_worker.specs.Positions.{AreOwn}
+use Rattle.worker_rules.specs.Gates.{Gating}
+use Rattle.worker_rules.specs.Positions.{AreOwn}
 use Rattle.tx_history.proofs.Runs.LimitedRuns.{IsOwn, own_run}
 use Rattle.tx_host.specs.declared.report.Report.{Report}
 use Rattle.tx_host.specs.Courses.{IsCourse, first_of}

@@ -12,8 +12,8 @@ use Rattle.tx_attempts.proofs.DisturbedRuns.{disturbed_both, disturbed_none, dis
 use Rattle.tx_attempts.proofs.LaterClocks.{outrun_both, outrun_none}
 use Rattle.tx_runs.specs.declared.ending.End.{End}
 use Rattle.tx_runs.proofs.RunLists.{of_thread_more}
-use Rattle.tx_worker.specs.Gates.{Gating}
-use Rattle.tx_worker.specs.Positions.{AreFew, AreLeft, AreOwn, bytes_at}
+use Rattle.worker_rules.specs.Gates.{Gating}
+use Rattle.worker_rules.specs.Positions.{AreFew, AreLeft, AreOwn, bytes_at}
 use Rattle.tx_host.specs.declared.join.Done.{Done}
 use Rattle.tx_host.specs.Courses.{first_of}
 use Rattle.tx_host.specs.Joins.{Did, attempts_in, ends_in}

@@ -21,8 +21,8 @@ use Rattle.tx_history.specs.Versions.{depth_of}
 use Rattle.tx_history.specs.Legal.{IsAlone, IsLegal, count_holding, memory_at}
 use Rattle.tx_history.proofs.Runs.AloneRuns.{IsPlaced}
 use Rattle.tx_runs.specs.declared.ending.End.{End}
-use Rattle.tx_worker.specs.Gates.{Gating}
-use Rattle.tx_worker.specs.Positions.{AreFew, AreLeft, bytes_at, positions}
+use Rattle.worker_rules.specs.Gates.{Gating}
+use Rattle.worker_rules.specs.Positions.{AreFew, AreLeft, bytes_at, positions}
 use Rattle.tx_host.specs.declared.join.Done.{Done}
 use Rattle.tx_host.specs.declared.report.Report.{Report}
 use Rattle.tx_host.specs.Courses.{IsCourse}

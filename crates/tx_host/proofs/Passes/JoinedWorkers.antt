@@ -7,10 +7,10 @@ use Rattle.script_program.specs.Listing.{Listing, threads_of}
 use Rattle.script_vm.specs.Threads.{thread_rules}
 use Rattle.tx_attempts.specs.declared.attempt.Attempt.{Attempt}
 use Rattle.tx_attempts.specs.Attempts.{is_committed}
-use Rattle.tx_worker.specs.declared.worked.Worked.{Worked}
-use Rattle.tx_worker.specs.Gates.{Gating}
-use Rattle.tx_worker.specs.Positions.{positions}
-use Rattle.tx_worker.specs.Works.{Works, is_held, view_left}
+use Rattle.worker_rules.specs.Worked.{Worked}
+use Rattle.worker_rules.specs.Gates.{Gating}
+use Rattle.worker_rules.specs.Positions.{positions}
+use Rattle.worker_rules.specs.Works.{Works, is_held, view_left}
 use Rattle.tx_host.specs.declared.join.Done.{Done}
 use Rattle.tx_host.specs.declared.start.WorksOn.{WorksOn}
 use Rattle.tx_host.specs.declared.start.Ready.{Ready}

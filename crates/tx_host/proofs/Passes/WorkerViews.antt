@@ -19,12 +19,12 @@ use Rattle.tx_runs.specs.declared.ending.End.{End}
 use Rattle.tx_runs.specs.declared.ending.End.TheVariants.{Finished, GaveUp, NoMemory}
 use Rattle.tx_runs.specs.Restarts.{RestartAtMost}
 use Rattle.tx_runs.specs.Runs.{begins_at}
-use Rattle.tx_worker.specs.declared.worked.Worked.{Worked}
-use Rattle.tx_worker.specs.Gates.{Gating, call_number}
-use Rattle.tx_worker.specs.Positions.{AreFew, AreLeft, AreOwn, AreSince, bytes_at, positions}
-use Rattle.tx_worker.specs.Progress.{Course}
-use Rattle.tx_worker.specs.Works.{AreHeld, EndsAs, IsBack, IsFinished, IsRow, Works, course_of, is_held, view_left}
-use Rattle.tx_worker.proofs.Runs.LaterCommits.{IsLater, all_left_in, bytes_in, seen_in}
+use Rattle.worker_rules.specs.Worked.{Worked}
+use Rattle.worker_rules.specs.Gates.{Gating, call_number}
+use Rattle.worker_rules.specs.Positions.{AreFew, AreLeft, AreOwn, AreSince, bytes_at, positions}
+use Rattle.worker_rules.specs.Progress.{Course}
+use Rattle.worker_rules.specs.Works.{AreHeld, EndsAs, IsBack, IsFinished, IsRow, Works, course_of, is_held, view_left}
+use Rattle.worker_rules.proofs.Runs.LaterCommits.{IsLater, all_left_in, bytes_in, seen_in}
 use Rattle.tx_host.specs.declared.join.Done.{Done}
 use Rattle.tx_host.specs.declared.start.WorksOn.{WorksOn}
 use Rattle.tx_host.specs.Courses.{EndsBy, IsCourse, first_of}

@@ -1,16 +1,16 @@
 use Rattle.std.proofs.Common.{◌≡◌, ◌<◌, ◌≤◌, ◌+◌, ℕ, suc, Bool, None, refl, sym, ap, subst, ◌∙◌, arith}
 use Rattle.norec_core.specs.Core.{in_transaction}
 use Rattle.tx_runs.specs.declared.player_run.PlayerRun.{PlayerRun}
-use Rattle.tx_worker.specs.declared.worker.Worker.{Worker}
-use Rattle.tx_worker.specs.Accounts.{account_of}
-use Rattle.tx_worker.specs.Calls.{IsMade, StopsAs, StopsAt}
-use Rattle.tx_worker.specs.Gates.{IsLet, call_number}
+use Rattle.worker_rules.specs.Worker.{Worker}
+use Rattle.worker_rules.specs.Accounts.{account_of}
+use Rattle.worker_rules.specs.Calls.{IsMade, StopsAs, StopsAt}
+use Rattle.worker_rules.specs.Gates.{IsLet, call_number}
 use Rattle.tx_runs.specs.Nesting.{whole}
 use Rattle.tx_runs.specs.Ranks.{rank, restarts_left}
-use Rattle.tx_worker.specs.Workers.{Bounds, bounds_of}
-use Rattle.tx_worker.specs.Works.{course_of}
-use Rattle.tx_worker.proofs.Laws.Begins.{begins_bound, begins_works}
-use Rattle.tx_worker.proofs.Laws.Ends.{finished}
+use Rattle.worker_rules.specs.Workers.{Bounds, bounds_of}
+use Rattle.worker_rules.specs.Works.{course_of}
+use Rattle.worker_rules.proofs.Laws.Begins.{begins_bound, begins_works}
+use Rattle.worker_rules.proofs.Laws.Ends.{finished}
 use Rattle.tx_worker.proofs.run.work.Goals as goal
 
 -- one more is counted

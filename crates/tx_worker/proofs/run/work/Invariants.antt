@@ -1,12 +1,12 @@
 use Rattle.std.proofs.Common.{◌≡◌, ◌≤◌, ℕ}
 use Rattle.norec_core.specs.Core.{in_transaction}
 use Rattle.tx_runs.specs.Nesting.{whole}
-use Rattle.tx_worker.specs.Accounts.{account_of, first_account}
-use Rattle.tx_worker.specs.Calls.{HasMade}
-use Rattle.tx_worker.specs.Gates.{call_number}
+use Rattle.worker_rules.specs.Accounts.{account_of, first_account}
+use Rattle.worker_rules.specs.Calls.{HasMade}
+use Rattle.worker_rules.specs.Gates.{call_number}
 use Rattle.tx_runs.specs.Ranks.{rank, restarts_left}
-use Rattle.tx_worker.specs.Workers.{IsWorking, bounds_of}
-use Rattle.tx_worker.specs.Works.{course_of}
+use Rattle.worker_rules.specs.Workers.{IsWorking, bounds_of}
+use Rattle.worker_rules.specs.Works.{course_of}
 use Rattle.tx_worker.proofs.run.work.Given as goal
 
 abbrev pub invariant-loop-end : goal.invariant-loop-end

@@ -1,7 +1,7 @@
 use Rattle.std.proofs.Common.{false, sym, subst}
 use Rattle.tx_runs.specs.declared.ending.End.{End}
-use Rattle.tx_worker.specs.Workers.{IsStopped}
-use Rattle.tx_worker.proofs.Laws.Asks.{answered, hungry, hungry_still}
+use Rattle.worker_rules.specs.Workers.{IsStopped}
+use Rattle.worker_rules.proofs.Laws.Asks.{answered, hungry, hungry_still}
 use Rattle.tx_worker.proofs.worker.Worker.make.Goals as goal
 
 pub starve-requires : goal.starve-requires

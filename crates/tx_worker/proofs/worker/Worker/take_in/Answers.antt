@@ -1,33 +1,39 @@
 use Rattle.std.proofs.Common.{◌≡◌, ◌∙◌, ◌/◌, ◌+◌, ◌++◌, length, refl, sym, subst, vec_len}
 use Rattle.tx_runs.specs.PlayerRuns.{KeepsPlaces, MayGoBack, MayTakeIn, tally_of}
 use Rattle.tx_runs.specs.Tallies.{Stand, took_in, stand_of}
-use Rattle.tx_worker.specs.declared.worker.Worker.{Worker}
-use Rattle.tx_worker.proofs.Laws.Rooms.{may_go_back, may_take_in, told_by}
-use Rattle.tx_worker.proofs.Laws.Rows.{turns}
+use Rattle.worker_rules.specs.Worker.{Worker}
+use Rattle.worker_rules.specs.Workers.{IsAsked}
+use Rattle.worker_rules.proofs.Laws.Rooms.{may_go_back, may_take_in, told_by}
+use Rattle.worker_rules.proofs.Laws.Rows.{turns}
 use Rattle.tx_worker.proofs.worker.Worker.take_in.Goals as goal
 
 -- where the thread stands, as its own calls tell it
 pub take_in-end-requires-clause-room : goal.take_in-end-requires-clause-room
 take_in-end-requires-clause-room g c whole =
+    let r = c.requires.asked in
+    let k = subst (λ (w : Worker g.row.P.Denot). IsAsked g.P.Player r.0 r.1 r.2 r.3 c.args.call c.args.answer w) (sym c.self.view_is) r.4 in
     let told : Stand = record { is_open = c.is_open-is_open.result; at = c.snapshot-at.result / 2; ran = c.due.result.now; arena = c.bytes.result.now } in
-    let same : told ≡ stand_of c.args.self.now.thread.engine = λ i. record { is_open = c.is_open-is_open.ensures i; at = c.snapshot-at.ensures.value i / 2; ran = c.due.ensures i; arena = (c.bytes.ensures ∙ c.arena.ensures) i } in
-    subst (λ (s : Stand). MayTakeIn c.args.call s c.args.self.now.run.current) (sym same) (may_take_in c.requires.asked.4 whole)
+    let same : told ≡ stand_of c.self.inside.thread.engine = λ i. record { is_open = c.is_open-is_open.ensures i; at = c.snapshot-at.ensures.value i / 2; ran = c.due.ensures i; arena = (c.bytes.ensures ∙ c.arena.ensures) i } in
+    subst (λ (s : Stand). MayTakeIn c.args.call s c.self.inside.run.current) (sym same) (may_take_in k whole)
 
 pub take_in-end-requires-clause-again : goal.take_in-end-requires-clause-again
 take_in-end-requires-clause-again g c clock word is =
+    let r = c.requires.asked in
+    let k = subst (λ (w : Worker g.row.P.Denot). IsAsked g.P.Player r.0 r.1 r.2 r.3 c.args.call c.args.answer w) (sym c.self.view_is) r.4 in
     let told : Stand = record { is_open = c.is_open-is_open.result; at = c.snapshot-at.result / 2; ran = c.due.result.now; arena = c.bytes.result.now } in
-    let same : told ≡ stand_of c.args.self.now.thread.engine = λ i. record { is_open = c.is_open-is_open.ensures i; at = c.snapshot-at.ensures.value i / 2; ran = c.due.ensures i; arena = (c.bytes.ensures ∙ c.arena.ensures) i } in
-    let back = may_go_back c.requires.asked.4 clock word is in
-    (back.0, subst (λ (s : Stand). MayGoBack s c.args.self.now.run.current) (sym same) back.1)
+    let same : told ≡ stand_of c.self.inside.thread.engine = λ i. record { is_open = c.is_open-is_open.ensures i; at = c.snapshot-at.ensures.value i / 2; ran = c.due.ensures i; arena = (c.bytes.ensures ∙ c.arena.ensures) i } in
+    let back = may_go_back k clock word is in
+    (back.0, subst (λ (s : Stand). MayGoBack s c.self.inside.run.current) (sym same) back.1)
 
 pub ran-told-requires : goal.ran-told-requires
 ran-told-requires g c = told_by c.requires.asked.4
 
 pub returns : goal.returns
-returns g c words course b old shuts k =
-    let mid = c.args.self.now in
+returns g c words course b old shuts is =
+    let mid = c.self.inside in
+    let k = subst (λ (w : Worker g.row.P.Denot). IsAsked g.P.Player words course b old c.args.call c.args.answer w) (sym c.self.view_is) is in
     let x = c.take_in-end.ensures in
-    let new : Worker g.row.P.Denot = record mid { run = c.take_in-end.new.self; ended = c.take_in-end.new.ended } in
+    let new : Worker g.row.P.Denot = record { run = c.take_in-end.new.self; thread = mid.thread; ended = c.take_in-end.new.ended; calls = mid.calls } in
     let told : Stand = record { is_open = c.is_open-is_open.result; at = c.snapshot-at.result / 2; ran = c.due.result.now; arena = c.bytes.result.now } in
     let same : told ≡ stand_of mid.thread.engine = λ i. record { is_open = c.is_open-is_open.ensures i; at = c.snapshot-at.ensures.value i / 2; ran = c.due.ensures i; arena = (c.bytes.ensures ∙ c.arena.ensures) i } in
     turns g.met.P.Player.laws k new c.take_in-end.result

@@ -1,0 +1,124 @@
+-- A worker between its player's next call and what comes of it.
+use Rattle.std.proofs.Common.{◌≡◌, ℕ, Bool, true, false, List, refl, sym, ap, subst, ◌∙◌, inl, inr, Some, unwrap_or}
+use Rattle.itm_types.specs.Calls.{is_begin}
+use Rattle.itm_types.specs.declared.call.Call.{Call}
+use Rattle.itm_types.specs.declared.call.Call.TheVariants.{Begin}
+use Rattle.itm_types.specs.declared.call.Props.{Props}
+use Rattle.norec_core.specs.declared.answer.Answer.{Answer}
+use Rattle.norec_core.specs.Core.{in_transaction, irrevocable_room}
+use Rattle.norec_core.specs.Proceeds.{MayStarve}
+use Rattle.shared_words.specs.InGlobal.{Words}
+use Rattle.shared_words.specs.Passes.{commits_known, view_of}
+use Rattle.call_rules.specs.CallResults.{IsAnswered, IsThreadStarved}
+use Rattle.call_rules.specs.Standing.{Standing, start_of}
+use Rattle.tx_attempts.specs.declared.attempt.Attempt.{Attempt}
+use Rattle.tx_player.specs.Rules.{Rules}
+use Rattle.tx_runs.specs.declared.player_run.Current.{Current}
+use Rattle.tx_runs.specs.declared.player_run.Current.TheVariants.{Outside, Begins, Within}
+use Rattle.tx_runs.specs.declared.player_run.PlayerRun.{PlayerRun}
+use Rattle.tx_runs.specs.declared.savepoint.Savepoint.{Savepoint}
+use Rattle.tx_runs.specs.PlayerRuns.{stage_of}
+use Rattle.tx_runs.specs.Tallies.{outside, begins, within, Tally, begins_again, begun, stage_at}
+use Rattle.worker_rules.specs.Worker.{Worker}
+use Rattle.worker_rules.specs.Progress.{Course}
+use Rattle.worker_rules.specs.Workers.{Bounds, HasPlaces, IsAsked, IsHungry, IsPrepared, IsReadyFor, IsRoomier, IsUnprepared, IsWorking, LacksFor, again_for}
+use Rattle.worker_rules.proofs.Begins.OutsideCalls.{never_starves}
+use Rattle.worker_rules.proofs.Laws.Rooms.{again_prepared, never_begins}
+
+-- only the attempt at hand and the room for ended ones have changed
+abbrev pub OnlyRoom : {P : Type 0} → Worker P → Worker P → Type 0
+OnlyRoom old new = new ≡ record old { run = record old.run { current = new.run.current }; ended = new.ended }
+
+-- there was no memory to make room
+pub hungry : {P : Type 0} {rules : Rules P} {words : Words} {c : Course P} {b : Bounds} {old new : Worker P} {call : Call} → IsWorking rules words c b old → rules.next_call old.run.player ≡ Some call → OnlyRoom old new → IsUnprepared old call new → LacksFor old.thread.engine call old.run.current → IsHungry rules words c b old call new
+hungry {P} works asks same unprepared lacks = record {
+  works = works;
+  asks = asks;
+  thread = ap (λ (w : Worker P). w.thread) same;
+  run = ap (λ (w : Worker P). w.run) same;
+  unprepared = unprepared;
+  short = inl lacks;
+}
+
+-- the attempt at hand is that which was open
+roomier : (call : Call) (row : Props → Attempt) (ahead : ℕ) (x y : Current) → ((r : Attempt) → stage_of x ≡ begins r → ⊥) → stage_of y ≡ stage_at (stage_of x) call row ahead → IsRoomier x y
+roomier call row ahead (Begins o) y never is = absurd (never o.row refl)
+roomier call row ahead Outside Outside never is = tt
+roomier call row ahead Outside (Begins o') never is = tt
+roomier call row ahead Outside (Within o') never is = absurd (by_call call is)
+  where
+    by_call : (x : Call) → within o'.row o'.points ≡ stage_at outside x row ahead → ⊥
+    by_call (Begin props room) e = cc
+    by_call x e = cc
+roomier call row ahead (Within o) Outside never is = absurd (cc)
+roomier call row ahead (Within o) (Begins o') never is = absurd (cc)
+roomier call row ahead (Within o) (Within o') never is = (
+  (let e = same _ _ is in e ∙ ap (λ (n : ℕ). record o.row { calls = record o.row.calls { room = n } }) (sym (ap (λ (x : Attempt). x.calls.room) e))),
+  alike _ _ is,
+)
+  where
+    same : (x : Attempt) (points : List Savepoint) → within o'.row o'.points ≡ within x points → o'.row ≡ x
+    same x points e = cc
+
+    alike : (x : Attempt) (points : List Savepoint) → within o'.row o'.points ≡ within x points → o'.points ≡ points
+    alike x points e = cc
+
+module _ {P : Type 0} {rules : Rules P} {words : Words} {c : Course P} {b : Bounds} {old mid : Worker P} {call : Call} (works : IsWorking rules words c b old) (asks : rules.next_call old.run.player ≡ Some call) (same : OnlyRoom old mid) (prepared : IsPrepared words rules old call mid) where
+  abbrev opens : Props → Attempt
+  opens props = begun old.run.thread old.run.nth (commits_known (view_of old.thread.pass)) props old.thread.engine.arena (unwrap_or (irrevocable_room old.thread.engine call) 0)
+
+  stage_is : stage_of mid.run.current ≡ stage_at (stage_of old.run.current) call opens (unwrap_or (irrevocable_room old.thread.engine call) 0)
+  stage_is = ap (λ (t : Tally P). t.stage) prepared.came
+
+  shut_is : stage_of old.run.current ≡ outside → in_transaction old.thread.engine ≡ false
+  shut_is none = by_mode (in_transaction old.thread.engine) refl
+    where
+      by_mode : (i : Bool) → in_transaction old.thread.engine ≡ i → i ≡ false
+      by_mode false i = refl
+      by_mode true i = (let some : within (works.running.inside i).row (works.running.inside i).points ≡ outside = sym (works.running.inside i).stage_is ∙ none in absurd (cc))
+
+  -- memory was refused to the call itself
+  pub hungry_still : (new : Worker P) (again : Bool) → new ≡ record mid { thread = new.thread } → IsThreadStarved words mid.thread call new.thread → IsHungry rules words c b old call new
+  hungry_still new again is starved =
+      let thread : new.thread ≡ old.thread = starved.err ∙ ap (λ (w : Worker P). w.thread) same in
+      let run : new.run ≡ mid.run = ap (λ (w : Worker P). w.run) is in
+      let ended = ap (λ (w : Worker P). w.ended) is in
+      record {
+        works = works;
+        asks = asks;
+        thread = thread;
+        run = subst (λ (r : PlayerRun P). r ≡ record old.run { current = r.current }) (sym run) (ap (λ (w : Worker P). w.run) same);
+        unprepared = record {
+          roomier = subst (λ (r : PlayerRun P). IsRoomier old.run.current r.current) (sym run) (roomier call opens (unwrap_or (irrevocable_room old.thread.engine call) 0) old.run.current mid.run.current (never_begins old works.running) stage_is);
+          roomy = subst (λ (x : Worker P). HasPlaces old.thread.engine x.ended x.run.current) (sym is) (places mid.run.current prepared.ready);
+          ended = ap (λ (w : Worker P). w.ended.items) is ∙ prepared.ended;
+          begins = λ none. by_begin (is_begin call) refl none;
+        };
+        short = inr starves;
+      }
+    where
+      starves : MayStarve old.thread.engine call
+      starves = subst (λ (t : Standing). MayStarve t.engine call) (ap (λ (w : Worker P). w.thread) same) starved.starves
+
+      places : (x : Current) → IsReadyFor old.thread.engine call (unwrap_or (irrevocable_room old.thread.engine call) 0) mid.ended x → HasPlaces old.thread.engine mid.ended x
+      places Outside r = tt
+      places (Begins o) r = tt
+      places (Within o) r = (r.0, r.1)
+
+      by_begin : (x : Bool) → is_begin call ≡ x → stage_of old.run.current ≡ outside → x ≡ true
+      by_begin true i none = refl
+      by_begin false i none =
+          absurd (never_starves (start_of old.thread call false) (view_of old.thread.pass) old.thread.engine works.same.stands (shut_is none) i starves)
+
+  -- it was answered
+  pub answered : (new : Worker P) (answer : Answer) → new ≡ record mid { thread = new.thread } → IsAnswered words (start_of mid.thread call (again_for mid.run.current mid.run.again call)) answer new.thread.pass new.thread.engine → IsAsked rules words c b old call answer new
+  answered new answer is a =
+      let run : new.run ≡ mid.run = ap (λ (w : Worker P). w.run) is in
+      let again : again_for mid.run.current mid.run.again call ≡ begins_again (stage_of old.run.current) old.run.again call =
+      ap (λ (w : Worker P). again_for mid.run.current w.run.again call) same ∙ again_prepared (stage_of old.run.current) mid.run.current old.run.again call opens (unwrap_or (irrevocable_room old.thread.engine call) 0) (never_begins old works.running) stage_is in
+      record {
+        works = works;
+        asks = asks;
+        prepared = subst (IsPrepared words rules old call) (sym is) (record { came = prepared.came; ready = prepared.ready; blocks = prepared.blocks; actions = prepared.actions; thread = prepared.thread; retries = prepared.retries; ended = prepared.ended });
+        answered = subst (λ (x : Standing × Bool). IsAnswered words (start_of x.0 call x.1) answer new.thread.pass new.thread.engine) (λ i. ((same i).thread, again i)) a;
+      }

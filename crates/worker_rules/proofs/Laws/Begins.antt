@@ -1,0 +1,91 @@
+-- A worker before its first call.
+use Rattle.std.proofs.Common.{◌≡◌, ℕ, ◌^◌, ◌<◌, ◌≤◌, Bool, false, true≢false, List, [], ◌∷◌, length, Vec, Global, refl, sym, ap, subst, ◌∙◌, arith, append-nil}
+use Rattle.itm_types.specs.declared.limits.TheConstants.{MAX_RETRIES}
+use Rattle.nest_frames.specs.Nest.{Frame}
+use Rattle.norec_core.specs.Core.{in_transaction, is_inside}
+use Rattle.shared_words.specs.InGlobal.{Words}
+use Rattle.shared_words.specs.Passes.{Owns, commits_known, view_of}
+use Rattle.call_rules.specs.Standing.{Standing}
+use Rattle.call_rules.specs.Ties.{Stands}
+use Rattle.tx_attempts.specs.declared.attempt.Attempt.{Attempt}
+use Rattle.tx_attempts.proofs.LaterClocks.{outrun_none}
+use Rattle.tx_player.specs.Rules.{Rules}
+use Rattle.tx_runs.specs.declared.player_run.Current.TheVariants.{Outside}
+use Rattle.tx_runs.specs.Nesting.{IsNested, whole}
+use Rattle.tx_runs.proofs.Players.{nested_outside}
+use Rattle.worker_rules.specs.Worker.{Worker}
+use Rattle.worker_rules.specs.Accounts.{account_of, first_account}
+use Rattle.worker_rules.specs.Positions.{AreFew, AreOver}
+use Rattle.worker_rules.specs.Progress.{HasRun, IsRunning}
+use Rattle.worker_rules.specs.Workers.{IsWorking, bounds_of}
+use Rattle.worker_rules.specs.Works.{course_of}
+use Rattle.call_rules.proofs.LaterViews.{went_self}
+
+none_open : (bs : List Frame) → is_inside bs ≡ false → length bs ≡ 0
+none_open [] e = refl
+none_open (b ∷ bs) e = absurd (cc)
+
+module _ {P : Type 0} (rules : Rules P) (words : Words) (thread : Standing) (player : P) (number retries : ℕ) (own : Owns words thread.pass) (stands : Stands (view_of thread.pass) thread.engine) (outside : in_transaction thread.engine ≡ false) (depth : rules.depth player ≡ 0) (limit : thread.engine.restarts < 2 ^ 32) (few : retries ≤ MAX_RETRIES) where
+  pub begins_bound : whole rules (in_transaction thread.engine) player ≤ rules.calls_left player
+  begins_bound = subst (λ (i : Bool). whole rules i player ≤ rules.calls_left player) (sym outside) (let l : rules.calls_left player ≤ rules.calls_left player = omega arith in l)
+
+  no_run : HasRun rules (course_of thread player number retries) (view_of thread.pass) []
+  no_run = record {
+    went = went_self (view_of thread.pass);
+    run = tt;
+    left = tt;
+    since = tt;
+    known = stands.over.known;
+    own = tt;
+    few = tt;
+    outrun = outrun_none (view_of thread.pass).high;
+  }
+
+  first_running : IsRunning rules (course_of thread player number retries) (view_of thread.pass) thread.engine (first_account player)
+  first_running = record {
+    has_run = no_run;
+    mine = sym (append-nil (view_of thread.pass).mine);
+    tried = omega arith;
+    tries = omega arith;
+    nested = subst (λ (i : Bool). IsNested rules i player) (sym outside) (nested_outside rules player depth);
+    depth = depth ∙ sym (none_open thread.engine.blocks outside);
+    deepest = refl;
+    limit = refl;
+    inside = λ i. absurd (true≢false (sym i ∙ outside));
+    outside = λ o. record {
+      between = record { player = player; arena = thread.engine.arena; again = false; tries = 0 };
+      stage_is = refl;
+      now_is = refl;
+      before = record { calls = 0; leads = (refl, refl); again = refl; tries = omega arith };
+      known = (let l : commits_known (view_of thread.pass) ≤ commits_known (view_of thread.pass) = omega arith in l);
+      looked = omega arith;
+    };
+  }
+
+  module _ (ended : Vec Attempt Global) (empty : ended.items ≡ []) where
+    first_is : first_account player ≡ account_of (record { run = record { thread = number; retries = retries; player = player; nth = 1; again = false; current = Outside }; thread = thread; ended = ended; calls = 0 })
+    first_is = ap (λ (xs : List Attempt). record (first_account player) { ended = xs }) (sym empty)
+
+    pub begins_works : (w : Worker P) → w ≡ record { run = record { thread = number; retries = retries; player = player; nth = 1; again = false; current = Outside }; thread = thread; ended = ended; calls = 0 }
+        → IsWorking rules words (course_of thread player number retries) (bounds_of thread.engine) w × (account_of w ≡ first_account player)
+    begins_works w is = subst (λ (x : Worker P). IsWorking rules words (course_of thread player number retries) (bounds_of thread.engine) x × (account_of x ≡ first_account player)) (sym is) (
+      record {
+        same = record {
+          own = own;
+          stands = stands;
+          number = refl;
+          retries = refl;
+          few = few;
+          limit = limit;
+          over = subst AreOver (sym empty) tt;
+          below = subst (AreFew thread.engine.max_commits) (sym empty) tt;
+          bounds = refl;
+        };
+        running = subst (IsRunning rules (course_of thread player number retries) (view_of thread.pass) thread.engine) first_is first_running;
+        roomy = tt;
+        blocks = tt;
+        actions = tt;
+        promises = tt;
+      },
+      sym first_is,
+    )

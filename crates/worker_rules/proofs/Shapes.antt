@@ -1,0 +1,41 @@
+-- What an answer makes of an account, part by part.
+use Rattle.std.proofs.Common.{ℕ, ◌+◌, false, List, [], ◌∷◌, ◌++◌}
+use Rattle.itm_types.specs.declared.call.Call.{Call}
+use Rattle.itm_types.specs.declared.call.Ran.{Ran}
+use Rattle.itm_types.specs.declared.call.Reply.{Reply as Replied}
+use Rattle.tx_attempts.specs.declared.attempt.Attempt.{Attempt}
+use Rattle.tx_attempts.specs.declared.attempt.Outcome.{Outcome}
+use Rattle.tx_attempts.specs.Kept.{reserved, spent}
+use Rattle.tx_attempts.specs.Restarts.{ran_on}
+use Rattle.tx_runs.specs.declared.savepoint.Savepoint.{Savepoint}
+use Rattle.tx_runs.specs.Tallies.{outside, with_call, within}
+use Rattle.worker_rules.specs.Accounts.{Account}
+
+-- the open attempt as a call comes, with room for it and for so many more
+abbrev pub with_room : ℕ → Attempt → Attempt
+with_room ahead row = record row { calls = reserved row.calls (ahead + 1) }
+
+-- with one call more, once these actions have come to run in all
+abbrev pub replied_row : Call → Replied → List Ran → Attempt → Attempt
+replied_row call reply due row = record (with_call call reply row) { ran = ran_on row.ran row.restarts due }
+
+-- with one call more, and room for so many
+abbrev pub row_with : ℕ → Call → Replied → Attempt → Attempt
+row_with room call reply row = record row { calls = record { list = row.calls.list ++ record { call = call; reply = reply } ∷ []; room = room } }
+
+-- the attempt as it ends, at this position, once these actions have come to run in all
+abbrev pub ended_at : Outcome → ℕ → List Ran → Attempt → Attempt
+ended_at outcome at due row = record row { calls = spent row.calls; at = at; ran = ran_on row.ran row.restarts due; outcome = outcome }
+
+module _ {P : Type 0} where
+  -- the open attempt goes on
+  abbrev pub goes_on : Account P → P → Attempt → List Savepoint → Account P
+  goes_on t p row points = record t { player = p; stage = within row points }
+
+  -- its block has ended
+  abbrev pub closed : Account P → P → Attempt → Account P
+  closed t p row = record { player = p; nth = 1; again = false; stage = outside; ended = t.ended ++ row ∷ [] }
+
+  -- a try came to nothing, and the next one is to come
+  abbrev pub tried : Account P → P → List Attempt → Account P
+  tried t p ended = record t { player = p; nth = t.nth + 1; stage = outside; ended = ended }
