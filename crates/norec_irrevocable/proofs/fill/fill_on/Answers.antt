@@ -46,7 +46,7 @@ returns c bytes = record {
       let put = c.repeated-state.result.items in
       let byte = c.args.byte % 256 in
       let rest = drop (suc c.args.number) (chunks_of Up c.args.size) in
-      let l : c.args.to + chunk.at + chunk.size ≤ 8 * s.words = omega (arith, c.in-Some.ensures.in_range, c.requires.may.within) in
+      let l : c.args.to + chunk.at + chunk.size ≤ 8 * s.words = omega (arith, c.in-Some.ensures.next.in_range, c.requires.may.within) in
       let many : length put ≡ chunk.size = ap (length {A = ℕ}) c.repeated-state.ensures ∙ length-replicate chunk.size byte in
       let fit : AreBytes put = subst AreBytes c.deref.ensures.0 c.are_bytes.ensures in
       let same : filled_each (kept s (written m (pieces_of (c.args.to + chunk.at) chunk.size) put)) c.args.to byte rest ≡ filled_each (kept s m) c.args.to byte (drop c.args.number (chunks_of Up c.args.size)) =

@@ -48,7 +48,7 @@ loop-number-preserved c =
     let size : k.at + c.from.result - k.at ≡ k.size = omega (arith, c.from.ensures) in
     record {
       rows = c.put_all.ensures.rows ∙ ((λ j. put_all (i.rows j) (pieces_are j) (take (size j) (drop k.at bytes)))
-          ∙ sym (ap (λ (xs : List Chunk). put_chunks old c.args.to xs bytes) c.in-Some.ensures.next ∙ put_chunks_more old c.args.to before k bytes));
+          ∙ sym (ap (λ (xs : List Chunk). put_chunks old c.args.to xs bytes) c.in-Some.ensures.next.next ∙ put_chunks_more old c.args.to before k bytes));
       words = c.put_all.ensures.words ∙ i.words;
       others = λ word may. c.put_all.ensures.others word (i.others word may);
       kept = kept_on c.args.frames.now c.loop-number.frames c.put_all.new.frames i.kept c.put_all.ensures.kept;

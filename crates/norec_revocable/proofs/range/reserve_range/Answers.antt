@@ -62,7 +62,7 @@ loop-number-preserved c =
     let fine = sym c.is_err.ensures.value ∙ c.if-is_err.false in
     let pieces_are : c.deref.result.now ≡ here = c.deref.ensures.0 ∙ c.pieces-pieces.ensures.value in
     let more : range_pieces c.args.to (chunks_before c.args.chunks.direction c.args.chunks.size (c.loop-number.number + 1)) ≡ range_pieces c.args.to before ++ here =
-    ap (range_pieces c.args.to) c.in-Some.ensures.next ∙ range_pieces_more c.args.to before k in
+    ap (range_pieces c.args.to) c.in-Some.ensures.next.next ∙ range_pieces_more c.args.to before k in
     let others = on_ok c.reserve_all.result c.reserve_all.ensures.others fine in
     let may = subst (All (λ (p : Piece). MayPut c.reserve_all.new.frames.writes p.word)) pieces_are (on_ok c.reserve_all.result c.reserve_all.ensures.may_put fine) in
     record {
