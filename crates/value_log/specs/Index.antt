@@ -39,6 +39,11 @@ pub record IsRight (last before : List ℕ) (rows : List LogRow) : Type 0 where
   pub few : length last ≤ 2 ^ 32
   pub index : 0 < length last → IsIndex last before rows
 
+-- the rows are fewer than words can be, and there are as many places
+pub record HavePlaces (rows : List LogRow) (places : ℕ) : Type 0 where
+  pub few : length rows < 2 ^ 32
+  pub within : length rows ≤ places
+
 pub record IsKept (rows : List LogRow) (capacity : ℕ) (last before : List ℕ) : Type 0 where
   pub single : AreSingle rows
   pub below : AllBelow rows

@@ -3,7 +3,7 @@
 ghost use Rattle.std.specs.Prelude.{◌≡◌, ℕ, List, ◌∷◌, ◌++◌, ◌↔◌, ◌≤◌, ◌<◌, ◌^◌, [], IsTrue, OnErr, OnOk, length};
 ghost use Rattle.itm_types.specs.declared.row.LogRow.{LogRow};
 ghost use Rattle.itm_types.specs.LogRows.{value_of, AreSingle};
-ghost use Rattle.value_log.specs.Index.{slot_of, IsIndex, IsRight};
+ghost use Rattle.value_log.specs.Index.{slot_of, HavePlaces, IsIndex, IsRight};
 
 use itm_types::LogRow;
 use std::alloc::{AllocError, Global};
@@ -50,8 +50,7 @@ impl Index {
     /// Makes it, with room for so many rows.
     pub(crate) fn reserve(&mut self, rows: &[LogRow], room: usize) -> Result<(), AllocError>
         requires some { 0 < room }
-        requires few { length rows.now < 2 ^ 32 }
-        requires within { length rows.now ≤ room }
+        requires places { HavePlaces rows.now room }
         requires right { IsRight self.old.last.items self.old.before.items rows.now }
         ensures right { IsRight self.new.last.items self.new.before.items rows.now }
         ensures made { OnOk result (0 < length self.new.last.items) }
@@ -81,8 +80,7 @@ impl Index {
     fn reserve_slots(&mut self, rows: &[LogRow], slots: usize) -> Result<(), AllocError>
         requires some { 0 < slots }
         requires most { slots ≤ 2 ^ 32 }
-        requires few { length rows.now < 2 ^ 32 }
-        requires room { length rows.now ≤ length self.old.before.items }
+        requires places { HavePlaces rows.now (length self.old.before.items) }
         requires right { IsRight self.old.last.items self.old.before.items rows.now }
         ensures right { IsRight self.new.last.items self.new.before.items rows.now }
         ensures made { OnOk result (0 < length self.new.last.items) }
@@ -115,8 +113,7 @@ impl Index {
     /// Tells of these rows alone.
     #[inline(never)]
     fn cover(&mut self, rows: &[LogRow])
-        requires few { length rows.now < 2 ^ 32 }
-        requires room { length rows.now ≤ length self.old.before.items }
+        requires places { HavePlaces rows.now (length self.old.before.items) }
         requires made { 0 < length self.old.last.items }
         requires slots { length self.old.last.items ≤ 2 ^ 32 }
         ensures index { IsIndex self.new.last.items self.new.before.items rows.now }

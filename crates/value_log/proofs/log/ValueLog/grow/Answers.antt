@@ -2,14 +2,21 @@ use Rattle.std.proofs.Common.{◌+◌, ◌<◌, ◌≤◌, ◌^◌, ℕ, List, O
 use Rattle.std.specs.Int.{IsNextPowerOfTwo}
 use Rattle.std.specs.Option.{SomeIff}
 use Rattle.itm_types.specs.declared.row.LogRow.{LogRow}
-use Rattle.value_log.specs.Index.{IsRight}
+use Rattle.value_log.specs.Index.{HavePlaces, IsRight}
 use Rattle.value_log.specs.Log.{Log}
 use Rattle.value_log.proofs.FilledRows.{power_in_eights}
 use Rattle.value_log.proofs.IndexedRows.{few_rows}
 use Rattle.value_log.proofs.log.ValueLog.grow.Goals as goal
 
-pub reserve-requires-clause-few : goal.reserve-requires-clause-few
-reserve-requires-clause-few c = subst (λ (rs : List LogRow). length rs < 2 ^ 32) (sym c.as_slice.ensures) (few_rows c.self.inside.rows.items c.self.invariant.single c.self.invariant.below)
+pub reserve-requires-clause-places : goal.reserve-requires-clause-places
+reserve-requires-clause-places c =
+    let next = subst (λ (o : Option ℕ). MatchOption o (2 ^ 63 < c.in_ok-wanted.wanted) (IsNextPowerOfTwo c.in_ok-wanted.wanted)) c.in_ok-rows.ensures.ok_part c.checked_next_power_of_two.ensures in
+    let sum = subst (λ (o : Option ℕ). SomeIff o (c.len-len.result + c.args.more < 2 ^ 64) (c.len-len.result + c.args.more)) c.in_ok-wanted.ensures.ok_part c.checked_add.ensures in
+    let within : length c.self.inside.rows.items ≤ c.in_ok-rows.rows = omega (arith, next.1, sum, c.len-len.ensures.value) in
+    subst (λ (rs : List LogRow). HavePlaces rs c.in_ok-rows.rows) (sym c.as_slice.ensures) (record {
+      few = few_rows c.self.inside.rows.items c.self.invariant.single c.self.invariant.below;
+      within = within;
+    })
 
 pub invariant_of-self : goal.invariant_of-self
 invariant_of-self c = record {
