@@ -1,5 +1,5 @@
 -- The open blocks of a transaction, as contracts see them.
-use Rattle.std.specs.Prelude.{ℕ, Bool, false, if◌then◌else◌, List, [], ◌∷◌, ◌++◌, length}
+use Rattle.std.specs.Prelude.{◌≡◌, ℕ, Bool, false, if◌then◌else◌, List, [], ◌∷◌, ◌++◌, length, take}
 use Rattle.std.specs.List.{list_any}
 use Rattle.itm_types.specs.declared.call.Props.{Props}
 use Rattle.itm_types.specs.KeptBytes.{restored}
@@ -102,3 +102,19 @@ actions_cancelled (b ∷ bs) actions = cut_back b.commits b.undos actions
 abbrev pub actions_back : List Frame → Actions → Actions
 actions_back [] actions = actions
 actions_back (b ∷ bs) actions = actions_back bs (cut_back b.commits b.undos actions)
+
+-- as many bytes are in the arena, as many blocks may be open, and as many commit actions are registered with no memory
+pub record KeepsLimits (old new : Nest) : Type 0 where
+  pub size : new.size ≡ old.size
+  pub depth : new.depth ≡ old.depth
+  pub room : new.room ≡ old.room
+
+-- the innermost block is rolled back: what is written is what was at its begin, its undo actions run and its commit actions never do, and the arena has what the block kept of it
+pub record RollsBack (old new : Nest) (before after : List ℕ) : Type 0 where
+  pub limits : KeepsLimits old new
+  pub rows : new.writes.rows ≡ rows_of old.blocks
+  pub saves : new.writes.saves ≡ take old.writes.inner.saves old.writes.saves
+  pub actions : new.actions ≡ actions_cancelled old.blocks old.actions
+  pub arena_size : length after ≡ length before
+  pub arena : after ≡ put_back (log_of old.blocks) before
+  pub restored : after ≡ restored (kept_of before (log_of old.blocks)) before

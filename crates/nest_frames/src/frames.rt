@@ -4,11 +4,11 @@ ghost use Rattle.std.specs.Prelude.{◌≡◌, ◌+◌, ◌<◌, ◌≤◌, ℕ,
 ghost use Rattle.itm_types.specs.KeptBytes.{also_kept, merged};
 ghost use Rattle.itm_types.specs.Memory.{AllFit};
 ghost use Rattle.word_pieces.specs.Masks.{merged_at};
-ghost use Rattle.write_set.specs.Rows.{lookup, laid, put, reserved, overlay, AreEmpty, AreRows};
-ghost use Rattle.write_set.specs.Marks.{unwritten, place_of, reserve, write, AreMarks, KeepsRoom, MayPut};
+ghost use Rattle.write_set.specs.Rows.{lookup, laid, put, reserved, overlay, AreEmpty, AreRows, WritesNoMore};
+ghost use Rattle.write_set.specs.Marks.{unwritten, place_of, reserve, write, AreMarks, IsReady, KeepsRoom, MayPut};
 ghost use Rattle.undo_log.specs.Rollback.{found, kept_of};
 ghost use Rattle.user_actions.specs.Actions.{no_actions, registered};
-ghost use Rattle.nest_frames.specs.Nest.{begun, log_of, reads_of, rows_of, logged, closed, is_kept, stays_revocable, actions_closed, made_irrevocable};
+ghost use Rattle.nest_frames.specs.Nest.{begun, log_of, reads_of, rows_of, logged, closed, is_kept, stays_revocable, actions_closed, made_irrevocable, KeepsLimits};
 
 use crate::moment::Moment;
 use crate::moments::Moments;
@@ -186,10 +186,8 @@ impl Frames {
         requires { length self.old.blocks < self.old.depth }
         ensures blocks { self.new.blocks ≡ begun props self.old.writes.rows self.old.actions reads ∷ self.old.blocks }
         ensures writes { self.new.writes ≡ record self.old.writes { inner = place_of self.old.writes } }
-        ensures size { self.new.size ≡ self.old.size }
-        ensures depth { self.new.depth ≡ self.old.depth }
         ensures actions { self.new.actions ≡ self.old.actions }
-        ensures room { self.new.room ≡ self.old.room }
+        ensures limits { KeepsLimits self.old self.new }
     {
         if self.moments.is_empty() {
             self.moments.push(Moment {
@@ -217,14 +215,12 @@ impl Frames {
     pub fn leave(&mut self)
         requires { 0 < length self.old.blocks }
         ensures blocks { self.new.blocks ≡ closed self.old.blocks }
-        ensures size { self.new.size ≡ self.old.size }
-        ensures depth { self.new.depth ≡ self.old.depth }
         ensures rows { 1 < length self.old.blocks → self.new.writes.rows ≡ self.old.writes.rows }
         ensures writes { 1 < length self.old.blocks →
             self.new.writes ≡ record self.old.writes { inner = self.new.writes.inner } }
         ensures outermost { length self.old.blocks ≡ 1 → self.new.writes ≡ unwritten }
         ensures actions { self.new.actions ≡ actions_closed self.old.blocks self.old.actions }
-        ensures room { self.new.room ≡ self.old.room }
+        ensures limits { KeepsLimits self.old self.new }
 
         // What the one around it keeps of the arena wins.
         ensures handed { 1 < length self.old.blocks → (arena : List ℕ) →
@@ -268,9 +264,7 @@ impl Frames {
         requires { 0 < length self.old.blocks }
         ensures ok { OnOk result (self.new ≡ record self.old { writes = reserve self.old.writes word }) }
         ensures err { OnErr result (self.new ≡ self.old) }
-        ensures rows { OnOk result (self.new.writes.rows ≡ reserved self.old.writes.rows word) }
-        ensures room { OnOk result (IsSome (lookup word self.new.writes.rows)) }
-        ensures may_put { OnOk result (MayPut self.new.writes word) }
+        ensures ready { OnOk result (IsReady word self.old.writes self.new.writes) }
         ensures others { KeepsRoom self.old.writes self.new.writes }
 
         // A row that was not there as the innermost block began takes no memory.
@@ -278,10 +272,7 @@ impl Frames {
             IsOk result }
 
         // Nothing is written, and a cut at an earlier length takes the row back.
-        ensures memory { (m : List ℕ) → AllFit m →
-            overlay m self.new.writes.rows ≡ overlay m self.old.writes.rows }
-        ensures can_cut { (n : ℕ) → n ≤ length self.old.writes.rows → AreEmpty (drop n self.old.writes.rows) →
-            AreEmpty (drop n self.new.writes.rows) × (take n self.new.writes.rows ≡ take n self.old.writes.rows) }
+        ensures unwritten { WritesNoMore self.old.writes.rows self.new.writes.rows }
     {
         self.writes.reserve(word)?;
         Ok(())

@@ -1,10 +1,8 @@
 //! Blocks that are rolled back.
 
-ghost use Rattle.std.specs.Prelude.{◌≡◌, ◌<◌, [], length, take, drop};
-ghost use Rattle.itm_types.specs.KeptBytes.{restored};
+ghost use Rattle.std.specs.Prelude.{◌≡◌, ◌<◌, [], length, drop};
 ghost use Rattle.write_set.specs.Marks.{unwritten};
-ghost use Rattle.undo_log.specs.Rollback.{put_back, kept_of};
-ghost use Rattle.nest_frames.specs.Nest.{log_of, rows_of, renewed, arena_back, arena_restored, actions_cancelled, actions_back};
+ghost use Rattle.nest_frames.specs.Nest.{renewed, arena_back, arena_restored, actions_back, RollsBack};
 
 use crate::frames::Frames;
 use undo_log::Arena;
@@ -16,15 +14,7 @@ impl Frames {
         requires open { 0 < length self.old.blocks }
         requires arena { length arena.old ≡ self.old.size }
         ensures blocks { self.new.blocks ≡ drop 1 self.old.blocks }
-        ensures size { self.new.size ≡ self.old.size }
-        ensures depth { self.new.depth ≡ self.old.depth }
-        ensures rows { self.new.writes.rows ≡ rows_of self.old.blocks }
-        ensures saves { self.new.writes.saves ≡ take self.old.writes.inner.saves self.old.writes.saves }
-        ensures actions { self.new.actions ≡ actions_cancelled self.old.blocks self.old.actions }
-        ensures room { self.new.room ≡ self.old.room }
-        ensures arena_size { length arena.new ≡ length arena.old }
-        ensures arena { arena.new ≡ put_back (log_of self.old.blocks) arena.old }
-        ensures restored { arena.new ≡ restored (kept_of arena.old (log_of self.old.blocks)) arena.old }
+        ensures back { RollsBack self.old self.new arena.old arena.new }
     {
         let Some(cancelled) = self.moments.pop() else {
             unreachable!()
@@ -40,16 +30,8 @@ impl Frames {
         requires open { 1 < length self.old.blocks }
         requires arena { length arena.old ≡ self.old.size }
         ensures blocks { self.new.blocks ≡ renewed self.old.blocks }
-        ensures size { self.new.size ≡ self.old.size }
-        ensures depth { self.new.depth ≡ self.old.depth }
-        ensures rows { self.new.writes.rows ≡ rows_of self.old.blocks }
-        ensures saves { self.new.writes.saves ≡ take self.old.writes.inner.saves self.old.writes.saves }
         ensures inner { self.new.writes.inner ≡ self.old.writes.inner }
-        ensures actions { self.new.actions ≡ actions_cancelled self.old.blocks self.old.actions }
-        ensures room { self.new.room ≡ self.old.room }
-        ensures arena_size { length arena.new ≡ length arena.old }
-        ensures arena { arena.new ≡ put_back (log_of self.old.blocks) arena.old }
-        ensures restored { arena.new ≡ restored (kept_of arena.old (log_of self.old.blocks)) arena.old }
+        ensures back { RollsBack self.old self.new arena.old arena.new }
     {
         let Some(begin) = self.moments.as_slice().last() else {
             unreachable!()

@@ -28,8 +28,8 @@ entered c = record {
       ∙ ap (λ (x : Data). begun c.args.props x.frames.writes.rows x.frames.actions (length x.log.rows) ∷ x.frames.blocks) c.start_call.ensures));
   rows = ap (λ (w : Written). w.rows) c.enter.ensures.writes ∙ ap (λ (x : Data). x.frames.writes.rows) c.start_call.ensures;
   actions = c.enter.ensures.actions ∙ ap (λ (x : Data). x.frames.actions) c.start_call.ensures;
-  room = c.enter.ensures.room ∙ ap (λ (x : Data). x.frames.room) c.start_call.ensures;
-  depth = c.enter.ensures.depth ∙ ap (λ (x : Data). x.frames.depth) c.start_call.ensures;
+  room = c.enter.ensures.limits.room ∙ ap (λ (x : Data). x.frames.room) c.start_call.ensures;
+  depth = c.enter.ensures.limits.depth ∙ ap (λ (x : Data). x.frames.depth) c.start_call.ensures;
   others = ap (λ (x : Data). record x { frames = c.enter.new.self }) c.start_call.ensures;
 }
 

@@ -46,7 +46,7 @@ returns-else-is_outermost c = record {
       let left = c.cancel.ensures in
       record {
         asked = tt;
-        sound = cancelled_sound c.args.state.now c.start_call.new.self c.cancel.new.self c.cancel.new.arena c.start_call.ensures c.requires.sound (sym c.is_open.ensures ∙ c.if-not-is_open.false) inner left.blocks left.rows left.actions left.size left.depth left.arena_size;
+        sound = cancelled_sound c.args.state.now c.start_call.new.self c.cancel.new.self c.cancel.new.arena c.start_call.ensures c.requires.sound (sym c.is_open.ensures ∙ c.if-not-is_open.false) inner left.blocks left.back.rows left.back.actions left.back.limits.size left.back.limits.depth left.back.arena_size;
       });
   proceeds =
       (let may = sym c.is_kept.ensures ∙ c.if-is_kept.false in
@@ -63,13 +63,13 @@ returns-else-is_outermost c = record {
         inner = inner;
         may = sym (ap (λ (o : Bool). is_kept c.start_call.new.self.frames.blocks o) outer) ∙ may;
         blocks = c.cancel.ensures.blocks;
-        room = c.cancel.ensures.room;
-        depth = c.cancel.ensures.depth;
-        actions = c.cancel.ensures.actions;
-        rows = c.cancel.ensures.rows;
-        size = c.cancel.ensures.arena_size;
-        left = c.cancel.ensures.arena;
-        restored = c.cancel.ensures.restored;
+        room = c.cancel.ensures.back.limits.room;
+        depth = c.cancel.ensures.back.limits.depth;
+        actions = c.cancel.ensures.back.actions;
+        rows = c.cancel.ensures.back.rows;
+        size = c.cancel.ensures.back.arena_size;
+        left = c.cancel.ensures.back.arena;
+        restored = c.cancel.ensures.back.restored;
       }));
   stays = search rules;
   order = search rules;

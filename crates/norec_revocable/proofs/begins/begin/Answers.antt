@@ -63,11 +63,11 @@ entered c =
     let enter = c.enter.ensures in
     let frames : c.enter.new.self ≡ (nested s props c.args.room c.args.again c.in_default.ensures.served.0 c.in_default.ensures.served.1).frames = (λ i. record {
       writes = (enter.writes ∙ ap (λ (d : Data). record d.frames.writes { inner = place_of d.frames.writes }) come) i;
-      size = (enter.size ∙ ap (λ (d : Data). d.frames.size) come) i;
-      depth = (enter.depth ∙ ap (λ (d : Data). d.frames.depth) come) i;
+      size = (enter.limits.size ∙ ap (λ (d : Data). d.frames.size) come) i;
+      depth = (enter.limits.depth ∙ ap (λ (d : Data). d.frames.depth) come) i;
       blocks = (enter.blocks ∙ (ap (λ (n : ℕ). begun props was.frames.writes.rows was.frames.actions n ∷ was.frames.blocks) c.len.ensures.len ∙ ap (λ (d : Data). begun props d.frames.writes.rows d.frames.actions (length d.log.rows) ∷ d.frames.blocks) come)) i;
       actions = (enter.actions ∙ ap (λ (d : Data). d.frames.actions) come) i;
-      room = (enter.room ∙ ap (λ (d : Data). d.frames.room) come) i;
+      room = (enter.limits.room ∙ ap (λ (d : Data). d.frames.room) come) i;
     }) in
     (λ i. record (come i) { frames = frames i })
 

@@ -8,7 +8,7 @@ returns-then-not-is_outermost c = record {
     asked = tt;
     sound =
         closed_sound c.args.state.now c.start_call.new.self c.leave.new.self c.start_call.ensures c.requires.sound (sym c.is_open.ensures ∙ c.if-not-is_open.false) (sym c.is_outermost.ensures ∙ c.if-not-is_outermost.true)
-        c.leave.ensures.blocks c.leave.ensures.rows c.leave.ensures.actions c.leave.ensures.size c.leave.ensures.depth;
+        c.leave.ensures.blocks c.leave.ensures.rows c.leave.ensures.actions c.leave.ensures.limits.size c.leave.ensures.limits.depth;
   };
   proceeds = search rules;
   stays = search rules;

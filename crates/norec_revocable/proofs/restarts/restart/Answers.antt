@@ -12,14 +12,14 @@ returns c =
     record {
       end_is = ap (λ (r : LogRow). Restarted r.word) (sym here);
       blocks = c.renew.ensures.blocks;
-      rows = c.renew.ensures.rows;
-      actions = c.renew.ensures.actions;
-      room = c.renew.ensures.room;
-      size = c.renew.ensures.size;
-      depth = c.renew.ensures.depth;
+      rows = c.renew.ensures.back.rows;
+      actions = c.renew.ensures.back.actions;
+      room = c.renew.ensures.back.limits.room;
+      size = c.renew.ensures.back.limits.size;
+      depth = c.renew.ensures.back.limits.depth;
       log = c.cut.ensures.rows ∙ ap (λ (n : ℕ). take n s.log.rows) c.reads-kept.ensures;
-      arena = c.renew.ensures.arena;
-      bytes = c.renew.ensures.restored;
-      arena_size = c.renew.ensures.arena_size;
+      arena = c.renew.ensures.back.arena;
+      bytes = c.renew.ensures.back.restored;
+      arena_size = c.renew.ensures.back.arena_size;
       others = refl;
     }

@@ -62,11 +62,12 @@ loop-piece-preserved c =
     let i = c.loop-piece.invariant in
     let fine = sym c.is_err.ensures.value ∙ c.if-is_err.false in
     let ok = on_ok c.reserve.result c.reserve.ensures.ok fine in
+    let ready = on_ok c.reserve.result c.reserve.ensures.ready fine in
     record {
-      rows = on_ok c.reserve.result c.reserve.ensures.rows fine ∙ (ap (λ (rows : List Row). reserved rows p.word) i.rows
+      rows = ready.rows ∙ (ap (λ (rows : List Row). reserved rows p.word) i.rows
           ∙ sym (ap (reserved_all c.args.frames.now.writes.rows) (take_more c.args.pieces.now c.loop-piece.piece-index none c.loop-piece-test.true) ∙ reserved_all_more c.args.frames.now.writes.rows (take c.loop-piece.piece-index c.args.pieces.now) p));
       may_put = All-more (λ (q : Piece). MayPut c.reserve.new.self.writes q.word) c.args.pieces.now c.loop-piece.piece-index none c.loop-piece-test.true
-          (λ j d l. c.reserve.ensures.others _ (i.may_put j d l)) (on_ok c.reserve.result c.reserve.ensures.may_put fine);
+          (λ j d l. c.reserve.ensures.others _ (i.may_put j d l)) ready.may_put;
       inner = ap (λ (n : Nest). n.writes.inner) ok ∙ i.inner;
       others = λ word may. c.reserve.ensures.others word (i.others word may);
       kept = kept_on c.args.frames.now c.loop-piece.frames c.reserve.new.self i.kept (only_writes c.loop-piece.frames c.reserve.new.self _ ok);
