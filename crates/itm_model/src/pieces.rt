@@ -2,8 +2,8 @@
 //! memory's, however often a block writes the same bytes.
 
 ghost use Rattle.std.specs.Prelude.{◌≡◌, ◌≤◌, ◌<◌, ◌+◌, ◌*◌, IsOk, OnOk, OnErr, [], length, drop, take, reverse, vec_len, vec_capacity};
-ghost use Rattle.itm_model.specs.Pieces.{Adds, AreAmong, AreCovered, AreLinked, AreNewest, IsIndexed, handed_on, newest_in, piece_of, top_of};
-ghost use Rattle.itm_model.specs.Undoing.{Restores};
+ghost use Rattle.itm_model.specs.Pieces.{AreAmong, AreCovered, AreHandedOn, AreLinked, AreNewest, IsIndexed, handed_on, newest_in, piece_of, top_of};
+ghost use Rattle.itm_model.specs.Undoing.{KeepsOld};
 
 use crate::bytes::{WIDEST, part_at};
 use crate::journal::{Mark, Old};
@@ -39,10 +39,8 @@ pub(crate) fn keep_pieces(
     requires range { place + size ≤ length bytes.now }
     requires top { top ≤ length journal.old.items }
     requires indexed { IsIndexed (length bytes.now) journal.old.items newest.old.items }
-    ensures adds { OnOk result (Adds top journal.old.items journal.new.items) }
-    ensures same { OnOk result (Restores (length journal.old.items) journal.old.items bytes.now journal.new.items bytes.now) }
+    ensures keeps { OnOk result (KeepsOld top bytes.now journal.old.items journal.new.items newest.new.items) }
     ensures covered { OnOk result (AreCovered (drop top journal.new.items) place size) }
-    ensures indexed { OnOk result (IsIndexed (length bytes.now) journal.new.items newest.new.items) }
     ensures none { size ≡ 0 → IsOk result }
     ensures err { OnErr result (journal.new.items ≡ journal.old.items) }
     ensures err_newest { OnErr result (newest.new.items ≡ newest.old.items) }
@@ -71,10 +69,8 @@ fn keep_piece(
     requires top { top ≤ length journal.old.items }
     requires room { vec_len journal.old < vec_capacity journal.old }
     requires indexed { IsIndexed (length bytes.now) journal.old.items newest.old.items }
-    ensures adds { Adds top journal.old.items journal.new.items }
-    ensures same { Restores (length journal.old.items) journal.old.items bytes.now journal.new.items bytes.now }
+    ensures keeps { KeepsOld top bytes.now journal.old.items journal.new.items newest.new.items }
     ensures kept { top < newest_in journal.new.items piece }
-    ensures indexed { IsIndexed (length bytes.now) journal.new.items newest.new.items }
     ensures one { vec_len journal.new ≤ vec_len journal.old + 1 }
     ensures capacity { vec_capacity journal.new ≡ vec_capacity journal.old }
 {
@@ -137,15 +133,11 @@ fn hand_on_one(
     to: usize,
     from: usize,
 ) -> usize
-    requires to { to ≤ from }
     requires from { from < length journal.old.items }
-    requires newest { AreNewest (take to journal.old.items) newest.old.items }
-    requires among { AreAmong (length newest.old.items) (drop from journal.old.items) }
+    requires so_far { AreHandedOn to from journal.old.items newest.old.items }
     ensures handed { handed_on top (take result journal.new.items) (drop (from + 1) journal.new.items)
         ≡ handed_on top (take to journal.old.items) (drop from journal.old.items) }
-    ensures newest { AreNewest (take result journal.new.items) newest.new.items }
-    ensures among { AreAmong (length newest.new.items) (drop (from + 1) journal.new.items) }
-    ensures result { result ≤ from + 1 }
+    ensures so_far { AreHandedOn result (from + 1) journal.new.items newest.new.items }
     ensures len { length journal.new.items ≡ length journal.old.items }
     ensures count { length newest.new.items ≡ length newest.old.items }
 {

@@ -6,10 +6,12 @@ use Rattle.itm_model.proofs.pieces.hand_on.Goals as goal
 
 pub loop-from-init : goal.loop-from-init
 loop-from-init c = record {
-  to = omega arith;
+  so_far = record {
+    within = omega arith;
+    newest = subst (λ (t : List Old). AreNewest (take c.args.at t) c.forget.new.newest.items) c.deref.ensures.value c.forget.ensures.newest;
+    among = subst (λ (n : ℕ). AreAmong n (drop c.args.at c.args.journal.now.items)) (sym c.forget.ensures.count) (among_drop (length c.args.newest.now.items) c.args.at c.args.journal.now.items c.requires.among);
+  };
   len = refl;
   handed = refl;
-  newest = subst (λ (t : List Old). AreNewest (take c.args.at t) c.forget.new.newest.items) c.deref.ensures.value c.forget.ensures.newest;
-  among = subst (λ (n : ℕ). AreAmong n (drop c.args.at c.args.journal.now.items)) (sym c.forget.ensures.count) (among_drop (length c.args.newest.now.items) c.args.at c.args.journal.now.items c.requires.among);
   count = c.forget.ensures.count;
 }

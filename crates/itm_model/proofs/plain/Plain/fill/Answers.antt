@@ -20,7 +20,7 @@ done c =
     elim c.if-self.branch [ then-self w ↦ search (rules, len) | else-self w ↦ search (rules, len) ] in
     is_written j p.newest.items m p.arena.items p.logs.items p.marks.items p.actions.actions p.wrote p.irrevocable c.args.to new j' c.keep_pieces.new.newest.items c.fill.new.bytes.items c.if-self.self
     c.innermost_at-top.result c.args.size c.deref.result.now c.deref-2.result.now c.deref.ensures.value c.deref-2.ensures.value c.innermost_at-top.ensures len
-    c.self.invariant fits kept.adds kept.same kept.covered kept.indexed (c.fill.ensures) wrote
+    c.self.invariant fits kept.keeps.adds kept.keeps.same kept.covered kept.keeps.indexed (c.fill.ensures) wrote
 
 pub invariant_of-self-2 : goal.invariant_of-self-2
 invariant_of-self-2 c = (done c).sound
