@@ -1,7 +1,7 @@
 //! What a call in progress is about: a begin, a read, a write, or what the clock is taken for.
 
-ghost use Rattle.std.specs.Prelude.{◌≡◌, ℕ, ◌+◌, ◌*◌, ◌<◌, ◌≤◌, List, ◌++◌, take, length, IfSome, slice_get, slice_index};
-ghost use Rattle.word_pieces.specs.Pieces.{IsPiece, gathered, part_of};
+ghost use Rattle.std.specs.Prelude.{◌≡◌, ◌+◌, ◌<◌, ◌≤◌, IfSome, slice_get};
+ghost use Rattle.word_pieces.specs.Pieces.{IsNextPiece};
 ghost use Rattle.norec_core.specs.Accesses.{parts};
 ghost use Rattle.norec_core.specs.OwnAccesses.{word_of};
 
@@ -43,15 +43,7 @@ impl Reading {
         requires place { self.at ≤ MAX_BYTES }
         requires small { self.size ≤ 32 }
         ensures value { result ≡ slice_get (parts self) self.number }
-        ensures piece { IfSome result IsPiece }
-        ensures few { IfSome result (λ _. self.number < 5) }
-        ensures in_value { IfSome result (λ p. p.at + p.count ≤ 32) }
-        ensures in_memory { IfSome result (λ p. (words : ℕ) → self.at + self.size ≤ 8 * words
-            → p.word < words) }
-        ensures before { IfSome result (λ p. (m : List ℕ)
-            → length (gathered m (take self.number (parts self))) ≡ p.at) }
-        ensures reads_on { IfSome result (λ p. (m : List ℕ) →
-            gathered m (take (self.number + 1) (parts self)) ≡ gathered m (take self.number (parts self)) ++ part_of p (slice_index m p.word)) }
+        ensures next { IfSome result (IsNextPiece self.at self.size self.number) }
     {
         piece_at(self.at, self.size, self.number)
     }

@@ -38,14 +38,13 @@ whole-requires-clause-loaded c =
     let s = c.args.state.now in
     let r = c.args.state.now.reading in
     let loading = c.requires.sound.in_phase in
-    let facts = rw c.in-Some.is at c.piece.ensures.reads_on in
-    let is = rw c.in-Some.is at c.piece.ensures.piece in
+    let next = rw c.in-Some.is at c.piece.ensures.next in
     let left : count_of r.at r.size ≤ r.number + 1 = none_left r.at r.size (r.number + 1) c.piece-2.result (sym (c.piece-2.ensures.value ∙ ap (λ (x : Reading). slice_get (pieces_of x.at x.size) x.number) c.next-next.ensures)) (sym c.is_some.ensures ∙ c.if-is_some.false) in
     record {
       within = loading.within;
       small = loading.small;
       purpose = loads_later s (record s { gathered = c.gather.new.value }) r.purpose r.at r.size refl refl loading.purpose;
-      sized = ap (length {A = ℕ}) c.gather.ensures ∙ (longer s.gathered.items r.at r.size r.number c.in-Some.piece c.args.seen is (facts []) loading.sized ∙ whole_length r.at r.size (r.number + 1) loading.small left);
+      sized = ap (length {A = ℕ}) c.gather.ensures ∙ (longer s.gathered.items r.at r.size r.number c.in-Some.piece c.args.seen next.piece (next.reads_on []) loading.sized ∙ whole_length r.at r.size (r.number + 1) loading.small left);
       spent = omega (arith, loading.spent, loading.some);
     }
 
@@ -61,8 +60,7 @@ returns-then-is_some c =
       sound =
           (let h = c.requires.sound.held in
           let loading = c.requires.sound.in_phase in
-          let facts = rw c.in-Some.is at c.piece.ensures.reads_on in
-          let is = rw c.in-Some.is at c.piece.ensures.piece in
+          let next = rw c.in-Some.is at c.piece.ensures.next in
           let n : Reading = record r { number = r.number + 1 } in
           let e : Data = record s { gathered = c.gather.new.value; reading = n } in
           subst (λ (x : Reading). IsSoundAfter (Wait waits.Load) (record e { reading = x })) (sym c.next-next.ensures) (
@@ -73,7 +71,7 @@ returns-then-is_some c =
                 small = loading.small;
                 some = more c;
                 purpose = loads_later s (counted e) r.purpose r.at r.size refl refl loading.purpose;
-                sized = ap (length {A = ℕ}) c.gather.ensures ∙ longer s.gathered.items r.at r.size r.number c.in-Some.piece c.args.seen is (facts []) loading.sized;
+                sized = ap (length {A = ℕ}) c.gather.ensures ∙ longer s.gathered.items r.at r.size r.number c.in-Some.piece c.args.seen next.piece (next.reads_on []) loading.sized;
                 spent = omega (arith, loading.spent);
               };
             },

@@ -40,8 +40,8 @@ take_known-returns-in_default-clause-order t c past = sym (load_ends (rows_befor
 pub take_known-gather-requires-clause-room : goal.take_known-gather-requires-clause-room
 take_known-gather-requires-clause-room t c =
     let sized = c.requires.may.2.sized in
-    let before = c.in-Some.ensures.before [] in
-    let most = c.in-Some.ensures.in_value in
+    let before = c.in-Some.ensures.next.before [] in
+    let most = c.in-Some.ensures.next.piece.in_value in
     omega (arith, sized, before, most)
 
 pub take_known-take_more-requires : goal.take_known-take_more-requires
@@ -54,7 +54,7 @@ take_known-take_more-requires t c =
     let left = some_left r p (sym c.piece.ensures.value ∙ c.in-Some.is) in
     let gone = c.gather.ensures in
     let had = c.in-Some-known_word.ensures.part in
-    let more = λ (m : List ℕ). c.in-Some.ensures.reads_on m in (
+    let more = λ (m : List ℕ). c.in-Some.ensures.next.reads_on m in (
       rw c.next.ensures (omega (arith, left, c.decreases)),
       rw c.next.ensures (
         c.requires.may.0,
@@ -65,12 +65,12 @@ take_known-take_more-requires t c =
           purpose = reading.purpose;
           far = omega (arith, left);
           has = λ m mem agrees.
-              (let word = c.in-Some.ensures.in_memory s.words reading.within in
+              (let word = c.in-Some.ensures.next.in_memory s.words reading.within in
               let same = had m mem.1 agrees (omega (arith, word, mem.0)) in
               gone ∙ ((λ i. reading.has m mem agrees i ++ sym same i) ∙ sym (more (overlay m s.frames.writes.rows))));
           sized =
               (let parts_are = more [] in
-              let in_word = c.in-Some.ensures.piece.in_word in
+              let in_word = c.in-Some.ensures.next.piece.in_word in
               omega (
                 arith,
                 ap (length {A = ℕ}) gone,
@@ -90,7 +90,7 @@ take_known-returns-in-Some-known_word-clause-order t c past =
     let s = c.args.state.now in
     let r = c.args.reading in
     let is = sym c.piece.ensures.value ∙ c.in-Some.is in
-    let had = had_before s r.purpose r.at r.size c.requires.may.2.purpose c.in-Some.piece c.in-Some.ensures.piece ∙ sym c.in-Some-known_word.ensures.had in
+    let had = had_before s r.purpose r.at r.size c.requires.may.2.purpose c.in-Some.piece c.in-Some.ensures.next.piece ∙ sym c.in-Some-known_word.ensures.had in
     sym (next_load_on r c.next.result (r.number + 1) c.next.ensures c.take_more.result past)
     ∙ (c.take_more.ensures.order past
     ∙ (ap (λ (x : Reading). load_among (rows_before s) s.log.rows past x (drop x.number (parts x))) c.next.ensures ∙ sym (load_next (rows_before s) s.log.rows past r c.in-Some.piece is had)))
@@ -114,5 +114,5 @@ pub take_known-returns-in-None-clause-order : goal.take_known-returns-in-None-cl
 take_known-returns-in-None-clause-order t c past =
     let s = c.args.state.now in
     let r = c.args.reading in
-    let unhad = had_before s r.purpose r.at r.size c.requires.may.2.purpose c.in-Some.piece c.in-Some.ensures.piece ∙ sym c.in-None.ensures.had in
+    let unhad = had_before s r.purpose r.at r.size c.requires.may.2.purpose c.in-Some.piece c.in-Some.ensures.next.piece ∙ sym c.in-None.ensures.had in
     sym (load_here (rows_before s) s.log.rows past r c.in-Some.piece (sym c.piece.ensures.value ∙ c.in-Some.is) unhad)

@@ -31,7 +31,7 @@ add-requires c =
     let p = c.in-Some-piece.piece in
     let phase = c.requires.sound.in_phase in
     let to_come = total_left r.purpose r.number (count r) (among s r.purpose r.at r.size phase.1.reading.purpose) phase.1.missing.some in
-    let word = c.in-Some-piece.ensures.in_memory s.words phase.1.reading.within in
+    let word = c.in-Some-piece.ensures.next.in_memory s.words phase.1.reading.within in
     let is = part_is r p (sym c.piece.ensures.value ∙ c.in-Some-piece.is) in
     record {
       room = omega (arith, to_come, phase.1.logging.room);
@@ -51,8 +51,8 @@ go_past-requires c =
     let log = c.add.new.self in
     let rows = c.add.ensures.rows in
     let added = rows ∙ ap (with_row s.log.rows c.args.value) same in
-    let word = c.in-Some-piece.ensures.in_memory s.words reading.within in
-    let more = λ (m : List ℕ). c.in-Some-piece.ensures.reads_on m in
+    let word = c.in-Some-piece.ensures.next.in_memory s.words reading.within in
+    let more = λ (m : List ℕ). c.in-Some-piece.ensures.next.reads_on m in
     let gone = c.gather.ensures in
     let on = passed_next r.purpose r.number in
     let to_come = total_left r.purpose r.number (count r) (among s r.purpose r.at r.size reading.purpose) left in
@@ -71,7 +71,7 @@ go_past-requires c =
               gone ∙ ((λ i. reading.has m mem (agreed_before s c.args.value c.args.seen log sound c.if-seen-state.true added m agrees) i ++ part_of p (sym now i)) ∙ sym (more (overlay m s.frames.writes.rows))));
           sized =
               (let parts_are = more [] in
-              let in_word = c.in-Some-piece.ensures.piece.in_word in
+              let in_word = c.in-Some-piece.ensures.next.piece.in_word in
               omega (
                 arith,
                 ap (length {A = ℕ}) gone,
@@ -91,8 +91,8 @@ go_past-requires c =
         spent = omega (arith, on, sound.in_phase.3);
       };
       part = part_is r p (sym c.piece.ensures.value ∙ c.in-Some-piece.is);
-      in_value = c.in-Some-piece.ensures.in_value;
-      few = c.in-Some-piece.ensures.few;
+      in_value = c.in-Some-piece.ensures.next.piece.in_value;
+      few = c.in-Some-piece.ensures.next.few;
     }
 
 pub returns-in-Some-piece : goal.returns-in-Some-piece
