@@ -7,6 +7,7 @@ use Rattle.shared_words.specs.Commits.{StoresFit, CommitsFit}
 use Rattle.shared_words.specs.declared.view.View.{View}
 use Rattle.shared_words.specs.declared.words.Words.{Words}
 use Rattle.shared_words.specs.declared.pass.Pass.{Pass}
+use Rattle.shared_words.specs.Views.{opening}
 
 abbrev pub view_of : Pass → View
 view_of p = p.seat.me.0
@@ -36,6 +37,11 @@ pub record IsOver (cells : ℕ) (v : View) : Type 0 where
 pub record Owns {A : Type 0} (w : Words A) (p : Pass) : Type 0 where
   pub same : p.seat.table_id ≡ w.shared.table_id
   pub over : IsOver (cells_of w) (view_of p)
+
+-- the one pass of words that are opened: it has all shares, and knows of nothing but the words at first
+pub record IsFirst {A : Type 0} (w : Words A) (p : Pass) : Type 0 where
+  pub own : Owns w p
+  pub first : view_of p ≡ opening (view_of p).base
 
 -- no bytes, no whole number of words, or too many for a memory made of bytes
 abbrev pub IsWrongSize : ℕ → Type 0

@@ -35,16 +35,14 @@ pub struct Closed {
 
 impl Words {
     ghost use Rattle.itm_types.specs.Memory.{bytes_of};
-    ghost use Rattle.shared_words.specs.Passes.{IsWrongSize, Owns, view_of, cells_of};
+    ghost use Rattle.shared_words.specs.Passes.{IsFirst, IsWrongSize, view_of, cells_of};
     ghost use Rattle.shared_words.specs.declared.fault.WordsFault.TheVariants.{Length};
-    ghost use Rattle.shared_words.specs.Views.{opening};
 
     /// The words of these bytes, 8 to `MAX_MEMORY` of them in whole words, with the clock at 0, and the one pass that
     /// there is. `Length` where the bytes are no such number, and `Memory` where memory was refused.
     pub fn new(alloc: Global, bytes: &[u8]) -> Result<(Words, Pass), WordsFault>
-        ensures own { IfOk result (λ r. Owns r.0 r.1) }
+        ensures pass { IfOk result (λ r. IsFirst r.0 r.1) }
         ensures size { IfOk result (λ r. 8 * cells_of r.0 ≡ length bytes.now + 8) }
-        ensures first { IfOk result (λ r. view_of r.1 ≡ opening (view_of r.1).base) }
         ensures bytes { IfOk result (λ r. bytes_of (view_of r.1).base ≡ bytes.now) }
         ensures length { IfErr result (λ f. f ≡ Length → IsWrongSize (length bytes.now)) }
         ensures wrong { IfErr result (λ f. IsWrongSize (length bytes.now) → f ≡ Length) }
@@ -64,8 +62,8 @@ impl Words {
 }
 
 impl<A: Allocator> Words<A> {
-    ghost use Rattle.shared_words.specs.Passes.{IsWrongCount, Owns, view_of, cells_of, place_of};
-    ghost use Rattle.shared_words.specs.Views.{opening, cut_left, cut_right};
+    ghost use Rattle.shared_words.specs.Passes.{IsFirst, IsWrongCount, Owns, view_of, cells_of, place_of};
+    ghost use Rattle.shared_words.specs.Views.{cut_left, cut_right};
     ghost use Rattle.shared_words.specs.Good.{Ends, EndsHeld, EndsInHold, EndsWith};
     ghost use Rattle.shared_words.specs.ClosedWords.{clock_in, words_in, place_in};
     ghost use Rattle.shared_words.specs.Moves.{Moves};
@@ -75,9 +73,8 @@ impl<A: Allocator> Words<A> {
     /// is. The cells come back as they are where the words are no such number.
     pub fn of_cells(mut cells: Vec<u64, A>) -> Result<(Words<A>, Pass), Vec<u64, A>>
         requires clock { slice_index cells.items 0 ≡ 0 }
-        ensures own { IfOk result (λ r. Owns r.0 r.1) }
+        ensures pass { IfOk result (λ r. IsFirst r.0 r.1) }
         ensures size { IfOk result (λ r. cells_of r.0 ≡ length cells.items) }
-        ensures first { IfOk result (λ r. view_of r.1 ≡ opening (view_of r.1).base) }
         ensures words { IfOk result (λ r. 0 ∷ (view_of r.1).base ≡ cells.items) }
         ensures place { IfOk result (λ r. place_of r.0 ≡ cells.ptr) }
         ensures back { IfErr result (λ back. back ≡ cells) }

@@ -21,7 +21,7 @@ returns-clause-ran g c =
       history = record { version = c.version_of.result; memory = c.new-2.result; attempts = c.in-Ok-gather_all.attempts; clock = c.closed-clock.result.0; bytes = c.closed-clock.result.1 };
       ends = c.in-Ok-gather_all.ends;
     } in
-    ran c.in-Ok-new.words c.args.program.now g.G.Gate.answers report start (view_of c.in_ok-pass.pass) c.in_ok-pass.all.items words.first (from ∙ sym kept) (kept ∙ c.in-Ok.ensures.before) c.in_ok-pass.ensures.gathers c.closed-clock.ensures c.in-Ok-gather_all.ensures.attempts c.in-Ok-gather_all.ensures.ends c.version_of.ensures c.in-Ok.ensures.limits.depth
+    ran c.in-Ok-new.words c.args.program.now g.G.Gate.answers report start (view_of c.in_ok-pass.pass) c.in_ok-pass.all.items words.pass.first (from ∙ sym kept) (kept ∙ c.in-Ok.ensures.before) c.in_ok-pass.ensures.gathers c.closed-clock.ensures c.in-Ok-gather_all.ensures.attempts c.in-Ok-gather_all.ensures.ends c.version_of.ensures c.in-Ok.ensures.limits.depth
 
 pub returns-clause-limited : goal.returns-clause-limited
 returns-clause-limited g c = limited_report c.args.program.now g.G.Gate.answers _ (returns-clause-ran g c) c.in-Ok.ensures.limits

@@ -17,8 +17,8 @@ deal-shared-requires-clause-good g c =
     let here : Good cells (opening (drop 1 cells) ∷ []) = subst (λ (l : List ℕ). Good l (opening (drop 1 cells) ∷ [])) is good in
     subst (λ (l : List ℕ). Good l (opening (drop 1 l) ∷ [])) (sym same) here
 
-pub returns-clause-own : goal.returns-clause-own
-returns-clause-own g c =
+pub returns-clause-pass : goal.returns-clause-pass
+returns-clause-pass g c =
     let cells : List ℕ = c.args.cells.items in
     let told = c.deal-shared.ensures in
     let fits : (i d : ℕ) → i < length cells → get_or cells i d < 2 ^ 64 = search rules in
@@ -26,7 +26,10 @@ returns-clause-own g c =
     let view : c.deal-shared.result.1.me.0 ≡ opening (drop 1 cells) = ap (λ (m : Held). m.0) told.seat.1 ∙ ap (λ (l : List ℕ). opening (drop 1 l)) same in
     let size : length (drop 1 cells) + 1 ≡ c.deal-shared.result.0.table_id.words = words_behind cells (let n = c.len-count.ensures in omega (arith, c.if-count-lt2.false, c.args.cells.ok.0)) ∙ sym (told.counts.0 ∙ ap length same) in
     record {
-      same = told.seat.0;
-      over = subst (IsOver c.deal-shared.result.0.table_id.words) (sym view)
-          record { size = size; base_fits = rest_fits cells fits; seen_fits = tt; done_fits = tt; high = omega arith; long = omega arith; known = omega arith };
+      own = record {
+        same = told.seat.0;
+        over = subst (IsOver c.deal-shared.result.0.table_id.words) (sym view)
+            record { size = size; base_fits = rest_fits cells fits; seen_fits = tt; done_fits = tt; high = omega arith; long = omega arith; known = omega arith };
+      };
+      first = view ∙ sym (ap (λ v. opening v.base) view);
     }
