@@ -1,5 +1,5 @@
 -- A player's run, as contracts see it, and the room that it needs.
-use Rattle.std.specs.Prelude.{◌≡◌, ◌<◌, ◌≤◌, ℕ, List, length, Vec, vec_len, vec_capacity}
+use Rattle.std.specs.Prelude.{◌≡◌, ◌+◌, ◌<◌, ◌≤◌, ℕ, List, length, Vec, vec_len, vec_capacity}
 use Rattle.std.specs.declared.alloc.Global.{Global}
 use Rattle.itm_types.specs.declared.call.Call.{Call}
 use Rattle.itm_types.specs.declared.call.Ran.{Ran}
@@ -49,6 +49,11 @@ abbrev pub MayTell : Current → Vec Attempt Global → Type 0
 MayTell Outside ended = Unit {0}
 MayTell (Begins o) ended = Unit {0}
 MayTell (Within o) ended = vec_len ended < vec_capacity ended
+
+-- so many attempts joined the list, each in a place that it had
+pub record HaveJoined (old new : Vec Attempt Global) (more : ℕ) : Type 0 where
+  pub capacity : vec_capacity new ≡ vec_capacity old
+  pub len : vec_len new ≡ vec_len old + more
 
 -- an attempt that is open afterwards has the places that it had, but for those that a cancel has used
 abbrev pub KeepsPlaces : List Ran → Current → Current → Type 0

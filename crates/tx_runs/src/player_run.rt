@@ -11,7 +11,7 @@ ghost use Rattle.tx_runs.specs.declared.player_run.Current.{Current};
 ghost use Rattle.tx_runs.specs.declared.player_run.Current.TheVariants.{Outside, Begins, Within};
 ghost use Rattle.itm_types.specs.declared.call.Ran.{Ran};
 ghost use Rattle.tx_runs.specs.OpenAttempts.{Open};
-ghost use Rattle.tx_runs.specs.PlayerRuns.{current_with, stage_of, tally_of, KeepsPlaces, MayGoBack, MayTakeIn, MayStop, MayTell};
+ghost use Rattle.tx_runs.specs.PlayerRuns.{current_with, stage_of, tally_of, HaveJoined, KeepsPlaces, MayGoBack, MayTakeIn, MayStop, MayTell};
 ghost use Rattle.itm_types.specs.Calls.{is_begin};
 ghost use Rattle.tx_runs.specs.Tallies.{Stand, begun, closed, entered, gone_back, over_as, replied};
 
@@ -116,9 +116,8 @@ impl<P: Player> PlayerRun<P> {
         ensures taken { let taken = took_in P.Player self.old.retries (tally_of self.old) call answer (record { is_open = is_open; at = at; ran = ran.now; arena = arena.now }) in
             (tally_of self.new ≡ taken.tally) × (ended.new.items ≡ ended.old.items ++ taken.over) × (result ≡ taken.end) }
         ensures same { (self.new.thread ≡ self.old.thread) × (self.new.retries ≡ self.old.retries) }
-        ensures capacity { vec_capacity ended.new ≡ vec_capacity ended.old }
-        ensures len { vec_len ended.new ≡ vec_len ended.old + length (took_in P.Player self.old.retries (tally_of self.old) call answer
-            (record { is_open = is_open; at = at; ran = ran.now; arena = arena.now })).over }
+        ensures joined { HaveJoined ended.old ended.new (length (took_in P.Player self.old.retries (tally_of self.old) call answer
+            (record { is_open = is_open; at = at; ran = ran.now; arena = arena.now })).over) }
         ensures places { KeepsPlaces ran.now self.old.current self.new.current }
     {
         match answer {
@@ -172,9 +171,8 @@ impl<P: Player> PlayerRun<P> {
         ensures taken { let taken = replied (stage_of self.old.current) (tally_of self.old) call reply (record { is_open = is_open; at = at; ran = ran.now; arena = arena.now }) in
             (tally_of self.new ≡ taken.tally) × (ended.new.items ≡ ended.old.items ++ taken.over) }
         ensures same { (self.new.thread ≡ self.old.thread) × (self.new.retries ≡ self.old.retries) }
-        ensures capacity { vec_capacity ended.new ≡ vec_capacity ended.old }
-        ensures len { vec_len ended.new ≡ vec_len ended.old + length (replied (stage_of self.old.current) (tally_of self.old) call reply
-            (record { is_open = is_open; at = at; ran = ran.now; arena = arena.now })).over }
+        ensures joined { HaveJoined ended.old ended.new (length (replied (stage_of self.old.current) (tally_of self.old) call reply
+            (record { is_open = is_open; at = at; ran = ran.now; arena = arena.now })).over) }
         ensures places { KeepsPlaces ran.now self.old.current self.new.current }
     {
         match &mut self.current {

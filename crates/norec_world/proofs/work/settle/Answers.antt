@@ -36,7 +36,7 @@ module _ (g : _) (c : After-take_in-end g) (status : Status) (is : status ≡ st
 
   recorded : (was : Bool) (before : ℕ) → IsAnswered g.P.Player was before c.args.actor.now c.args.call c.args.answer → IsRecorded g.P.Player was before (rows_in c.args.ended.now) c.args.actor.now c.args.call (Answers c.args.answer) (rows_in c.take_in-end.new.ended) Last
   recorded was before d =
-      assumption (settled was before d, told, others_taken d.kept told (λ is. (back_within c.args.answer d is).1) c.take_in-end.ensures.same.0 (room_less c.args.ended.now c.take_in-end.new.ended Told.over (told.takes.ended) c.take_in-end.ensures.capacity))
+      assumption (settled was before d, told, others_taken d.kept told (λ is. (back_within c.args.answer d is).1) c.take_in-end.ensures.same.0 (room_less c.args.ended.now c.take_in-end.new.ended Told.over (told.takes.ended) c.take_in-end.ensures.joined.capacity))
 
 pub take_in-end-requires-clause-again : goal.take_in-end-requires-clause-again
 take_in-end-requires-clause-again g c = λ clock word is.

@@ -1,10 +1,10 @@
-use Rattle.std.proofs.Common.{◌≡◌, ◌++◌, Bool, false, ◌+◌, length, vec_len, subst, sym}
+use Rattle.std.proofs.Common.{◌≡◌, ◌++◌, Bool, false, length, subst, sym}
 use Rattle.tx_runs.specs.declared.player_run.Current.{Current}
 use Rattle.tx_runs.specs.declared.player_run.Current.TheVariants.{Within}
 use Rattle.tx_attempts.specs.declared.attempt.Outcome.TheVariants.{Cancelled}
 use Rattle.tx_runs.specs.OpenAttempts.{Open}
 use Rattle.tx_runs.specs.Savepoints.{savepoints_after}
-use Rattle.tx_runs.specs.PlayerRuns.{stage_of, tally_of}
+use Rattle.tx_runs.specs.PlayerRuns.{HaveJoined, stage_of, tally_of}
 use Rattle.tx_runs.specs.Tallies.{Taken, closed, replied, went_on, with_call}
 use Rattle.tx_runs.proofs.player_run.PlayerRun.replied.Goals as goal
 
@@ -22,17 +22,17 @@ returns-else-is_open-clause-taken g c =
     c.add.ensures
     (c.close.ensures.taken false arena)))
 
-pub returns-else-is_open-clause-len : goal.returns-else-is_open-clause-len
-returns-else-is_open-clause-len g c =
+pub returns-else-is_open-clause-joined : goal.returns-else-is_open-clause-joined
+returns-else-is_open-clause-joined g c =
     let p = c.args.self.now in
     let at = c.args.at in
     let ran = c.args.ran.now in
     let arena = c.args.arena.now in
-    subst (λ (x : Current). vec_len c.close.new.ended ≡ vec_len c.args.ended.now + length (replied (stage_of x) (tally_of (record p { current = x })) c.args.call c.args.reply (record { is_open = c.args.is_open; at = at; ran = ran; arena = arena })).over)
+    subst (λ (x : Current). HaveJoined c.args.ended.now c.close.new.ended (length (replied (stage_of x) (tally_of (record p { current = x })) c.args.call c.args.reply (record { is_open = c.args.is_open; at = at; ran = ran; arena = arena })).over))
     (sym c.in-Within.is)
-    (subst (λ (b : Bool). vec_len c.close.new.ended ≡ vec_len c.args.ended.now + length (went_on b (tally_of (record p { current = Within c.in-Within.open })) (with_call c.args.call c.args.reply c.in-Within.open.row) (savepoints_after c.in-Within.open.points c.in-Within.open.row (record { call = c.args.call; reply = c.args.reply })) (record { is_open = b; at = at; ran = ran; arena = arena })).over)
+    (subst (λ (b : Bool). HaveJoined c.args.ended.now c.close.new.ended (length (went_on b (tally_of (record p { current = Within c.in-Within.open })) (with_call c.args.call c.args.reply c.in-Within.open.row) (savepoints_after c.in-Within.open.points c.in-Within.open.row (record { call = c.args.call; reply = c.args.reply })) (record { is_open = b; at = at; ran = ran; arena = arena })).over))
     (sym c.if-is_open.false)
-    (c.close.ensures.len false arena))
+    (record { capacity = c.close.ensures.capacity; len = c.close.ensures.len false arena }))
 
 pub returns-in-Begins-clause-places : goal.returns-in-Begins-clause-places
 returns-in-Begins-clause-places g c = c.begun.ensures.places c.args.ran.now

@@ -44,7 +44,7 @@ returns g c words course b old shuts is =
       tally = subst (λ (s : Stand). tally_of new.run ≡ (took_in g.P.Player mid.run.retries (tally_of mid.run) c.args.call c.args.answer s).tally) same x.taken.0;
       ended = subst (λ (s : Stand). new.ended.items ≡ mid.ended.items ++ (took_in g.P.Player mid.run.retries (tally_of mid.run) c.args.call c.args.answer s).over) same x.taken.1;
       end_is = subst (λ (s : Stand). c.take_in-end.result ≡ (took_in g.P.Player mid.run.retries (tally_of mid.run) c.args.call c.args.answer s).end) same x.taken.2;
-      capacity = x.capacity;
-      len = subst (λ (s : Stand). vec_len new.ended ≡ vec_len mid.ended + length (took_in g.P.Player mid.run.retries (tally_of mid.run) c.args.call c.args.answer s).over) same x.len;
+      capacity = x.joined.capacity;
+      len = subst (λ (s : Stand). vec_len new.ended ≡ vec_len mid.ended + length (took_in g.P.Player mid.run.retries (tally_of mid.run) c.args.call c.args.answer s).over) same x.joined.len;
       places = subst (λ (s : Stand). KeepsPlaces s.ran mid.run.current new.run.current) same x.places;
     }) shuts
