@@ -1,5 +1,7 @@
 -- What is told of a history, by the plain machine alone.
-use Rattle.std.specs.Prelude.{ℕ, zero, suc, ◌+◌, ◌*◌, ◌-◌, ◌^◌, Bool, false, not, ◌&&◌, ◌||◌, ◌==◌, nat_lt, nat_le, min, sum_by, bytes_eq, if◌then◌else◌, List, [], ◌∷◌, ◌++◌, length, slice_get, take, Option, None, Some}
+use Rattle.std.specs.Prelude.{◌≡◌, ◌≤◌, ◌%◌, All, ℕ, zero, suc, ◌+◌, ◌*◌, ◌-◌, ◌^◌, Bool, false, not, ◌&&◌, ◌||◌, ◌==◌, nat_lt, nat_le, min, sum_by, bytes_eq, if◌then◌else◌, List, [], ◌∷◌, ◌++◌, length, slice_get, take, Option, None, Some}
+use Rattle.itm_types.specs.declared.limits.TheConstants.{MAX_ARENA, MAX_MEMORY}
+use Rattle.itm_model.specs.declared.limits.TheConstants.{WORD}
 use Rattle.tx_attempts.specs.declared.attempt.Again.{Again}
 use Rattle.tx_attempts.specs.declared.attempt.Attempt.{Attempt}
 use Rattle.tx_attempts.specs.Attempts.{is_committed, is_at}
@@ -16,6 +18,13 @@ use Rattle.history_checker.specs.declared.verdict.Spot.{Spot}
 use Rattle.history_checker.specs.declared.verdict.Verdict.{Verdict}
 use Rattle.history_checker.specs.declared.verdict.Verdict.TheVariants.{Legal, Bad}
 use Rattle.history_checker.specs.Replays.{first_of, at_head, fault_in}
+
+-- the plain machine can have its memory, of some whole words, and each attempt's arena
+pub record CanReplay (h : History) : Type 0 where
+  pub some : WORD ≤ length h.memory
+  pub room : length h.memory ≤ MAX_MEMORY
+  pub words : length h.memory % WORD ≡ 0
+  pub arenas : All (λ a. length a.arena ≤ MAX_ARENA) h.attempts
 
 -- ## Lines
 

@@ -1,14 +1,14 @@
 //! What the plain machine answers where a history tells another reply.
 
-ghost use Rattle.std.specs.Prelude.{◌≡◌, ◌≤◌, ◌%◌, All, IfOk, Some, length};
+ghost use Rattle.std.specs.Prelude.{◌≡◌, ◌≤◌, IfOk, Some, length};
 ghost use Rattle.history_checker.specs.Answers.{answer_of, spot_answer};
+ghost use Rattle.history_checker.specs.Verdicts.{CanReplay};
 
 use crate::replays::replay_answer;
 use crate::tables::{attempt_at, count, place};
 use crate::verdict::Spot;
 use crate::walk::reach;
-use itm_model::WORD;
-use itm_types::{MAX_ARENA, MAX_MEMORY, Reply};
+use itm_types::{MAX_ARENA, Reply};
 use std::alloc::{AllocError, Global};
 use tx_attempts::Attempt;
 use tx_history::History;
@@ -19,10 +19,7 @@ fn answer_in(
     history: &History,
     attempt: &Attempt,
 ) -> Result<Option<Reply>, AllocError>
-    requires some { WORD ≤ length history.now.memory }
-    requires room { length history.now.memory ≤ MAX_MEMORY }
-    requires words { length history.now.memory % WORD ≡ 0 }
-    requires arenas { All (λ a. length a.arena ≤ MAX_ARENA) history.now.attempts }
+    requires replays { CanReplay history.now }
     requires arena { length attempt.now.arena ≤ MAX_ARENA }
     ensures { IfOk result (λ answer. answer ≡ answer_of history.now (Some attempt.now)) }
 {
@@ -44,10 +41,7 @@ pub(crate) fn answer(
     history: &History,
     spot: Option<Spot>,
 ) -> Result<Option<Reply>, AllocError>
-    requires some { WORD ≤ length history.now.memory }
-    requires room { length history.now.memory ≤ MAX_MEMORY }
-    requires words { length history.now.memory % WORD ≡ 0 }
-    requires arenas { All (λ a. length a.arena ≤ MAX_ARENA) history.now.attempts }
+    requires { CanReplay history.now }
     ensures { IfOk result (λ answer. answer ≡ spot_answer history.now spot) }
 {
     let Some(spot) = spot else {

@@ -1,18 +1,18 @@
 //! All attempts replayed, each on the memory that it saw.
 
-ghost use Rattle.std.specs.Prelude.{◌≡◌, ◌≤◌, ◌<◌, ◌%◌, suc, All, IfOk, OnOk, None, length, slice_set};
+ghost use Rattle.std.specs.Prelude.{◌≡◌, ◌≤◌, ◌<◌, suc, All, IfOk, OnOk, None, length, slice_set};
 ghost use Rattle.tx_attempts.specs.Counts.{count_committed};
 ghost use Rattle.tx_history.specs.Legal.{memory_at};
 ghost use Rattle.tx_history.specs.Versions.{depth_of};
-ghost use Rattle.history_checker.specs.Verdicts.{committed_fault, fault_at};
+ghost use Rattle.history_checker.specs.Verdicts.{committed_fault, fault_at, CanReplay};
 ghost use Rattle.history_checker.specs.Answers.{Reaches};
 ghost use Rattle.history_checker.specs.Tables.{AreLinks, AreSlots, AreTold, IsRest, first_at};
 
 use crate::replays::{Told, replay_committed, replay_other};
 use crate::tables::{Links, attempt_at, lookup};
 use crate::verdict::{Spot, at_place};
-use itm_model::{Plain, WORD};
-use itm_types::{MAX_ARENA, MAX_MEMORY, Props};
+use itm_model::Plain;
+use itm_types::{MAX_ARENA, Props};
 use std::alloc::{AllocError, Global};
 use tx_history::History;
 
@@ -95,10 +95,7 @@ pub(crate) fn walk_all(
     slots: &[Option<usize>],
     links: &Links,
 ) -> Result<Walked, AllocError>
-    requires some { WORD ≤ length history.now.memory }
-    requires room { length history.now.memory ≤ MAX_MEMORY }
-    requires words { length history.now.memory % WORD ≡ 0 }
-    requires arenas { All (λ a. length a.arena ≤ MAX_ARENA) history.now.attempts }
+    requires replays { CanReplay history.now }
     requires slots { AreSlots (count_committed history.now.attempts) history.now.attempts slots.now }
     requires links { AreLinks (count_committed history.now.attempts) history.now.attempts (length history.now.attempts) links.now.newest.items links.now.older.items }
     ensures fault { IfOk result (λ w. w.fault ≡ committed_fault history.now (count_committed history.now.attempts)) }
@@ -138,10 +135,7 @@ pub(crate) fn reach(
     slots: &[Option<usize>],
     at: u64,
 ) -> Result<Option<Plain>, AllocError>
-    requires some { WORD ≤ length history.now.memory }
-    requires room { length history.now.memory ≤ MAX_MEMORY }
-    requires words { length history.now.memory % WORD ≡ 0 }
-    requires arenas { All (λ a. length a.arena ≤ MAX_ARENA) history.now.attempts }
+    requires replays { CanReplay history.now }
     requires slots { AreSlots (count_committed history.now.attempts) history.now.attempts slots.now }
     ensures { IfOk result (λ reached. Reaches history.now at reached) }
 {
@@ -169,9 +163,7 @@ fn put(told: &mut Vec<Told>, i: usize, new: Told)
 
 /// The machine before the first commit, with nothing told.
 fn start(alloc: Global, history: &History) -> Result<Walk, AllocError>
-    requires some { WORD ≤ length history.now.memory }
-    requires room { length history.now.memory ≤ MAX_MEMORY }
-    requires words { length history.now.memory % WORD ≡ 0 }
+    requires { CanReplay history.now }
     ensures rest { IfOk result (λ w. IsRest history.now 0 w.plain w.base.items) }
     ensures told { IfOk result (λ w. AreTold history.now 0 (length history.now.attempts) w.told.items) }
 {

@@ -1,6 +1,6 @@
 //! Histories are checked.
 
-ghost use Rattle.std.specs.Prelude.{◌≡◌, ◌⊎◌, ◌≤◌, ◌%◌, ◌↔◌, All, IfOk, Some, length};
+ghost use Rattle.std.specs.Prelude.{◌≡◌, ◌⊎◌, ◌↔◌, IfOk, Some};
 ghost use Rattle.tx_attempts.specs.Counts.{count_committed};
 ghost use Rattle.tx_history.specs.Legal.{IsLegal};
 ghost use Rattle.tx_history.specs.declared.history.History.{History};
@@ -8,7 +8,7 @@ ghost use Rattle.tx_history.specs.declared.history.Version.TheVariants.{One, Two
 ghost use Rattle.history_checker.specs.declared.verdict.Verdict.TheVariants.{Legal};
 ghost use Rattle.history_checker.specs.EarlyVerdicts.{early_verdict};
 ghost use Rattle.history_checker.specs.Answers.{HasReason, finding_of};
-ghost use Rattle.history_checker.specs.Verdicts.{bad, first_fault, verdict_of};
+ghost use Rattle.history_checker.specs.Verdicts.{bad, first_fault, verdict_of, CanReplay};
 
 use crate::answers::answer;
 use crate::endings::{final_verdict, told_fault};
@@ -16,8 +16,6 @@ use crate::rows::bad;
 use crate::tables::{beyond, count, link, place};
 use crate::verdict::{Finding, Spot, Verdict};
 use crate::walk::walk_all;
-use itm_model::WORD;
-use itm_types::{MAX_ARENA, MAX_MEMORY};
 use std::alloc::{AllocError, Global};
 use tx_attempts::Attempt;
 use tx_history::{History, Version};
@@ -42,10 +40,7 @@ fn at_spot(version: Version, attempts: &[Attempt], spot: Spot) -> Judged
 
 /// The verdict on a history, and the attempt that is wrong, where one is.
 fn judge(alloc: Global, history: &History) -> Result<Judged, AllocError>
-    requires some { WORD ≤ length history.now.memory }
-    requires room { length history.now.memory ≤ MAX_MEMORY }
-    requires words { length history.now.memory % WORD ≡ 0 }
-    requires arenas { All (λ a. length a.arena ≤ MAX_ARENA) history.now.attempts }
+    requires { CanReplay history.now }
     ensures verdict { IfOk result (λ j. j.verdict ≡ verdict_of history.now) }
     ensures spot { IfOk result (λ j. j.spot ≡ first_fault history.now (count_committed history.now.attempts)) }
 {
@@ -76,10 +71,7 @@ fn judge(alloc: Global, history: &History) -> Result<Judged, AllocError>
 /// Whether the history is legal, or the first line of its text that is wrong. It costs what the history holds and what
 /// its calls touch; beside two copies of the memory it keeps what the calls of one attempt overwrite, each time anew.
 pub fn check(alloc: Global, history: &History) -> Result<Verdict, AllocError>
-    requires some { WORD ≤ length history.now.memory }
-    requires room { length history.now.memory ≤ MAX_MEMORY }
-    requires words { length history.now.memory % WORD ≡ 0 }
-    requires arenas { All (λ a. length a.arena ≤ MAX_ARENA) history.now.attempts }
+    requires { CanReplay history.now }
     ensures verdict { IfOk result (λ v. v ≡ verdict_of history.now) }
     ensures legal { IfOk result (λ v. (v ≡ Legal) ↔ IsLegal history.now) }
 {
@@ -90,10 +82,7 @@ pub fn check(alloc: Global, history: &History) -> Result<Verdict, AllocError>
 /// The verdict as `check` tells it, with its reason: which attempt is wrong, and what the plain machine answers where the
 /// history tells another reply.
 pub fn explain(alloc: Global, history: &History) -> Result<Finding, AllocError>
-    requires some { WORD ≤ length history.now.memory }
-    requires room { length history.now.memory ≤ MAX_MEMORY }
-    requires words { length history.now.memory % WORD ≡ 0 }
-    requires arenas { All (λ a. length a.arena ≤ MAX_ARENA) history.now.attempts }
+    requires { CanReplay history.now }
     ensures finding { IfOk result (λ f. f ≡ finding_of history.now) }
     ensures reason { IfOk result (λ f. HasReason history.now f.spot f.answer) }
 {
