@@ -1,5 +1,5 @@
 -- What a begin and a commit come to on the fast path.
-use Rattle.std.specs.Prelude.{◌≡◌, ℕ, ◌+◌, ◌≤◌, Bool, true, false, if◌then◌else◌, List, length}
+use Rattle.std.specs.Prelude.{◌≡◌, ◌≢◌, ℕ, ◌+◌, ◌≤◌, Bool, true, false, if◌then◌else◌, List, length}
 use Rattle.itm_types.specs.declared.step.Step.{Step}
 use Rattle.itm_types.specs.declared.call.Call.{Call}
 use Rattle.itm_types.specs.declared.call.Call.TheVariants.{Commit}
@@ -44,5 +44,5 @@ BeginsSo words pass e call again begins.Nothing left new = (left ≡ pass) × (n
 abbrev pub CommitsSo : {A : Type 0} → Words A → Pass → Core → Ended → Pass → Core → Type 0
 CommitsSo words pass e (ends.Wrote at) left new = IsServed words pass e Commit false (Committed at true) left new
 CommitsSo words pass e (ends.Read at) left new = IsServed words pass e Commit false (Committed at false) left new
-CommitsSo words pass e (ends.Found found) left new = IsUnderway words pass e Commit false found left new
+CommitsSo words pass e (ends.Found found) left new = IsUnderway words pass e Commit false found left new × (found ≢ e.snapshot)
 CommitsSo words pass e ends.Nothing left new = (left ≡ pass) × (new ≡ e)

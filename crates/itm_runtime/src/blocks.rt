@@ -1,7 +1,7 @@
 //! Outermost begins and commits on the fast path, as functions whose answers come in registers and not through memory: what
 //! stands at each of a program's sites of them is a call and a test.
 
-ghost use Rattle.std.specs.Prelude.{◌≡◌, ◌+◌, ◌^◌, ◌<◌, ◌≤◌, IfErr, IfOk, length};
+ghost use Rattle.std.specs.Prelude.{◌≡◌, ◌≢◌, ◌+◌, ◌^◌, ◌<◌, ◌≤◌, IfErr, IfOk, length};
 ghost use Rattle.norec_core.specs.declared.answer.Next.TheVariants.{Step as Asks};
 ghost use Rattle.norec_engine.specs.BlockSteps.{StoresRows, WritesBack, exchanging, next_step, storing};
 ghost use Rattle.shared_words.specs.declared.view.View.{View};
@@ -70,7 +70,7 @@ pub(crate) fn begin_block<A: Allocator>(
     Begun::Entered
 }
 
-/// A transaction commits. The engine is told of it once all its steps are done.
+/// A transaction commits. The engine is told of it at the end, or once the exchange has lost.
 #[inline(never)]
 pub(crate) fn commit_block<A: Allocator>(
     words: &Words<A>,
@@ -81,7 +81,7 @@ pub(crate) fn commit_block<A: Allocator>(
     requires stands { Stands (view_of pass.old) engine.old }
     ensures { CommitsSo words.now pass.old engine.old result pass.new engine.new }
 {
-    if engine.commit_takes() {
+    if engine.asks_for_clock() {
         return match write_back(words, pass, engine) {
             Ok(loads) => Ended::Wrote(engine.commit_at_once(loads)),
             Err(found) => {
@@ -108,6 +108,7 @@ pub(crate) fn write_back<A: Allocator>(
     requires due { (s : Start) × InCall s (view_of pass.old) (exchanging engine.now) (Step.Cas 0 engine.now.snapshot (engine.now.snapshot + 1)) }
     ensures stored { IfOk result (λ loads. RowsStored words.now (view_of pass.old) (exchanging engine.now) (Asks (Step.Cas 0 engine.now.snapshot (engine.now.snapshot + 1))) (exchanging engine.now) loads pass.new) }
     ensures found { IfErr result (λ n. Finds words.now (view_of pass.old) (exchanging engine.now) (Asks (Step.Cas 0 engine.now.snapshot (engine.now.snapshot + 1))) n pass.new (exchanging engine.now)) }
+    ensures other { IfErr result (λ n. n ≢ engine.now.snapshot) }
 {
     let snapshot = engine.snapshot();
     let rows = engine.rows();
@@ -139,7 +140,7 @@ fn store_rows<A: Allocator>(
         loads = store_row(words, pass, engine, row, loads);
         row += 1;
     }
-    let _freed = words.step(pass, Step::Store(0, engine.clock_to_free()));
+    let _freed = words.step(pass, Step::Store(0, engine.freed_clock()));
     loads
 }
 

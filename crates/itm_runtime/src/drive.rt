@@ -115,7 +115,7 @@ fn go_on<A: Allocator>(
 {
     if engine.starts_round() {
         round(words, pass, engine, answer)
-    } else if engine.takes_clock() {
+    } else if engine.waits_for_clock() {
         commit_again(words, pass, engine, answer)
     } else {
         any_step(words, pass, engine, step, answer)

@@ -4,7 +4,7 @@
 
 ghost use Rattle.std.specs.Prelude.{◌≡◌, ◌+◌};
 ghost use Rattle.norec_core.specs.Phases.{RoundStart};
-ghost use Rattle.norec_engine.specs.BlockSteps.{TakesClock, exchanging};
+ghost use Rattle.norec_engine.specs.BlockSteps.{WaitsForClock};
 ghost use Rattle.norec_engine.specs.NextSteps.{next_in};
 ghost use Rattle.norec_engine.specs.Rounds.{Validates};
 ghost use Rattle.shared_words.specs.Passes.{Owns, view_of};
@@ -46,8 +46,8 @@ pub(crate) fn round<A: Allocator>(
     next
 }
 
-/// Takes the clock for a commit that has lost it once, and stores the rows. Where another value was found there, hands it in:
-/// a new round begins, or the call is over where no try is left.
+/// Takes the clock for a commit that has lost it before, stores the rows, and frees it. Where another value was found there, hands
+/// it in: a new round begins, or the call is over where no try is left.
 #[inline(always)]
 pub(crate) fn commit_again<A: Allocator>(
     words: &Words<A>,
@@ -56,8 +56,7 @@ pub(crate) fn commit_again<A: Allocator>(
     answer: &mut Answer,
 ) -> Option<Step>
     requires own { Owns words.now pass.old }
-    requires takes { TakesClock engine.old }
-    requires asked { exchanging engine.old ≡ engine.old }
+    requires takes { WaitsForClock engine.old }
     requires due { (s : Start) × InCall s (view_of pass.old) engine.old (Step.Cas 0 engine.old.snapshot (engine.old.snapshot + 1)) }
     ensures { StepsOn words.now (view_of pass.old) engine.old (Step.Cas 0 engine.old.snapshot (engine.old.snapshot + 1)) pass.new engine.new (next_in result answer.new) }
 {

@@ -6,6 +6,7 @@ ghost use Rattle.norec_core.specs.declared.answer.Next.TheVariants.{Step as Asks
 ghost use Rattle.norec_core.specs.Moves.{IsCalled};
 ghost use Rattle.norec_engine.specs.WholeReads.{LoadsWord, ReadsAtOnce};
 ghost use Rattle.norec_engine.specs.WholeWrites.{ServesWrite};
+ghost use Rattle.write_set.specs.declared.keyed_rows.TheConstants.{FEW_ROWS};
 ghost use Rattle.shared_words.specs.Passes.{Owns, view_of};
 ghost use Rattle.call_rules.specs.Underway.{Finds};
 ghost use Rattle.call_rules.specs.Drives.{Finishes};
@@ -20,9 +21,7 @@ use norec_core::Answer;
 use norec_engine::Engine;
 use shared_words::{Pass, Words};
 use std::alloc::Allocator;
-
-/// The rows of so many written words are looked at one by one.
-const FEW_WRITES: usize = 8;
+use write_set::FEW_ROWS;
 
 /// How far a read of a number went on the fast path.
 #[derive(Clone, Copy)]
@@ -57,14 +56,15 @@ pub(crate) fn look<A: Allocator>(
     let written = engine.written();
     if written == 0 {
         look_here(words, pass, engine, at)
-    } else if written <= FEW_WRITES {
+    } else if written <= FEW_ROWS {
         look_beside_writes(words, pass, engine, at)
     } else {
         look_among_writes(words, pass, engine, at)
     }
 }
 
-/// The same, where few words are written. (Apart: their rows are looked at one by one, which is much code.)
+/// The same, where few words are written. (Apart: their rows are looked at one by one, which is much code. That there are few is
+/// said once more for the compiler, which then leaves out what looks among many.)
 #[inline(never)]
 fn look_beside_writes<A: Allocator>(
     words: &Words<A>,
@@ -74,10 +74,12 @@ fn look_beside_writes<A: Allocator>(
 ) -> Looked
     requires own { Owns words.now pass.old }
     requires stands { Stands (view_of pass.old) engine.old }
-    requires few { length engine.old.writes ≤ 8 }
+    requires few { length engine.old.writes ≤ FEW_ROWS }
     ensures { LooksSo words.now pass.old engine.old (Call.Read ReadHint.R Width.U8 at) result pass.new engine.new }
 {
-    prove!(engine.written() <= FEW_WRITES);
+    if engine.written() > FEW_ROWS {
+        unreachable!();
+    }
     look_here(words, pass, engine, at)
 }
 
@@ -176,7 +178,7 @@ fn load_both<A: Allocator>(
     requires loads { LoadsWord engine.old word }
     requires due { (s : Start) × InCall s (view_of pass.old) engine.old (Step.Load (word + 1)) }
     ensures number { IfOk result (λ n. Finishes words.now (view_of pass.old) engine.old (Asks (Step.Load (word + 1))) (Answer.Reply (Reply.Bytes (record { items = bytes_of_number n }))) pass.new engine.new) }
-    ensures moved { IfErr result (λ clock. Finds words.now (view_of pass.old) engine.old (Asks (Step.Load (word + 1))) clock pass.new engine.new) }
+    ensures moved { IfErr result (λ clock. (f : Finds words.now (view_of pass.old) engine.old (Asks (Step.Load (word + 1))) clock pass.new engine.new) × (f.step ≡ Step.Load 0)) }
     ensures other { IfErr result (λ clock. clock ≢ engine.old.snapshot) }
 {
     let value = words.step(pass, Step::Load(word + 1));
@@ -220,7 +222,7 @@ fn put_found(engine: &mut Engine, at: u64, value: u64) -> bool
     put_afar(engine, at, value)
 }
 
-/// The same, where the word is looked for, or memory is taken. (Apart, as `look_beside_writes`.)
+/// The same, where the word is looked for, or memory is taken. (Apart, as `look_among_writes`.)
 #[inline(never)]
 fn put_afar(engine: &mut Engine, at: u64, value: u64) -> bool
     requires idle { engine.old.waits ≡ None }

@@ -25,7 +25,7 @@ use Rattle.norec_revocable.specs.Moves.{CallTurns}
 use Rattle.norec_revocable.proofs.CommitCalls.{asks}
 use Rattle.norec_revocable.proofs.StoredRows.{after_row, after_taking, asking, asks_next, last_stage, may_first, may_store, part_loaded, part_stage, sound_load, whole_stage}
 use Rattle.norec_engine.specs.Modes.{engine_in, IsSoundIn}
-use Rattle.norec_engine.specs.BlockSteps.{CommitTakes, IsWhole, StoresRows, TakesClock, WritesBack, exchanging, merging, next_step, part_store, storing}
+use Rattle.norec_engine.specs.BlockSteps.{AsksForClock, IsWhole, StoresRows, WaitsForClock, WritesBack, exchanging, merging, next_step, part_store, storing}
 use Rattle.norec_engine.proofs.BlockSteps.{exchange_at, mode}
 use Rattle.norec_engine.proofs.IdleEngines.{asks_for, core_idle, sound_idle}
 use Rattle.norec_engine.proofs.RevocableTurns.{resumed}
@@ -128,24 +128,24 @@ pub record Exchanges (d : Data) (c : Core) : Type 0 where
 
 module _ (b : Bool) (d : Data) (p : Pending) (c : Core) (view : engine_in b d (phase_of d p) ≡ c) (sound : IsSoundIn b d (phase_of d p)) where
   -- it waits for the clock already
-  waiting : TakesClock c → (core d (at.Exchange takings.Commit) ≡ c) × IsSound (record d { taking = takings.Commit }) (at.Exchange takings.Commit)
-  waiting t =
-      let here = exchange_at b d p c view sound t.revocable t.stage in
-      let shown = (λ i. engine_in (mode b d p c view sound t.revocable i) d (phase_of d (here.0 i))) ∙ ap (λ (k : Taking). core d (at.Exchange k)) here.1 in
+  waiting : c.irrevocable ≡ false → c.stage ≡ at.Exchange takings.Commit → (core d (at.Exchange takings.Commit) ≡ c) × IsSound (record d { taking = takings.Commit }) (at.Exchange takings.Commit)
+  waiting revocable stage =
+      let here = exchange_at b d p c view sound revocable stage in
+      let shown = (λ i. engine_in (mode b d p c view sound revocable i) d (phase_of d (here.0 i))) ∙ ap (λ (k : Taking). core d (at.Exchange k)) here.1 in
       (sym shown ∙ view, subst (λ (k : Taking). IsSound (record d { taking = k }) (at.Exchange k)) here.1 here.2)
 
-  exchanges_waiting : TakesClock c → Exchanges d c
-  exchanges_waiting t = (let w = waiting t in record { spent = d.spent; entry = d.entry; tries = d.tries; same = ap exchanging w.0; sound = w.1 })
+  exchanges_waiting : WaitsForClock c → Exchanges d c
+  exchanges_waiting t = (let w = waiting t.revocable t.stage in record { spent = d.spent; entry = d.entry; tries = d.tries; same = ap exchanging w.0; sound = w.1 })
 
-  pub shown_taking : TakesClock c → core d (at.Exchange takings.Commit) ≡ c
-  shown_taking t = (waiting t).0
+  pub shown_taking : WaitsForClock c → core d (at.Exchange takings.Commit) ≡ c
+  shown_taking t = (waiting t.revocable t.stage).0
 
   -- as it waits for it, it is as it is seen
-  pub exchanging_now : TakesClock c → exchanging c ≡ c
-  exchanging_now t = (let w = waiting t in sym (ap exchanging w.0) ∙ w.0)
+  pub exchanging_now : c.irrevocable ≡ false → c.stage ≡ at.Exchange takings.Commit → exchanging c ≡ c
+  exchanging_now revocable stage = (let w = waiting revocable stage in sym (ap exchanging w.0) ∙ w.0)
 
   -- or a commit comes now
-  module _ (t : CommitTakes c) where
+  module _ (t : AsksForClock c) where
     none : c.waits ≡ None
     none =
         let here = sym (stage_is b d (phase_of d p)) ∙ (ap (λ (e : Core). e.stage) view ∙ t.stage) in
@@ -157,14 +157,14 @@ module _ (b : Bool) (d : Data) (p : Pending) (c : Core) (view : engine_in b d (p
     pub comes_sound : IsSound d at.Idle
     comes_sound = sound_idle b d p c view sound none (mode b d p c view sound t.revocable)
 
-    pub comes_shown : CommitTakes (core d at.Idle)
-    comes_shown = subst CommitTakes (sym comes_idle) t
+    pub comes_shown : AsksForClock (core d at.Idle)
+    comes_shown = subst AsksForClock (sym comes_idle) t
 
-    called : CallTurns d CommitCall false (Wait waits.Exchange) (asking_commit d)
-    called = (let i = comes_shown in asks d comes_sound i.outermost i.some i.free)
+    pub comes_turns : CallTurns d CommitCall false (Wait waits.Exchange) (asking_commit d)
+    comes_turns = (let i = comes_shown in asks d comes_sound i.outermost i.some i.free)
 
     exchanges_coming : Exchanges d c
-    exchanges_coming = record { spent = 1; entry = length d.log.rows; tries = 0; same = ap exchanging comes_idle; sound = called.sound.sound }
+    exchanges_coming = record { spent = 1; entry = length d.log.rows; tries = 0; same = ap exchanging comes_idle; sound = comes_turns.sound.sound }
 
     pub commit_comes : IsCalled c CommitCall false (Asks (Cas 0 c.snapshot (c.snapshot + 1))) (exchanging c)
     commit_comes =
@@ -172,7 +172,7 @@ module _ (b : Bool) (d : Data) (p : Pending) (c : Core) (view : engine_in b d (p
         let mid = counted (asking_commit d) in
         subst (λ (e : Core). IsCalled c CommitCall false (Asks (Cas 0 e.snapshot (e.snapshot + 1))) (exchanging e)) comes_idle
         (subst (λ (x : Bool). IsCalled c CommitCall false (Asks (Cas 0 d.snapshot (d.snapshot + 1))) (engine_in x mid (at.Exchange takings.Commit))) m
-        (asks_for b d p c view sound none m CommitCall false waits.Exchange (asking_commit d) called))
+        (asks_for b d p c view sound none m CommitCall false waits.Exchange (asking_commit d) comes_turns))
 
   pub exchanges : WritesBack c → Exchanges d c
   exchanges (inl t) = exchanges_waiting t

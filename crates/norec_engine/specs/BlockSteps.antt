@@ -1,4 +1,4 @@
--- The steps of an outermost begin, and of a commit that stores whole words.
+-- The steps of an outermost begin, and of a commit that stores what is written.
 use Rattle.std.specs.Prelude.{◌≡◌, ◌⊎◌, ℕ, suc, ◌+◌, ◌/◌, ◌<◌, ◌≤◌, ◌||◌, not, Bool, true, false, if◌then◌else◌, [], None, Some, length}
 use Rattle.itm_types.specs.declared.call.Call.TheVariants.{Begin, Commit as CommitCall}
 use Rattle.itm_types.specs.declared.call.Props.{Props}
@@ -25,30 +25,12 @@ pub record IsBegun (old : Core) (props : Props) (room : ℕ) (again : Bool) (clo
   pub called : IsCalled old (Begin props room) again (Asks (Load 0)) mid
   pub resumed : IsResumed mid clock (Answers (Reply (Code code))) new
 
--- the engine takes the clock, to commit what is written
-pub record TakesClock (e : Core) : Type 0 where
-  pub revocable : e.irrevocable ≡ false
-  pub stage : e.stage ≡ Exchange Commit
-  pub some : 0 < length e.writes
-
--- between two calls: a commit that comes now takes the clock
-pub record CommitTakes (e : Core) : Type 0 where
-  pub revocable : e.irrevocable ≡ false
-  pub stage : e.stage ≡ Idle
-  pub outermost : is_outermost e.blocks ≡ true
-  pub some : 0 < length e.writes
-  pub free : e.snapshot / 2 < e.max_commits
-
--- what is written is to be stored: by a commit that waits for the clock, or that comes now
-abbrev pub WritesBack : Core → Type 0
-WritesBack e = TakesClock e ⊎ CommitTakes e
-
 -- between two calls
 abbrev pub is_idle : Phase → Bool
 is_idle Idle = true
 is_idle _ = false
 
--- as that commit waits for the clock
+-- as a commit waits for the clock: one that waits for it, or that comes now
 abbrev pub exchanging : Core → Core
 exchanging e = record e {
   doing = Some CommitCall;
@@ -59,6 +41,25 @@ exchanging e = record e {
   tries = if is_idle e.stage then 0 else e.tries;
   entry = if is_idle e.stage then length e.log else e.entry;
 }
+
+-- a commit waits for the exchange that takes the clock
+pub record WaitsForClock (e : Core) : Type 0 where
+  pub revocable : e.irrevocable ≡ false
+  pub stage : e.stage ≡ Exchange Commit
+  pub some : 0 < length e.writes
+  pub asked : exchanging e ≡ e
+
+-- between two calls: a commit that comes now asks for the clock
+pub record AsksForClock (e : Core) : Type 0 where
+  pub revocable : e.irrevocable ≡ false
+  pub stage : e.stage ≡ Idle
+  pub outermost : is_outermost e.blocks ≡ true
+  pub some : 0 < length e.writes
+  pub free : e.snapshot / 2 < e.max_commits
+
+-- what is written is to be stored: by a commit that waits for the clock, or that comes now
+abbrev pub WritesBack : Core → Type 0
+WritesBack e = WaitsForClock e ⊎ AsksForClock e
 
 -- the row is one of a whole word
 abbrev pub IsWhole : Core → ℕ → Type 0

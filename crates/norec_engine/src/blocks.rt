@@ -8,7 +8,7 @@ ghost use Rattle.std.specs.Prelude.{◌≡◌, ◌+◌, ◌/◌, ◌%◌, ◌<�
 ghost use Rattle.norec_core.specs.Moves.{IsCalled, IsResumed};
 ghost use Rattle.norec_core.specs.declared.answer.Next.TheVariants.{Step as Asks, Answer as Answers};
 ghost use Rattle.norec_core.specs.Rows.{value_into, write_at};
-ghost use Rattle.norec_engine.specs.BlockSteps.{CommitTakes, IsBegun, IsWhole, StoresRows, TakesClock, WritesBack, begins_outer, exchanging, next_step, storing};
+ghost use Rattle.norec_engine.specs.BlockSteps.{AsksForClock, IsBegun, IsWhole, StoresRows, WaitsForClock, WritesBack, begins_outer, exchanging, next_step, storing};
 
 use crate::engine::Engine;
 use crate::turns::wait;
@@ -80,10 +80,10 @@ impl Engine {
     /// Whether a commit that comes now asks for the clock: the transaction is revocable, one block is open, something is written, and
     /// fewer have committed than may.
     #[inline(always)]
-    pub fn commit_takes(&self) -> bool
+    pub fn asks_for_clock(&self) -> bool
         requires idle { self.now.waits ≡ None }
-        ensures takes { (result ≡ true → CommitTakes self.now) × (CommitTakes self.now → result ≡ true) }
-        ensures called { CommitTakes self.now → IsCalled self.now Call.Commit false (Asks (Step.Cas 0 self.now.snapshot (self.now.snapshot + 1))) (exchanging self.now) }
+        ensures takes { (result ≡ true → AsksForClock self.now) × (AsksForClock self.now → result ≡ true) }
+        ensures called { AsksForClock self.now → IsCalled self.now Call.Commit false (Asks (Step.Cas 0 self.now.snapshot (self.now.snapshot + 1))) (exchanging self.now) }
     {
         if self.irrevocable
             || !self.state.is_outermost()
@@ -98,8 +98,7 @@ impl Engine {
     /// `call_into` of such a commit: the clock is to be taken.
     #[inline(always)]
     pub fn commit_writes(&mut self) -> Step
-        requires idle { self.old.waits ≡ None }
-        requires takes { CommitTakes self.old }
+        requires takes { AsksForClock self.old }
         ensures state { self.new ≡ exchanging self.old }
         ensures step { result ≡ Step.Cas 0 self.old.snapshot (self.old.snapshot + 1) }
     {
@@ -138,7 +137,7 @@ impl Engine {
 
     /// What the clock is freed with, once the rows are stored.
     #[inline(always)]
-    pub fn clock_to_free(&self) -> u64
+    pub fn freed_clock(&self) -> u64
         requires back { WritesBack self.now }
         ensures { next_step self.now (length self.now.writes) ≡ Step.Store 0 result }
     {
@@ -149,7 +148,7 @@ impl Engine {
     /// transaction has committed. The number of commits before it.
     #[inline(always)]
     pub fn rows_stored(&mut self, loads: usize) -> u64
-        requires takes { TakesClock self.old }
+        requires takes { WaitsForClock self.old }
         requires few { loads ≤ length self.old.writes }
         ensures { (seen : ℕ) → IsResumed (storing self.old (length self.old.writes) loads) seen (Answers (Answer.Committed result true)) self.new }
     {
@@ -162,8 +161,7 @@ impl Engine {
     /// The same of a commit that comes now.
     #[inline(always)]
     pub fn commit_at_once(&mut self, loads: usize) -> u64
-        requires idle { self.old.waits ≡ None }
-        requires takes { CommitTakes self.old }
+        requires takes { AsksForClock self.old }
         requires few { loads ≤ length self.old.writes }
         ensures { (seen : ℕ) → IsResumed (storing (exchanging self.old) (length self.old.writes) loads) seen (Answers (Answer.Committed result true)) self.new }
     {

@@ -171,7 +171,7 @@ impl Engine {
                 }
             }
             Call::Commit => {
-                if self.commit_takes() {
+                if self.asks_for_clock() {
                     return Ok(Some(self.commit_writes()));
                 }
             }

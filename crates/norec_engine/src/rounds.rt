@@ -8,7 +8,7 @@ ghost use Rattle.norec_core.specs.Aims.{Aim};
 ghost use Rattle.norec_core.specs.Moves.{IsResumed};
 ghost use Rattle.norec_core.specs.Phases.{RoundEnd, RoundRow, RoundStart};
 ghost use Rattle.norec_core.specs.Proceeds.{Fits};
-ghost use Rattle.norec_engine.specs.BlockSteps.{TakesClock, exchanging};
+ghost use Rattle.norec_engine.specs.BlockSteps.{WaitsForClock};
 ghost use Rattle.norec_engine.specs.NextSteps.{next_in};
 ghost use Rattle.norec_engine.specs.Rounds.{Validates};
 
@@ -114,9 +114,8 @@ impl Engine {
 
     /// Whether it waits for the exchange that takes the clock, to commit what is written.
     #[inline(always)]
-    pub fn takes_clock(&self) -> bool
-        ensures takes { (result ≡ true → TakesClock self.now) × (TakesClock self.now → result ≡ true) }
-        ensures asked { TakesClock self.now → exchanging self.now ≡ self.now }
+    pub fn waits_for_clock(&self) -> bool
+        ensures { (result ≡ true → WaitsForClock self.now) × (WaitsForClock self.now → result ≡ true) }
     {
         match (self.pending, self.state.taking) {
             (Pending::Exchange, Taking::Commit) => true,

@@ -76,7 +76,9 @@ pub fn begin_at_once(state: &mut Data, props: Props, again: bool, seen: u64) -> 
     ensures end { result ≡ if again then CallEnd.EnteredAgain else CallEnd.Entered }
 {
     // (what begins a block within others is not compiled here)
-    prove!(!state.is_open());
+    if state.is_open() {
+        unreachable!();
+    }
     state.entry = 0;
     state.spent = 1;
     state.restarted = 0;

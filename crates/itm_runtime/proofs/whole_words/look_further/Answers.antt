@@ -1,7 +1,9 @@
-use Rattle.std.proofs.Common.{false}
+use Rattle.std.proofs.Common.{◌+◌, ◌∙◌, false, sym}
 use Rattle.itm_types.specs.declared.access.ReadHint.TheVariants.{R}
 use Rattle.itm_types.specs.declared.access.Width.TheVariants.{U8}
 use Rattle.itm_types.specs.declared.call.Call.TheVariants.{Read}
+use Rattle.itm_types.specs.declared.step.Step.TheVariants.{Load}
+use Rattle.norec_core.specs.declared.answer.Next.TheVariants.{Step as Asks}
 use Rattle.shared_words.specs.Passes.{view_of}
 use Rattle.call_rules.specs.Standing.{start_of}
 use Rattle.call_rules.proofs.Steps.StepChains.{starts}
@@ -11,4 +13,16 @@ pub load_both-requires-clause-due : goal.load_both-requires-clause-due
 load_both-requires-clause-due g c = (
   start_of (record { pass = c.args.pass.now; engine = c.args.engine.now }) (Read R U8 c.args.at) false,
   starts (view_of c.args.pass.now) c.args.engine.now c.read_fast.new.self (Read R U8 c.args.at) false c.requires.stands _ c.in-Some.ensures.called,
+)
+
+pub returns-in-Err : goal.returns-in-Err
+returns-in-Err g c = (
+  record {
+    came = c.read_fast.new.self;
+    first = Asks (Load (c.in-Some.word + 1));
+    called = c.in-Some.ensures.called;
+    finds = c.in-Err.ensures.moved.0;
+  },
+  c.in-Err.ensures.moved.1,
+  λ is. c.in-Err.ensures.other (is ∙ sym c.in-Some.ensures.called.stays.snapshot),
 )

@@ -21,23 +21,23 @@ pub invariant_of-self-in-Read : goal.invariant_of-self-in-Read
 invariant_of-self-in-Read g c = left_standing c.self.inside.pass c.self.invariant c.in-Read.ensures.called c.in-Read.ensures.finishes c.args.self.now c.self.view_is c.requires.own
 
 pub go_on_from-answer-requires-clause-done : goal.go_on_from-answer-requires-clause-done
-go_on_from-answer-requires-clause-done g c = underway c.args.words.now c.self.inside.pass c.self.inside.engine Commit false c.in-Found.found _ _ c.in-Found.ensures c.self.invariant (subst (λ (t : Standing). Owns c.args.words.now t.pass) (sym c.self.view_is) c.requires.own).over
+go_on_from-answer-requires-clause-done g c = underway c.args.words.now c.self.inside.pass c.self.inside.engine Commit false c.in-Found.found _ _ c.in-Found.ensures.0 c.self.invariant (subst (λ (t : Standing). Owns c.args.words.now t.pass) (sym c.self.view_is) c.requires.own).over
 
 pub invariant_of-self-in-Found : goal.invariant_of-self-in-Found
 invariant_of-self-in-Found g c =
-    let u = c.in-Found.ensures in
+    let u = c.in-Found.ensures.0 in
     let f = goes_on c.args.words.now c.self.inside.pass c.self.inside.engine Commit false c.in-Found.found _ _ u c.go_on_from-answer.result c.go_on_from-answer.new.pass c.go_on_from-answer.new.engine (c.go_on_from-answer.ensures u.finds.before u.finds.step u.finds.stepped) in
     left_standing c.self.inside.pass c.self.invariant u.called f c.args.self.now c.self.view_is c.requires.own
 
 pub returns-in-Found-clause-answered : goal.returns-in-Found-clause-answered
 returns-in-Found-clause-answered g c =
-    let u = c.in-Found.ensures in
+    let u = c.in-Found.ensures.0 in
     let f = goes_on c.args.words.now c.self.inside.pass c.self.inside.engine Commit false c.in-Found.found _ _ u c.go_on_from-answer.result c.go_on_from-answer.new.pass c.go_on_from-answer.new.engine (c.go_on_from-answer.ensures u.finds.before u.finds.step u.finds.stepped) in
     answered c.self.inside.pass c.self.invariant u.called f c.args.self.now c.self.view_is c.requires.own
 
 pub returns-in-Found-clause-whole : goal.returns-in-Found-clause-whole
 returns-in-Found-clause-whole g c =
-    let u = c.in-Found.ensures in
+    let u = c.in-Found.ensures.0 in
     let f = goes_on c.args.words.now c.self.inside.pass c.self.inside.engine Commit false c.in-Found.found _ _ u c.go_on_from-answer.result c.go_on_from-answer.new.pass c.go_on_from-answer.new.engine (c.go_on_from-answer.ensures u.finds.before u.finds.step u.finds.stepped) in
     commit_whole _ _ _ _ (answered c.self.inside.pass c.self.invariant u.called f c.args.self.now c.self.view_is c.requires.own).served refl
 

@@ -3,12 +3,12 @@ use Rattle.norec_core.specs.Core.{Core}
 use Rattle.norec_core.specs.Moves.{IsResumed}
 use Rattle.norec_core.specs.declared.answer.Answer.TheVariants.{Committed}
 use Rattle.norec_core.specs.declared.answer.Next.TheVariants.{Answer as Answers}
-use Rattle.norec_engine.specs.BlockSteps.{TakesClock, storing}
+use Rattle.norec_engine.specs.BlockSteps.{WaitsForClock, storing}
 use Rattle.norec_engine.proofs.engine.Engine.commit_at_once.Goals as goal
 
 pub rows_stored-requires : goal.rows_stored-requires
 rows_stored-requires c = record {
-  takes = subst TakesClock (sym c.commit_writes-step.ensures.state) (record { revocable = c.requires.takes.revocable; stage = refl; some = c.requires.takes.some });
+  takes = subst WaitsForClock (sym c.commit_writes-step.ensures.state) (record { revocable = c.requires.takes.revocable; stage = refl; some = c.requires.takes.some; asked = refl });
   few = subst (λ (e : Core). c.args.loads ≤ length e.writes) (sym c.commit_writes-step.ensures.state) c.requires.few;
 }
 

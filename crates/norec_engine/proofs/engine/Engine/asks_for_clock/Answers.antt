@@ -1,5 +1,5 @@
 use Rattle.norec_engine.proofs.RowSteps.{commit_comes}
-use Rattle.norec_engine.proofs.engine.Engine.commit_takes.Goals as goal
+use Rattle.norec_engine.proofs.engine.Engine.asks_for_clock.Goals as goal
 
 pub returns-then-self-clause-called : goal.returns-then-self-clause-called
 returns-then-self-clause-called c takes =

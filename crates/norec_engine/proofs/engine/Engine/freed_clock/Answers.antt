@@ -6,7 +6,7 @@ use Rattle.norec_core.specs.declared.call_parts.Taking.TheVariants.{Commit}
 use Rattle.norec_revocable.proofs.StoredRows.{last_stage}
 use Rattle.norec_engine.specs.BlockSteps.{next_step}
 use Rattle.norec_engine.proofs.RowSteps.{exchanges}
-use Rattle.norec_engine.proofs.engine.Engine.clock_to_free.Goals as goal
+use Rattle.norec_engine.proofs.engine.Engine.freed_clock.Goals as goal
 
 pub returns : goal.returns
 returns c =
