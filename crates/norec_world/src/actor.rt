@@ -8,7 +8,7 @@ ghost use Rattle.std.specs.Prelude.{◌≡◌, ◌≤◌, true, false, Some, Non
 ghost use Rattle.world_rules.specs.Stages.{active_of, calls_of, count_of};
 ghost use Rattle.world_rules.specs.Status.{ending_of, is_waiting, waiting_step, InProgress};
 ghost use Rattle.world_rules.specs.Records.{ReadsAt, told};
-ghost use Rattle.world_rules.specs.Moments.{HasStepped};
+ghost use Rattle.event_rules.specs.Moments.{HasStepped};
 ghost use Rattle.world_rules.specs.ActionRoom.{MayRun, MayRunOn, IsActing};
 ghost use Rattle.world_rules.specs.Sound.{IsSound, MayRecord, WritesDown};
 ghost use Rattle.tx_runs.specs.declared.player_run.Current.TheVariants.{Outside};

@@ -13,7 +13,7 @@ ghost use Rattle.norec_core.specs.Proceeds.{IsSettled};
 ghost use Rattle.norec_core.specs.Undoing.{after_undoing};
 ghost use Rattle.itm_types.specs.Calls.{is_begin};
 ghost use Rattle.world_rules.specs.LocalWork.{HasUsedUp};
-ghost use Rattle.world_rules.specs.Moments.{HasWorked};
+ghost use Rattle.event_rules.specs.Moments.{HasWorked};
 ghost use Rattle.world_rules.specs.ActionRoom.{MayRunOn, IsActing, IsRefused, MayRun};
 ghost use Rattle.world_rules.specs.Sound.{IsTied, IsKept, IsReady, IsSound, IsAsked, IsUnasked, MayRecord, WritesDown, Falls};
 ghost use Rattle.tx_runs.specs.PlayerRuns.{tally_of};

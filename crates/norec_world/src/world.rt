@@ -41,7 +41,7 @@ impl<P: Player> Model for World<P> {
     ghost Value = { World P };
 
     ghost use Rattle.norec_world.specs.Views.{world_of};
-    ghost use Rattle.world_rules.specs.Invariant.{IsWorld};
+    ghost use Rattle.event_rules.specs.Invariant.{IsWorld};
 
     ghost view = { world_of };
 

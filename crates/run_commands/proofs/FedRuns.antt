@@ -5,7 +5,7 @@ use Rattle.world_rules.specs.Commits.{CommitsInOrder}
 use Rattle.world_rules.specs.Tied.{AreTied}
 use Rattle.world_rules.specs.World.{World, ending_at}
 use Rattle.world_rules.proofs.Common.{slice_get_within}
-use Rattle.world_rules.proofs.Events.SoundOthers.{odd_or_even}
+use Rattle.world_rules.proofs.Events.Worlds.{odd_or_even}
 use Rattle.script_laws.specs.Assembled.{HasNestedCode}
 use Rattle.script_laws.proofs.FedScripts.{are_fed}
 use Rattle.script_program.specs.Listing.{Listing, threads_of}

@@ -1,7 +1,2 @@
 -- The commits, in their order, and the memories that they left.
-pub mod ActorLimits
-pub mod CommitCounts
 pub mod Memories
-pub mod SeenMemories
-pub mod LaidWords
-pub mod OutrunConflicts

@@ -1,6 +1,13 @@
 -- Worked cases, computed: the attempts of one counter, and of two whose first try is lost; a block that is cancelled and the next one; the counts of a schedule; which transactions have a room that is kept; a block within another that goes back; which calls go on.
 use Rattle.std.proofs.Common.{◌≡◌, ℕ, suc, ◌-◌, List, [], ◌∷◌, ◌++◌, length, map, refl, ap, ◌∙◌, false, true, replicate, Option, None, Some, Ok, Err, arith, slice_get}
-use Rattle.world_rules.proofs.Common.{Abort, AreDated, Attempt, Begin, Between, Call, CallRecord, Code, Commit, Core, Done, Frame, IsDated, IsOpaque, IsRunOf, Log, Mode, Props, Read, Refused, Outcome, Replied as Reply, Rules, Save, Write, after, alone, is_held, opening, passes_of, promised, slice_index_or, takes_clock, wanted}
+use Rattle.itm_types.specs.declared.call.Call.TheVariants.{Abort, Log, Mode, Read, Save}
+use Rattle.world_rules.specs.Dates.{AreDated, IsDated}
+use Rattle.world_rules.proofs.Common.{Attempt, Begin, Between, Call, CallRecord, Commit, Core, Done, IsOpaque, IsRunOf, Props, Outcome, Replied as Reply, Rules, Write, after, alone, passes_of, slice_index_or, takes_clock}
+use Rattle.itm_types.specs.declared.call.Reply.TheVariants.{Code, Refused}
+use Rattle.nest_frames.specs.Nest.{Frame}
+use Rattle.world_rules.specs.ActionRoom.{is_held, wanted}
+use Rattle.norec_core.specs.Core.{opening}
+use Rattle.tx_runs.specs.OpenAttempts.{promised}
 use Rattle.world_rules.proofs.Plan.{Plan, next_call, restarted, at_block}
 use Rattle.world_rules.specs.{ActionRoom.counted, Cells.Cells, PlayerRooms.EndsWithin, Progress.asks_further, Tries.GoesBack}
 use Rattle.norec_core.specs.declared.call_parts.Purpose.TheVariants.{Value}
@@ -77,13 +84,13 @@ counter_run = ((refl, refl, omega arith, counter_is_opaque), tt)
 
 -- ## The lost update: of two counters the first to begin is the last to commit. Its first try conflicts, and is opaque all the same.
 
-abbrev other : Attempt
+abbrev pub other : Attempt
 other = tried 1 1 0 [] (read 0 ∷ write 1 ∷ commit ∷ []) Committed
 
-abbrev lost : Attempt
+abbrev pub lost : Attempt
 lost = tried 0 1 0 [] (read 0 ∷ write 1 ∷ []) Conflict
 
-abbrev retried : Attempt
+abbrev pub retried : Attempt
 retried = tried 0 2 1 [] (read 1 ∷ write 2 ∷ commit ∷ []) Committed
 
 abbrev memory : ℕ → List ℕ

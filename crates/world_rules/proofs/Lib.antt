@@ -2,8 +2,5 @@ pub mod Common
 pub mod Plan
 pub mod Examples
 pub mod Tries
-pub mod Rooms
-pub mod Engines
 pub mod Events
 pub mod Commits
-pub mod Runs

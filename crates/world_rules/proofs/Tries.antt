@@ -1,12 +1,4 @@
 -- The attempts: their rows, the tries that they are, and when each began.
 pub mod Stages
-pub mod ReadPositions
 pub mod LaterTries
-pub mod TryEnds
-pub mod AnswerEndings
-pub mod ThreadAttempts
 pub mod ToldTries
-pub mod OpenTries
-pub mod TryCalls
-pub mod TryChains
-pub mod Dates

@@ -24,5 +24,3 @@ pub mod Runs
 pub mod Dates
 pub mod Headline
 pub mod Tied
-pub mod Moments
-pub mod Invariant

@@ -12,16 +12,21 @@ use Rattle.tx_runs.specs.Tallies.{begins, outside}
 use Rattle.norec_core.proofs.Engines.RestartingCalls.{ahead_of_it}
 use Rattle.world_rules.specs.LocalWork.{HasUsedUp}
 use Rattle.world_rules.specs.Records.{Asks as AsksOf}
-use Rattle.world_rules.proofs.Common.{Actor, Answer, Attempt, Begin, Begins, Call, Cells, Core, Current, HasPlace, HasRow, IsAsked, IsKept, IsPromised, IsRefused, IsSound, IsUnasked, KeepsOthers, Kept, MAX_ACTORS, MayRunOn, Next, Props, Rows, Rules, Savepoint, Stage, Step, Within, active_of, begins_again, begun, came, cancels_in, cases_Bool, count_in, ends_in, asks_no_room, in_transaction, irrevocable_room, is_begin, none-some, open_in, promised, reserved, same_Some, stage_of, total, with_room, within}
+use Rattle.event_rules.proofs.Common.{Actor, Answer, Attempt, Begin, Begins, Call, Cells, Core, Current, HasRow, IsAsked, IsPromised, IsSound, KeepsOthers, MAX_ACTORS, MayRunOn, Next, Props, Rows, Rules, Savepoint, Stage, Step, Within, active_of, begins_again, begun, came, cancels_in, cases_Bool, count_in, ends_in, in_transaction, irrevocable_room, is_begin, none-some, open_in, promised, reserved, same_Some, stage_of, total, with_room, within}
+use Rattle.world_rules.specs.ActionRoom.{HasPlace, IsRefused}
+use Rattle.world_rules.proofs.Common.{IsKept}
+use Rattle.world_rules.specs.Sound.{IsUnasked}
+use Rattle.tx_attempts.specs.Kept.{Kept}
+use Rattle.tx_runs.proofs.IrrevocableCalls.{asks_no_room}
 use Rattle.world_rules.specs.declared.actor.Status.TheVariants.{Ready}
 use Rattle.world_rules.specs.declared.actor.Status.{Status}
 use Rattle.norec_world.proofs.Common.{ComesInto, next_in}
-use Rattle.world_rules.proofs.Engines.SoundSteps.{rests}
+use Rattle.event_rules.proofs.Engines.SoundSteps.{rests}
 use Rattle.norec_world.proofs.Rooms.EngineCalls.{called_acting}
-use Rattle.world_rules.proofs.Rooms.ActionRoom.{gave_acting}
-use Rattle.world_rules.proofs.Rooms.CallRoom.{backed_came, promised_came, used_of_call, wanted_came}
+use Rattle.event_rules.proofs.Rooms.ActionRoom.{gave_acting}
+use Rattle.event_rules.proofs.Rooms.CallRoom.{backed_came, promised_came, used_of_call, wanted_came}
 use Rattle.norec_world.proofs.Rooms.EngineCalls.{used_of_room}
-use Rattle.world_rules.proofs.Rooms.HeldRoom.{came_room}
+use Rattle.event_rules.proofs.Rooms.HeldRoom.{came_room}
 use Rattle.world_rules.proofs.Tries.Stages.{asked_at, others_same, row_is_of, row_open, row_same, row_shut, row_unfinished, stage_out}
 
 pub not_within : (c : Current) → ((o : Open) → c ≡ Within o → ⊥) → open_in (stage_of c) ≡ None

@@ -6,16 +6,21 @@ use Rattle.norec_core.specs.Core.{is_within}
 use Rattle.norec_core.specs.RestartingCalls.{can_restart, may_validate, arena_ahead}
 use Rattle.norec_core.proofs.Engines.RestartingCalls.{idle_so, ahead_revocable}
 use Rattle.world_rules.specs.ActionRoom.{may_go_back, BacksIn, BeganIn, NestsBy, StartsEmpty, counted}
-use Rattle.world_rules.proofs.Common.{Answer, Answers, Asks, Call, Core, IsAtOnce, IsSettled, Next, Proceeds, Step, asked, asked_from, in_transaction, stage_at, total, Actor, Attempt, Current, HasPlace, HasRoomFor, HasRow, MayRunOn, Within, active_of, came, cancels_in, ends_in, is_abort, is_begin, pending_of, registers, stage_of, wanted, asks_no_room, irrevocable_room, open_in, promised, promised_held, same_Some}
+use Rattle.event_rules.proofs.Common.{Answer, Answers, Asks, Call, Core, IsAtOnce, IsSettled, Next, Proceeds, Step, asked, asked_from, in_transaction, total, Actor, Attempt, Current, HasRoomFor, HasRow, MayRunOn, Within, active_of, came, cancels_in, ends_in, is_abort, is_begin, pending_of, stage_of, wanted, irrevocable_room, open_in, promised, same_Some}
+use Rattle.norec_core.specs.Order.{stage_at}
+use Rattle.world_rules.specs.ActionRoom.{HasPlace}
+use Rattle.norec_core.proofs.Replies.ActionCounts.{registers}
+use Rattle.tx_runs.proofs.IrrevocableCalls.{asks_no_room}
+use Rattle.tx_runs.proofs.OpenRooms.{promised_held}
 use Rattle.norec_world.proofs.Common.{ComesInto, next_in}
 use Rattle.world_rules.proofs.Tries.Stages.{row_open}
 use Rattle.norec_core.proofs.Engines.KeptFields.{came_restarted}
 use Rattle.tx_runs.specs.OpenAttempts.{told_in, LacksPlaces, Open}
-use Rattle.world_rules.proofs.Rooms.HeldRoom.{held_as}
-use Rattle.world_rules.proofs.Engines.RestartedEngines.{may_inside, not_at_once, not_not, within_inside}
+use Rattle.event_rules.proofs.Rooms.HeldRoom.{held_as}
+use Rattle.event_rules.proofs.Engines.RestartedEngines.{may_inside, not_at_once, not_not, within_inside}
 use Rattle.tx_runs.proofs.StepCalls.{gave_plainly, starves_shut}
 use Rattle.world_rules.specs.LocalWork.{HasUsedUp}
-use Rattle.world_rules.proofs.Rooms.ActionRoom.{TakesRoom, gave_acting}
+use Rattle.event_rules.proofs.Rooms.ActionRoom.{TakesRoom, gave_acting}
 
 -- ## Blocks that may go back
 

@@ -17,7 +17,7 @@ use Rattle.world_rules.specs.Stages.{active_of, opens}
 use Rattle.world_rules.proofs.Tries.Stages.{row_unfinished}
 use Rattle.norec_core.specs.Core.{in_transaction}
 use Rattle.world_rules.specs.World.{World, attempts_of, observed}
-use Rattle.world_rules.proofs.Events.SoundOthers.{odd_or_even}
+use Rattle.world_rules.proofs.Events.Worlds.{odd_or_even}
 use Rattle.tx_runs.proofs.RunLists.{there_is}
 use Rattle.world_laws.specs.Told.{told_of}
 use Rattle.tx_history.proofs.Runs.AloneRuns.{IsPlaced, of_run}

@@ -12,7 +12,7 @@ use Rattle.world_rules.specs.Rows.{AreEnded}
 use Rattle.world_rules.specs.Starts.{IsNew}
 use Rattle.world_rules.specs.World.{is_event}
 use Rattle.world_rules.proofs.Common.{Goes, GoesOnAfter, IsEvent, Leads, Prior, Rows, Tries, TriesAgain, World, active_of, begins, between, both_ways, cases_Bool, ending_at, ending_of, none-some, option_and_then, outrun, over, runs, shut_out, turned_away}
-use Rattle.world_rules.proofs.Events.SoundOthers.{set_place}
+use Rattle.world_rules.proofs.Events.Worlds.{set_place}
 use Rattle.world_rules.proofs.Events.Worlds.{waits_there}
 use Rattle.world_rules.specs.Stages.{opens}
 use Rattle.world_laws.specs.Starved.{FedLeaveNoneOpen, IsFed}

@@ -8,7 +8,7 @@ use Rattle.world_rules.specs.declared.fault.WorldFault.{WorldFault}
 use Rattle.world_rules.specs.declared.fault.WorldFault.TheVariants as faults
 use Rattle.world_rules.specs.World.{is_event}
 use Rattle.world_laws.specs.SameWorlds.{SameWorld}
-use Rattle.world_rules.proofs.Events.SoundOthers.{set_place}
+use Rattle.world_rules.proofs.Events.Worlds.{set_place}
 use Rattle.tx_runs.proofs.RunLists.{there_is}
 use Rattle.std.proofs.lemmas.Option.{slice_get_within as within_of}
 use Rattle.world_rules.proofs.Events.Worlds.{waits_there}

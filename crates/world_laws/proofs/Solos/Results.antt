@@ -31,7 +31,7 @@ use Rattle.world_laws.proofs.Solos.Events.{of_actors_first, of_thread_all}
 use Rattle.world_laws.proofs.Solos.Worlds.{even_free, even_shut}
 use Rattle.world_laws.proofs.Solos.Worlds.{HasSole}
 use Rattle.world_laws.proofs.Solos.Runs.{Arrives, IsNext, between, arrives, is_next, same_state, same_answers, same_row, made_alone}
-use Rattle.world_rules.proofs.Events.SoundOthers.{odd_or_even}
+use Rattle.world_rules.proofs.Events.Worlds.{odd_or_even}
 use Rattle.world_laws.specs.Sole.{IsIdle, IsKeptOut}
 use Rattle.world_laws.specs.Solo.{left_open}
 use Rattle.norec_core.specs.Stands.{state_in}

@@ -5,7 +5,7 @@ use Rattle.world_rules.specs.Actor.{Actor}
 use Rattle.tx_runs.specs.declared.ending.End.TheVariants.{Finished}
 use Rattle.world_rules.specs.declared.fault.WorldFault.{WorldFault}
 use Rattle.world_laws.specs.Sole.{IsSole}
-use Rattle.world_rules.proofs.Events.SoundOthers.{odd_or_even}
+use Rattle.world_rules.proofs.Events.Worlds.{odd_or_even}
 use Rattle.world_rules.proofs.Tries.Stages.{row_open, row_shut}
 use Rattle.norec_core.specs.Core.{may_go}
 use Rattle.world_laws.specs.Sole.{IsIdle}

@@ -1,6 +1,10 @@
 -- Events of a world: what their answers tell, many in a row, and the events of one call of an actor and of one call after the other.
 use Rattle.std.proofs.Common.{inl, inr, ◌≡◌, ◌↔◌, ◌≤◌, zero, suc, ℕ, ◌+◌, ◌<◌, Bool, true, false, cond, length, take, get_or, arith, List, [], ◌∷◌, ◌++◌, count_by, IsTrue, Option, None, Some, Result, Ok, Err, IsSome, refl, sym, ap, subst, ◌∙◌, slice_get, min, if◌then◌else◌}
-use Rattle.world_rules.proofs.Common.{Actor, AreActors, AreOpaque, AreTied, CommitsInOrder, End, Finished, Goes, IsNoMore, Leads, LeavesLess, Passes, Rules, SameOpening, Status, Takes, Waits, World, WorldFault, cases_lt, counted, ending_at, ending_of, event_result, in_transaction, is_ready, is_waiting, observed, option_and_then, passes_of, run_left, slice_get_within, steps_left, waiting_step, waits_at, whole}
+use Rattle.world_rules.proofs.Common.{Actor, AreActors, AreOpaque, AreTied, CommitsInOrder, Finished, Goes, IsNoMore, Leads, Rules, SameOpening, Status, Takes, Waits, World, cases_lt, counted, ending_at, ending_of, event_result, in_transaction, is_ready, is_waiting, observed, option_and_then, passes_of, run_left, slice_get_within, steps_left, waiting_step, waits_at, whole}
+use Rattle.tx_runs.specs.declared.ending.End.{End}
+use Rattle.world_rules.specs.Progress.{LeavesLess}
+use Rattle.world_rules.specs.declared.passes.Passes.{Passes}
+use Rattle.world_rules.specs.declared.fault.WorldFault.{WorldFault}
 use Rattle.world_rules.proofs.Events.Worlds.{some_ended, some_waiting, waits_there, waiting_going}
 use Rattle.world_rules.proofs.Events.Measures.{HasLessSoFar, less_so_far, same_less, less_less}
 use Rattle.tx_runs.proofs.RunLists.{there_is}

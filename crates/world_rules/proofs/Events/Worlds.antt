@@ -1,8 +1,13 @@
 -- The actors of a world, over one event.
-use Rattle.std.proofs.Common.{◌≡◌, ℕ, zero, suc, ◌<◌, true, false, List, [], ◌∷◌, length, Option, None, Some, IsSome, slice_get, refl, sym, ap, ◌∙◌, subst, arith}
-use Rattle.world_rules.proofs.Common.{Actor, AreActors, Ended, IsLawful, Rows, Rules, Status, StatusIs, Step, Waits, World, ending_of, is_ready, is_waiting, option_and_then, slice_index_or, waiting_step, waits_at}
+use Rattle.std.proofs.Common.{◌≡◌, ◌≢◌, ◌⊎◌, inl, inr, ℕ, zero, suc, ◌%◌, ◌<◌, ◌==◌, true, false, List, [], ◌∷◌, length, Option, None, Some, IsSome, slice_get, slice_set, eqb-true, refl, sym, ap, ◌∙◌, subst, arith}
+use Rattle.world_rules.proofs.Common.{Actor, AreActors, Ended, Rows, Rules, Status, Step, Waits, World, ending_of, is_ready, is_waiting, option_and_then, slice_index_or, waiting_step, waits_at}
+use Rattle.norec_core.specs.Proceeds.{IsLawful}
+use Rattle.world_rules.specs.Sound.{StatusIs}
 use Rattle.std.specs.Option.{option_map}
-use Rattle.world_rules.proofs.Common.{Cas, Core, Load, Store, found}
+use Rattle.itm_types.specs.declared.step.Step.TheVariants.{Cas, Load, Store}
+use Rattle.itm_types.proofs.Words.{slice_get-set_other}
+use Rattle.std.proofs.lemmas.Bool.{eqb-false}
+use Rattle.world_rules.proofs.Common.{Core, cases_Bool, cases_lt, found, slice_get-set_same, slice_get_within}
 use Rattle.world_rules.specs.Cells.{IsCell}
 use Rattle.world_rules.specs.World.{operation_at}
 use Rattle.tx_runs.proofs.RunLists.{there_is}
@@ -12,6 +17,19 @@ pub within_some : {A B : Type 0} (f : A → Option B) (xs : List A) (i : ℕ) �
 within_some f [] i h = absurd (cc)
 within_some f (x ∷ xs) zero h = omega arith
 within_some f (x ∷ xs) (suc i) h = (let l = within_some f xs i h in omega arith)
+
+pub odd_or_even : (n : ℕ) → (n % 2 ≡ 0) ⊎ (n % 2 ≡ 1)
+odd_or_even n = elim (cases_lt (n % 2) 1) [ inl l ↦ inl (omega arith) | inr l ↦ inr (omega arith) ]
+
+-- who stands where, once one is replaced
+pub set_place : {A : Type 0} (xs : List A) (i : ℕ) (got new : A) → slice_get xs i ≡ Some got → (j : ℕ) (b : A) → slice_get (slice_set xs i new) j ≡ Some b → ((i ≡ j) × (b ≡ new)) ⊎ ((i ≢ j) × (slice_get xs j ≡ Some b))
+set_place xs i got new here j b e = elim (cases_Bool (i == j)) [
+  | inl h ↦
+      (let same : i ≡ j = eqb-true i j h in
+      let found : Some b ≡ Some new = sym e ∙ (ap (slice_get (slice_set xs i new)) (sym same) ∙ slice_get-set_same xs i new (slice_get_within xs i got here)) in
+      inl (same, cc))
+  | inr h ↦ (let apart : i ≢ j = eqb-false i j h in inr (apart, sym (slice_get-set_other xs i j new apart) ∙ e))
+]
 
 -- the step that a sound actor waits for is one of the algorithm's
 module _ {P : Type 0} (rules : Rules P) where

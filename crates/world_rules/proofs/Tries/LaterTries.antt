@@ -1,6 +1,7 @@
 -- A try later on: the same attempt with more calls, or once a block of it has gone back.
 use Rattle.std.proofs.Common.{inl, inr, ◌≡◌, ℕ, ◌/◌, Bool, true, false, nat_lt, List, [], ◌∷◌, ◌++◌, Option, None, Some, refl, sym, ap, subst, ◌∙◌, arith, append-nil, append_assoc}
-use Rattle.world_rules.proofs.Common.{Actor, Attempt, CallRecord, Continues, EndsAt, GoesOnAfter, HasRow, IsBetween, Kept, Outcome, Prior, Ran, Rows, Tries, TriesAgain, active_of, begins, between, current_of, ending_of, none-some, outrun, over, pending_of, prior_of, runs, same_Some, shut_out, turned_away}
+use Rattle.world_rules.proofs.Common.{Actor, Attempt, CallRecord, Continues, EndsAt, GoesOnAfter, HasRow, IsBetween, Outcome, Prior, Ran, Rows, Tries, TriesAgain, active_of, begins, between, current_of, ending_of, none-some, outrun, over, pending_of, prior_of, runs, same_Some, shut_out, turned_away}
+use Rattle.tx_attempts.specs.Kept.{Kept}
 use Rattle.tx_attempts.specs.declared.attempt.Outcome.TheVariants as outcomes
 use Rattle.tx_runs.specs.declared.ending.End.TheVariants as ends
 use Rattle.world_rules.specs.Tries.{Extends, GoesBack, IsSame}

@@ -1,0 +1,119 @@
+-- By which calls the innermost block may go back to its begin, and what that leaves of the engine.
+use Rattle.std.proofs.Common.{◌≡◌, ◌&&◌, not, nat_lt, ℕ, ◌+◌, ◌-◌, ◌<◌, ◌≤◌, Bool, true, false, List, [], ◌∷◌, ◌++◌, length, None, refl, sym, ap, subst, ◌∙◌, inl, inr, arith}
+use Rattle.std.proofs.lemmas.Bool.{and_parts, lt-ltb}
+use Rattle.nest_frames.specs.Nest.{renewed as blocks_renewed}
+use Rattle.norec_core.specs.Core.{is_within}
+use Rattle.norec_core.specs.Restarts.{Restarts}
+use Rattle.norec_core.proofs.Engines.BlocksAgain.{restart_parts}
+use Rattle.norec_core.proofs.Replies.ActionCounts.{cancel_runs}
+use Rattle.tx_runs.proofs.RestartedLengths.{again_long, renewed_long}
+use Rattle.tx_runs.proofs.RestartsLeft.{left_inside, left_most, left_outside}
+use Rattle.world_rules.specs.ActionRoom.{may_go_back}
+use Rattle.world_rules.specs.Sound.{LeavesRestarts}
+use Rattle.tx_runs.specs.Ranks.{restarts_left}
+use Rattle.event_rules.proofs.Common.{Answer, Answers, Asks, Core, Ends, Frame, IsAtOnce, IsMemory, IsRestart, IsSettled, Next, Proceeds, Ran, Restarted, State, cases_Bool, in_transaction, is_inside, rests, stands_for, total}
+use Rattle.tx_runs.proofs.EngineStates.{stands_arena}
+
+-- ## Calls
+
+-- no call is answered so without a step
+not_soon : (a : Answer) → IsAtOnce (Answers a) → IsRestart a → ⊥
+not_soon (Restarted clock word) soon is = soon
+not_soon a soon is = absurd is
+
+pub not_at_once : (what : Next) → IsAtOnce what → (a : Answer) → what ≡ Answers a → IsRestart a → ⊥
+not_at_once what soon a is = not_soon a (subst IsAtOnce is soon)
+
+pub not_not : (b : Bool) → not b ≡ true → b ≡ false
+not_not true e = absurd (cc)
+not_not false e = refl
+
+pub within_inside : (bs : List Frame) → is_within bs ≡ true → is_inside bs ≡ true
+within_inside [] e = absurd (cc)
+within_inside (b ∷ bs) e = refl
+
+-- ## The engine then
+
+within_long : (bs : List Frame) → is_within bs ≡ true → 1 < length bs
+within_long [] e = absurd (cc)
+within_long (b ∷ []) e = absurd (cc)
+within_long (b ∷ p ∷ bs) e = omega arith
+
+renewed_inside : (bs : List Frame) → is_inside (blocks_renewed bs) ≡ is_inside bs
+renewed_inside [] = refl
+renewed_inside (b ∷ bs) = refl
+
+pub may_inside : (e : Core) → may_go_back e ≡ true → in_transaction e ≡ true
+may_inside e may = (let two = (and_parts (nat_lt e.restarted e.restarts) (not e.irrevocable && is_within e.blocks) may).1 in within_inside e.blocks (and_parts (not e.irrevocable) (is_within e.blocks) two).1)
+
+pub revocable_back : (e : Core) → may_go_back e ≡ true → e.irrevocable ≡ false
+revocable_back e may = (let two = (and_parts (nat_lt e.restarted e.restarts) (not e.irrevocable && is_within e.blocks) may).1 in not_not e.irrevocable (and_parts (not e.irrevocable) (is_within e.blocks) two).0)
+
+pub may_same : (c d : Core) → c.restarted ≡ d.restarted → c.restarts ≡ d.restarts → c.irrevocable ≡ d.irrevocable → c.blocks ≡ d.blocks → may_go_back c ≡ may_go_back d
+may_same c d made most mode blocks = λ i. nat_lt (made i) (most i) && (not (mode i) && is_within (blocks i))
+
+pub restarted_more : (mid new : Core) (what : Next) → IsSettled new → Proceeds mid what new → mid.restarted ≤ new.restarted
+restarted_more mid new (Asks step) settled g = omega (arith, ap (λ (c : Core). c.restarted) g.stays)
+restarted_more mid new (Answers (Restarted clock word)) settled g = omega (arith, ap (λ (c : Core). c.restarted) g.stays)
+restarted_more mid new (Answers answer) settled g = omega (arith, (rests mid new answer g).restarted (λ is. is))
+
+pub record IsBack (mid new : Core) : Type 0 where
+  pub may : may_go_back mid ≡ true
+  pub was : in_transaction mid ≡ true
+  pub still : in_transaction new ≡ true
+  pub deep : length new.blocks ≡ length mid.blocks
+  pub inner : 1 < length mid.blocks
+  pub counted : new.restarted ≡ mid.restarted + 1
+  pub fewer : mid.restarted < mid.restarts
+  pub arena : length new.arena ≡ length mid.arena
+  pub more : List Ran
+  pub ran : new.actions.ran ≡ mid.actions.ran ++ more
+  pub most : total new.actions ≤ total mid.actions
+  pub revocable : new.irrevocable ≡ false
+  pub done : new.doing ≡ None
+
+pub is_back : (mid new : Core) (clock word : ℕ) → IsSettled new → Restarts mid clock word new → IsBack mid new
+is_back mid new clock word settled g =
+    let parts = restart_parts mid g.place g.may in
+    let runs = cancel_runs mid.blocks mid.actions in
+    let words = ap (λ (c : Core). c.words) g.stays in
+    let m = settled.agreed.0 in
+    let meets = g.meets m (subst (λ (n : ℕ). IsMemory n m) words settled.agreed.1) settled.agreed.2 in
+    record {
+      may = (λ i. lt-ltb mid.restarted mid.restarts parts.2 i && (not (g.revocable i) && parts.0 i));
+      was = within_inside mid.blocks parts.0;
+      still = ap in_transaction g.stays ∙ (renewed_inside mid.blocks ∙ within_inside mid.blocks parts.0);
+      deep = ap (λ (c : Core). length c.blocks) g.stays ∙ renewed_long mid.blocks;
+      inner = within_long mid.blocks parts.0;
+      counted = ap (λ (c : Core). c.restarted) g.stays;
+      fewer = parts.2;
+      arena = sym (ap (length {A = ℕ}) (stands_arena new m)) ∙ (ap (λ (s : State). length s.arena) meets
+          ∙ (again_long mid.blocks (stands_for mid m) ∙ ap (length {A = ℕ}) (stands_arena mid m)));
+      more = runs.later;
+      ran = ap (λ (c : Core). c.actions.ran) g.stays ∙ runs.ran;
+      most = (let n = runs.most in let same = ap (λ (c : Core). total c.actions) g.stays in omega arith);
+      revocable = ap (λ (c : Core). c.irrevocable) g.stays ∙ g.revocable;
+      done = ap (λ (c : Core). c.doing) g.stays;
+    }
+
+-- ## Restarts that are left
+
+pub left_same : (c d : Core) → in_transaction c ≡ in_transaction d → c.restarts ≡ d.restarts → (in_transaction d ≡ true → c.restarted ≡ d.restarted) → restarts_left c ≡ restarts_left d
+left_same c d sides most made = elim (cases_Bool (in_transaction d)) [
+  | inl o ↦ left_inside c (sides ∙ o) ∙ ((λ i. most i - made o i) ∙ sym (left_inside d o))
+  | inr o ↦ left_outside c (sides ∙ o) ∙ (most ∙ sym (left_outside d o))
+]
+
+-- by an answer
+left_less : (mid new : Core) → new.restarts ≡ mid.restarts → new.restarted ≡ mid.restarted → (in_transaction mid ≡ true → in_transaction new ≡ false → ⊥) → restarts_left new ≤ restarts_left mid
+left_less mid new most made ends = elim (cases_Bool (in_transaction mid)) [
+  | inl o ↦ elim (cases_Bool (in_transaction new)) [ inl n ↦ omega (arith, left_inside mid o, left_inside new n) | inr n ↦ absurd (ends o n) ]
+  | inr o ↦ (let few = left_most new in let all = left_outside mid o in omega arith)
+]
+
+pub leaves_left : (mid new : Core) (answer : Answer) → IsSettled new → Ends mid answer new → LeavesRestarts (in_transaction mid) (in_transaction new) (restarts_left mid) (restarts_left new) answer
+leaves_left mid new (Restarted clock word) settled g =
+    let b = is_back mid new clock word settled g in
+    let most = (rests mid new (Restarted clock word) g).restarts in
+    omega (arith, b.counted, b.fewer, most, left_inside mid b.was, left_inside new b.still)
+leaves_left mid new answer settled g = λ ends. (let r = rests mid new answer g in left_less mid new r.restarts (r.restarted (λ is. is)) ends)
