@@ -1,8 +1,6 @@
 -- Later views of one pass.
 use Rattle.std.proofs.Common.{◌∙◌, refl, arith}
-use Rattle.shared_words.specs.declared.view.View.{View}
-use Rattle.shared_words.proofs.ListPlaces.{starts_self, starts_trans}
-use Rattle.call_rules.specs.Served.{Went}
+use Rattle.call_rules.proofs.Common.{View, Went, starts_self, starts_trans}
 
 pub went_self : (v : View) → Went v v
 went_self v = record { base = refl; share = refl; grows = starts_self v.seen; looks = omega arith; high = omega arith }

@@ -1,3 +1,4 @@
+pub mod Common
 pub mod LaterViews
 pub mod Steps
 pub mod Calls

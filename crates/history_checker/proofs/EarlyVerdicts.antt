@@ -1,19 +1,9 @@
 -- A history of the first two versions gets the verdict that it got before there were others.
-use Rattle.std.proofs.Common.{◌≡◌, ◌⊎◌, inl, inr, ℕ, zero, suc, ◌+◌, ◌*◌, not, ◌&&◌, ◌||◌, ◌==◌, cond, List, [], ◌∷◌, length, Option, None, Some, refl, ap, ◌∙◌}
-use Rattle.std.specs.Prelude.{bytes_eq, nat_le}
-use Rattle.tx_attempts.specs.declared.attempt.Attempt.{Attempt}
-use Rattle.tx_attempts.specs.Attempts.{alone, is_committed, memory_after}
-use Rattle.tx_attempts.specs.Counts.{count_committed, one_where}
-use Rattle.tx_history.specs.declared.history.History.{History}
-use Rattle.tx_history.specs.declared.history.Version.TheVariants.{One, Two}
-use Rattle.tx_history.specs.Legal.{count_holding, is_holding, is_unfinished, memory_at}
-use Rattle.tx_history.specs.Versions.{depth_of}
+use Rattle.std.proofs.Common.{◌≡◌, ◌⊎◌, inl, inr, ℕ, zero, suc, ◌+◌, ◌*◌, not, ◌&&◌, ◌||◌, ◌==◌, cond, List, [], ◌∷◌, length, Option, None, Some, refl, ap, ◌∙◌, bytes_eq, nat_le}
+use Rattle.history_checker.proofs.Common.{Attempt, Bad, History, Legal, One, Spot, Two, alone, at_fault, at_place, committed_fault, count_committed, count_holding, depth_of, ends_free, ends_held, fault_at, fault_in, first_fault, first_of, head_row, is_away, is_committed, is_holding, is_unfinished, is_waiting, memory_at, one_where, others_fault, position_fault, told_row, verdict_of, verdict_on}
+use Rattle.tx_attempts.specs.Attempts.{memory_after}
 use Rattle.history_checker.specs.declared.verdict.BadKind.TheVariants as kind
-use Rattle.history_checker.specs.declared.verdict.Spot.{Spot}
-use Rattle.history_checker.specs.declared.verdict.Verdict.TheVariants.{Legal, Bad}
 use Rattle.history_checker.specs.EarlyVerdicts.{early_away, early_committed, early_count, early_fault, early_free, early_held, early_holding, early_memory, early_on, early_others, early_verdict}
-use Rattle.history_checker.specs.Replays.{first_of, fault_in}
-use Rattle.history_checker.specs.Verdicts.{at_fault, at_place, committed_fault, ends_free, ends_held, fault_at, first_fault, head_row, is_away, is_waiting, others_fault, position_fault, told_row, verdict_of, verdict_on}
 
 memory_same : (h : History) → depth_of h.version ≡ 16 → (k : ℕ) → memory_at h k ≡ early_memory h k
 memory_same h d k = λ i. memory_after (d i) h.memory h.attempts k

@@ -1,18 +1,8 @@
 -- Blocks that ran again among calls: where they stand once one more call or block is told, and their lines.
-use Rattle.std.proofs.Common.{◌≡◌, ℕ, zero, suc, ◌+◌, ◌-◌, ◌<◌, ◌≤◌, List, [], ◌∷◌, ◌++◌, length, take, drop, Option, None, Some, refl, sym, ap, subst, ◌∙◌, arith, append_assoc, append-nil, length-drop, zero-add}
-use Rattle.std.specs.Prelude.{All}
-use Rattle.std.specs.List.{flat_map, slice_get}
+use Rattle.std.proofs.Common.{◌≡◌, ℕ, zero, suc, ◌+◌, ◌-◌, ◌<◌, ◌≤◌, List, [], ◌∷◌, ◌++◌, length, take, drop, Option, None, Some, refl, sym, ap, subst, ◌∙◌, arith, append_assoc, append-nil, length-drop, zero-add, All}
+use Rattle.history_reader.proofs.Common.{Again, All-append, All-cons, All-head, All-nil, All-tail, AreAgain, CallRecord, IsAgain, IsInnerBegin, IsTold, IsUndone, Ran, again_lines, call_line, call_lines, flat_map, restart_line, slice_get, slice_get_within, take-append-le, undone_line, with_undone}
 use Rattle.std.proofs.lemmas.Grind.{flat_map-append}
-use Rattle.std.proofs.lemmas.List.{take_all, drop_all, take-append-le, drop-append-le}
-use Rattle.std.proofs.lemmas.List.Elements.{All-append, All-cons, All-head, All-nil, All-tail}
-use Rattle.std.proofs.lemmas.Option.{slice_get_within}
-use Rattle.itm_types.specs.declared.call.Ran.{Ran}
-use Rattle.tx_attempts.specs.declared.attempt.Again.{Again}
-use Rattle.tx_attempts.specs.declared.attempt.CallRecord.{CallRecord}
-use Rattle.tx_attempts.specs.Restarts.{AreAgain, IsAgain, IsInnerBegin}
-use Rattle.tx_history.specs.Histories.{again_lines, call_line, call_lines, restart_line, undone_line}
-use Rattle.history_reader.specs.Lines.{with_undone}
-use Rattle.history_reader.specs.Tellable.{IsTold, IsUndone}
+use Rattle.std.proofs.lemmas.List.{take_all, drop_all, drop-append-le}
 
 -- ## By the calls up to their begins
 

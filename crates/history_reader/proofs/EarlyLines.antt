@@ -1,25 +1,11 @@
 -- A line of the first two versions says what it said before there were others.
-use Rattle.std.proofs.Common.{◌≡◌, ℕ, Bool, true, false, cond, List, [], ◌∷◌, ◌++◌, length, Result, Ok, Err, refl, ap, subst, ◌∙◌, inl, inr}
-use Rattle.std.specs.Prelude.{codes, bytes_eq}
-use Rattle.script_fields.specs.declared.fault.AsmKind.{AsmKind}
+use Rattle.std.proofs.Common.{◌≡◌, ℕ, Bool, true, false, cond, List, [], ◌∷◌, ◌++◌, length, Result, Ok, Err, refl, ap, subst, ◌∙◌, inl, inr, codes, bytes_eq}
+use Rattle.history_reader.proofs.Common.{AsmKind, Behind, CallRecord, Head, One, Place, State, Two, Version, again_or_later, arena_of, behind_call, between_line, call_of, call_or_later, chosen, early_line, end_line, ended, exactly, fields, final_line, final_of, head_of, later_line, meaning, memory_limit, memory_line, memory_of, next, none, placed, ran_of, restart_of, restart_said as restart_line, thread_limit, told, undone_of, with_undone, ◌>>=◌}
 use Rattle.script_fields.specs.declared.fault.AsmKind.TheVariants as operands
-use Rattle.script_fields.specs.Operands.{◌>>=◌, exactly}
-use Rattle.script_fields.proofs.FirstLines.{chosen}
-use Rattle.tx_attempts.specs.declared.attempt.CallRecord.{CallRecord}
-use Rattle.tx_history.specs.declared.history.Version.{Version}
-use Rattle.tx_history.specs.declared.history.Version.TheVariants.{One, Two}
-use Rattle.tx_history.specs.Versions.{memory_limit, thread_limit}
-use Rattle.history_reader.specs.declared.state.Behind.{Behind}
 use Rattle.history_reader.specs.declared.state.Behind.TheVariants as behinds
-use Rattle.history_reader.specs.declared.state.Head.{Head}
-use Rattle.history_reader.specs.declared.state.Place.{Place}
 use Rattle.history_reader.specs.declared.state.Place.TheVariants as places
-use Rattle.history_reader.specs.declared.state.State.{State}
-use Rattle.history_reader.specs.Faults.{told}
-use Rattle.history_reader.specs.Fields.{fields, next, none}
-use Rattle.history_reader.specs.Calls.{call_of}
-use Rattle.history_reader.specs.EarlyLines.{early_behind, early_call, early_head, early_later, early_line, early_memory, early_placed}
-use Rattle.history_reader.specs.Lines.{again_or_later, arena_line, arena_of, behind_call, between_line, call_line, call_or_later, end_line, ended, final_line, final_of, head_line, head_of, later_line, meaning, memory_line, memory_of, placed, ran_line, ran_of, restart_line, restart_of, undone_line, undone_of, with_undone}
+use Rattle.history_reader.specs.EarlyLines.{early_behind, early_call, early_head, early_later, early_memory, early_placed}
+use Rattle.history_reader.specs.Lines.{arena_line, call_line, head_line, ran_line, undone_line}
 use Rattle.history_reader.proofs.Exactness.Fields.{bind_ok}
 
 -- the version that may tell that a block ran again, or not

@@ -1,19 +1,9 @@
 -- A text of the first two versions is read as it was before there were others.
-use Rattle.std.proofs.Common.{◌≡◌, ℕ, ◌+◌, ◌<◌, Bool, true, false, List, [], ◌∷◌, ◌++◌, length, Result, Ok, Err, refl, sym, ap, ◌∙◌, arith, lit<}
-use Rattle.std.specs.Prelude.{codes, All}
-use Rattle.std.specs.List.{slice_split}
-use Rattle.std.proofs.lemmas.List.Splits.{slice_split_at}
-use Rattle.script_fields.specs.Text.{is_feed}
-use Rattle.script_fields.proofs.FirstLines.{parts_nonempty}
-use Rattle.script_fields.proofs.SpelledFields.{joined_line}
-use Rattle.tx_history.specs.declared.history.Version.TheVariants.{One, Two}
-use Rattle.history_reader.specs.declared.fault.ReadKind.{ReadKind}
+use Rattle.std.proofs.Common.{◌≡◌, ℕ, ◌+◌, ◌<◌, Bool, true, false, List, [], ◌∷◌, ◌++◌, length, Result, Ok, Err, refl, sym, ap, ◌∙◌, arith, lit<, codes, All}
+use Rattle.history_reader.proofs.Common.{One, ReadKind, State, Two, early_line, in_line, initial, is_feed, joined_line, meaning, parts_nonempty, parts_say, read_of, slice_split, slice_split_at}
 use Rattle.history_reader.specs.declared.state.Place.TheVariants as places
-use Rattle.history_reader.specs.declared.state.State.{State}
-use Rattle.history_reader.specs.EarlyLines.{early_line}
 use Rattle.history_reader.specs.EarlyVersions.{early_parts, early_texts, first_of, second_of}
-use Rattle.history_reader.specs.Lines.{initial, meaning}
-use Rattle.history_reader.specs.Reading.{◌>>=◌, in_line, parts_say, read_of}
+use Rattle.history_reader.specs.Reading.{◌>>=◌}
 use Rattle.history_reader.proofs.EarlyLines.{IsEarly, line_kept, line_same}
 
 parts_same : (again : Bool) (s : State) (n : ℕ) (parts : List (List ℕ)) → IsEarly again s → parts_say s n parts ≡ early_parts again s n parts

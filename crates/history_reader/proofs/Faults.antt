@@ -1,12 +1,9 @@
 -- Lines that are at fault.
 use Rattle.std.proofs.Common.{◌≡◌, ℕ, ◌<◌, Result, Ok, Err, refl, ap, subst, sym}
-use Rattle.script_fields.specs.declared.fault.AsmKind.{AsmKind}
+use Rattle.history_reader.proofs.Common.{AsmKind, ReadKind, State, Steps, told}
 use Rattle.script_fields.specs.declared.fault.AsmKind.TheVariants as operands
-use Rattle.history_reader.specs.declared.fault.ReadKind.{ReadKind}
 use Rattle.history_reader.specs.declared.fault.ReadKind.TheVariants as kinds
-use Rattle.history_reader.specs.declared.state.State.{State}
-use Rattle.history_reader.specs.Faults.{line_kind, told}
-use Rattle.history_reader.specs.Reading.{Steps}
+use Rattle.history_reader.specs.Faults.{line_kind}
 
 stops_at : (amount : State → ℕ) (k : AsmKind) (new : State) → Steps amount (Err (line_kind k)) new (told (Err k))
 stops_at amount operands.Character new = refl

@@ -1,20 +1,13 @@
 -- Digits as bytes, and values of a width.
-use Rattle.std.proofs.Common.{◌≡◌, ℕ, ◌*◌, ◌<◌, ◌/◌, ◌%◌, true, eqb, not, ◌&&◌, leb, List, length, take, replicate, Result, Ok, Err, refl, ◌∙◌, arith, inl, inr}
-use Rattle.std.specs.List.{list_all}
-use Rattle.std.proofs.lemmas.Bool.{and_parts, eqb-false, not-true, or_cases, leb-true, le-leb, lt-leb}
-use Rattle.std.proofs.lemmas.List.{take-append-le}
+use Rattle.std.proofs.Common.{◌≡◌, ℕ, ◌*◌, ◌<◌, ◌/◌, ◌%◌, true, eqb, not, ◌&&◌, leb, List, length, take, replicate, Result, Ok, Err, refl, ◌∙◌, arith, inl, inr, MatchResult}
+use Rattle.history_reader.proofs.Common.{Datum, FromHexError, and_parts, decode_of-hex, decoded, eqb-false, is_lower_digit, is_lower_hex, le-leb, leb-true, list_all, low, lt-leb, not-true, or_cases, size_of, take-append-le}
 use Rattle.std.proofs.lemmas.Grind.{common_steps}
 use mathlib.Core.HLevel.{is_prop→PathP}
 use native.Mathlib.Nat.{ℕ_set}
-use Rattle.std.specs.Prelude.{MatchResult}
-use Rattle.hex.specs.declared.error.FromHexError.{FromHexError}
 use Rattle.hex.specs.Hex.{is_hex_digit, decode_sized}
-use Rattle.itm_types.specs.declared.datum.Datum.{Datum}
-use Rattle.itm_types.specs.Access.{size_of}
-use Rattle.script_fields.specs.Operands.{decoded, is_hex}
-use Rattle.script_fields.proofs.HexDigits.{decode_of-hex, decoded_into}
+use Rattle.script_fields.specs.Operands.{is_hex}
+use Rattle.script_fields.proofs.HexDigits.{decoded_into}
 use Rattle.script_fields.proofs.SpelledNumbers.{list_all-weaker}
-use Rattle.history_reader.specs.Digits.{is_lower_digit, is_lower_hex, low}
 
 -- values of one type that have the same bytes are the same
 pub same_datum : (d e : Datum) → d.width ≡ e.width → d.bytes.items ≡ e.bytes.items → d ≡ e

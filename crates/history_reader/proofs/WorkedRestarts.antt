@@ -1,22 +1,12 @@
 -- Worked lines of blocks that ran again, and of versions, as they are read, by computation.
-use Rattle.std.proofs.Common.{◌≡◌, [], ◌∷◌, false, Ok, Err, refl}
-use Rattle.std.specs.Prelude.{codes}
-use Rattle.itm_types.specs.declared.call.ActionKind.TheVariants.{Undo}
-use Rattle.itm_types.specs.declared.call.Call.TheVariants.{Abort, Begin, Commit}
-use Rattle.itm_types.specs.declared.call.Props.{Props}
-use Rattle.itm_types.specs.declared.call.Ran.{Ran}
-use Rattle.itm_types.specs.declared.call.Reply.TheVariants.{Code, Done, Refused}
+use Rattle.std.proofs.Common.{◌≡◌, [], ◌∷◌, false, Ok, Err, refl, codes}
+use Rattle.history_reader.proofs.Common.{Abort, Begin, Code, Commit, Done, Head, One, Props, Ran, ReadOnly, State, Two, Undo, again_or_later, behind_call, call_or_later, initial, later_line, meaning, placed, restart_bytes, with_undone}
+use Rattle.itm_types.specs.declared.call.Reply.TheVariants.{Refused}
 use Rattle.itm_types.specs.declared.call.Refusal.TheVariants.{TooDeep}
 use Rattle.script_fields.specs.declared.fault.AsmKind.TheVariants as operands
-use Rattle.tx_attempts.specs.declared.attempt.Outcome.TheVariants.{ReadOnly}
-use Rattle.tx_history.specs.declared.history.Version.TheVariants.{One, Two}
 use Rattle.history_reader.specs.declared.fault.ReadKind.TheVariants as kinds
 use Rattle.history_reader.specs.declared.state.Behind.TheVariants as behinds
-use Rattle.history_reader.specs.declared.state.Head.{Head}
 use Rattle.history_reader.specs.declared.state.Place.TheVariants as places
-use Rattle.history_reader.specs.declared.state.State.{State}
-use Rattle.history_reader.specs.Digits.{restart_bytes}
-use Rattle.history_reader.specs.Lines.{again_or_later, behind_call, call_or_later, initial, later_line, meaning, placed, with_undone}
 
 abbrev plain : Props
 plain = record { no_abort = false; no_irrevocable = false; goes_irrevocable = false }

@@ -1,21 +1,15 @@
 -- Cells that lie in a vector's block, with no block of their own. Assumes `Logic`.
 use Rattle.itm_c.proofs.Steps.{◌≡◌, ℕ, ◌^◌, ◌<◌, List, [], ◌∷◌, refl, sym, ftrue, ‵, ◌$◌, ◌∵◌, !, qed, done, move, keep, drop, use0, fsplit, fsplit3, fjoin, rewrite, nothing, Fml, Logic, sem, ent}
 use Rattle.std.proofs.Common.{◌*◌, ◌+◌, ◌-◌, ◌≤◌, true, suc, zero, arith}
+use Rattle.itm_c.proofs.Common.{Good, Ptr, RawPtr, Ura, bare, block_ptr, block_with_items, flt_i, flt_l, has_block, lodged, lone, null_ptr, owns_if, ptr_val, u64}
 use Rattle.std.proofs.lemmas.Bool.{ne_eqb, not_from_false}
-use seplogic.Ra.Ura.{Ura}
 use mir.Syntax.{Ty, ty_array}
-use mir.Raw.{raw as bare}
 use base.Fml.{froom, flt, ffalse}
 use base.Logic.{never_e}
 use lib.Dec.{lit<}
-use types.Kit.{by, flt_i, flt_l}
-use denote.Builtin.{u64}
-use denote.Memory.{lone}
-use denote.RawPtr.{RawPtr, Ptr, block_ptr, null_ptr, ptr_val}
-use Rattle.std.specs.Allocator.{block_with_items}
-use Rattle.shared_words.proofs.StructSteps.{Good}
+use types.Kit.{by}
 use Rattle.std_alloc.proofs.RawLayout.{as_raw}
-use Rattle.std_alloc.specs.Vec.Ownership.{has_block, owns_if, lodged, vec_owns}
+use Rattle.std_alloc.specs.Vec.Ownership.{vec_owns}
 
 module _ {M : Type 1} {𝓤 : Ura M} (𝓛 : Logic 𝓤) (t : Ty → Ptr → Fml) where
   -- what room is behind them stays behind

@@ -1,14 +1,9 @@
 -- The box of what a handle holds, and the two structs that own as much as it does.
+use Rattle.itm_c.proofs.Common.{Bx, D, R, RattleType, Ura, bare, block_ptr, box_in, cell_at, dnil, token, with_kept, word, τ}
 use Rattle.itm_c.proofs.Steps.{◌≡◌, ℕ, List, [], ◌∷◌, refl, Option, None, Some, IsSome, full_share, ent, sep, id⊢, Fml, fsep, Val, Logic, sem, ‵, ◌$◌, ◌∵◌, !, qed, done, move, use1, fsplit, fjoin, fpack}
-use seplogic.Ra.Ura.{Ura}
-use mir.Syntax.{impl, tnil, dnil}
-use mir.Raw.{raw as bare}
-use denote.RattleType.{RattleType}
-use denote.Memory.{cell_at, mem, part_at, part_of}
-use denote.RawPtr.{block_ptr}
-use Rattle.std.proofs.alloc.Calls.{token}
-use Rattle.std_alloc.proofs.BoxSteps.Form.{Bx, D, R, τ, handle, word}
-use Rattle.std_alloc.proofs.BoxSteps.Steps.{box_in}
+use mir.Syntax.{impl, tnil}
+use denote.Memory.{mem, part_at, part_of}
+use Rattle.std_alloc.proofs.BoxSteps.Form.{handle}
 use Rattle.std_heap.specs.contracts.Global as Heap
 use Rattle.std_heap.specs.contracts.GlobalAllocator.TheImpl.{ghosts, dict}
 use Rattle.std_heap.proofs.Global.TheLaws as heap
@@ -16,7 +11,6 @@ use Rattle.itm_c.specs.contracts.kept.Kept as Kept
 use Rattle.itm_c.proofs.kept.Kept.TheLaws as kept
 use Rattle.itm_c.specs.contracts.parts.Parts as Parts
 use Rattle.itm_c.specs.contracts.handle.Handle as Handle
-use Rattle.itm_c.specs.HandleLends.{with_kept}
 
 abbrev pub Held : RattleType
 Held = Kept.the_row

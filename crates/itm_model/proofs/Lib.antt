@@ -1,3 +1,4 @@
+pub mod Common
 pub mod ArenaSizes
 pub mod Examples
 pub mod Journals

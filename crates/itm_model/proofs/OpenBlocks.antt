@@ -1,16 +1,10 @@
 -- Laws of the open blocks, as calls change what they stand on.
 use Rattle.std.proofs.Common.{◌≡◌, ℕ, suc, Bool, true, false, true≢false, ◌||◌, ◌+◌, ◌-◌, ◌≤◌, ◌<◌, List, [], ◌∷◌, ◌++◌, length, take, drop, reverse, subst, refl, ap, sym, ◌∙◌, arith, length-append, Option, None, option_map, map}
-use Rattle.std.specs.List.{list_any}
-use Rattle.std.proofs.lemmas.List.{drop-append-le, take-append-drop, reverse-append, length-take-le, length-reverse}
+use Rattle.itm_model.proofs.Common.{Actions, AreUnder, AreWithin, Block, Logged, Mark, Old, Props, Restores, Saved, State, also_kept, back, back_from, blocks_of, closed, drop-append-le, irrevocable_from, kept_of, length-reverse, length-take-le, list_any, merged, put_back, restored, reverse-append, take-append-drop, undone, undone_from}
 use Rattle.std.proofs.lemmas.List.Sorted.{list_any-IsPermutation, IsPermutation-reverse}
-use Rattle.itm_types.specs.declared.call.Props.{Props}
-use Rattle.itm_types.specs.KeptBytes.{also_kept, merged, restored}
-use Rattle.user_actions.specs.Actions.{Actions, committed, cut_back}
-use Rattle.itm_model.specs.State.{Saved, State, Block}
-use Rattle.itm_model.specs.Machine.{back, back_from, closed, handed, logged_in, irrevocable_from, undone, undone_from}
-use Rattle.itm_model.specs.declared.journal.Old.{Old}
-use Rattle.itm_model.specs.declared.journal.Mark.{Mark}
-use Rattle.itm_model.specs.Undoing.{put_back, saved_in, saved_of, block_of, blocks_from, blocks_of, kept_of, AreWithin, AreUnder, Restores, Logged}
+use Rattle.user_actions.specs.Actions.{committed, cut_back}
+use Rattle.itm_model.specs.Machine.{handed, logged_in}
+use Rattle.itm_model.specs.Undoing.{saved_in, saved_of, block_of, blocks_from}
 use Rattle.itm_model.proofs.Journals.Rollbacks.{take-take, length-put_back}
 use Rattle.itm_model.proofs.Journals.KeptLogs.{kept_of-append, kept_of-same, restored_kept}
 

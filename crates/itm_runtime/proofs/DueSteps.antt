@@ -1,9 +1,6 @@
 -- What comes next, as its step or its answer tells it.
 use Rattle.std.proofs.Common.{◌≡◌, Option, None, Some, refl, ap}
-use Rattle.itm_types.specs.declared.step.Step.{Step}
-use Rattle.norec_core.specs.declared.answer.Answer.{Answer}
-use Rattle.norec_core.specs.declared.answer.Next.TheVariants.{Step as Asks, Answer as Answers}
-use Rattle.norec_engine.specs.NextSteps.{next_in}
+use Rattle.itm_runtime.proofs.Common.{Answer, Answers, Asks, Step, next_in}
 
 -- the step that is done next, as what comes next
 pub step_due : (o : Option Step) (a : Answer) (step : Step) → o ≡ Some step → next_in o a ≡ Asks step

@@ -1,10 +1,8 @@
 -- Worked cases of the definitions in `Stops.antt`.
 use Rattle.std.proofs.Common.{◌≡◌, [], ◌∷◌, None, Some, Ok, Err, refl}
-use Rattle.itm_types.specs.declared.call.Refusal.TheVariants.{OutOfRange}
-use Rattle.itm_types.specs.declared.call.Reply.TheVariants.{Bytes, Done, Refused}
-use Rattle.norec_core.specs.declared.answer.Answer.TheVariants.{Reply, Conflict}
+use Rattle.itm_runtime.proofs.Common.{Bytes, Conflict, Done, OutOfRange, Reply, answer_to_read, answer_to_write, number}
+use Rattle.itm_types.specs.declared.call.Reply.TheVariants.{Refused}
 use Rattle.itm_runtime.specs.declared.stop.Stop.TheVariants as stops
-use Rattle.itm_runtime.specs.Stops.{answer_to_read, answer_to_write, number}
 
 -- the low byte comes first
 reads_number : answer_to_read (Ok 258) ≡ Some (Reply (Bytes (record { items = 2 ∷ 1 ∷ 0 ∷ 0 ∷ 0 ∷ 0 ∷ 0 ∷ 0 ∷ [] })))

@@ -1,3 +1,4 @@
+pub mod Common
 pub mod DueSteps
 pub mod NumberAnswers
 pub mod Examples

@@ -1,5 +1,6 @@
 -- How a read and a write of a number are answered where the transaction goes on.
 use Rattle.std.proofs.Common.{◌≡◌, ℕ, ◌+◌, ◌≤◌, Bool, true, false, length, drop, List, Option, None, Some, refl, sym, ap, subst, arith, length-drop}
+use Rattle.itm_runtime.proofs.Common.{Answer, Commit, Conflict, Core, Datum, Done, HasNumber, IsAnswered, OutOfRange, Read, Reply, Standing, Tells, U8, Write, number, start_of}
 use Rattle.std.proofs.lemmas.Bool.{leb-true}
 use Rattle.std.proofs.lemmas.List.{length-take-le}
 use mathlib.Core.HLevel.{is_prop→PathP}
@@ -7,29 +8,20 @@ use native.Mathlib.Nat.{ℕ_set}
 use Rattle.itm_types.specs.Access.{size_of}
 use Rattle.itm_types.specs.declared.access.ReadHint.{ReadHint}
 use Rattle.itm_types.specs.declared.access.WriteHint.{WriteHint}
-use Rattle.itm_types.specs.declared.access.Width.TheVariants.{U8}
-use Rattle.itm_types.specs.declared.datum.Datum.{Datum}
 use Rattle.itm_types.specs.declared.call.Call.{Call}
-use Rattle.itm_types.specs.declared.call.Call.TheVariants.{Commit, Read, Write}
 use Rattle.itm_types.specs.declared.call.Refusal.{Refusal}
-use Rattle.itm_types.specs.declared.call.Refusal.TheVariants.{OutOfRange}
 use Rattle.itm_types.specs.declared.call.Reply.{Reply as Replied}
-use Rattle.itm_types.specs.declared.call.Reply.TheVariants.{Done}
 use Rattle.itm_types.specs.Slices.{slice}
 use Rattle.itm_model.specs.Machine.{bytes_reply, or_else, ranges, refusal, reply_unless, standing, unless}
 use Rattle.itm_model.specs.Places.{in_range}
 use Rattle.itm_model.specs.State.{State}
-use Rattle.norec_core.specs.declared.answer.Answer.{Answer}
-use Rattle.norec_core.specs.declared.answer.Answer.TheVariants.{Reply, Committed, Conflict, Restarted, Busy, Full}
-use Rattle.norec_core.specs.Core.{Core}
+use Rattle.norec_core.specs.declared.answer.Answer.TheVariants.{Committed, Restarted, Busy, Full}
 use Rattle.norec_core.specs.Stands.{stands_for}
 use Rattle.shared_words.specs.declared.view.View.{View}
 use Rattle.shared_words.specs.declared.words.Words.{Words}
-use Rattle.call_rules.specs.CallResults.{IsAnswered, Tells}
 use Rattle.itm_runtime.specs.declared.stop.Stop.TheVariants as stops
 use Rattle.call_rules.specs.Served.{Served, came_over}
-use Rattle.call_rules.specs.Standing.{Standing, start_of}
-use Rattle.itm_runtime.specs.Stops.{GoesOn, HasNumber, bytes_of_number, number}
+use Rattle.itm_runtime.specs.Stops.{GoesOn, bytes_of_number}
 
 -- a value with the width and the bytes of a number is that number's
 pub number_is : (d : Datum) (n : ℕ) → d.width ≡ U8 → d.bytes.items ≡ bytes_of_number n → d ≡ number n

@@ -1,16 +1,13 @@
 -- Worked cases of open blocks, computed.
 use Rattle.std.proofs.Common.{◌≡◌, true, false, List, ℕ, [], ◌∷◌, refl}
+use Rattle.nest_frames.proofs.Common.{Actions, Frame, Moment, Old, Props, Row, Written, actions_back, actions_closed, arena_back, arena_restored, closed, frames_of, is_kept, log_of, logged, made_irrevocable, renewed, start}
 use Rattle.itm_types.specs.declared.call.Action.{Action}
-use Rattle.itm_types.specs.declared.call.Props.{Props}
-use Rattle.undo_log.specs.Rollback.{Old, put_back}
-use Rattle.write_set.specs.declared.row.Row.{Row}
-use Rattle.write_set.specs.Marks.{Written, renewed_at, start}
+use Rattle.undo_log.specs.Rollback.{put_back}
+use Rattle.write_set.specs.Marks.{renewed_at}
 use Rattle.write_set.specs.Rows.{row}
 use Rattle.itm_types.specs.declared.call.ActionKind.TheVariants.{Undo}
-use Rattle.user_actions.specs.Actions.{Actions, no_actions, as_commit, as_undo, registered}
-use Rattle.nest_frames.specs.declared.moment.Moment.{Moment}
-use Rattle.nest_frames.specs.Nest.{Frame, begun, log_of, reads_of, logged, closed, renewed, is_kept, arena_back, arena_restored, made_irrevocable, actions_closed, actions_cancelled, actions_back}
-use Rattle.nest_frames.specs.Moments.{frames_of}
+use Rattle.user_actions.specs.Actions.{no_actions, as_commit, as_undo, registered}
+use Rattle.nest_frames.specs.Nest.{begun, reads_of, actions_cancelled}
 
 abbrev old : ℕ → ℕ → Old
 old place byte = record { place = place; bytes = byte ∷ [] }

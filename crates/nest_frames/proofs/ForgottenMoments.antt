@@ -1,14 +1,8 @@
 -- The open blocks once nothing is written, logged or registered that they could go back to.
 use Rattle.std.proofs.Common.{◌≡◌, ℕ, zero, suc, ◌<◌, ◌≤◌, List, [], ◌∷◌, ◌++◌, length, map, take, drop, reverse, refl, ap, sym, subst, ◌∙◌, arith, slice_index_or, slice_set}
-use Rattle.std.specs.List.{refill}
-use Rattle.std.proofs.lemmas.List.{append-nil, drop_all, length-map, map-append, reverse-append, take_all, take-append-le}
-use Rattle.user_actions.specs.Actions.{ActionList, Actions}
-use Rattle.write_set.specs.Marks.{start, unwritten}
-use Rattle.nest_frames.specs.declared.moment.Moment.{Moment}
-use Rattle.nest_frames.specs.Nest.{Frame, Nest, made_irrevocable}
-use Rattle.write_set.specs.Marks.{Written}
-use Rattle.undo_log.specs.Rollback.{Old, Undo}
-use Rattle.nest_frames.specs.Moments.{forgotten, frame_at, frames_from, frames_of, AreUnder, BeginEmpty, IsSound}
+use Rattle.nest_frames.proofs.Common.{Actions, AreUnder, BeginEmpty, Frame, IsSound, Moment, Nest, Old, Undo, Written, drop_all, forgotten, frame_at, frames_from, frames_of, length-map, made_irrevocable, refill, reverse-append, start, take-append-le, unwritten}
+use Rattle.std.proofs.lemmas.List.{append-nil, map-append, take_all}
+use Rattle.user_actions.specs.Actions.{ActionList}
 
 -- the first ones are forgotten, and now the next one
 pub next_forgotten : {A : Type 0} (f : A → A) (xs : List A) (i : ℕ) (none : A) → i < length xs

@@ -1,3 +1,4 @@
+pub mod Common
 pub mod OpenBlocks
 pub mod NewRows
 pub mod Examples

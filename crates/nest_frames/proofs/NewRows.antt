@@ -1,18 +1,11 @@
 -- Words of which the innermost block's begin had no row.
 use Rattle.std.proofs.Common.{◌≡◌, ◌<◌, ◌≤◌, ℕ, ◌==◌, List, [], ◌∷◌, length, take, drop, reverse, None, refl, sym, ap, subst, ◌∙◌, inl, inr, arith}
-use Rattle.std.proofs.lemmas.Bool.{eqb-true, cases_Bool, cond-true, cond-false}
-use Rattle.std.proofs.lemmas.List.{length-reverse, length-take-le}
-use Rattle.undo_log.specs.Rollback.{Old}
-use Rattle.user_actions.specs.Actions.{Actions}
-use Rattle.write_set.specs.declared.mark.Place.{Place}
-use Rattle.write_set.specs.declared.row.Row.{Row}
-use Rattle.write_set.specs.Rows.{lookup, replaced}
-use Rattle.write_set.specs.Marks.{Written, AreMarks, IsNew, put_back}
+use Rattle.nest_frames.proofs.Common.{Actions, AreUnder, IsNew, IsSound, Moment, Old, Place, Row, Written, cases_Bool, frames_from, frames_of, length-reverse, length-take-le, lookup, rows_of}
+use Rattle.std.proofs.lemmas.Bool.{eqb-true, cond-true, cond-false}
+use Rattle.write_set.specs.Rows.{replaced}
+use Rattle.write_set.specs.Marks.{AreMarks, put_back}
 use Rattle.write_set.proofs.Overlays.{lookup_here, lookup_there}
 use Rattle.write_set.proofs.PutBack.{length-put_back, take-put_back}
-use Rattle.nest_frames.specs.declared.moment.Moment.{Moment}
-use Rattle.nest_frames.specs.Nest.{rows_of}
-use Rattle.nest_frames.specs.Moments.{frames_from, frames_of, AreUnder, IsSound}
 
 -- a row in the place of its word's leaves no word without one
 lookup-replaced_none : (rows : List Row) (s : Row) (word : ℕ) → lookup word (replaced rows s) ≡ None → lookup word rows ≡ None

@@ -1,3 +1,4 @@
+pub mod Common
 pub mod Replies
 pub mod Examples
 pub mod Accesses

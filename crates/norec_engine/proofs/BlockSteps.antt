@@ -1,33 +1,17 @@
 -- Outermost begins and commits, for the engine as its callers see it.
 use Rattle.std.proofs.Common.{◌≡◌, ℕ, ◌<◌, ◌≤◌, ◌&&◌, ◌||◌, not, Bool, true, false, List, length, None, if◌then◌else◌, inl, refl, sym, ap, subst, ◌∙◌}
+use Rattle.norec_engine.proofs.Common.{Answers, Asks, Begin, CallEnd, CallTurns, Core, Data, End, IsCalled, IsResumed, IsSound, IsSoundIn, Pending, Phase, Reply, StepGoesTo, StepTurns, Taking, Turn, Wait, counted, engine_in, in_block, in_transaction, none_inside, phase_of, told}
 use Rattle.itm_types.specs.declared.step.Step.TheVariants as steps
-use Rattle.itm_types.specs.declared.call.Call.TheVariants.{Begin}
 use Rattle.itm_types.specs.declared.call.Props.{Props}
 use Rattle.nest_frames.specs.Nest.{Frame, stays_revocable}
 use Rattle.itm_types.specs.declared.call.Reply.TheVariants.{Code}
-use Rattle.norec_core.specs.declared.answer.Answer.TheVariants.{Reply}
-use Rattle.norec_core.specs.Moves.{IsCalled, IsResumed}
-use Rattle.norec_core.specs.Core.{Core, in_transaction, may_go}
-use Rattle.norec_core.specs.Phases.{Phase}
+use Rattle.norec_core.specs.Core.{may_go}
 use Rattle.norec_core.specs.Phases as at
-use Rattle.norec_core.specs.declared.answer.Next.TheVariants.{Step as Asks, Answer as Answers}
-use Rattle.norec_core.specs.declared.call_parts.Taking.{Taking}
 use Rattle.norec_core.specs.declared.call_parts.Taking.TheVariants as takings
-use Rattle.norec_core.proofs.Engines.Blocks.{none_inside}
-use Rattle.norec_data.specs.declared.data.Data.{Data}
-use Rattle.norec_data.specs.declared.end.CallEnd.{CallEnd}
-use Rattle.norec_data.specs.declared.pending.Pending.{Pending}
 use Rattle.norec_data.specs.declared.pending.Pending.TheVariants as waits
 use Rattle.norec_data.specs.declared.end.CallEnd.TheVariants.{Committed, Entered, EnteredAgain}
-use Rattle.norec_data.specs.declared.turn.Turn.{Turn}
-use Rattle.norec_data.specs.declared.turn.Turn.TheVariants.{End, Wait}
-use Rattle.norec_data.specs.Ends.{answer_of, told}
-use Rattle.norec_data.specs.View.{in_block, phase_of}
-use Rattle.norec_revocable.specs.InPhases.{IsSound}
-use Rattle.norec_data.specs.Turns.{counted}
-use Rattle.norec_revocable.specs.Moves.{CallTurns, StepGoesTo, StepTurns}
+use Rattle.norec_data.specs.Ends.{answer_of}
 use Rattle.norec_revocable.specs.OuterBegins.{BeginTurns}
-use Rattle.norec_engine.specs.Modes.{engine_in, IsSoundIn}
 use Rattle.norec_engine.specs.BlockSteps.{IsBegun, begins_outer}
 use Rattle.norec_engine.proofs.EitherTurns.{resumed_in, revocable_step}
 use Rattle.norec_engine.proofs.IdleEngines.{asks_for, left_is, left_sound, sound_idle}

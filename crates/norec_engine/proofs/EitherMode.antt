@@ -1,18 +1,7 @@
 -- A turn of either machine, as one of the engine's.
 use Rattle.std.proofs.Common.{◌≡◌, true, false, refl}
-use Rattle.norec_core.specs.Phases.{Idle}
-use Rattle.norec_data.specs.declared.data.Data.{Data}
-use Rattle.norec_data.specs.declared.end.CallEnd.{CallEnd}
-use Rattle.norec_data.specs.declared.turn.Turn.{Turn}
-use Rattle.norec_data.specs.declared.turn.Turn.TheVariants.{Wait, End, EndIrrevocable}
-use Rattle.norec_data.specs.Bounds.{IsHeld, IsOver}
-use Rattle.norec_data.specs.Ends.{told}
-use Rattle.norec_data.specs.Turns.{core_after}
-use Rattle.norec_revocable.specs.Between.{IsSoundTurn}
-use Rattle.norec_revocable.specs.InPhases.{IsSound}
-use Rattle.norec_engine.specs.Modes.{engine_after, IsSoundWith}
-use Rattle.norec_irrevocable.specs.Outcomes.{held_after, IsSoundAfter}
-use Rattle.norec_irrevocable.specs.Phases.{IsSoundHeld}
+use Rattle.norec_engine.proofs.Common.{CallEnd, Data, End, EndIrrevocable, Idle, IsHeld, IsSound, IsSoundAfter, IsSoundHeld, IsSoundTurn, IsSoundWith, Turn, Wait, core_after, engine_after, held_after, told}
+use Rattle.norec_data.specs.Bounds.{IsOver}
 
 pub revocable_after : (turn : Turn) (d : Data) → core_after turn d ≡ engine_after false turn d
 revocable_after (Wait phase) d = refl

@@ -1,21 +1,12 @@
 -- What a turn leaves, in a transaction of either kind, as the engine's callers see it.
 use Rattle.std.proofs.Common.{◌≡◌, ℕ, Bool, true, false, None, refl, sym, ap, subst, ◌∙◌}
-use Rattle.itm_types.specs.declared.call.Call.{Call}
-use Rattle.norec_core.specs.declared.answer.Next.{Next}
-use Rattle.norec_core.specs.Core.{Core}
-use Rattle.norec_core.specs.Moves.{IsCalled, IsResumed, IsStarved}
-use Rattle.norec_core.specs.Phases.{Idle, Phase}
+use Rattle.norec_engine.proofs.Common.{Asked, Call, CallTurns, Core, Data, End, EndIrrevocable, Idle, IsCalled, IsResumed, IsSoundAfter, IsSoundIn, IsSoundWith, IsTaken, Next, Pending, Phase, StepTurns, StepTurnsIn, Turn, Wait, counted, data_after, engine_after, engine_in, mode_after, next_of, phase_after, phase_of}
+use Rattle.norec_core.specs.Moves.{IsStarved}
 use Rattle.norec_core.specs.Proceeds.{MayStarve}
-use Rattle.norec_data.specs.declared.data.Data.{Data}
-use Rattle.norec_data.specs.declared.pending.Pending.{Pending}
 use Rattle.norec_data.specs.declared.pending.Pending.TheVariants as waits
-use Rattle.norec_data.specs.declared.turn.Turn.{Turn}
-use Rattle.norec_data.specs.declared.turn.Turn.TheVariants.{Wait, End, EndIrrevocable}
-use Rattle.norec_data.specs.Turns.{Asked, counted, data_after, next_of, pending_after, phase_after}
-use Rattle.norec_data.specs.View.{phase_of}
-use Rattle.norec_irrevocable.specs.Outcomes.{IsSoundAfter}
-use Rattle.norec_revocable.specs.Moves.{CallStarves, CallTurns, StepTurns}
-use Rattle.norec_engine.specs.Modes.{CallStarvesIn, CallTurnsIn, engine_after, engine_in, IsSoundIn, IsSoundWith, IsTaken, mode_after, StepTurnsIn}
+use Rattle.norec_data.specs.Turns.{pending_after}
+use Rattle.norec_revocable.specs.Moves.{CallStarves}
+use Rattle.norec_engine.specs.Modes.{CallStarvesIn, CallTurnsIn}
 use Rattle.norec_engine.proofs.EitherMode.{irrevocable_after, irrevocable_sound, revocable_after, revocable_sound}
 use Rattle.norec_engine.proofs.HeldTurns as held
 use Rattle.norec_engine.proofs.RevocableTurns as revocable

@@ -1,9 +1,6 @@
 -- Which engines are on the fast path: those of revocable transactions.
 use Rattle.std.proofs.Common.{◌≡◌, Bool, true, false, refl}
-use Rattle.norec_core.specs.Phases.{Phase}
-use Rattle.norec_data.specs.declared.data.Data.{Data}
-use Rattle.norec_data.specs.View.{in_block}
-use Rattle.norec_engine.specs.Modes.{IsSoundIn}
+use Rattle.norec_engine.proofs.Common.{Data, IsSoundIn, Phase, in_block}
 
 -- an irrevocable transaction is open
 pub outside_revocable : (b : Bool) (d : Data) (phase : Phase) → IsSoundIn b d phase → in_block d ≡ false → b ≡ false

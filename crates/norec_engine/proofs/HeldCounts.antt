@@ -1,15 +1,14 @@
 -- The steps of a call of an irrevocable transaction are within its most.
 use Rattle.std.proofs.Common.{◌≡◌, ◌≢◌, ℕ, zero, suc, ◌+◌, ◌*◌, ◌^◌, ◌<◌, ◌≤◌, Bool, true, false, List, [], ◌∷◌, take, None, Some, slice_get, refl, ap, ◌∙◌, arith}
+use Rattle.norec_engine.proofs.Common.{Core, Data, IsSoundHeld, IsWithin, Phase, held, size_of}
 use Rattle.itm_types.specs.declared.limits.TheConstants.{MAX_WORDS}
 use Rattle.itm_types.specs.declared.call.Copying.{Copying}
 use Rattle.itm_types.specs.declared.copy.CopyPair.{CopyPair}
 use Rattle.itm_types.specs.declared.copy.CopyPair.TheVariants.{Out, In, Within}
-use Rattle.itm_types.specs.Access.{size_of}
 use Rattle.word_pieces.specs.declared.chunk.Chunk.{Chunk}
 use Rattle.word_pieces.specs.declared.chunk.Direction.TheVariants.{Up}
 use Rattle.word_pieces.specs.Chunks.{chunks_of}
 use Rattle.word_pieces.specs.Pieces.{count_of}
-use Rattle.norec_core.specs.Phases.{Phase}
 use Rattle.norec_core.specs.Phases as at
 use Rattle.norec_core.specs.declared.call_parts.Purpose.{Purpose}
 use Rattle.norec_core.specs.declared.call_parts.Purpose.TheVariants as for
@@ -17,17 +16,15 @@ use Rattle.norec_core.specs.declared.call_parts.Target.{Target}
 use Rattle.norec_core.specs.declared.call_parts.Target.TheVariants as into
 use Rattle.norec_core.specs.Accesses.{count}
 use Rattle.norec_core.specs.Copies.{chunks_in, direction_of, is_out, words_in, words_read, words_written, WritesShared}
-use Rattle.norec_core.specs.Core.{Core}
-use Rattle.norec_core.specs.Proceeds.{most, IsWithin}
+use Rattle.norec_core.specs.Proceeds.{most}
 use Rattle.norec_core.proofs.Accesses.CopyChunks.{chunk_there, few_words}
 use Rattle.norec_core.proofs.Accesses.Ranges.{IsPart, parts-chunks_of}
 use Rattle.norec_core.proofs.Accesses.Readings.{words_in-at}
 use Rattle.norec_irrevocable.proofs.Pieces.ChunkPhases.{few_chunks}
 use Rattle.std.specs.List.{AllByRecursion}
-use Rattle.norec_data.specs.declared.data.Data.{Data}
 use Rattle.norec_data.specs.Turns.{IsOn}
-use Rattle.norec_data.specs.View.{call_for, doing_held, held, placed_for}
-use Rattle.norec_irrevocable.specs.Phases.{before_loads, before_places, copy_steps, placed_before, IsSoundHeld, LoadsFor, PlacesFor}
+use Rattle.norec_data.specs.View.{call_for, doing_held, placed_for}
+use Rattle.norec_irrevocable.specs.Phases.{before_loads, before_places, copy_steps, placed_before, LoadsFor, PlacesFor}
 
 -- the words of the first chunks are some of all
 words_in-take : (place : ℕ) (cs : List Chunk) (n : ℕ) → words_in place (take n cs) ≤ words_in place cs

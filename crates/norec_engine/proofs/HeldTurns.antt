@@ -1,26 +1,13 @@
 -- What a turn of an irrevocable transaction leaves.
 use Rattle.std.proofs.Common.{rules, ◌≡◌, ℕ, Bool, true, false, not, ◌&&◌, Option, refl, sym, ap, subst, ◌∙◌}
+use Rattle.norec_engine.proofs.Common.{Answer, Begin, Call, Core, Data, End, EndIrrevocable, EndsSo, IsCalled, IsHeld, IsResumed, IsSettled, IsSoundAfter, IsSoundHeld, IsWithin, Phase, Stays, StaysOn, Turn, TurnEndsSo, Wait, asked, counted, data_after, ending_after, ending_at, held, held_after, in_transaction, mode_after, next_of, phase_after, phase_of, tries_at}
 use Rattle.std.proofs.lemmas.Bool.{cond-true}
-use Rattle.itm_types.specs.declared.call.Call.{Call}
-use Rattle.itm_types.specs.declared.call.Call.TheVariants.{Begin}
-use Rattle.norec_core.specs.declared.answer.Answer.{Answer}
-use Rattle.norec_core.specs.Core.{Core, came, in_transaction}
-use Rattle.norec_core.specs.Endings.{EndsSo, ending_at, ending_after}
-use Rattle.norec_core.specs.Order.{asked, stage_at, tries_at}
-use Rattle.norec_core.specs.Proceeds.{IsSettled, IsWithin, Proceeds, StaysOn}
-use Rattle.norec_core.specs.Phases.{Phase}
+use Rattle.norec_core.specs.Core.{came}
+use Rattle.norec_core.specs.Order.{stage_at}
+use Rattle.norec_core.specs.Proceeds.{Proceeds}
 use Rattle.norec_core.specs.Phases as at
-use Rattle.norec_core.specs.Moves.{IsCalled, IsResumed}
-use Rattle.norec_data.specs.declared.data.Data.{Data}
-use Rattle.norec_data.specs.declared.turn.Turn.{Turn}
-use Rattle.norec_data.specs.declared.turn.Turn.TheVariants.{Wait, End, EndIrrevocable}
-use Rattle.norec_data.specs.Bounds.{IsHeld}
-use Rattle.norec_data.specs.Turns.{counted, data_after, next_of, phase_after, Stays, TurnEndsSo}
-use Rattle.norec_data.specs.View.{core_held, held, phase_of}
+use Rattle.norec_data.specs.View.{core_held}
 use Rattle.norec_irrevocable.specs.Moves.{HeldCallTurns, HeldStepTurns}
-use Rattle.norec_irrevocable.specs.Outcomes.{held_after, IsSoundAfter}
-use Rattle.norec_irrevocable.specs.Phases.{IsSoundHeld}
-use Rattle.norec_engine.specs.Modes.{mode_after}
 use Rattle.norec_engine.proofs.EitherMode.{irrevocable_after, irrevocable_sound}
 use Rattle.norec_engine.proofs.SettledEngines.{counts_in, settled_in}
 

@@ -1,19 +1,7 @@
 -- An engine between two calls of a revocable transaction, as its callers see it.
 use Rattle.std.proofs.Common.{◌≡◌, Bool, false, None, refl, sym, ap, subst, ◌∙◌}
-use Rattle.itm_types.specs.declared.call.Call.{Call}
-use Rattle.norec_core.specs.declared.answer.Next.TheVariants.{Step as Asks}
-use Rattle.norec_core.specs.Core.{Core}
-use Rattle.norec_core.specs.Moves.{IsCalled}
-use Rattle.norec_core.specs.Phases.{Idle}
-use Rattle.norec_data.specs.declared.data.Data.{Data}
-use Rattle.norec_data.specs.declared.pending.Pending.{Pending}
+use Rattle.norec_engine.proofs.Common.{Asks, Call, CallTurns, Core, Data, Idle, IsCalled, IsSound, IsSoundIn, Pending, Wait, core, counted, engine_in, phase_of, step_of}
 use Rattle.norec_data.specs.declared.pending.Pending.TheVariants as waits
-use Rattle.norec_data.specs.declared.turn.Turn.TheVariants.{Wait}
-use Rattle.norec_data.specs.Turns.{counted}
-use Rattle.norec_data.specs.View.{core, phase_of, step_of}
-use Rattle.norec_revocable.specs.InPhases.{IsSound}
-use Rattle.norec_revocable.specs.Moves.{CallTurns}
-use Rattle.norec_engine.specs.Modes.{engine_in, IsSoundIn}
 use Rattle.norec_engine.proofs.EitherTurns.{called_in, idle_sound, is_idle, revocable_call}
 
 idle_waits : (d : Data) (p : Pending) → phase_of d p ≡ Idle → p ≡ waits.Idle

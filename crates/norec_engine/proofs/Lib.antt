@@ -1,3 +1,4 @@
+pub mod Common
 pub mod EitherMode
 pub mod HeldCounts
 pub mod HeldTurns

@@ -1,22 +1,7 @@
 -- What a turn of a transaction that is not irrevocable leaves.
 use Rattle.std.proofs.Common.{rules, ◌≡◌, ℕ, Bool, true, false, Option, refl, sym, ap, subst, ◌∙◌}
-use Rattle.itm_types.specs.declared.call.Call.{Call}
-use Rattle.norec_core.specs.declared.answer.Answer.{Answer}
-use Rattle.norec_core.specs.Core.{in_transaction}
-use Rattle.norec_core.specs.Endings.{EndsSo, ending_at, ending_after}
-use Rattle.norec_core.specs.Order.{asked, log_after, tries_after, tries_at}
-use Rattle.norec_core.specs.Proceeds.{IsSettled, IsWithin, StaysOn}
-use Rattle.norec_core.specs.Phases.{Phase}
-use Rattle.norec_core.specs.Phases.{Idle}
-use Rattle.norec_data.specs.declared.data.Data.{Data}
-use Rattle.norec_data.specs.declared.turn.Turn.{Turn}
-use Rattle.norec_data.specs.declared.turn.Turn.TheVariants.{Wait, End, EndIrrevocable}
-use Rattle.norec_data.specs.Turns.{core_after, data_after, next_of, phase_after, Stays, TurnEndsSo}
-use Rattle.norec_data.specs.View.{core, in_block}
-use Rattle.norec_revocable.specs.Between.{IsSoundTurn}
-use Rattle.norec_revocable.specs.Moves.{CallTurns, StepTurns}
-use Rattle.norec_engine.specs.Modes.{mode_after}
-use Rattle.norec_core.specs.Moves.{IsCalled, IsResumed}
+use Rattle.norec_engine.proofs.Common.{Answer, Call, CallTurns, Data, End, EndIrrevocable, EndsSo, Idle, IsCalled, IsResumed, IsSettled, IsSoundTurn, IsWithin, Phase, Stays, StaysOn, StepTurns, Turn, TurnEndsSo, Wait, asked, core, core_after, data_after, ending_after, ending_at, in_block, in_transaction, mode_after, next_of, phase_after, tries_at}
+use Rattle.norec_core.specs.Order.{log_after, tries_after}
 use Rattle.norec_engine.proofs.EitherMode.{revocable_after, revocable_sound}
 use Rattle.norec_engine.proofs.SettledEngines.{counts_in, settled_in}
 

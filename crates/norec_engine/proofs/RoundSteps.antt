@@ -1,25 +1,9 @@
 -- The steps of a validation round, for the engine as its callers see it.
 use Rattle.std.proofs.Common.{◌≡◌, ℕ, suc, ◌+◌, Bool, true, false, Some, IsSome, refl, sym, ap, subst, ◌∙◌, arith}
-use Rattle.itm_types.specs.declared.row.LogRow.{LogRow}
-use Rattle.itm_types.specs.declared.step.Step.TheVariants.{Load}
-use Rattle.norec_core.specs.Aims.{Aim}
-use Rattle.norec_core.specs.Core.{Core}
-use Rattle.norec_core.specs.Moves.{IsResumed}
-use Rattle.norec_core.specs.Phases.{Phase}
-use Rattle.norec_core.specs.Phases.{RoundEnd, RoundRow, RoundStart}
+use Rattle.norec_engine.proofs.Common.{Aim, Asked, Core, Data, IsResumed, IsSound, IsSoundHeld, IsSoundIn, IsSoundWith, IsTaken, Load, LogRow, Next, Pending, Phase, RoundEnd, RoundRow, RoundStart, StepTurns, StepTurnsIn, Turn, core, engine_in, phase_of, row_at}
 use Rattle.norec_core.specs.Proceeds.{Fits}
-use Rattle.norec_core.specs.Rows.{row_at}
-use Rattle.norec_core.specs.declared.answer.Next.{Next}
-use Rattle.norec_data.specs.declared.data.Data.{Data}
-use Rattle.norec_data.specs.declared.pending.Pending.{Pending}
 use Rattle.norec_data.specs.declared.pending.Pending.TheVariants as waits
-use Rattle.norec_data.specs.declared.turn.Turn.{Turn}
-use Rattle.norec_data.specs.Turns.{Asked}
-use Rattle.norec_data.specs.View.{aim_of, core, phase_of}
-use Rattle.norec_irrevocable.specs.Phases.{IsSoundHeld}
-use Rattle.norec_revocable.specs.InPhases.{IsSound}
-use Rattle.norec_revocable.specs.Moves.{StepTurns}
-use Rattle.norec_engine.specs.Modes.{engine_in, IsSoundIn, IsSoundWith, IsTaken, StepTurnsIn}
+use Rattle.norec_data.specs.View.{aim_of}
 use Rattle.norec_engine.specs.Rounds.{Validates}
 use Rattle.norec_engine.proofs.BlockSteps.{mode, sound_for}
 use Rattle.norec_engine.proofs.WholeReads.{stage_is}

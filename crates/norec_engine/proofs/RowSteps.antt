@@ -1,31 +1,15 @@
 -- The rows of a commit, as the engine's callers see them stored.
 use Rattle.std.proofs.Common.{◌≡◌, ℕ, ◌+◌, ◌*◌, ◌<◌, ◌≤◌, Bool, false, [], inl, inr, length, List, Option, None, Some, true, arith, refl, sym, ap, subst, ◌∙◌}
-use Rattle.itm_types.specs.declared.call.Call.TheVariants.{Commit as CommitCall}
-use Rattle.write_set.specs.declared.row.Row.{Row}
+use Rattle.norec_engine.proofs.Common.{Asks, CallTurns, CommitCall, Core, Data, IsCalled, IsResumed, IsSound, IsSoundIn, IsWhole, Pending, Phase, Row, StoresRows, Taking, Wait, WaitsForClock, asking_commit, core, counted, engine_in, exchanging, in_block, last_stage, next_step, part_stage, phase_of, step_in, storing, whole_stage}
 use Rattle.itm_types.specs.declared.step.Step.{Step}
 use Rattle.itm_types.specs.declared.step.Step.TheVariants.{Cas}
-use Rattle.norec_core.specs.Core.{Core}
-use Rattle.norec_core.specs.Phases.{Phase}
 use Rattle.norec_core.specs.Phases as at
-use Rattle.norec_core.specs.Moves.{IsCalled, IsResumed}
-use Rattle.norec_core.specs.Order.{step_in}
-use Rattle.norec_core.specs.declared.answer.Next.TheVariants.{Step as Asks}
-use Rattle.norec_core.specs.declared.call_parts.Taking.{Taking}
 use Rattle.norec_core.specs.declared.call_parts.Taking.TheVariants as takings
-use Rattle.norec_data.specs.declared.data.Data.{Data}
-use Rattle.norec_data.specs.declared.pending.Pending.{Pending}
 use Rattle.norec_data.specs.declared.pending.Pending.TheVariants as waits
-use Rattle.norec_data.specs.declared.turn.Turn.TheVariants.{Wait}
-use Rattle.norec_data.specs.Turns.{counted}
-use Rattle.norec_data.specs.View.{core, in_block, phase_of}
 use Rattle.norec_revocable.specs.Between as fields
-use Rattle.norec_revocable.specs.CommitCalls.{asking_commit}
-use Rattle.norec_revocable.specs.InPhases.{IsSound}
-use Rattle.norec_revocable.specs.Moves.{CallTurns}
 use Rattle.norec_revocable.proofs.CommitCalls.{asks}
-use Rattle.norec_revocable.proofs.StoredRows.{after_row, after_taking, asking, asks_next, last_stage, may_first, may_store, part_loaded, part_stage, sound_load, whole_stage}
-use Rattle.norec_engine.specs.Modes.{engine_in, IsSoundIn}
-use Rattle.norec_engine.specs.BlockSteps.{AsksForClock, IsWhole, StoresRows, WaitsForClock, WritesBack, exchanging, merging, next_step, part_store, storing}
+use Rattle.norec_revocable.proofs.StoredRows.{after_row, after_taking, asking, asks_next, may_first, may_store, part_loaded, sound_load}
+use Rattle.norec_engine.specs.BlockSteps.{AsksForClock, WritesBack, merging, part_store}
 use Rattle.norec_engine.proofs.BlockSteps.{exchange_at, mode}
 use Rattle.norec_engine.proofs.IdleEngines.{asks_for, core_idle, sound_idle}
 use Rattle.norec_engine.proofs.RevocableTurns.{resumed}

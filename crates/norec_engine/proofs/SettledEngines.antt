@@ -1,23 +1,18 @@
 -- What is true of an engine between two steps, in a transaction of either kind.
 use Rattle.std.proofs.Common.{◌≡◌, ℕ, ◌/◌, ◌<◌, Bool, true, false, List, [], length, None, Some, refl, sym, subst, arith}
-use Rattle.norec_core.specs.Phases.{Phase}
+use Rattle.norec_engine.proofs.Common.{Data, IsSettled, IsSound, IsSoundHeld, IsSoundIn, IsWithin, LogRow, Phase, core, engine_in, held, in_block, none_inside}
 use Rattle.norec_core.specs.Phases as at
 use Rattle.norec_core.specs.Order.{snapshot_after}
 use Rattle.norec_core.specs.Rows.{IsLog}
 use Rattle.norec_core.proofs.Accesses.Overlays.{agreed}
-use Rattle.itm_types.specs.declared.row.LogRow.{LogRow}
-use Rattle.norec_core.specs.Proceeds.{AreRead, IsSettled, IsWithin}
-use Rattle.norec_data.specs.declared.data.Data.{Data}
+use Rattle.norec_core.specs.Proceeds.{AreRead}
 use Rattle.norec_data.specs.Bounds.{IsOutside}
-use Rattle.norec_data.specs.View.{core, held, holds_of, in_block, waits_of}
-use Rattle.norec_revocable.specs.InPhases.{InPhase, IsSound}
-use Rattle.norec_engine.specs.Modes.{engine_in, IsSoundIn}
+use Rattle.norec_data.specs.View.{holds_of, waits_of}
+use Rattle.norec_revocable.specs.InPhases.{InPhase}
 use Rattle.norec_revocable.proofs.Counts.{counts}
 use Rattle.norec_revocable.proofs.Blocks.EndedTransactions.{none_written, open_in}
 use Rattle.norec_revocable.proofs.Blocks.OpenBegins.{are_read}
-use Rattle.norec_core.proofs.Engines.Blocks.{none_inside}
 use Rattle.norec_engine.proofs.HeldCounts.{held_counts}
-use Rattle.norec_irrevocable.specs.Phases.{IsSoundHeld}
 
 outside : (d : Data) (phase : Phase) → InPhase d phase → in_block d ≡ false → IsOutside d
 outside d at.Idle p o = p.1 o

@@ -1,38 +1,20 @@
 -- The steps of a read of one whole word, for the engine as its callers see it.
 use Rattle.std.proofs.Common.{◌≡◌, ◌+◌, inl, ℕ, suc, Bool, true, false, None, length, refl, sym, ap, subst, ◌∙◌, arith}
+use Rattle.norec_engine.proofs.Common.{Answers, Asks, CallTurns, Core, Data, End, Idle, IsCalled, IsResumed, IsSound, IsSoundIn, IsTaken, IsWord, Joins, Next, Pending, Phase, Read, Reply, StepGoesTo, StepTurns, StepTurnsIn, Turn, Wait, core, counted, engine_in, lookup, phase_of, rows_before, step_of}
 use Rattle.std.proofs.lemmas.List.{take_all}
 use Rattle.std.specs.Int.{w64, to_le_bytes}
 use Rattle.itm_types.specs.declared.access.ReadHint.{ReadHint}
 use Rattle.itm_types.specs.declared.access.Width.{Width}
-use Rattle.itm_types.specs.declared.call.Call.TheVariants.{Read}
 use Rattle.itm_types.specs.declared.call.Reply.TheVariants.{Bytes}
 use Rattle.itm_types.specs.declared.step.Step.TheVariants as steps
-use Rattle.write_set.specs.Rows.{lookup}
-use Rattle.norec_core.specs.Core.{Core}
-use Rattle.norec_core.specs.Moves.{IsCalled, IsResumed}
 use Rattle.norec_core.specs.Order.{value_reading}
 use Rattle.norec_core.specs.OwnAccesses.{word_of}
-use Rattle.norec_core.specs.Phases.{Phase}
-use Rattle.norec_core.specs.Phases.{Confirm, Idle, Load}
-use Rattle.norec_core.specs.Proceeds.{Joins}
-use Rattle.norec_core.specs.declared.answer.Answer.TheVariants.{Reply}
-use Rattle.norec_core.specs.declared.answer.Next.{Next}
-use Rattle.norec_core.specs.declared.answer.Next.TheVariants.{Step as Asks, Answer as Answers}
+use Rattle.norec_core.specs.Phases.{Confirm, Load}
 use Rattle.norec_core.specs.declared.call_parts.Reading.{Reading}
-use Rattle.norec_data.specs.declared.data.Data.{Data}
-use Rattle.norec_data.specs.declared.pending.Pending.{Pending}
 use Rattle.norec_data.specs.declared.pending.Pending.TheVariants as waits
 use Rattle.norec_data.specs.declared.end.CallEnd.TheVariants.{Word}
-use Rattle.norec_data.specs.declared.turn.Turn.{Turn}
-use Rattle.norec_data.specs.declared.turn.Turn.TheVariants.{End, Wait}
-use Rattle.norec_revocable.specs.Between.{IsWord}
-use Rattle.norec_revocable.specs.InPhases.{IsSound}
-use Rattle.norec_revocable.specs.Moves.{CallTurns, StepGoesTo, StepTurns}
 use Rattle.norec_revocable.specs.WholeReads.{asking_word, IsNewWord, ReadTurns}
 use Rattle.norec_revocable.proofs.ReadCalls.WholeReads.{is_word}
-use Rattle.norec_data.specs.Turns.{counted}
-use Rattle.norec_data.specs.View.{core, phase_of, rows_before, step_of}
-use Rattle.norec_engine.specs.Modes.{engine_in, IsSoundIn, IsTaken, StepTurnsIn}
 use Rattle.norec_engine.specs.WholeReads.{ConfirmsWord, IsConfirmed, IsReadAtOnce, LoadsWord, ReadsAtOnce}
 use Rattle.norec_engine.proofs.EitherTurns.{resumed_in, revocable_step}
 use Rattle.norec_engine.proofs.IdleEngines.{asks_for, core_idle, left_is, left_sound, sound_idle}

@@ -1,25 +1,12 @@
 -- A write of one whole word that is not refused, for the engine as its callers see it.
 use Rattle.std.proofs.Common.{◌≡◌, ℕ, Bool, true, false, None, refl, sym, ap, ◌∙◌}
-use Rattle.itm_types.specs.Access.{size_of}
+use Rattle.norec_engine.proofs.Common.{Answers, CallTurns, Core, Data, End, IsCalled, IsSound, IsSoundIn, IsTaken, Pending, Phase, Reply, Write, engine_in, in_block, in_transaction, phase_of, size_of}
 use Rattle.itm_types.specs.declared.access.WriteHint.{WriteHint}
-use Rattle.itm_types.specs.declared.call.Call.TheVariants.{Write}
 use Rattle.itm_types.specs.declared.call.Reply.TheVariants.{Done}
 use Rattle.itm_types.specs.declared.datum.Datum.{Datum}
 use Rattle.norec_core.specs.Accesses.{access_refusal}
-use Rattle.norec_core.specs.Core.{Core, in_transaction}
-use Rattle.norec_core.specs.Moves.{IsCalled}
-use Rattle.norec_core.specs.Phases.{Phase}
 use Rattle.norec_core.specs.Phases as at
-use Rattle.norec_core.specs.declared.answer.Answer.TheVariants.{Reply}
-use Rattle.norec_core.specs.declared.answer.Next.TheVariants.{Answer as Answers}
-use Rattle.norec_data.specs.declared.data.Data.{Data}
 use Rattle.norec_data.specs.declared.end.CallEnd.TheVariants as ends
-use Rattle.norec_data.specs.declared.pending.Pending.{Pending}
-use Rattle.norec_data.specs.declared.turn.Turn.TheVariants.{End}
-use Rattle.norec_data.specs.View.{in_block, phase_of}
-use Rattle.norec_revocable.specs.InPhases.{IsSound}
-use Rattle.norec_revocable.specs.Moves.{CallTurns}
-use Rattle.norec_engine.specs.Modes.{engine_in, IsSoundIn, IsTaken}
 use Rattle.norec_engine.specs.WholeWrites.{ServesWrite}
 use Rattle.norec_engine.proofs.BlockSteps.{mode}
 use Rattle.norec_engine.proofs.IdleEngines.{idle_at, sound_idle}

@@ -1,9 +1,8 @@
 -- Values of one type with the same bytes.
 use Rattle.std.proofs.Common.{◌≡◌, length}
+use Rattle.norec_irrevocable.proofs.Common.{Datum, size_of}
 use mathlib.Core.HLevel.{is_prop→PathP}
 use native.Mathlib.Nat.{ℕ_set}
-use Rattle.itm_types.specs.declared.datum.Datum.{Datum}
-use Rattle.itm_types.specs.Access.{size_of}
 
 -- are the same
 pub same_datum : (d e : Datum) → d.width ≡ e.width → d.bytes.items ≡ e.bytes.items → d ≡ e

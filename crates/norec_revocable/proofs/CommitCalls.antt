@@ -1,17 +1,9 @@
 -- A commit that takes the clock: what the fields come to.
 use Rattle.std.proofs.Common.{◌≡◌, ◌≢◌, ◌/◌, ◌<◌, false, List, [], ◌∷◌, length, true, arith, refl, rules}
+use Rattle.norec_revocable.proofs.Common.{CallTurns, Data, Frame, Idle, IsSound, Row, Wait, in_block, is_inside, is_outermost}
 use Rattle.itm_types.specs.declared.call.Call.TheVariants.{Commit}
-use Rattle.write_set.specs.declared.row.Row.{Row}
-use Rattle.nest_frames.specs.Nest.{Frame}
-use Rattle.norec_core.specs.Core.{is_inside, is_outermost}
-use Rattle.norec_core.specs.Phases.{Idle}
-use Rattle.norec_data.specs.declared.data.Data.{Data}
 use Rattle.norec_data.specs.declared.pending.Pending.TheVariants.{Exchange}
-use Rattle.norec_data.specs.declared.turn.Turn.TheVariants.{Wait}
-use Rattle.norec_data.specs.View.{in_block}
 use Rattle.norec_revocable.specs.CommitCalls.{asking_commit}
-use Rattle.norec_revocable.specs.InPhases.{IsSound}
-use Rattle.norec_revocable.specs.Moves.{CallTurns}
 
 inside : (blocks : List Frame) → is_outermost blocks ≡ true → is_inside blocks ≡ true
 inside [] is = absurd (cc)

@@ -1,38 +1,20 @@
 -- The steps of a call are within its most.
 use Rattle.std.proofs.Common.{◌≡◌, ◌≢◌, ℕ, ◌+◌, ◌-◌, ◌*◌, ◌^◌, ◌<◌, ◌≤◌, Bool, true, false, if◌then◌else◌, List, length, refl, ap, arith, Some, None, sym, subst}
+use Rattle.norec_revocable.proofs.Common.{Aim, Begin, Core, Data, End, EndIrrevocable, FitsPurpose, InRound, IsHolding, IsSound, IsSoundTurn, LogRow, MAX_WORDS, MayRead, Opening, Phase, Purpose, Reading, Taking, Turn, Wait, Written, call_for, call_of, cond-false, cond-true, core, core_after, count, count_of, counted, few_words, first_of, in_block, in_transaction, passed, phase_of, round_of, source_few, source_words, total, total_for, total_left}
 use Rattle.std.proofs.Math.Nat.{mul-le-mul_right}
 use Rattle.std.proofs.lemmas.Nat.{mul-le}
-use Rattle.itm_types.specs.declared.limits.TheConstants.{MAX_PATIENCE, MAX_WORDS}
-use Rattle.word_pieces.specs.Pieces.{count_of}
-use Rattle.itm_types.specs.declared.row.LogRow.{LogRow}
-use Rattle.write_set.specs.Marks.{Written}
-use Rattle.norec_core.specs.declared.call_parts.Purpose.{Purpose}
+use Rattle.itm_types.specs.declared.limits.TheConstants.{MAX_PATIENCE}
 use Rattle.norec_core.specs.declared.call_parts.Purpose.TheVariants as for
-use Rattle.norec_core.specs.Core.{Core, in_transaction}
 use Rattle.norec_revocable.proofs.Copies.AcceptedCopies.{source_within}
-use Rattle.norec_core.proofs.Accesses.CopyChunks.{few_words, source_few, length-chunks_in}
-use Rattle.norec_core.proofs.Accesses.Readings.{total_left}
+use Rattle.norec_core.proofs.Accesses.CopyChunks.{length-chunks_in}
 use Rattle.norec_revocable.proofs.ReadCalls.ReadingFields.{among}
-use Rattle.norec_core.specs.Aims.{Aim}
 use Rattle.norec_core.specs.Aims as aims
-use Rattle.norec_core.specs.Phases.{Phase}
 use Rattle.norec_core.specs.Phases as at
-use Rattle.norec_core.specs.declared.call_parts.Reading.{Reading}
-use Rattle.norec_data.specs.declared.turn.Turn.{Turn}
-use Rattle.norec_data.specs.declared.data.Data.{Data}
 use Rattle.norec_core.specs.Proceeds.{most, IsWithin}
-use Rattle.norec_core.specs.Accesses.{count, total, total_for, passed}
-use Rattle.norec_data.specs.View.{core, call_for, call_of, doing_of, in_block, phase_of, waits_of}
-use Rattle.norec_revocable.specs.InPhases.{FitsPurpose, MayRead, first_of, round_of, IsHolding, IsSound, InRound}
-use Rattle.norec_revocable.specs.Between.{IsSoundTurn}
-use Rattle.norec_data.specs.Turns.{core_after, counted, IsOn}
-use Rattle.norec_data.specs.declared.turn.Turn.TheVariants.{Wait, End, EndIrrevocable}
-use Rattle.norec_core.specs.declared.call_parts.Opening.{Opening}
-use Rattle.norec_core.specs.declared.call_parts.Taking.{Taking}
+use Rattle.norec_data.specs.View.{doing_of, waits_of}
+use Rattle.norec_data.specs.Turns.{IsOn}
 use Rattle.norec_core.specs.declared.call_parts.Taking.TheVariants as takings
-use Rattle.itm_types.specs.declared.call.Call.TheVariants.{Begin}
-use Rattle.norec_core.specs.Copies.{source_words, words_read, words_written}
-use Rattle.std.proofs.lemmas.Bool.{cond-true, cond-false}
+use Rattle.norec_core.specs.Copies.{words_read, words_written}
 
 -- the most steps of the call that an access is made for
 most_for : (words bytes written : ℕ) (writes : Written) (own : List LogRow) (buffer : List ℕ) (what : Purpose) (at size : ℕ) → FitsPurpose words bytes written writes own buffer what at size → (c : Core) → c.irrevocable ≡ false

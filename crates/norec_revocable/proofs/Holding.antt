@@ -1,7 +1,6 @@
 -- The clock is held as one step more is asked for.
 use Rattle.std.proofs.Common.{ℕ, Option, ◌+◌, ◌*◌, arith}
-use Rattle.norec_data.specs.declared.data.Data.{Data}
-use Rattle.norec_revocable.specs.InPhases.{IsHolding}
+use Rattle.norec_revocable.proofs.Common.{Data, IsHolding}
 use Rattle.norec_revocable.proofs.ReadCalls.Loads.{wants_later}
 
 pub holds_on : (s : Data) (got : Option ℕ) (row : ℕ) → IsHolding s s.taking (2 * row) → IsHolding (record s { got = got; spent = s.spent + 1 }) s.taking (2 * row + 1)

@@ -1,8 +1,6 @@
 -- Open blocks of which nothing changes but the write set.
 use Rattle.std.proofs.Common.{◌≡◌, sym, ap, ◌∙◌}
-use Rattle.nest_frames.specs.Nest.{Nest}
-use Rattle.norec_revocable.specs.KeptFrames.{KeepsAllButWrites}
-use Rattle.write_set.specs.Marks.{Written}
+use Rattle.norec_revocable.proofs.Common.{KeepsAllButWrites, Nest, Written}
 
 pub only_writes : (old new : Nest) (writes : Written) → new ≡ record old { writes = writes } → KeepsAllButWrites old new
 only_writes old new writes is = is ∙ ap (λ (w : Written). record old { writes = w }) (sym (ap (λ (n : Nest). n.writes) is))

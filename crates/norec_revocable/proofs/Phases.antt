@@ -1,12 +1,8 @@
 -- What is true of the phases of a write-back.
 use Rattle.std.proofs.Common.{◌≡◌, ℕ, suc, ◌+◌, ◌<◌, length, Option, None, Some, sym, ap, ◌∙◌, add-one}
+use Rattle.norec_revocable.proofs.Common.{Data, InPhase, IsOpen, Row, Taking, value_into}
 use Rattle.itm_types.specs.declared.step.Step.TheVariants.{Load, Store}
-use Rattle.write_set.specs.declared.row.Row.{Row}
-use Rattle.norec_core.specs.Rows.{value_into}
 use Rattle.norec_core.specs.Phases as at
-use Rattle.norec_core.specs.declared.call_parts.Taking.{Taking}
-use Rattle.norec_data.specs.declared.data.Data.{Data}
-use Rattle.norec_revocable.specs.InPhases.{IsOpen, InPhase}
 
 -- a row that is stored is one of the write set
 pub store_row : (d : Data) (taking : Taking) (row : ℕ) (got : Option ℕ) → InPhase d (at.Store taking row got) → IsOpen d × (row < length d.frames.writes.rows)

@@ -1,28 +1,18 @@
 -- The rows of a commit as they are stored one after the other, and what is asked for next.
 use Rattle.std.proofs.Common.{◌≡◌, ◌≢◌, ℕ, ◌+◌, ◌*◌, ◌<◌, ◌≤◌, ◌==◌, nat_lt, List, [], length, Option, None, Some, true, inl, arith, refl, sym, ap, subst, ◌∙◌, eq-eqb}
-use Rattle.std.proofs.lemmas.Bool.{cond-true, cond-false, lt-ltb, le-ltb, ne_eqb}
+use Rattle.norec_revocable.proofs.Common.{AllWritesWithin-at, Core, Data, IsHolding, IsSound, Pending, Phase, Row, StepTurns, Taking, Turns, Wait, call_of, cond-false, cond-true, core, counted, handed, in_block, in_stores, lt-ltb, ne_eqb, phase_of, row_store, stored_stage, stores_part, storing, whole, write_at}
+use Rattle.std.proofs.lemmas.Bool.{le-ltb}
 use mathlib.Core.Logic.{dite}
 use native.Mathlib.Decide.{ℕ_discrete}
-use Rattle.word_pieces.specs.Masks.{whole}
-use Rattle.write_set.specs.declared.row.Row.{Row}
 use Rattle.norec_core.specs.Aims as aims
-use Rattle.norec_core.specs.Core.{Core, handed}
-use Rattle.norec_core.specs.Phases.{Phase}
 use Rattle.norec_core.specs.Phases as at
-use Rattle.norec_core.specs.Rows.{write_at}
-use Rattle.norec_core.specs.Order.{kept_log, row_store, step_in, store_stage, stored_stage}
-use Rattle.norec_core.specs.declared.call_parts.Taking.{Taking}
+use Rattle.norec_core.specs.Order.{kept_log, step_in, store_stage}
 use Rattle.norec_core.specs.declared.call_parts.Taking.TheVariants as takings
-use Rattle.norec_core.proofs.Accesses.Overlays.{AllWritesWithin-at, stores_part, stores_whole}
-use Rattle.norec_data.specs.declared.data.Data.{Data}
-use Rattle.norec_data.specs.declared.pending.Pending.{Pending}
+use Rattle.norec_core.proofs.Accesses.Overlays.{stores_whole}
 use Rattle.norec_data.specs.declared.pending.Pending.TheVariants as waits
-use Rattle.norec_data.specs.declared.turn.Turn.TheVariants.{Wait}
-use Rattle.norec_data.specs.Turns.{Turns, counted}
-use Rattle.norec_data.specs.View.{call_of, core, in_block, phase_of, step_of}
-use Rattle.norec_revocable.specs.InPhases.{IsHolding, IsSound}
-use Rattle.norec_revocable.specs.Between.{InStores, in_stores, storing}
-use Rattle.norec_revocable.specs.Moves.{GoesTo, StepTurns}
+use Rattle.norec_data.specs.View.{step_of}
+use Rattle.norec_revocable.specs.Between.{InStores}
+use Rattle.norec_revocable.specs.Moves.{GoesTo}
 use Rattle.norec_revocable.proofs.Holding.{holds_on}
 use Rattle.norec_revocable.proofs.ReadCalls.Loads.{wants_later}
 

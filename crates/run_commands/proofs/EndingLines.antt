@@ -1,12 +1,8 @@
 -- The lines of threads that fell short, one after the other.
 use Rattle.std.proofs.Common.{◌≡◌, ℕ, ◌+◌, ◌<◌, ◌≤◌, List, [], ◌∷◌, ◌++◌, length, take, drop, get_or, Option, sym, ap, subst, ◌∙◌, arith, append_assoc, append-nil, drop-cons, add-one}
-use Rattle.std.proofs.lemmas.List.{length-take, take-append-drop, take_more}
-use Rattle.std.proofs.lemmas.Grind.{common_steps}
-use Rattle.std.specs.Io.KnownBytes.{Appends}
-use Rattle.std.proofs.KnownBytes.{Appends-nil, Appends-trans}
-use Rattle.tx_runs.specs.declared.ending.End.{End}
+use Rattle.run_commands.proofs.Common.{Appends, Appends-nil, Appends-trans, End, common_steps, ending_line, ending_lines, take-append-drop, take_more}
+use Rattle.std.proofs.lemmas.List.{length-take}
 use Rattle.tx_history.specs.Spelling.{IsCut}
-use Rattle.run_commands.specs.Endings.{ending_line, ending_lines}
 use Rattle.tx_history.proofs.TextPieces.{cut_short}
 
 lines_append : (thread : ℕ) (xs ys : List (Option End)) → ending_lines thread (xs ++ ys) ≡ ending_lines thread xs ++ ending_lines (thread + length xs) ys

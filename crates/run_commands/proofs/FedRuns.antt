@@ -1,19 +1,11 @@
 -- In a world that a program's schedule leads to no thread that found no memory has an irrevocable attempt, nor any open one.
 use Rattle.std.proofs.Common.{inl, inr, ◌≡◌, ℕ, ◌%◌, List, length, Some, sym, ap, subst, ◌∙◌, arith}
-use Rattle.std.proofs.lemmas.List.{length-map}
-use Rattle.world_rules.specs.Commits.{CommitsInOrder}
-use Rattle.world_rules.specs.Tied.{AreTied}
-use Rattle.world_rules.specs.World.{World, ending_at}
+use Rattle.run_commands.proofs.Common.{AreTied, Begins, CommitsInOrder, HasNestedCode, Listing, NoMemory, Thread, World, ending_at, length-map, opening, players_of, thread_rules, threads_of}
 use Rattle.world_rules.proofs.Common.{slice_get_within}
 use Rattle.world_rules.proofs.Events.Worlds.{odd_or_even}
-use Rattle.script_laws.specs.Assembled.{HasNestedCode}
 use Rattle.script_laws.proofs.FedScripts.{are_fed}
-use Rattle.script_program.specs.Listing.{Listing, threads_of}
-use Rattle.script_vm.specs.Threads.{Thread, opening, thread_rules}
-use Rattle.tx_runs.specs.declared.ending.End.TheVariants.{NoMemory}
 use Rattle.world_laws.specs.Starved.{IsFed, LeavesNoneOpen}
 use Rattle.world_laws.proofs.LegalHistories.StarvedActors.{fed_leave_none_open, starved_shut}
-use Rattle.run_commands.specs.Scheduled.{Begins, players_of}
 use Rattle.run_commands.proofs.Items.{IsLed}
 use Rattle.run_commands.proofs.ScheduleItems.{led_keeps}
 

@@ -1,24 +1,14 @@
 -- Items of a schedule, one after the other, whole or begun.
-use Rattle.std.proofs.Common.{inl, inr, ◌≡◌, ℕ, zero, suc, ◌+◌, ◌<◌, ◌≤◌, ◌-◌, false, List, [], ◌∷◌, ◌++◌, length, take, get_or, replicate, Option, None, Some, IsSome, Result, Err, refl, sym, ap, subst, ◌∙◌, arith}
-use Rattle.std.proofs.lemmas.List.{replicate-append-replicate, take_more}
-use Rattle.world_rules.specs.Actor.{Actor}
+use Rattle.std.proofs.Common.{inl, inr, ◌≡◌, ℕ, zero, suc, ◌+◌, ◌<◌, ◌≤◌, ◌-◌, false, List, [], ◌∷◌, ◌++◌, length, take, get_or, replicate, Option, None, Some, IsSome, Result, Err, refl, sym, ap, subst, ◌∙◌, arith, slice_get}
+use Rattle.run_commands.proofs.Common.{Actor, AreOpaque, AreTied, CommitsInOrder, Goes, Item, ItemBegins, ItemLeads, ItemsBegin, ItemsLead, Out, Rules, Take, World, WorldFault, ending_at, observed, take_more}
+use Rattle.std.proofs.lemmas.List.{replicate-append-replicate}
 use Rattle.world_rules.specs.declared.actor.Status.{Status}
 use Rattle.world_rules.specs.declared.actor.Status.TheVariants.{Ended as HasEnded}
-use Rattle.world_rules.specs.declared.fault.WorldFault.{WorldFault}
 use Rattle.world_rules.specs.declared.fault.WorldFault.TheVariants.{Ended}
-use Rattle.world_rules.specs.Commits.{CommitsInOrder}
-use Rattle.world_rules.specs.Headline.{AreOpaque}
 use Rattle.world_rules.specs.Status.{ending_of, is_ready, is_waiting}
-use Rattle.world_rules.specs.Tied.{AreTied}
-use Rattle.world_rules.specs.World.{World, ending_at, observed}
-use Rattle.world_rules.specs.WorldEvents.{Goes, Leads}
+use Rattle.world_rules.specs.WorldEvents.{Leads}
 use Rattle.world_rules.proofs.Events.WorldEvents.{goes_no_more}
-use Rattle.script_program.specs.declared.schedule.Item.{Item}
-use Rattle.script_program.specs.declared.schedule.Item.TheVariants.{Take, Out}
-use Rattle.std.specs.Prelude.{slice_get}
 use Rattle.std.specs.Option.{option_and_then}
-use Rattle.tx_player.specs.Rules.{Rules}
-use Rattle.run_commands.specs.Items.{ItemBegins, ItemLeads, ItemsBegin, ItemsLead}
 
 -- who has ended is there
 pub ended_in : {P : Type 0} (o : Option (Actor P)) → IsSome (option_and_then (λ (a : Actor P). ending_of a.status) o) → (a : Actor P) × (o ≡ Some a) × IsSome (ending_of a.status)

@@ -1,3 +1,4 @@
+pub mod Common
 pub mod WorkedPages
 pub mod WorkedRuns
 pub mod EndingLines

@@ -1,35 +1,20 @@
 -- What the writer has got of a world's history.
-use Rattle.std.proofs.Common.{inl, inr, ◌≡◌, ℕ, ◌≤◌, List, [], ◌∷◌, ◌++◌, length, take, drop, flat_map, Option, None, Some, IsSome, Result, Ok, Err, true≢false, refl, sym, ap, subst, ◌∙◌, append-nil, append_assoc, arith}
-use Rattle.std.proofs.KnownBytes.{Appends-kept, Appends-nil, Appends-trans}
-use Rattle.std.proofs.lemmas.Grind.{common_steps, flat_map-append}
-use Rattle.std.proofs.lemmas.List.{take-append-drop}
-use Rattle.std.proofs.lemmas.List.Elements.{All-append, All-nil}
+use Rattle.std.proofs.Common.{inl, inr, ◌≡◌, ℕ, ◌≤◌, List, [], ◌∷◌, ◌++◌, length, take, drop, flat_map, Option, None, Some, IsSome, Result, Ok, Err, true≢false, refl, sym, ap, subst, ◌∙◌, append-nil, append_assoc, arith, All, IfOk, IsErr, OnErr, OnOk}
+use Rattle.run_commands.proofs.Common.{Actor, All-nil, Appends, Appends-kept, Appends-nil, Appends-trans, Attempt, AttemptFits, Error, Goes, HistoryFits, IsCutOff, Item, ItemsBegin, ItemsLead, Page, Rules, SendsEnded, Standing, Version, World, adds_failed, adds_nothing, adds_then, attempt_lines, common_steps, ending_at, fault_of, history_text, last_line, result_err, standing, take-append-drop, told_of, waits_at}
+use Rattle.std.proofs.lemmas.Grind.{flat_map-append}
+use Rattle.std.proofs.lemmas.List.Elements.{All-append}
 use Rattle.hex.specs.Hex.{IsBytes}
-use Rattle.std.specs.Io.KnownBytes.{Appends}
-use Rattle.std.specs.Prelude.{All, IfOk, IsErr, OnErr, OnOk}
-use Rattle.std.specs.Result.{result_err}
-use Rattle.std.specs.declared.io.Error.{Error}
-use Rattle.world_rules.specs.Actor.{Actor}
 use Rattle.world_rules.specs.Rows.{Rows}
 use Rattle.world_rules.specs.Stages.{opens}
 use Rattle.world_rules.specs.Tries.{Prior, Tries, prior_of, between, begins, runs, over, turned_away, outrun, shut_out}
-use Rattle.world_rules.specs.World.{World, ending_at, event_result, waits_at}
-use Rattle.world_rules.specs.WorldEvents.{Goes}
+use Rattle.world_rules.specs.World.{event_result}
 use Rattle.world_rules.proofs.Events.WorldEvents.{told_event}
 use Rattle.world_rules.proofs.Events.Worlds.{waits_there}
-use Rattle.tx_attempts.specs.declared.attempt.Attempt.{Attempt}
-use Rattle.tx_history.specs.Bounds.{AttemptFits, HistoryFits, IsWord}
-use Rattle.tx_history.specs.declared.history.Version.{Version}
-use Rattle.tx_history.specs.Histories.{attempt_lines, last_line, history_text}
-use Rattle.tx_history.specs.Streams.{Adds, Leaves, Standing, fault_of, lines_so_far, standing}
-use Rattle.tx_history.specs.declared.page.Page.{Page}
-use Rattle.tx_history.proofs.Streams.{adds_as, adds_failed, adds_nothing, adds_then}
-use Rattle.tx_player.specs.Rules.{Rules}
-use Rattle.script_program.specs.declared.schedule.Item.{Item}
-use Rattle.run_commands.specs.Items.{ItemsBegin, ItemsLead}
-use Rattle.world_laws.specs.Told.{told_of}
+use Rattle.tx_history.specs.Bounds.{IsWord}
+use Rattle.tx_history.specs.Streams.{Adds, Leaves, lines_so_far}
+use Rattle.tx_history.proofs.Streams.{adds_as}
 use Rattle.run_commands.proofs.Items.{items_unbegun, items_whole}
-use Rattle.run_commands.specs.Plays.{AddsEnded, HasWhole, Fails, Front, IsCutOff, Performs, SendsEnded}
+use Rattle.run_commands.specs.Plays.{AddsEnded, HasWhole, Fails, Front, Performs}
 
 -- what is so of a failure
 pub on_err : {T E F : Type 0} (r : Result T E) → F → OnErr r F

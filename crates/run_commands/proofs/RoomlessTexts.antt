@@ -1,11 +1,6 @@
 -- The room that is left in an attempt is in no text.
-use Rattle.std.proofs.Common.{◌≡◌, List, [], ◌∷◌, ◌++◌, map, ℕ, refl, ap}
-use Rattle.std.specs.Prelude.{flat_map}
-use Rattle.tx_attempts.specs.declared.attempt.Attempt.{Attempt}
-use Rattle.tx_history.specs.declared.history.History.{History}
-use Rattle.tx_history.specs.Histories.{attempt_lines, first_lines, head_line, history_text, last_line, try_text}
-use Rattle.world_laws.specs.Solo.{without_room}
-use Rattle.run_commands.specs.Pages.{roomless}
+use Rattle.std.proofs.Common.{◌≡◌, List, [], ◌∷◌, ◌++◌, map, ℕ, refl, ap, flat_map}
+use Rattle.run_commands.proofs.Common.{Attempt, History, attempt_lines, first_lines, head_line, history_text, last_line, roomless, try_text, without_room}
 
 roomless_lines : (a : Attempt) → attempt_lines (without_room a) ≡ attempt_lines a
 unfolding attempt_lines head_line try_text

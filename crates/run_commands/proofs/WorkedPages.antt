@@ -1,15 +1,11 @@
 -- Worked programs with the texts of their histories, by computation.
-use Rattle.std.proofs.Common.{◌≡◌, ◌++◌, refl, arith}
-use Rattle.std.specs.Prelude.{codes}
-use Rattle.std.proofs.lemmas.Fmt.{decimal_digit}
+use Rattle.std.proofs.Common.{◌≡◌, ◌++◌, refl, arith, codes}
+use Rattle.run_commands.proofs.Common.{GaveUp, attempt_lines, codes_of, decimal_digit, first_lines, head_line, history_text, last_line, line, page, solo_of, try_text}
 use Rattle.hex.specs.Hex.{encode_with}
-use Rattle.tx_runs.specs.declared.ending.End.TheVariants.{GaveUp}
-use Rattle.script_program.specs.Listing.{bytes_of, codes_of}
+use Rattle.script_program.specs.Listing.{bytes_of}
 use Rattle.script_vm.specs.Registers.{datum}
 use Rattle.text_commands.proofs.WorkedScripts.{counter, empty_block, beyond, laid_in, one_commit}
-use Rattle.tx_history.specs.Histories.{history_text, first_lines, attempt_lines, head_line, try_text, props_end, arena_line, call_line, body_text, reply_text, last_line}
-use Rattle.tx_history.proofs.WorkedLines.{line}
-use Rattle.run_commands.specs.Pages.{solo_of, page}
+use Rattle.tx_history.specs.Histories.{props_end, arena_line, call_line, body_text, reply_text}
 
 counter_page : history_text (page counter) ≡
     line (codes "itm-history 1")

@@ -1,16 +1,9 @@
 -- Schedules of programs, and what is said of threads, by computation.
-use Rattle.std.proofs.Common.{◌≡◌, [], ◌∷◌, ◌++◌, true, false, None, Some, refl, arith}
-use Rattle.std.specs.Prelude.{codes}
+use Rattle.std.proofs.Common.{◌≡◌, [], ◌∷◌, ◌++◌, true, false, None, Some, refl, arith, codes}
+use Rattle.run_commands.proofs.Common.{Finished, GaveUp, NoMemory, Out, Take, codes_of, decimal_digit, ending_line, ending_lines, line, opening, players_of, schedule_of, thread_line}
 use Rattle.std.specs.List.{list_any}
-use Rattle.std.proofs.lemmas.Fmt.{decimal_digit}
-use Rattle.tx_runs.specs.declared.ending.End.TheVariants.{Finished, GaveUp, NoMemory}
-use Rattle.script_program.specs.declared.schedule.Item.TheVariants.{Take, Out}
-use Rattle.script_program.specs.Listing.{codes_of}
-use Rattle.script_vm.specs.Threads.{opening}
-use Rattle.run_commands.specs.Scheduled.{players_of, schedule_of}
-use Rattle.run_commands.specs.Endings.{fell_short, thread_line, ending_line, ending_lines}
+use Rattle.run_commands.specs.Endings.{fell_short}
 use Rattle.text_commands.proofs.WorkedScripts.{counter_code, listing, lost_update}
-use Rattle.tx_history.proofs.WorkedLines.{line}
 
 -- ## Schedules
 

@@ -1,22 +1,15 @@
 -- What was written of a program's run on threads.
 use Rattle.std.proofs.Common.{◌≡◌, ℕ, List, map, take, IfErr, IfOk, Option, Some, Result, Ok, Err, refl, sym, subst}
-use Rattle.std.specs.Io.KnownBytes.{Appends, Keeps}
-use Rattle.arrayvec.specs.ArrayVec.{ArrayVec}
-use Rattle.script_program.specs.Listing.{Listing}
+use Rattle.run_commands.proofs.Common.{Appends, ArrayVec, End, HasNestedCode, HistoryFits, Listing, Outputs, Writing, history_text, legal_text}
+use Rattle.std.specs.Io.KnownBytes.{Keeps}
 use Rattle.script_fields.specs.declared.fault.AsmFault.{AsmFault}
-use Rattle.script_laws.specs.Assembled.{HasNestedCode}
 use Rattle.script_laws.proofs.IdleThreads.{none_stay_held}
 use Rattle.text_commands.specs.declared.failure.Failure.{Failure}
-use Rattle.text_commands.specs.declared.failure.Failure.TheVariants.{Writing}
-use Rattle.text_commands.specs.Answers.{Outputs}
-use Rattle.history_reader.proofs.Canon.LegalTexts.{legal_text}
-use Rattle.tx_history.specs.Bounds.{AreLimited, HistoryFits}
-use Rattle.tx_history.specs.Histories.{history_text}
+use Rattle.tx_history.specs.Bounds.{AreLimited}
 use Rattle.tx_host.specs.declared.report.HostFault.{HostFault}
 use Rattle.tx_host.specs.declared.report.HostFault.TheVariants.{Held, NoMemory, NoThread}
 use Rattle.tx_host.specs.declared.report.Report.{Report}
 use Rattle.tx_host.specs.Reports.{Ran, StaysHeld}
-use Rattle.tx_runs.specs.declared.ending.End.{End}
 use Rattle.worker_rules.specs.Gates.{all_let}
 use Rattle.run_commands.specs.Threading.{IsThreadedRun, TellsRun, failure_of, threading}
 

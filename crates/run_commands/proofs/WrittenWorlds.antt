@@ -1,26 +1,7 @@
 -- What was written of a program's world.
 use Rattle.std.proofs.Common.{◌≡◌, ℕ, List, length, Option, Result, Ok, Err, refl}
-use Rattle.std.specs.Io.KnownBytes.{Appends}
-use Rattle.arrayvec.specs.ArrayVec.{ArrayVec}
-use Rattle.tx_runs.specs.declared.ending.End.{End}
-use Rattle.world_rules.specs.Commits.{CommitsInOrder}
-use Rattle.world_rules.specs.Headline.{AreOpaque}
-use Rattle.world_rules.specs.Tied.{AreTied}
-use Rattle.world_rules.specs.World.{World, observed}
-use Rattle.script_program.specs.Listing.{Listing, threads_of}
-use Rattle.script_vm.specs.Threads.{Thread, thread_rules}
-use Rattle.text_commands.specs.declared.failure.Failure.TheVariants.{Writing}
-use Rattle.text_commands.specs.Answers.{Outputs}
-use Rattle.tx_history.specs.Bounds.{HistoryFits}
-use Rattle.tx_history.specs.Histories.{history_text}
-use Rattle.tx_history.specs.Spelling.{Puts, Writes}
-use Rattle.run_commands.specs.Scheduled.{Begins, endings_of, schedule_of}
-use Rattle.run_commands.specs.Pages.{IsWorldOf}
-use Rattle.world_laws.specs.Told.{told_of}
-use Rattle.run_commands.specs.Plays.{IsCutOff}
-use Rattle.tx_host.specs.Limits.{IsLimitedListing}
-use Rattle.tx_host.specs.Versions.{version_of}
-use Rattle.script_laws.specs.Assembled.{HasNestedCode}
+use Rattle.run_commands.proofs.Common.{Appends, AreOpaque, AreTied, ArrayVec, Begins, CommitsInOrder, End, HasNestedCode, HistoryFits, IsCutOff, IsLimitedListing, IsWorldOf, Listing, Outputs, Thread, World, Writes, Writing, endings_of, history_text, observed, schedule_of, thread_rules, threads_of, told_of, version_of}
+use Rattle.tx_history.specs.Spelling.{Puts}
 use Rattle.run_commands.proofs.FedRuns.{fed, none_open}
 use Rattle.run_commands.proofs.ProgramPages.{read_as_legal}
 use Rattle.run_commands.proofs.ScheduleItems.{items_begun_led}

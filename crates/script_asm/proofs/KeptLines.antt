@@ -1,26 +1,15 @@
 -- Lines that leave more to be kept, or more open.
 use Rattle.std.proofs.Common.{◌≡◌, ℕ, ◌+◌, ◌<◌, ◌≤◌, inl, inr, false, leb, List, [], ◌∷◌, ◌++◌, length, Option, Some, None, Result, Ok, refl, sym, ap, arith, length-append}
-use Rattle.std.proofs.lemmas.Bool.{lt-ltb, le-ltb, lt-leb}
-use Rattle.itm_types.specs.declared.limits.TheConstants.{MAX_ACTORS}
-use Rattle.script_program.specs.declared.limits.TheConstants.{MAX_ITEMS, MAX_INSTRUCTIONS, MAX_LEVELS}
+use Rattle.script_asm.proofs.Common.{Adds, AsmFault, Instruction, Item, MAX_ACTORS, MAX_ITEMS, Part, Placed, Shared, State, expanded, fault, instruction_total, lt-ltb, obeyed, planned, schedule_of, thread_total, threaded, within_never, ◌>>=◌}
+use Rattle.std.proofs.lemmas.Bool.{le-ltb, lt-leb}
+use Rattle.script_program.specs.declared.limits.TheConstants.{MAX_INSTRUCTIONS, MAX_LEVELS}
 use Rattle.script_asm.specs.declared.words.Word.TheVariants as words
 use Rattle.script_fields.specs.declared.fault.AsmKind.TheVariants as kinds
-use Rattle.script_fields.specs.declared.fault.AsmFault.{AsmFault}
 use Rattle.script_fields.proofs.FirstLines.{chosen}
-use Rattle.script_program.specs.declared.instruction.Instruction.{Instruction}
 use Rattle.script_asm.specs.declared.groups.Group.{Group}
-use Rattle.script_program.specs.declared.schedule.Item.{Item}
-use Rattle.script_asm.specs.declared.state.State.{State}
-use Rattle.script_program.specs.Listing.{Shared, Placed, Part}
-use Rattle.script_program.specs.Sections.{Sections, thread_total, code_total, instruction_total, begun, expanded}
-use Rattle.script_program.specs.Schedules.{planned}
-use Rattle.script_asm.specs.Readings.{◌>>=◌, fault}
-use Rattle.script_asm.specs.Directives.{threaded}
-use Rattle.script_asm.specs.Groups.{within_never}
+use Rattle.script_program.specs.Sections.{Sections, code_total, begun}
 use Rattle.script_asm.specs.Blocks.{added, counted, opened, begins, ends_repeat, without_innermost}
-use Rattle.script_asm.specs.Assembly.{obeyed}
-use Rattle.script_asm.specs.Wants.{Adds, init_count, kept}
-use Rattle.script_asm.specs.Items.{schedule_of}
+use Rattle.script_asm.specs.Wants.{init_count, kept}
 use Rattle.script_program.proofs.AddedSections.{code_more}
 use Rattle.script_asm.proofs.LineItems.{some_items}
 

@@ -1,19 +1,13 @@
 -- Bytes for the memory, from their digits.
 use Rattle.std.proofs.Common.{◌≡◌, ℕ, ◌+◌, ◌/◌, ◌%◌, Bool, true, false, leb, eqb, not, ◌&&◌, List, [], ◌∷◌, ◌++◌, length, Some, Result, Ok, refl, sym, ap, ◌∙◌, arith}
-use Rattle.std.specs.List.{list_all}
+use Rattle.script_asm.proofs.Common.{Adds, AllPass-from_list_all, Shared, State, decoded, fault, laid_in, list_all}
 use Rattle.std.specs.Result.{result_unwrap_or}
 use Rattle.std.proofs.lemmas.Bool.{eqb-true}
-use Rattle.std.proofs.lemmas.List.Sums.{AllPass-from_list_all}
 use Rattle.hex.specs.declared.error.FromHexError.{FromHexError}
 use Rattle.hex.specs.Hex.{decode_of, is_hex_digit}
 use Rattle.hex.proofs.HexLemmas.{decode_of-digits, decode_of-ok}
 use Rattle.script_fields.specs.declared.fault.AsmKind.TheVariants as kinds
-use Rattle.script_asm.specs.declared.state.State.{State}
-use Rattle.script_program.specs.Listing.{Shared}
-use Rattle.script_fields.specs.Operands.{is_hex, decoded}
-use Rattle.script_asm.specs.Readings.{fault}
-use Rattle.script_asm.specs.Directives.{laid_in}
-use Rattle.script_asm.specs.Wants.{Adds}
+use Rattle.script_fields.specs.Operands.{is_hex}
 use Rattle.script_asm.proofs.KeptLines.{adds_init}
 
 and_true : (a b : Bool) → (a && b) ≡ true → (a ≡ true) × (b ≡ true)

@@ -1,3 +1,4 @@
+pub mod Common
 pub mod TurnedGroups
 pub mod NeverGroups
 pub mod LineItems

@@ -1,10 +1,10 @@
 -- The items of a line, one after the other.
 use Rattle.std.proofs.Common.{◌≡◌, ℕ, ◌+◌, ◌<◌, List, [], ◌∷◌, length, Option, Some, None, Result, Ok, Err, refl, sym, ap, ◌∙◌, arith}
+use Rattle.script_asm.proofs.Common.{Item, item_of, items_in, items_of, schedule_of}
 use Rattle.script_fields.specs.declared.fault.AsmKind.{AsmKind}
 use Rattle.script_fields.specs.declared.fault.AsmKind.TheVariants as kinds
-use Rattle.script_program.specs.declared.schedule.Item.{Item}
 use Rattle.script_fields.specs.Operands.{both, ◌>>=◌}
-use Rattle.script_asm.specs.Items.{item_of, items_of, items_in, with_item, schedule_of}
+use Rattle.script_asm.specs.Items.{with_item}
 
 -- how many there are
 abbrev pub tally : Result (List Item) AsmKind → Result ℕ AsmKind

@@ -1,16 +1,16 @@
 -- The lines of plain texts.
-use Rattle.std.proofs.Common.{◌≡◌, ℕ, ◌+◌, ◌-◌, Bool, true, false, cond, not, ◌||◌, eqb, List, [], ◌∷◌, length, take, refl, sym, ap, ◌∙◌, arith}
-use Rattle.std.specs.List.{list_all, onto_first, position_or_len, slice_split}
-use Rattle.std.specs.Prelude.{slice_index}
-use Rattle.std.specs.Str.Lines.{lines, lines_of_parts, strip_carriage_return}
+use Rattle.std.proofs.Common.{◌≡◌, ℕ, ◌+◌, ◌-◌, Bool, true, false, cond, not, ◌||◌, eqb, List, [], ◌∷◌, length, take, refl, sym, ap, ◌∙◌, arith, slice_index}
+use Rattle.script_asm.proofs.Common.{AllPass-from_list_all, is_plain, is_plain_or_feed, lines, list_all}
+use Rattle.std.specs.List.{onto_first, position_or_len, slice_split}
+use Rattle.std.specs.Str.Lines.{lines_of_parts, strip_carriage_return}
 use Rattle.std.proofs.lemmas.Bool.{and_parts, not-true, or_right}
 use Rattle.std.proofs.lemmas.List.{take_all}
 use Rattle.std.proofs.lemmas.List.Elements.{All-take}
-use Rattle.std.proofs.lemmas.List.Sums.{AllPass-from_list_all, list_all-from_AllPass}
+use Rattle.std.proofs.lemmas.List.Sums.{list_all-from_AllPass}
 use Rattle.script_fields.specs.Text.{is_allowed, is_feed, is_semicolon, without_comment}
 use Rattle.script_fields.proofs.FirstLines.{first_place}
 use Rattle.script_fields.proofs.SpelledNumbers.{list_all-weaker}
-use Rattle.script_asm.specs.PlainTexts.{is_plain, is_plain_or_feed, is_shown}
+use Rattle.script_asm.specs.PlainTexts.{is_shown}
 
 -- ## One line
 

@@ -1,15 +1,9 @@
 -- Which line memory is refused to.
-use Rattle.std.proofs.Common.{◌≡◌, ℕ, zero, suc, ◌+◌, ◌≤◌, List, [], ◌∷◌, ◌++◌, length, take, drop, Some, Result, Ok, Err, refl, sym, ap, ◌∙◌, arith}
-use Rattle.std.specs.Prelude.{slice_get}
-use Rattle.std.specs.Str.Lines.{lines}
-use Rattle.std.proofs.lemmas.List.{length-drop, length-take, take-take, drop-take, take-append-drop, drop-drop}
+use Rattle.std.proofs.Common.{◌≡◌, ℕ, zero, suc, ◌+◌, ◌≤◌, List, [], ◌∷◌, ◌++◌, length, take, drop, Some, Result, Ok, Err, refl, sym, ap, ◌∙◌, arith, slice_get}
+use Rattle.script_asm.proofs.Common.{Adds, AsmFault, MAX_TEXT, State, initial, length-take, lines, lines_say, meaning, ◌>>=◌}
+use Rattle.std.proofs.lemmas.List.{length-drop, take-take, drop-take, take-append-drop, drop-drop}
 use Rattle.std.proofs.Math.Seq.{drop-nil}
-use Rattle.script_fields.specs.declared.fault.AsmFault.{AsmFault}
-use Rattle.script_program.specs.declared.limits.TheConstants.{MAX_TEXT}
-use Rattle.script_asm.specs.declared.state.State.{State}
-use Rattle.script_asm.specs.Readings.{◌>>=◌}
-use Rattle.script_asm.specs.Assembly.{meaning, lines_say, initial}
-use Rattle.script_asm.specs.Wants.{Adds, RunsOut}
+use Rattle.script_asm.specs.Wants.{RunsOut}
 
 bound_ok : (r : Result State AsmFault) → (r >>= λ t. Ok t) ≡ r
 bound_ok (Ok t) = refl

@@ -1,11 +1,10 @@
 -- The innermost of what is open, in a list whose last it is.
 use Rattle.std.proofs.Common.{◌≡◌, ℕ, ◌+◌, ◌-◌, ◌<◌, List, [], ◌∷◌, ◌++◌, length, take, get_or, set, reverse, sym, ap, ◌∙◌, arith}
+use Rattle.script_asm.proofs.Common.{Beginning, length-take, second_part}
 use Rattle.std.proofs.Math.Seq.{set-append_seam}
 use Rattle.std.proofs.lemmas.Grind.{common_steps}
-use Rattle.std.proofs.lemmas.List.{reverse-append, take_more, length-take}
-use Rattle.script_asm.specs.declared.groups.Beginning.{Beginning}
+use Rattle.std.proofs.lemmas.List.{reverse-append, take_more}
 use Rattle.script_asm.specs.declared.groups.Group.TheVariants as groups
-use Rattle.script_asm.specs.Groups.{second_part}
 
 abbrev second : Beginning → Beginning
 second b = record b { group = groups.Second }

@@ -1,6 +1,6 @@
 -- The words of the entry points that most blocks have.
-use Rattle.std.proofs.Common.{◌≡◌, ℕ, true, List, Some, refl, sym, ap, ◌∙◌}
-use Rattle.std.specs.Prelude.{codes, bytes_eq}
+use Rattle.std.proofs.Common.{◌≡◌, ℕ, true, List, Some, refl, ap, ◌∙◌, codes, bytes_eq}
+use Rattle.script_asm.proofs.Common.{entry_of, word_of}
 use Rattle.std.proofs.lemmas.Slice.Eq.{bytes_eq-Decides}
 use Rattle.itm_types.specs.declared.access.Width.TheVariants as width
 use Rattle.itm_types.specs.declared.access.ReadHint.TheVariants as read
@@ -8,10 +8,8 @@ use Rattle.itm_types.specs.declared.access.WriteHint.TheVariants as write
 use Rattle.itm_entries.specs.declared.entry.Control.TheVariants as control
 use Rattle.itm_entries.specs.declared.entry.Entry.{Entry}
 use Rattle.itm_entries.specs.declared.entry.Entry.TheVariants as entry
-use Rattle.itm_entries.specs.Entries.{entry_of}
 use Rattle.script_asm.specs.declared.words.Word.TheVariants as words
 use Rattle.script_asm.specs.declared.words.Mnemonic.TheVariants as mnemonics
-use Rattle.script_asm.specs.Words.{word_of}
 
 -- a field that equals a text has the text's word
 named : (f text : List ℕ) (e : Entry) → bytes_eq f text ≡ true → word_of text ≡ Some (words.Code (mnemonics.Entry e)) → word_of f ≡ Some (words.Code (mnemonics.Entry e))

@@ -1,11 +1,7 @@
 -- Worked scripts, by computation: each kind of fault, and the order of several.
-use Rattle.std.proofs.Common.{◌≡◌, ℕ, List, [], ◌∷◌, ◌<◌, ◌++◌, length, refl}
-use Rattle.std.proofs.lemmas.Bool.{lt-ltb}
-use Rattle.std.specs.Prelude.{codes}
+use Rattle.std.proofs.Common.{◌≡◌, ℕ, List, [], ◌∷◌, ◌<◌, ◌++◌, length, refl, codes}
+use Rattle.script_asm.proofs.Common.{MAX_TEXT, fault, lt-ltb, program_of}
 use Rattle.script_fields.specs.declared.fault.AsmKind.TheVariants as kinds
-use Rattle.script_program.specs.declared.limits.TheConstants.{MAX_TEXT}
-use Rattle.script_asm.specs.Readings.{fault}
-use Rattle.script_asm.specs.Assembly.{program_of}
 use Rattle.script_asm.proofs.OnLiterals.{on_literals}
 use Rattle.script_asm.proofs.WorkedTexts.{line, script}
 

@@ -1,6 +1,5 @@
 -- Texts of worked scripts.
-use Rattle.std.proofs.Common.{List, ℕ, [], ◌∷◌, ◌++◌}
-use Rattle.std.specs.Prelude.{codes}
+use Rattle.std.proofs.Common.{List, ℕ, [], ◌∷◌, ◌++◌, codes}
 
 -- a line with its end
 abbrev pub line : List ℕ → List ℕ

@@ -1,8 +1,6 @@
 -- The number that digits spell, from left to right.
 use Rattle.std.proofs.Common.{◌≡◌, ℕ, ◌+◌, ◌-◌, ◌*◌, ◌^◌, ◌<◌, ◌≤◌, Bool, true, false, not, ◌&&◌, cond, eqb, Ok, Err, List, [], ◌∷◌, length, drop, get_or, Some, None, refl, sym, ap, ◌∙◌, arith, drop-cons, add-one}
-use Rattle.std.proofs.lemmas.Bool.{lt-ltb, le-ltb, le-leb}
-use Rattle.std.proofs.lemmas.Grind.{common_steps}
-use Rattle.script_fields.specs.Operands.{value_after, value_of, in_range, is_number, number}
+use Rattle.script_fields.proofs.Common.{common_steps, in_range, is_number, le-leb, le-ltb, lt-ltb, number, value_after, value_of}
 use Rattle.script_fields.specs.declared.fault.AsmKind.TheVariants as kinds
 
 value_ge : (n : ℕ) (cs : List ℕ) → n ≤ value_after n cs

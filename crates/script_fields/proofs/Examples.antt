@@ -1,14 +1,8 @@
 -- Worked cases, by computation.
-use Rattle.std.proofs.Common.{◌≡◌, true, false, [], ◌∷◌, ◌++◌, replicate, Ok, Err, refl}
-use Rattle.std.specs.Prelude.{codes}
-use Rattle.std.specs.Str.Lines.{lines}
+use Rattle.std.proofs.Common.{◌≡◌, true, false, [], ◌∷◌, ◌++◌, replicate, Ok, Err, refl, codes}
+use Rattle.script_fields.proofs.Common.{R0, R1, R10, R2, commit_action, count_of, fields, init_of, limit_of, lines, literal, literal_text, none, number, only_mode, place, props, register, register_literal, register_number, register_place, scope, size_of, three_registers, two_registers, undo_action, without_comment}
 use Rattle.script_fields.specs.declared.fault.AsmKind.TheVariants as kinds
 use Rattle.script_fields.specs.declared.place.Place.TheVariants as places
-use Rattle.script_fields.specs.declared.register.Register.TheVariants.{R0, R1, R2, R10}
-use Rattle.script_fields.specs.Text.{fields, without_comment}
-use Rattle.script_fields.specs.Operands.{number, register, place, literal, props, scope}
-use Rattle.script_fields.specs.Shapes.{none, two_registers, three_registers, register_number, register_literal, register_place, only_mode, commit_action, undo_action, size_of, limit_of, init_of, count_of}
-use Rattle.script_fields.specs.Spelling.{literal_text}
 use Rattle.script_fields.proofs.OnLiterals.{fields_on_literals}
 
 -- ## Lines and fields

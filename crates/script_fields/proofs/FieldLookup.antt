@@ -1,9 +1,7 @@
 -- Looking a field up, row by row.
-use Rattle.std.proofs.Common.{◌≡◌, ℕ, ◌+◌, ◌<◌, ◌≤◌, Bool, true, false, cond, List, [], length, drop, get_or, map, Some, None, refl, sym, ap, ◌∙◌, arith, drop-cons, add-one}
-use Rattle.std.specs.Prelude.{bytes_eq}
-use Rattle.std.proofs.lemmas.Grind.{common_steps}
+use Rattle.std.proofs.Common.{◌≡◌, ℕ, ◌+◌, ◌<◌, ◌≤◌, Bool, true, false, cond, List, [], length, drop, get_or, map, Some, None, refl, sym, ap, ◌∙◌, arith, drop-cons, add-one, bytes_eq}
+use Rattle.script_fields.proofs.Common.{common_steps, lookup, row}
 use denote.Ref.{Bor}
-use Rattle.script_fields.specs.Names.{lookup, row}
 
 here : {A : Type 0} (rows : List (Bor (List ℕ) × A)) (i : ℕ) (d : Bor (List ℕ) × A) (f : List ℕ) → i < length rows → lookup (map row (drop i rows)) f ≡ cond (bytes_eq (get_or rows i d).0.now f) (Some (get_or rows i d).1) (lookup (map row (drop (i + 1) rows)) f)
 here rows i d f h = rw (add-one, drop-cons rows i d) refl

@@ -1,12 +1,10 @@
 -- The first line of a text, and the first field of a line.
 use Rattle.std.proofs.Common.{◌≡◌, ℕ, ◌+◌, ◌<◌, ◌≤◌, Bool, true, false, cond, not, ltb, List, [], ◌∷◌, length, take, drop, filter, Some, None, refl, sym, ap, ◌∙◌, arith, position, get_or, inl, inr, ◌⊎◌, subst}
-use Rattle.std.specs.List.{slice_split, position_or_len, before_first, after_first, onto_first}
-use Rattle.std.specs.Str.Lines.{lines, lines_of_parts, strip_carriage_return}
+use Rattle.script_fields.proofs.Common.{common_steps, fields, is_blank, is_feed, is_semicolon, is_some_field, length-drop, length-take, lines, lines_of_parts, lt-ltb, ltb-false, ltb-true, ne_eqb, position_or_len, slice_split}
+use Rattle.std.specs.List.{before_first, after_first, onto_first}
+use Rattle.std.specs.Str.Lines.{strip_carriage_return}
 use Rattle.std.proofs.lemmas.List.Splits.{slice_split_first, length-slice_split, slice_split-cons_yes, slice_split-cons_no}
-use Rattle.std.proofs.lemmas.Bool.{ltb-true, ltb-false, lt-ltb, ne_eqb}
-use Rattle.std.proofs.lemmas.List.{length-take, length-drop}
-use Rattle.std.proofs.lemmas.Grind.{common_steps}
-use Rattle.script_fields.specs.Text.{fields, is_feed, is_blank, is_ink, is_semicolon, is_some_field}
+use Rattle.script_fields.specs.Text.{is_ink}
 
 b_cases : (b : Bool) → (b ≡ true) ⊎ (b ≡ false)
 b_cases true = inl refl

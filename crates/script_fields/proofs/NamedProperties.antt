@@ -1,9 +1,7 @@
 -- Properties, name by name.
 use Rattle.std.proofs.Common.{◌≡◌, ℕ, ◌+◌, List, take, drop, Some, None, Result, Ok, Err, refl, sym, ap, ◌∙◌, position}
-use Rattle.std.specs.List.{slice_split}
-use Rattle.itm_types.specs.declared.call.Props.{Props}
-use Rattle.script_fields.specs.declared.fault.AsmKind.{AsmKind}
-use Rattle.script_fields.specs.Operands.{◌>>=◌, property, add_property, add_names, is_plus}
+use Rattle.script_fields.proofs.Common.{AsmKind, Props, add_names, add_property, is_plus, property, slice_split}
+use Rattle.script_fields.specs.Operands.{◌>>=◌}
 use Rattle.script_fields.proofs.FirstLines.{parts_first, parts_last}
 
 -- the names of a text

@@ -1,14 +1,11 @@
 -- Fields that are joined, and lines that are ended, are read as they were.
 use Rattle.std.proofs.Common.{◌≡◌, ◌≢◌, ℕ, ◌+◌, ◌-◌, ◌≤◌, Bool, true, false, cond, not, eqb, ◌||◌, List, [], ◌∷◌, ◌++◌, length, take, get_or, filter, All, refl, ap, ◌∙◌, arith, inl, inr}
-use Rattle.std.specs.List.{slice_split, list_all, AllByRecursion, position_or_len}
-use Rattle.std.specs.Str.Lines.{lines, lines_of_parts}
-use Rattle.std.proofs.lemmas.Bool.{ne_eqb, leb-true, le-leb, not-true, not_from_false, and_parts, or_cases, or_left, or_right, eqb-true}
-use Rattle.std.proofs.lemmas.Grind.{common_steps}
-use Rattle.std.proofs.lemmas.List.Elements.{All-get_or, All-weaker}
+use Rattle.script_fields.proofs.Common.{All-get_or, All-weaker, AllPass-from_list_all, IsField, and_parts, common_steps, eqb-true, fields, is_blank, is_feed, is_field_byte, is_semicolon, is_some_field, le-leb, leb-true, lines, lines_of_parts, list_all, ne_eqb, not-true, position_or_len, slice_split, without_comment}
+use Rattle.std.specs.List.{AllByRecursion}
+use Rattle.std.proofs.lemmas.Bool.{not_from_false, or_cases, or_left, or_right}
 use Rattle.std.proofs.lemmas.List.Folds.{list_all-append}
 use Rattle.std.proofs.lemmas.List.Splits.{slice_split_at, slice_split_none}
-use Rattle.std.proofs.lemmas.List.Sums.{AllPass-from_list_all}
-use Rattle.script_fields.specs.Text.{IsField, IsLine, joined, ended, fields, without_comment, is_allowed, is_blank, is_feed, is_field_byte, is_semicolon, is_some_field}
+use Rattle.script_fields.specs.Text.{IsLine, joined, ended, is_allowed}
 use Rattle.script_fields.proofs.FirstLines.{filter-yes, first_place, lines_of_parts-cons, parts_nonempty}
 use Rattle.script_fields.proofs.SpelledNumbers.{list_all-weaker}
 

@@ -1,15 +1,11 @@
 -- Numbers that are written are read as they were, and what is read as a number was written so.
-use Rattle.std.proofs.Common.{◌≡◌, ◌≢◌, ℕ, zero, suc, ◌^◌, ◌<◌, ◌≤◌, Bool, true, false, cond, ltb, leb, eqb, not, ◌&&◌, List, length, get_or, Some, None, Ok, Err, refl, ap, ◌∙◌, arith, rules, lit<, inl, inr}
-use Rattle.std.specs.Prelude.{decimal}
-use Rattle.std.specs.List.{list_all}
-use Rattle.std.proofs.lemmas.Bool.{ne_eqb, lt-ltb, le-leb, leb-true, ltb-true, and_parts}
-use Rattle.std.proofs.lemmas.Fmt.{digits_decimal, digits_value-decimal, first_decimal, decimal_nonempty, decimal_digit}
-use Rattle.std.proofs.lemmas.List.Elements.{All-weaker}
-use Rattle.std.proofs.lemmas.List.Sums.{AllPass-from_list_all, list_all-from_AllPass}
+use Rattle.std.proofs.Common.{◌≡◌, ◌≢◌, ℕ, zero, suc, ◌^◌, ◌<◌, ◌≤◌, Bool, true, false, cond, ltb, leb, eqb, not, ◌&&◌, List, length, get_or, Some, None, Ok, Err, refl, ap, ◌∙◌, arith, rules, lit<, inl, inr, decimal}
+use Rattle.script_fields.proofs.Common.{All-weaker, AllPass-from_list_all, IsField, and_parts, decimal_nonempty, function, in_range, is_digit, is_field_byte, is_number, le-leb, leb-true, list_all, lt-ltb, ltb-true, ne_eqb, number, value_after, value_of}
+use Rattle.std.proofs.lemmas.Fmt.{digits_decimal, digits_value-decimal, first_decimal, decimal_digit}
+use Rattle.std.proofs.lemmas.List.Sums.{list_all-from_AllPass}
 use Rattle.std.proofs.lemmas.Str.Parse.{IsNumeralModel, numerals_by_fold}
 use Rattle.script_fields.specs.declared.fault.AsmKind.TheVariants as kinds
-use Rattle.script_fields.specs.Text.{IsField, is_field_byte}
-use Rattle.script_fields.specs.Operands.{value_after, value_of, in_range, is_number, is_digit, number, within, function}
+use Rattle.script_fields.specs.Operands.{within}
 use Rattle.script_fields.proofs.FirstLines.{chosen}
 
 own : IsNumeralModel (λ ds. list_all is_digit ds ≡ true) (value_after 0)

@@ -1,29 +1,16 @@
 -- Operands that are written are read as they were.
-use Rattle.std.proofs.Common.{◌≡◌, ℕ, suc, ◌-◌, ◌*◌, ◌/◌, ◌%◌, ◌^◌, ◌<◌, ◌≤◌, Bool, true, false, eqb, leb, ltb, List, [], ◌∷◌, ◌++◌, length, take, replicate, Option, Some, None, Result, Ok, Err, refl, sym, ap, subst, ◌∙◌, arith, lit<, inl, inr}
-use Rattle.std.specs.Prelude.{decimal, slice_index}
-use Rattle.std.specs.List.{list_all}
-use Rattle.std.proofs.lemmas.Bool.{ne_eqb, eq-eqb, leb-true, le-ltb, ltb-false, and_parts, eqb-false, not-true, cases_Bool}
-use Rattle.std.proofs.lemmas.Fmt.{decimal_nonempty}
-use Rattle.std.proofs.lemmas.List.{length-take, length-append, length-replicate}
-use Rattle.std.proofs.lemmas.List.Elements.{All-get_or}
-use Rattle.std.proofs.lemmas.List.Sums.{AllPass-from_list_all}
+use Rattle.std.proofs.Common.{◌≡◌, ℕ, suc, ◌-◌, ◌*◌, ◌/◌, ◌%◌, ◌^◌, ◌<◌, ◌≤◌, Bool, true, false, eqb, leb, ltb, List, [], ◌∷◌, ◌++◌, length, take, replicate, Option, Some, None, Result, Ok, Err, refl, sym, ap, subst, ◌∙◌, arith, lit<, inl, inr, decimal, slice_index}
+use Rattle.script_fields.proofs.Common.{All-get_or, AllPass-from_list_all, AsmKind, IsBytes, IsField, IsLiteral, IsPlace, Literal, MAX_INIT_DIGITS, Place, Props, R0, R1, R10, R2, Register, and_parts, decimal_nonempty, decoded, digits, encode_lower, eq-eqb, is_digit, is_field_byte, is_hex, is_hex_digit, le-ltb, leb-true, length-take, list_all, literal, literal_of, literal_text, ltb-false, mode, mode_text, named, ne_eqb, no_transaction, no_transaction_text, not-true, number, place, place_text, property, props, props_text, register, register_name, scope, scope_text}
+use Rattle.std.proofs.lemmas.Bool.{eqb-false, cases_Bool}
+use Rattle.std.proofs.lemmas.List.{length-append, length-replicate}
 use Rattle.std.proofs.Math.Seq.{take-append_seam}
-use Rattle.hex.specs.Hex.{IsBytes, encode_lower, encode_with, lower_digits, is_hex_digit}
+use Rattle.hex.specs.Hex.{encode_with, lower_digits}
 use Rattle.hex.proofs.HexLemmas.{decode_of-encode_lower, length-encode_with}
-use Rattle.itm_types.specs.declared.call.Props.{Props}
-use Rattle.script_fields.specs.declared.hex_digits.TheConstants.{MAX_INIT_DIGITS}
-use Rattle.script_fields.specs.declared.fault.AsmKind.{AsmKind}
 use Rattle.script_fields.specs.declared.fault.AsmKind.TheVariants as kinds
-use Rattle.script_fields.specs.declared.literal.Literal.{Literal}
-use Rattle.script_fields.specs.declared.place.Place.{Place}
 use Rattle.script_fields.specs.declared.place.Place.TheVariants as places
-use Rattle.script_fields.specs.declared.register.Register.{Register}
-use Rattle.script_fields.specs.declared.register.Register.TheVariants.{R0, R1, R2, R3, R4, R5, R6, R7, R8, R9, R10, R11, R12, R13, R14, R15}
-use Rattle.script_fields.specs.Text.{IsField, is_field_byte}
-use Rattle.script_fields.specs.Registers.{register_name}
-use Rattle.script_fields.specs.Properties.{props_text}
-use Rattle.script_fields.specs.Operands.{is_digit, number, named, register, or_number, place, is_hex, decoded, digits_to, digits, literal_of, literal, property, props, scope, mode, no_transaction}
-use Rattle.script_fields.specs.Spelling.{IsPlace, IsLiteral, place_text, said_bytes, literal_text, scope_text, mode_text, no_transaction_text}
+use Rattle.script_fields.specs.declared.register.Register.TheVariants.{R3, R4, R5, R6, R7, R8, R9, R11, R12, R13, R14, R15}
+use Rattle.script_fields.specs.Operands.{or_number, digits_to}
+use Rattle.script_fields.specs.Spelling.{said_bytes}
 use Rattle.script_fields.proofs.HexDigits.{decode_of-hex, decoded_is}
 use Rattle.script_fields.proofs.SpelledNumbers.{number_again, number_form, digits_again, decimal_field}
 

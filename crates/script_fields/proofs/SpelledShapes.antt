@@ -1,18 +1,7 @@
 -- The operands of a line that are written are read as they were.
-use Rattle.std.proofs.Common.{◌≡◌, ℕ, ◌*◌, ◌%◌, ◌^◌, ◌<◌, ◌≤◌, Bool, List, [], ◌∷◌, length, Ok, refl, arith}
-use Rattle.std.specs.Prelude.{decimal}
-use Rattle.std.proofs.lemmas.Bool.{le-leb, ne_eqb, eq-eqb}
-use Rattle.hex.specs.Hex.{IsBytes, encode_lower}
-use Rattle.itm_types.specs.declared.call.Props.{Props}
+use Rattle.std.proofs.Common.{◌≡◌, ℕ, ◌*◌, ◌%◌, ◌^◌, ◌<◌, ◌≤◌, Bool, List, [], ◌∷◌, length, Ok, refl, arith, decimal}
+use Rattle.script_fields.proofs.Common.{IsBytes, IsLiteral, IsPlace, Literal, MAX_INIT_DIGITS, Place, Props, Register, abort_scope, commit_action, count_of, encode_lower, eq-eqb, init_of, le-leb, limit_of, literal_text, mode_text, ne_eqb, no_transaction_text, none, one, one_place, one_register, only_mode, place_register, place_text, props_text, register_literal, register_name, register_number, register_place, register_props, scope_text, size_of, three, three_places, three_registers, two, two_places, two_registers, undo_action}
 use Rattle.itm_types.specs.declared.limits.TheConstants.{MAX_MEMORY}
-use Rattle.script_fields.specs.declared.hex_digits.TheConstants.{MAX_INIT_DIGITS}
-use Rattle.script_fields.specs.declared.literal.Literal.{Literal}
-use Rattle.script_fields.specs.declared.place.Place.{Place}
-use Rattle.script_fields.specs.declared.register.Register.{Register}
-use Rattle.script_fields.specs.Registers.{register_name}
-use Rattle.script_fields.specs.Properties.{props_text}
-use Rattle.script_fields.specs.Spelling.{IsPlace, IsLiteral, place_text, literal_text, scope_text, mode_text, no_transaction_text}
-use Rattle.script_fields.specs.Shapes.{none, one, two, three, one_register, two_registers, three_registers, register_number, register_literal, register_props, register_place, place_register, one_place, two_places, three_places, abort_scope, only_mode, commit_action, undo_action, size_of, limit_of, init_of, count_of}
 use Rattle.script_fields.proofs.SpelledNumbers.{number_again, within_again, function_again}
 use Rattle.script_fields.proofs.SpelledOperands.{register_again, place_again, digits_again_hex, literal_again, props_again, scope_again, mode_again, no_transaction_again}
 

@@ -1,28 +1,20 @@
 -- Worked texts, by computation: what is printed of a program, and that it is read as the program.
-use Rattle.std.proofs.Common.{◌≡◌, ℕ, zero, suc, true, false, List, [], ◌∷◌, ◌++◌, Ok, refl, lit<, arith}
-use Rattle.std.specs.Prelude.{codes, replicate}
+use Rattle.std.proofs.Common.{◌≡◌, ℕ, zero, suc, true, false, List, [], ◌∷◌, ◌++◌, Ok, refl, lit<, arith, codes, replicate}
+use Rattle.script_print.proofs.Common.{AllByRecursion, Instruction, IsBytes, IsLiteral, Listing, MAX_COMMITS, Out, Take, printed, program_of}
 use Rattle.std.specs.Fmt.{digits}
-use Rattle.std.specs.List.{AllByRecursion}
-use Rattle.hex.specs.Hex.{IsBytes, encode_with}
+use Rattle.hex.specs.Hex.{encode_with}
 use Rattle.itm_types.specs.declared.access.ReadHint.TheVariants.{RaW}
 use Rattle.itm_types.specs.declared.access.Width.TheVariants as width
 use Rattle.itm_types.specs.declared.access.WriteHint.TheVariants.{W, WaR}
 use Rattle.itm_types.specs.declared.copy.CopyPair.TheVariants.{In}
 use Rattle.itm_types.specs.declared.copy.SharedSide.TheVariants as sides
-use Rattle.itm_types.specs.declared.limits.TheConstants.{MAX_COMMITS}
 use Rattle.script_fields.specs.declared.register.Register.TheVariants.{R0, R1, R2, R3, R15}
 use Rattle.script_fields.specs.declared.place.Place.TheVariants as places
-use Rattle.script_fields.specs.Spelling.{IsLiteral}
 use Rattle.script_program.specs.declared.instruction.ArenaWidth.TheVariants as widths
-use Rattle.script_program.specs.declared.instruction.Instruction.{Instruction}
 use Rattle.script_program.specs.declared.instruction.Instruction.TheVariants as code
 use Rattle.script_program.specs.declared.instruction.Operation.TheVariants as operations
-use Rattle.script_program.specs.declared.schedule.Item.TheVariants.{Take, Out}
-use Rattle.script_program.specs.Listing.{Listing}
-use Rattle.script_asm.specs.Assembly.{program_of}
 use Rattle.script_asm.proofs.OnLiterals.{on_literals}
 use Rattle.script_asm.proofs.WorkedTexts.{line}
-use Rattle.script_print.specs.Printing.{printed}
 use Rattle.script_print.proofs.Printable.{IsSaid, IsPrintable}
 
 -- ## Two instructions

@@ -1,3 +1,4 @@
+pub mod Common
 pub mod Printable
 pub mod Assembly
 pub mod Texts

@@ -1,20 +1,9 @@
 -- Programs that a text can say: what each of their parts keeps.
+use Rattle.script_print.proofs.Common.{AllByRecursion, AreWithin, Group, Instruction, IsBytes, IsLiteral, IsPlace, IsSize, Item, Listing, MAX_ACTORS, MAX_ARENA, MAX_EVENTS, MAX_INIT_DIGITS, MAX_INSTRUCTIONS, MAX_ITEMS, MAX_LEVELS, Out, Part, Placed, Take}
 use Rattle.std.specs.Prelude.{◌≡◌, ℕ, ◌+◌, ◌*◌, ◌^◌, ◌<◌, ◌≤◌, nat_lt, ⊤, List, [], ◌∷◌, length, Option, Some, None, if◌then◌else◌}
-use Rattle.std.specs.List.{AllByRecursion, sum_by}
-use Rattle.hex.specs.Hex.{IsBytes}
-use Rattle.itm_types.specs.Limits.{AreWithin}
-use Rattle.itm_types.specs.declared.limits.TheConstants.{MAX_ACTORS, MAX_ARENA}
-use Rattle.script_fields.specs.declared.hex_digits.TheConstants.{MAX_INIT_DIGITS}
-use Rattle.script_fields.specs.Spelling.{IsPlace, IsLiteral}
-use Rattle.script_asm.specs.declared.groups.Group.{Group}
+use Rattle.std.specs.List.{sum_by}
 use Rattle.script_asm.specs.declared.groups.Group.TheVariants as groups
-use Rattle.script_program.specs.declared.instruction.Instruction.{Instruction}
 use Rattle.script_program.specs.declared.instruction.Instruction.TheVariants as code
-use Rattle.script_program.specs.declared.limits.TheConstants.{MAX_INSTRUCTIONS, MAX_ITEMS, MAX_EVENTS, MAX_LEVELS}
-use Rattle.script_program.specs.declared.schedule.Item.{Item}
-use Rattle.script_program.specs.declared.schedule.Item.TheVariants.{Take, Out}
-use Rattle.script_program.specs.Listing.{Listing, Placed, Part}
-use Rattle.script_program.specs.Sizes.{IsSize}
 
 -- ## Instructions
 

@@ -1,17 +1,12 @@
 -- Threads that were worked by hand: blocks within blocks.
-use Rattle.std.specs.Prelude.{◌≡◌, ℕ, false, true, List, [], ◌∷◌, ◌++◌, replicate, None, Some, refl}
+use Rattle.script_vm.proofs.Common.{Code, Done, Instruction, List, None, R0, R1, R2, R3, R4, Refused, Reply, Some, Thread, datum, depth_of, false, next_call, opening, refl, replicate, restarted, ℕ, [], ◌∷◌, ◌≡◌}
+use Rattle.std.specs.Prelude.{true, ◌++◌}
 use Rattle.std.specs.List.{flat_map}
 use Rattle.itm_types.specs.declared.access.Width.TheVariants as width
 use Rattle.itm_types.specs.declared.call.Refusal.TheVariants.{TooDeep, NoAbort}
 use Rattle.itm_types.specs.declared.call.Call.TheVariants as calls
-use Rattle.itm_types.specs.declared.call.Reply.{Reply}
-use Rattle.itm_types.specs.declared.call.Reply.TheVariants.{Done, Code, Refused}
-use Rattle.script_fields.specs.declared.register.Register.TheVariants.{R0, R1, R2, R3, R4}
 use Rattle.script_fields.specs.declared.place.Place.TheVariants as place
-use Rattle.script_program.specs.declared.instruction.Instruction.{Instruction}
 use Rattle.script_program.specs.declared.instruction.Instruction.TheVariants as code
-use Rattle.script_vm.specs.Registers.{datum}
-use Rattle.script_vm.specs.Threads.{Thread, opening, next_call, depth_of, restarted}
 use Rattle.script_vm.proofs.Examples.{plain, played, played_within, value_of}
 
 abbrev pub log : Instruction

@@ -1,14 +1,10 @@
 -- Threads that were worked by hand: where they go back to as a block runs again.
-use Rattle.std.specs.Prelude.{◌≡◌, ℕ, List, [], ◌∷◌, None, Some, refl}
+use Rattle.script_vm.proofs.Common.{Code, Done, Instruction, List, None, R0, R1, R2, R3, R4, Some, Thread, at_block, depth_of, next_call, refl, restarted, ℕ, [], ◌∷◌, ◌≡◌}
 use Rattle.itm_types.specs.declared.access.Width.TheVariants as width
 use Rattle.itm_types.specs.declared.access.ReadHint.TheVariants as read
 use Rattle.itm_types.specs.declared.call.Call.TheVariants as calls
-use Rattle.itm_types.specs.declared.call.Reply.TheVariants.{Done, Code}
 use Rattle.script_fields.specs.declared.place.Place.TheVariants as place
-use Rattle.script_fields.specs.declared.register.Register.TheVariants.{R0, R1, R2, R3, R4}
-use Rattle.script_program.specs.declared.instruction.Instruction.{Instruction}
 use Rattle.script_program.specs.declared.instruction.Instruction.TheVariants as code
-use Rattle.script_vm.specs.Threads.{Thread, at_block, depth_of, next_call, restarted}
 use Rattle.script_vm.proofs.Examples.{plain, played, played_within, seven, value_of}
 use Rattle.script_vm.proofs.CancelExamples.{entered, log}
 

@@ -1,11 +1,10 @@
 -- The bytes that a write of a register moves.
 use Rattle.std.proofs.Common.{◌≡◌, ℕ, ◌≤◌, List, length, take, replicate, sym}
+use Rattle.script_vm.proofs.Common.{low, size_of}
 use Rattle.std.proofs.lemmas.List.{take-append-le}
 use mathlib.Core.HLevel.{is_prop→PathP}
 use native.Mathlib.Nat.{ℕ_set}
 use Rattle.itm_types.specs.declared.datum.Datum.{Datum}
-use Rattle.itm_types.specs.Access.{size_of}
-use Rattle.script_vm.specs.Registers.{low}
 
 -- values of one type that have the same bytes are the same
 pub same_datum : (d e : Datum) → d.width ≡ e.width → d.bytes.items ≡ e.bytes.items → d ≡ e

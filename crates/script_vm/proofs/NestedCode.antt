@@ -1,13 +1,8 @@
 -- Nested code: the room that is told of it, local work in it, and the ends of its blocks.
 use Rattle.std.proofs.Common.{◌≡◌, ℕ, zero, suc, ◌+◌, ◌-◌, ◌<◌, ◌≤◌, List, [], ◌∷◌, refl, sym, ap, subst, ◌∙◌, arith}
-use Rattle.script_program.specs.declared.instruction.Instruction.{Instruction}
+use Rattle.script_vm.proofs.Common.{Instruction, Level, Nests, Runs, Stage, ToEnd, block, blocks_in, bytes_at, chosen_by, computed, group, number_at, open_past, past_block, room, stage_past, with_bytes, with_number, worked}
 use Rattle.script_program.specs.declared.instruction.Instruction.TheVariants as code
-use Rattle.script_vm.specs.declared.stage.Stage.{Stage}
-use Rattle.script_vm.specs.declared.stage.Stage.TheVariants.{Runs, ToElse, ToEnd}
-use Rattle.script_vm.specs.Nesting.{Level, block, group, blocks_in, Nests}
-use Rattle.script_vm.specs.Registers.{bytes_at, number_at, with_bytes, with_number}
-use Rattle.script_vm.specs.Threads.{open_past, past_block, room}
-use Rattle.script_vm.specs.Work.{chosen_by, computed, stage_past, worked}
+use Rattle.script_vm.specs.declared.stage.Stage.TheVariants.{ToElse}
 
 -- ## What is told as room
 

@@ -1,12 +1,7 @@
 -- Code that is nested, code that is not, and a thread of such code that tells too little room.
-use Rattle.std.specs.Prelude.{◌≡◌, false, List, [], ◌∷◌, Some, refl}
+use Rattle.script_vm.proofs.Common.{Code, Done, Instruction, List, Nests, R0, R1, Some, block, false, group, next_call, refl, [], ◌∷◌, ◌≡◌}
 use Rattle.itm_types.specs.declared.call.Call.TheVariants as calls
-use Rattle.itm_types.specs.declared.call.Reply.TheVariants.{Done, Code}
-use Rattle.script_fields.specs.declared.register.Register.TheVariants.{R0, R1}
-use Rattle.script_program.specs.declared.instruction.Instruction.{Instruction}
 use Rattle.script_program.specs.declared.instruction.Instruction.TheVariants as code
-use Rattle.script_vm.specs.Nesting.{Nests, block, group}
-use Rattle.script_vm.specs.Threads.{next_call}
 use Rattle.script_vm.proofs.Examples.{plain, played}
 
 -- a block with a group in it, of two parts

@@ -1,8 +1,6 @@
 -- Cells of which the first is the clock.
 use Rattle.std.proofs.Common.{◌≡◌, ℕ, zero, suc, ◌+◌, ◌^◌, ◌<◌, List, [], ◌∷◌, length, drop, get_or, sym, refl, ap, arith}
-use mathlib.Core.Option.{some, some-injective}
-use lib.ListN.{get_elem?}
-use Rattle.itm_types.specs.Memory.{AllFit}
+use Rattle.shared_words.proofs.Common.{AllFit, get_elem?, some, some-injective}
 
 pub clock_first : (cells : List ℕ) → 0 < length cells → get_or cells 0 0 ≡ 0 → 0 ∷ drop 1 cells ≡ cells
 clock_first [] more is = absurd (omega arith)

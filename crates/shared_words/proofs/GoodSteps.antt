@@ -1,17 +1,9 @@
 -- Each kind of step keeps what is true of the cells and the views.
 use Rattle.std.proofs.Common.{◌≡◌, ℕ, eqb, suc, ◌+◌, ◌*◌, ◌/◌, ◌%◌, ◌^◌, ◌<◌, ◌≤◌, ◌≢◌, Bool, true, false, cond, List, [], ◌∷◌, ◌++◌, length, get_or, set, sym, refl, ap, ◌∙◌, subst, ⊎_elim, arith, le_refl, append-nil, length-append, eq-eqb, ne_eqb}
-use mathlib.Core.Option.{some}
-use mathlib.Core.Logic.{dite}
-use native.Mathlib.Decide.{ℕ_discrete}
-use lib.ListN.{get_elem?}
-use Rattle.std.proofs.lemmas.List.Sums.{sum_by_push}
-use Rattle.shared_words.specs.declared.view.View.{View}
-use Rattle.itm_types.specs.declared.step.Step.{Step}
-use Rattle.shared_words.specs.Commits.{stored, after, StartsWith, Stand, AllMet}
+use Rattle.shared_words.proofs.Common.{AllMet, Fits, Good, Looked, Stand, StartsWith, Step, Took, View, after, clock_of, dite, freed, get_elem?, held, holders, noted, placed, read, shares, some, stored, sum_by_push, times, wrote, ℕ_discrete}
 use Rattle.shared_words.proofs.MetWords.{all_grows, all_snoc, grows_store, grows_commit, met_now}
-use Rattle.shared_words.specs.Views.{looked, took, read, noted, wrote, freed, held, holders, times, placed, shares}
-use Rattle.shared_words.specs.Steps.{Sees, Looked, Took, CanTake}
-use Rattle.shared_words.specs.Good.{Fits, clock_of, Good}
+use Rattle.shared_words.specs.Views.{looked, took}
+use Rattle.shared_words.specs.Steps.{Sees, CanTake}
 use Rattle.shared_words.proofs.ListPlaces.{at_set, weigh_set, weigh_le, weigh_two, starts_self, starts_longer, starts_le, starts_trans}
 use Rattle.shared_words.proofs.StoredWords.{stored_snoc, after_snoc, stand_snoc, stores_snoc, commits_snoc}
 

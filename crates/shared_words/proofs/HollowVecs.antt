@@ -1,34 +1,24 @@
 -- A vector is its cells and the way back. Assumes `Logic`.
 use Rattle.std.proofs.Common.{◌≡◌, ℕ, ◌+◌, ◌*◌, ◌^◌, ◌<◌, List, [], ◌∷◌, length, true, refl, sym, arith, Vec}
+use Rattle.shared_words.proofs.Common.{Extent, Frees, Ghosts, IsSend, Logic, RattleType, Ura, Val, done, drop, ent, feq, feq_i, feq_l, fjoin, fpack, fsep, fsplit, full_share, fwand, move, nothing, part_at, sem, strip, with_items, with_items_is, ‵, ◌$◌}
 use Rattle.std.proofs.lemmas.Bool.{ne_eqb, not_from_false}
-use Rattle.std.proofs.lemmas.List.{with_items_is}
-use seplogic.Ra.Ura.{Ura}
-use mir.Val.{Val}
-use base.Fraction.{full_share}
-use base.Logic.{ent, sep, wand, never, id⊢}
-use base.Fml.{ftrue, fsep, feq, fall, fwand}
+use base.Logic.{sep, wand, never, id⊢}
+use base.Fml.{ftrue, fall}
 use base.Shift.{Keyless}
-use types.Logic.{Logic, sem}
-use types.Kit.{‵, ◌$◌, ◌∵◌, !, qed, by, move, drop, frame, each, assume, show, use1, fsplit, fjoin, fpack, feq_l, feq_i, flt_l, flt_i, rewrite, done}
+use types.Kit.{◌∵◌, !, qed, by, frame, each, assume, show, use1, flt_l, flt_i, rewrite}
 use types.SemTy.{cells}
-use denote.RattleType.{RattleType}
 use denote.Builtin.{u64}
 use denote.Array.{Array}
 use denote.ArrayMemory.{Array-apart, Array-whole}
 use denote.Index.{row, whole_in, whole_out}
-use denote.Memory.{mem, part_at}
-use denote.Steps.{nothing}
-use denote.Param.Send.{IsSend, part_keyless, sendable, Frees, struct_send}
+use denote.Memory.{mem}
+use denote.Param.Send.{part_keyless, sendable, struct_send}
 use denote.RawPtr.{Ptr, block_ptr, block_of, count_of, lies_at, in_block, in_a_block}
 use denote.Struct.Declared as declared
-use Rattle.std.specs.declared.alloc.Allocator.{Ghosts}
 use Rattle.std.specs.Allocator.{block_with_items}
-use Rattle.std.specs.Vec.{with_items}
 use Rattle.std_alloc.specs.Vec.Ownership.{owns_if, has_block}
 use Rattle.std_alloc.specs.contracts.vec.Vec as V
 use Rattle.std_alloc.proofs.SendSync.{Vec-send}
-use Rattle.atomic_table.specs.Seated.{strip}
-use Rattle.shared_words.specs.InPlace.{Extent}
 use Rattle.shared_words.specs.contracts.in_place.Hollow as Hollow
 use Rattle.shared_words.specs.contracts.in_place.Hollow.TheInside as Inside
 use Rattle.shared_words.proofs.StructSteps.{plainly, one, one_made}

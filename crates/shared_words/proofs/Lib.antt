@@ -1,3 +1,4 @@
+pub mod Common
 pub mod ListPlaces
 pub mod StoredWords
 pub mod MetWords

@@ -1,9 +1,7 @@
 -- What words had been found with stays true of a history that grows.
 use Rattle.std.proofs.Common.{◌≡◌, ℕ, zero, suc, ◌≤◌, List, [], ◌∷◌, ◌++◌, length, get_or, take, sym, refl, ap, ◌∙◌, arith, append-nil}
-use mathlib.Core.Option.{some, some-injective, some-ne-none}
-use lib.ListN.{get_elem?}
-use Rattle.std.proofs.lemmas.List.{take-append-le, take_all, take_at}
-use Rattle.shared_words.specs.Commits.{stored, after, StartsWith, Met, AllMet}
+use Rattle.shared_words.proofs.Common.{AllMet, StartsWith, after, get_elem?, some, some-injective, some-ne-none, stored, take-append-le, take_all, take_at}
+use Rattle.shared_words.specs.Commits.{Met}
 use Rattle.shared_words.proofs.ListPlaces.{starts_le}
 
 abbrev pub Log : Type 0

@@ -1,14 +1,9 @@
 -- The cells' types as the logic has them, and the data of a `Row`, which are none. Assumes `Logic`.
 use Rattle.std.proofs.Common.{◌≡◌, List, [], ◌∷◌, refl}
-use seplogic.Ra.Ura.{Ura}
-use mir.Val.{Val, vstruct, vnil}
-use base.Logic.{ent, emp}
-use types.Logic.{Logic, sem}
-use denote.Builtin.{u8}
+use Rattle.shared_words.proofs.Common.{Logic, RattleType, Struct, Ura, Val, ent, sem, u8, vnil, vstruct}
+use base.Logic.{emp}
 use denote.Laws.{Is}
-use denote.RattleType.{RattleType}
 use denote.Shadow.{makes_shadow}
-use denote.Struct.Struct.{Struct}
 use denote.Struct.Owning.{shape}
 use Rattle.atomic_table.specs.contracts.shared.Shared as table
 use Rattle.atomic_table.specs.contracts.shared.Seat as seat

@@ -1,15 +1,6 @@
 -- One lawful step: the cells and the views stay good, and only the view of the seat that steps changes.
 use Rattle.std.proofs.Common.{◌≡◌, ℕ, eqb, zero, suc, ◌+◌, ◌<◌, ◌≤◌, ◌≢◌, Bool, true, false, cond, List, get_or, set, sym, refl, ap, ◌∙◌, subst, arith, eq-eqb, ne_eqb}
-use mathlib.Core.Option.{some}
-use mathlib.Core.Logic.{dite}
-use native.Mathlib.Decide.{ℕ_discrete}
-use lib.ListN.{get_elem?}
-use Rattle.shared_words.specs.declared.view.View.{View}
-use Rattle.itm_types.specs.declared.step.Step.{Step}
-use Rattle.itm_types.specs.declared.step.Step.TheVariants.{Load, Store, Cas}
-use Rattle.shared_words.specs.Views.{read, noted, wrote, freed}
-use Rattle.shared_words.specs.Steps.{Loaded, Lawful, StepTells, ValueFits, finds, cells_after}
-use Rattle.shared_words.specs.Good.{Good}
+use Rattle.shared_words.proofs.Common.{Cas, Good, Lawful, Load, Loaded, Step, StepTells, Store, ValueFits, View, cells_after, dite, finds, freed, get_elem?, noted, read, some, wrote, ℕ_discrete}
 use Rattle.shared_words.proofs.GoodSteps.{looks, takes, writes, frees, frees_later, held_word}
 use Rattle.shared_words.proofs.GoodSteps as keep
 

@@ -1,8 +1,7 @@
 -- Stores and commits one after another.
 use Rattle.std.proofs.Common.{◌≡◌, ◌^◌, ℕ, zero, suc, ◌<◌, ◌≤◌, List, [], ◌∷◌, ◌++◌, length, set, get_or, sym, refl, ap, ◌∙◌, length-set, take}
-use Rattle.std.proofs.lemmas.List.{take-append-le}
-use Rattle.shared_words.specs.Commits.{stored, after, memory_at, Stand, StartsWith, StoresFit, CommitsFit}
-use Rattle.itm_types.specs.Memory.{AllFit}
+use Rattle.shared_words.proofs.Common.{AllFit, CommitsFit, Stand, StartsWith, StoresFit, after, stored, take-append-le}
+use Rattle.shared_words.specs.Commits.{memory_at}
 use Rattle.itm_types.proofs.WordLists.{fit-set}
 
 pub stored_snoc : (m : List ℕ) (xs : List (ℕ × ℕ)) (x : ℕ × ℕ) → stored m (xs ++ x ∷ []) ≡ set (stored m xs) x.0 x.1

@@ -1,17 +1,13 @@
 -- Structs of few fields are made and taken apart in walks. Assumes `Logic`.
 use Rattle.std.proofs.Common.{◌≡◌, List, [], ◌∷◌, refl}
+use Rattle.shared_words.proofs.Common.{Laws, Logic, RattleType, Struct, Ura, Val, drop, feq_i, feq_l, fjoin, fpack, fpick, fsplit, layout, move, nothing, vnil, vstruct, ‵, ◌$◌}
 use lib.Dec.{T}
-use seplogic.Ra.Ura.{Ura}
 use mir.Syntax.{given as dict_at}
-use mir.Val.{Val, vstruct, vcons, vnil, has_ty, WT}
+use mir.Val.{vcons, has_ty, WT}
 use base.Fml.{ftrue}
-use types.Logic.{Logic}
-use types.Kit.{Goal, Seq, Step, step, Item, ‵, ◌$◌, move, drop, fsplit, fjoin, fpick, fpack, feq_l, feq_i}
-use denote.RattleType.{RattleType, Valss}
-use denote.Param.{layout}
-use denote.Param.Laws.{Laws}
-use denote.Steps.{nothing}
-use denote.Struct.Struct.{Struct, within}
+use types.Kit.{Goal, Seq, Step, step, Item}
+use denote.RattleType.{Valss}
+use denote.Struct.Struct.{within}
 use Rattle.std.proofs.alloc.Calls.{handle_tells}
 
 abbrev pub Good : RattleType → Val → Type 0

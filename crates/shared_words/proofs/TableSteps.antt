@@ -1,24 +1,18 @@
 -- What each step owes the table.
 use Rattle.std.proofs.Common.{◌≡◌, ℕ, zero, suc, ◌<◌, ◌≤◌, ◌≢◌, ◌^◌, Bool, true, false, List, get_or, set, sym, refl, ap, ◌∙◌, subst, arith, ◌==◌, cond, Some, bit_xor}
+use Rattle.shared_words.proofs.Common.{Cas, Good, Held, Lawful, Load, Loaded, Moves, Step, StepTells, Store, View, both, cells_after, cut_left, cut_right, finds, get_elem?, held, held_cells, shares, some, spent, wrote}
 use Rattle.std.specs.Int.Bits.{xor_assoc, xor_self, xor_zero_l}
 use Rattle.std.proofs.lemmas.Option.{get_or_from_slice_get}
-use mathlib.Core.Option.{some, none}
-use lib.ListN.{get_elem?}
+use mathlib.Core.Option.{none}
 use lib.Seq.{set-get_or}
 use prog.Atomic.{either}
 use Rattle.atomic_table.specs.Table.{keeps, step, Allows, Splits, Joins}
-use Rattle.shared_words.specs.declared.view.View.{View}
-use Rattle.itm_types.specs.declared.step.Step.TheVariants.{Load, Store, Cas}
-use Rattle.shared_words.specs.Views.{wrote, held, held_cells, cut_left, cut_right, both, spent, shares}
-use Rattle.itm_types.specs.declared.step.Step.{Step}
-use Rattle.shared_words.specs.Steps.{Loaded, Lawful, StepTells, WasFound, cells_after, finds}
-use Rattle.shared_words.specs.Moves.{Moves}
-use Rattle.shared_words.specs.Good.{Good}
+use Rattle.shared_words.specs.Steps.{WasFound}
 use Rattle.shared_words.proofs.GoodSteps.{held_word, share_of}
 use Rattle.shared_words.proofs.StepViews.{turns}
 use Rattle.shared_words.proofs.ListPlaces.{set_again, set_else, weigh_le}
 use Rattle.shared_words.proofs.PassViews as ends
-use Rattle.shared_words.specs.Rule.{Held, AreGood, loads, stores, changes, exchanges, settled}
+use Rattle.shared_words.specs.Rule.{AreGood, loads, stores, changes, exchanges, settled}
 
 same_views : (ws : List ℕ) (vs : List View) (id : ℕ) (v : View) → get_elem? vs id ≡ some v → Good ws vs → Good ws (set vs id v)
 same_views ws vs id v at g = subst (Good ws) (sym (set_again vs id v at)) g

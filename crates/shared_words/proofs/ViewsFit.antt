@@ -1,14 +1,6 @@
 -- A view stays one of the same cells, and its values fit, over a step and a join.
 use Rattle.std.proofs.Common.{◌≡◌, ◌≢◌, ℕ, zero, suc, ◌+◌, ◌≤◌, Bool, true, false, List, [], ◌∷◌, length, length-append, sym, refl, ap, ◌∙◌, subst, arith, le_refl, ⊎_elim}
-use mathlib.Core.Logic.{dite}
-use native.Mathlib.Decide.{ℕ_discrete}
-use Rattle.itm_types.specs.declared.step.Step.{Step}
-use Rattle.itm_types.specs.declared.step.Step.TheVariants.{Load, Store, Cas}
-use Rattle.itm_types.specs.Memory.{AllFit}
-use Rattle.shared_words.specs.declared.view.View.{View}
-use Rattle.shared_words.specs.Commits.{StoresFit, CommitsFit}
-use Rattle.shared_words.specs.Steps.{Lawful, Looked, Took, Loaded, StepTells, ValueFits, Joined}
-use Rattle.shared_words.specs.Passes.{IsOver}
+use Rattle.shared_words.proofs.Common.{AllFit, Cas, CommitsFit, IsOver, Joined, Lawful, Load, Loaded, Looked, Step, StepTells, Store, StoresFit, Took, ValueFits, View, dite, ℕ_discrete}
 use Rattle.shared_words.proofs.ListPlaces.{starts_le}
 use Rattle.shared_words.proofs.StoredWords.{stores_snoc, commits_snoc}
 

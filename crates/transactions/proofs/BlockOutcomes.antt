@@ -1,36 +1,12 @@
 -- What a block within a transaction comes to.
 use Rattle.std.proofs.Common.{◌≡◌, ◌∙◌, ◌⊎◌, inl, inr, ℕ, Bool, true, false, List, [], ◌∷◌, ◌++◌, drop, length, None, Some, Result, Ok, Err, ap, refl, subst, sym, true≢false, arith}
-use Rattle.itm_types.specs.declared.call.Call.{Call}
-use Rattle.itm_types.specs.declared.call.Call.TheVariants.{Abort, Begin, Commit}
-use Rattle.itm_types.specs.declared.call.Refusal.{Refusal}
-use Rattle.itm_types.specs.declared.call.Refusal.TheVariants.{Outside}
-use Rattle.itm_types.specs.declared.call.Reply.{Reply as Replied}
-use Rattle.itm_types.specs.declared.call.Reply.TheVariants.{Code, Done, Refused}
-use Rattle.itm_model.specs.Machine.{abort_for, is_open, or_else, reply, reply_unless, unless}
-use Rattle.itm_model.specs.State.{State}
-use Rattle.user_actions.specs.Actions.{Actions}
-use Rattle.nest_frames.specs.Nest.{Frame, closed}
-use Rattle.norec_core.specs.declared.answer.Answer.{Answer}
+use Rattle.transactions.proofs.Common.{Abort, Actions, Answer, Begin, Call, Code, Commit, Core, Done, Frame, GoesOn, HasGoneBack, IsAnswered, IsAsBefore, IsKept, IsWithin, IsWithinStill, Leaves, Lent, Outside, Refusal, Refused, Replied, Reply, Standing, StartsWith, State, StaysWithin, Stop, Tells, Words, answer_of, blocks_after, came_over, closed, in_transaction, irrevocable_room, is_inside, is_open, or_else, reply, reply_unless, stands_for, start_of, unless, usual, view_of, went_on}
+use Rattle.itm_model.specs.Machine.{abort_for}
 use Rattle.norec_core.specs.declared.answer.Answer.TheVariants as answers
-use Rattle.norec_core.specs.declared.answer.Answer.TheVariants.{Reply}
-use Rattle.norec_core.specs.Core.{Core, in_transaction, irrevocable_room, is_inside}
-use Rattle.norec_core.specs.Effects.{blocks_after}
-use Rattle.norec_core.specs.Stands.{stands_for}
-use Rattle.shared_words.specs.Commits.{StartsWith}
-use Rattle.shared_words.specs.InGlobal.{Words}
-use Rattle.shared_words.specs.Passes.{view_of}
-use Rattle.call_rules.specs.CallResults.{IsAnswered, Tells}
-use Rattle.call_rules.specs.Served.{came_over}
-use Rattle.call_rules.specs.Standing.{Standing, start_of}
-use Rattle.itm_runtime.specs.Stops.{GoesOn, answer_of}
-use Rattle.itm_runtime.specs.declared.stop.Stop.{Stop}
 use Rattle.itm_runtime.specs.declared.stop.Stop.TheVariants as stops
 use Rattle.call_rules.proofs.Calls.Restarts.{cancel_whole, commit_whole}
-use Rattle.transactions.specs.Lent.{IsKept, Lent}
-use Rattle.transactions.specs.Blocks.{Enters, HasGoneBack, IsAsBefore, IsWithin, IsWithinStill, Leaves, StaysWithin}
-use Rattle.transactions.specs.Runs.{usual}
+use Rattle.transactions.specs.Blocks.{Enters}
 use Rattle.transactions.proofs.InnerBlocks.{HasEntered, committed, fresh_begun, goes_abort, goes_commit, has_entered, taken_back, within_self, begin_idle}
-use Rattle.call_rules.proofs.LaterViews.{went_on}
 use Rattle.transactions.proofs.Looks.{engine_open}
 use Rattle.transactions.proofs.LastEngines.{arena_left, last, mid, replied, writes_left}
 use Rattle.transactions.proofs.Within.{begins, begins_more, on_self, on_twice, ran_more, ran_none, ran_twice, replied_on}

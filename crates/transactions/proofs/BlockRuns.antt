@@ -1,22 +1,8 @@
 -- What the runs of a block come to.
 use Rattle.std.proofs.Common.{◌≡◌, ◌∙◌, inl, inr, Result, Ok, Err, ap, refl, subst, sym, true≢false, false, true}
-use Rattle.std.specs.Borrow.{MutBor}
-use Rattle.std.specs.Fn.{CalledAtMut, Mut}
-use Rattle.norec_core.specs.Core.{in_transaction}
-use Rattle.shared_words.specs.Passes.{view_of}
-use Rattle.itm_types.specs.declared.call.Call.TheVariants.{Abort, Begin, Commit}
-use Rattle.call_rules.specs.CallResults.{Tells}
-use Rattle.call_rules.specs.Served.{Went}
-use Rattle.call_rules.specs.Standing.{Standing}
-use Rattle.itm_runtime.specs.Stops.{answer_of}
-use Rattle.itm_runtime.specs.declared.stop.Stop.{Stop}
+use Rattle.transactions.proofs.Common.{Abort, Begin, CalledAtMut, Cancelled, Commit, EndsBlockBy, Engine, HasGoneBack, HasRunBlock, IsAsBefore, IsKept, KeepsBlocks, KeepsBody, KeepsLent, Leaves, Lent, Mut, MutBor, Standing, StaysWithin, Stop, Stopped, Tells, TellsBlock, Went, answer_of, block_told, in_transaction, usual, view_of, went_self}
 use Rattle.itm_runtime.specs.declared.stop.Stop.TheVariants as stops
-use Rattle.transactions.specs.declared.stopped.Stopped.{Stopped}
-use Rattle.transactions.specs.declared.stopped.Stopped.TheVariants.{Engine, Cancelled}
-use Rattle.transactions.specs.Lent.{IsKept, Lent}
-use Rattle.transactions.specs.Blocks.{EndsBlockBy, EntersNot, HasGoneBack, HasRunBlock, IsAsBefore, IsToldAgain, IsUndoneUnless, KeepsBlocks, Leaves, StaysWithin, TellsBlock, block_told}
-use Rattle.transactions.specs.Runs.{KeepsBody, KeepsLent, usual}
-use Rattle.call_rules.proofs.LaterViews.{went_self}
+use Rattle.transactions.specs.Blocks.{EntersNot, IsToldAgain, IsUndoneUnless}
 use Rattle.transactions.proofs.BlockOutcomes.{abort_back, abort_kept, back_self, before_twice, before_within, commit_failed, commit_kept, commit_within, not_entered, back_served}
 
 -- nothing is changed

@@ -1,19 +1,9 @@
 -- What all tries of a body come to.
 use Rattle.std.proofs.Common.{◌≡◌, ◌∙◌, ◌+◌, ◌≤◌, ℕ, List, Result, Ok, Err, IfErr, IfOk, ap, arith, refl}
-use Rattle.std.specs.Borrow.{MutBor}
-use Rattle.std.specs.Fn.{Mut}
-use Rattle.shared_words.specs.InGlobal.{Words}
-use Rattle.shared_words.specs.Passes.{view_of}
-use Rattle.call_rules.specs.Standing.{Standing}
-use Rattle.transactions.specs.declared.failed.Failed.{Failed}
+use Rattle.transactions.proofs.Common.{ComesTo, Failed, Fails, HasLooked, IsCancelled, IsKept, IsPlainRun, KeepsBody, KeepsLent, Lent, Makings, Mut, MutBor, Standing, Stopped, Value, Words, mine_of, view_of, went_on}
 use Rattle.transactions.specs.declared.failed.Failed.TheVariants as failures
-use Rattle.transactions.specs.declared.stopped.Stopped.{Stopped}
-use Rattle.transactions.specs.declared.tried.Done.{Done as Value}
-use Rattle.transactions.specs.declared.tried.Tried.TheVariants.{Failed as Fails}
-use Rattle.transactions.specs.Lent.{IsKept, IsLeft, Lent, mine_of}
-use Rattle.transactions.specs.Plain.{IsPlainRun, Makings}
-use Rattle.transactions.specs.Runs.{ComesTo, HasLooked, IsCancelled, KeepsBody, KeepsLent, mine_left}
-use Rattle.call_rules.proofs.LaterViews.{went_on}
+use Rattle.transactions.specs.Lent.{IsLeft}
+use Rattle.transactions.specs.Runs.{mine_left}
 use Rattle.transactions.proofs.Plain.{plain_run}
 use Rattle.transactions.proofs.Tries.{rebased}
 

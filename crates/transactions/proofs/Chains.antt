@@ -1,26 +1,13 @@
 -- What follows from how often a body was tried, and from what each try was told as.
 use Rattle.std.proofs.Common.{◌≡◌, ◌∙◌, ◌+◌, ◌≤◌, inl, inr, ℕ, zero, suc, Bool, true, false, Result, Ok, Err, IfOk, add-one, ap, arith, subst, sym}
-use Rattle.std.specs.Borrow.{MutBor}
-use Rattle.std.specs.Fn.{CalledAtMut, Mut}
-use Rattle.itm_types.specs.declared.call.Call.TheVariants.{Commit}
-use Rattle.norec_core.specs.declared.answer.Answer.{Answer}
+use Rattle.transactions.proofs.Common.{Answer, AreCancelled, AreTries, CalledAtMut, Cancelled, ComesTo, Commit, EndsBy, Engine, Failed, Fails, IsAnswered, IsCancelled, IsKept, IsTry, KeepsBody, KeepsLent, Lent, Mut, MutBor, Standing, Stands, Stopped, Tried, Value, commit_told, in_transaction, start_of, view_of}
 use Rattle.norec_core.specs.declared.answer.Answer.TheVariants as answers
-use Rattle.norec_core.specs.Core.{in_transaction}
 use Rattle.shared_words.proofs.ListPlaces.{starts_le}
-use Rattle.shared_words.specs.Passes.{view_of}
-use Rattle.call_rules.specs.CallResults.{IsAnswered}
-use Rattle.call_rules.specs.Standing.{Standing, start_of}
-use Rattle.call_rules.specs.Ties.{Stands}
-use Rattle.transactions.specs.declared.failed.Failed.{Failed}
 use Rattle.transactions.specs.declared.failed.Failed.TheVariants as failures
-use Rattle.transactions.specs.declared.stopped.Stopped.{Stopped}
-use Rattle.transactions.specs.declared.stopped.Stopped.TheVariants.{Engine, Cancelled}
-use Rattle.transactions.specs.declared.tried.Done.{Done as Value}
-use Rattle.transactions.specs.declared.tried.Tried.{Tried}
-use Rattle.transactions.specs.declared.tried.Tried.TheVariants.{Done, Failed as Fails}
-use Rattle.transactions.specs.Lent.{IsKept, Lent, seen_of}
-use Rattle.transactions.specs.Runs.{ComesTo, EndsBy, IsCancelled, IsTry, KeepsBody, KeepsLent, Tells, commit_told}
-use Rattle.transactions.specs.Tries.{AreCancelled, AreTries, ComesAgain, EndsTries, HasRetried, HasTried, again_after}
+use Rattle.transactions.specs.declared.tried.Tried.TheVariants.{Done}
+use Rattle.transactions.specs.Lent.{seen_of}
+use Rattle.transactions.specs.Runs.{Tells}
+use Rattle.transactions.specs.Tries.{ComesAgain, EndsTries, HasRetried, HasTried, again_after}
 use Rattle.transactions.proofs.Tries.{is_other, not_cancelled, not_committed, not_stopped, told_at, wants_tries}
 
 -- ## One try

@@ -1,8 +1,6 @@
 -- What a body does, part after part.
 use Rattle.std.proofs.Common.{List, [], ◌∷◌, ◌++◌, subst}
-use Rattle.shared_words.specs.InGlobal.{Words}
-use Rattle.call_rules.specs.Standing.{Standing}
-use Rattle.transactions.specs.Plain.{Calls, Deed, Makes, TakesBack}
+use Rattle.transactions.proofs.Common.{Calls, Deed, Makes, Standing, TakesBack, Words}
 
 pub makes_then : (words : Words) (a b c : Standing) (xs ys : List Deed) → Makes words a xs b → Makes words b ys c → Makes words a (xs ++ ys) c
 makes_then words a b c [] ys first second = subst (λ (t : Standing). Makes words t ys c) first second

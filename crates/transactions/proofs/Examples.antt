@@ -1,13 +1,7 @@
 -- Worked cases of the definitions, proved by computing.
 use Rattle.std.proofs.Common.{◌≡◌, [], ◌∷◌, refl}
-use Rattle.itm_types.specs.declared.call.Action.{Action}
-use Rattle.itm_types.specs.declared.call.Call.TheVariants.{Begin, Commit, CommitAction, UndoAction}
-use Rattle.itm_types.specs.declared.call.Reply.TheVariants.{Done}
-use Rattle.user_actions.specs.Actions.{as_commit, as_undo}
-use Rattle.itm_model.specs.Machine.{after, opened}
-use Rattle.itm_model.specs.State.{State}
-use Rattle.transactions.specs.Plain.{Calls, TakesBack, block_of, calls_of, state_with}
-use Rattle.transactions.specs.Runs.{usual}
+use Rattle.transactions.proofs.Common.{Action, Begin, Calls, Commit, CommitAction, Done, State, TakesBack, UndoAction, after, as_commit, as_undo, calls_of, opened, state_with, usual}
+use Rattle.transactions.specs.Plain.{block_of}
 
 abbrev a : Action
 a = record { fun = 1; arg = 2 }

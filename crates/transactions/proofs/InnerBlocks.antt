@@ -1,37 +1,12 @@
 -- How a block within a transaction begins and ends.
 use Rattle.std.proofs.Common.{◌≡◌, ◌∙◌, ℕ, not, Bool, true, false, List, [], ◌∷◌, ◌++◌, drop, length, reverse, Option, None, Some, ap, refl, subst, sym, true≢false, append-nil, if◌then◌else◌}
-use Rattle.itm_types.specs.declared.call.Call.{Call}
-use Rattle.itm_types.specs.declared.call.Call.TheVariants.{Abort, Begin, Commit}
-use Rattle.itm_types.specs.declared.call.Refusal.{Refusal}
-use Rattle.itm_types.specs.declared.call.Refusal.TheVariants.{IsIrrevocable, NoAbort, Outside}
-use Rattle.itm_types.specs.declared.call.Reply.{Reply as Replied}
-use Rattle.itm_types.specs.declared.call.Reply.TheVariants.{Code, Done}
-use Rattle.itm_types.specs.declared.row.LogRow.{LogRow}
-use Rattle.itm_model.specs.Machine.{is_open, keeps_innermost, or_else, refusal, reply, reply_unless, unless}
-use Rattle.itm_model.specs.State.{State}
-use Rattle.user_actions.specs.Actions.{Actions}
-use Rattle.undo_log.specs.Rollback.{Old, put_back}
-use Rattle.nest_frames.specs.Nest.{Frame, actions_cancelled, actions_closed, begun, closed, log_of, rows_of}
-use Rattle.norec_core.specs.declared.answer.Answer.{Answer}
+use Rattle.transactions.proofs.Common.{Abort, Actions, Answer, Begin, Call, Code, Commit, Core, Done, Frame, GoesOn, HasGoneBack, Idle, IsAnswered, IsFresh, IsWithin, LogRow, Old, Outside, ReadsOn, Refusal, Replied, Reply, Served, Standing, StartsWith, State, View, Words, actions_after, actions_cancelled, arena_after, blocks_after, came, came_over, cells_of, closed, in_transaction, irrevocable_room, is_inside, is_open, keeps_self, log_of, or_else, put_back, refusal, reply, reply_unless, stage_at, stands_for, start_of, state_in, unless, usual, view_of, writes_after}
+use Rattle.itm_types.specs.declared.call.Refusal.TheVariants.{IsIrrevocable, NoAbort}
+use Rattle.itm_model.specs.Machine.{keeps_innermost}
+use Rattle.nest_frames.specs.Nest.{actions_closed, begun, rows_of}
 use Rattle.norec_core.specs.declared.answer.Answer.TheVariants as answers
-use Rattle.norec_core.specs.declared.answer.Answer.TheVariants.{Reply}
-use Rattle.norec_core.specs.Core.{Core, came, in_transaction, irrevocable_room, is_inside}
-use Rattle.norec_core.specs.Effects.{actions_after, arena_after, blocks_after, writes_after}
-use Rattle.norec_core.specs.Order.{stage_at}
-use Rattle.norec_core.specs.Phases.{Idle, Phase}
-use Rattle.norec_core.specs.Stands.{stands_for, state_in}
-use Rattle.norec_core.proofs.Engines.KeptFields.{keeps_self}
-use Rattle.shared_words.specs.declared.view.View.{View}
-use Rattle.shared_words.specs.Commits.{StartsWith}
-use Rattle.shared_words.specs.InGlobal.{Words}
-use Rattle.shared_words.specs.Passes.{cells_of, view_of}
-use Rattle.call_rules.specs.CallResults.{IsAnswered}
-use Rattle.call_rules.specs.Served.{Served, came_over}
-use Rattle.call_rules.specs.Standing.{Standing, start_of}
-use Rattle.itm_runtime.specs.Stops.{GoesOn}
+use Rattle.norec_core.specs.Phases.{Phase}
 use Rattle.itm_runtime.specs.declared.stop.Stop.TheVariants as stops
-use Rattle.transactions.specs.Blocks.{HasGoneBack, IsFresh, IsWithin, ReadsOn}
-use Rattle.transactions.specs.Runs.{usual}
 use Rattle.transactions.proofs.LastEngines.{arena_left, at_once, last, m, replied, replied_of, writes_left}
 use Rattle.transactions.proofs.Looks.{engine_open}
 use Rattle.transactions.proofs.Modes.{stands_mode}

@@ -1,28 +1,8 @@
 -- What a call of a body keeps.
 use Rattle.std.proofs.Common.{◌≡◌, ◌∙◌, ℕ, false, Option, None, Some, Result, Ok, Err, ap, refl, subst, sym}
-use Rattle.itm_types.specs.declared.call.Action.{Action}
-use Rattle.itm_types.specs.declared.call.Call.{Call}
-use Rattle.itm_types.specs.declared.call.Call.TheVariants.{Commit, CommitAction, UndoAction}
-use Rattle.itm_types.specs.declared.call.Refusal.{Refusal}
-use Rattle.itm_types.specs.declared.call.Reply.{Reply as Replied}
-use Rattle.itm_types.specs.declared.call.Reply.TheVariants.{Done}
-use Rattle.itm_model.specs.Machine.{refusal, reply_unless}
-use Rattle.norec_core.specs.declared.answer.Answer.{Answer}
-use Rattle.norec_core.specs.declared.answer.Answer.TheVariants.{Reply, Committed}
+use Rattle.transactions.proofs.Common.{Action, Answer, Call, Commit, CommitAction, Committed, Core, Done, GoesOn, IsKept, Lent, Owns, Refusal, Replied, Reply, Served, Standing, Stop, Tells, UndoAction, View, Went, Words, answer_to_read, answer_to_write, came_over, mine_of, refusal, reply_unless, stands_for, start_of, view_of, went_self}
 use Rattle.norec_core.specs.declared.answer.Answer.TheVariants as answers
-use Rattle.norec_core.specs.Core.{Core}
-use Rattle.norec_core.specs.Stands.{stands_for}
-use Rattle.shared_words.specs.declared.view.View.{View}
-use Rattle.shared_words.specs.InGlobal.{Words}
-use Rattle.shared_words.specs.Passes.{Owns, view_of}
-use Rattle.call_rules.specs.CallResults.{Tells}
-use Rattle.call_rules.specs.Standing.{Standing, start_of}
-use Rattle.call_rules.specs.Served.{Served, Went, came_over}
-use Rattle.itm_runtime.specs.Stops.{GoesOn, answer_to_read, answer_to_write}
-use Rattle.itm_runtime.specs.declared.stop.Stop.{Stop}
 use Rattle.itm_runtime.specs.declared.stop.Stop.TheVariants.{Refused, Conflict, Restarted, Busy, Full, Memory}
-use Rattle.transactions.specs.Lent.{IsKept, Lent, mine_of}
-use Rattle.call_rules.proofs.LaterViews.{went_self}
 use Rattle.transactions.proofs.Modes.{KeepsMode, stays_revocable}
 
 module _ (words : Words) (old : Standing) (call : Call) (new : Standing) where

@@ -1,31 +1,17 @@
 -- The engine that a call's answer comes of.
 use Rattle.std.proofs.Common.{◌≡◌, ◌∙◌, inl, inr, ℕ, ◌/◌, Bool, true, false, List, [], ◌∷◌, Option, None, Some, IsSome, ap, refl, subst, sym, true≢false}
-use Rattle.itm_types.specs.declared.call.Call.{Call}
-use Rattle.itm_types.specs.declared.call.Reply.{Reply as Replied}
+use Rattle.transactions.proofs.Common.{Answer, Call, Core, Idle, IsAnswered, IsMemory, Replied, Reply, Standing, Start, View, Words, arena_after, came, cells_of, in_transaction, irrevocable_room, is_memory, keeps_self, memory_of, stage_at, start_of, view_of, writes_after}
 use Rattle.itm_types.specs.declared.step.Step.{Step}
-use Rattle.itm_types.specs.Memory.{IsMemory}
-use Rattle.norec_core.specs.declared.answer.Answer.{Answer}
-use Rattle.norec_core.specs.declared.answer.Answer.TheVariants.{Reply}
 use Rattle.norec_core.specs.declared.answer.Next.{Next}
 use Rattle.norec_core.specs.declared.answer.Next.TheVariants.{Step as Asks, Answer as Answers}
-use Rattle.norec_core.specs.Core.{Core, came, handed_to, in_transaction, irrevocable_room}
-use Rattle.norec_core.specs.Effects.{arena_after, writes_after}
+use Rattle.norec_core.specs.Core.{handed_to}
 use Rattle.norec_core.specs.Keeps.{Keeps}
 use Rattle.norec_core.specs.Moves.{IsCalled}
-use Rattle.norec_core.specs.Order.{asked_from, stage_at}
-use Rattle.norec_core.specs.Phases.{Idle}
+use Rattle.norec_core.specs.Order.{asked_from}
 use Rattle.norec_core.specs.Proceeds.{Ends, Proceeds, Replies, StaysOn}
-use Rattle.norec_core.proofs.Engines.KeptFields.{handed_is, keeps_asked, keeps_self, keeps_twice}
+use Rattle.norec_core.proofs.Engines.KeptFields.{handed_is, keeps_asked, keeps_twice}
 use Rattle.norec_core.proofs.Replies.ReplyCases.{reply_cases}
-use Rattle.shared_words.specs.declared.view.View.{View}
-use Rattle.shared_words.specs.InGlobal.{Words}
-use Rattle.shared_words.specs.Passes.{cells_of, view_of}
-use Rattle.call_rules.specs.CallResults.{IsAnswered}
 use Rattle.call_rules.specs.Drives.{Drives, IsDriven, LeadsOn}
-use Rattle.call_rules.specs.Served.{Start}
-use Rattle.call_rules.specs.Standing.{Standing, start_of}
-use Rattle.call_rules.specs.Ties.{memory_of}
-use Rattle.call_rules.proofs.Steps.CallsInHand.{is_memory}
 
 -- it has kept what the call came with
 pub record IsLast (s : Start) (a : Answer) (e : Core) : Type 0 where

@@ -1,3 +1,4 @@
+pub mod Common
 mod Modes
 mod Kept
 mod Looks

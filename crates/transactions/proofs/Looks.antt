@@ -1,29 +1,10 @@
 -- Each try looks at the clock.
 use Rattle.std.proofs.Common.{◌≡◌, ◌∙◌, ◌<◌, ◌&&◌, ◌||◌, not, if◌then◌else◌, ℕ, Bool, true, false, List, length, Option, None, Some, ap, refl, subst, sym, arith, lt-ltb}
-use Rattle.itm_types.specs.declared.call.Call.{Call}
-use Rattle.itm_types.specs.declared.call.Call.TheVariants.{Begin, Commit}
-use Rattle.itm_types.specs.declared.call.Refusal.{Refusal}
-use Rattle.itm_types.specs.declared.call.Reply.{Reply as Replied}
-use Rattle.itm_types.specs.declared.call.Reply.TheVariants.{Code}
-use Rattle.itm_model.specs.Machine.{after_unless, effect, entered, is_open, opened, pushed, refusal, reply_unless}
-use Rattle.itm_model.specs.State.{State}
-use Rattle.norec_core.specs.declared.answer.Answer.{Answer}
+use Rattle.transactions.proofs.Common.{Answer, Begin, Call, Code, Commit, Core, GoesOn, HasLooked, Lent, Refusal, Replied, Served, Standing, Stands, Start, State, Stop, Tried, View, after_unless, answer_of, came_over, effect, entered, in_transaction, is_inside, is_open, left_over, looks_of, opened, pushed, recoded, refusal, reply_unless, stands_for, start_of, state_in, stop_told, usual, view_of}
 use Rattle.norec_core.specs.declared.answer.Answer.TheVariants as answers
-use Rattle.norec_core.specs.Core.{Core, in_transaction, is_inside}
-use Rattle.norec_core.specs.Effects.{recoded}
-use Rattle.norec_core.specs.Stands.{stands_for, state_in}
 use Rattle.norec_core.proofs.Engines.Machines.{open_is}
-use Rattle.shared_words.specs.declared.view.View.{View}
-use Rattle.shared_words.specs.Passes.{view_of}
-use Rattle.call_rules.specs.Served.{Served, Start, came_over, left_over}
-use Rattle.call_rules.specs.Standing.{Standing, start_of}
-use Rattle.itm_runtime.specs.Stops.{GoesOn, answer_of}
-use Rattle.call_rules.specs.Ties.{Stands}
-use Rattle.itm_runtime.specs.declared.stop.Stop.{Stop}
 use Rattle.itm_runtime.specs.declared.stop.Stop.TheVariants as stops
-use Rattle.transactions.specs.declared.tried.Tried.{Tried}
-use Rattle.transactions.specs.Lent.{Lent, looks_of}
-use Rattle.transactions.specs.Runs.{BeginTold, HasLooked, stop_told, usual}
+use Rattle.transactions.specs.Runs.{BeginTold}
 use Rattle.transactions.proofs.Modes.{keeps_begin, stays_revocable}
 
 opens : (s : State) → is_open (effect s (Begin usual 0)) ≡ true

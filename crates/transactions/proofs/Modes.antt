@@ -1,18 +1,7 @@
 -- No call of a body takes the clock for good.
 use Rattle.std.proofs.Common.{◌≡◌, ◌∙◌, if◌then◌else◌, ℕ, Bool, true, false, List, [], ◌∷◌, Option, None, Some, ap, refl, sym, true≢false}
-use Rattle.itm_types.specs.declared.call.Call.{Call}
-use Rattle.itm_types.specs.declared.call.Call.TheVariants.{Abort, Begin, Commit}
-use Rattle.itm_types.specs.declared.call.Refusal.{Refusal}
-use Rattle.itm_model.specs.Machine.{after, after_unless, back_from, closed_irrevocable, effect, entered, is_open, opened, refusal, rolled_back}
-use Rattle.itm_model.specs.State.{Block, Saved, State}
-use Rattle.norec_core.specs.declared.answer.Answer.{Answer}
-use Rattle.norec_core.specs.declared.answer.Answer.TheVariants.{Reply, Committed, Conflict, Restarted, Busy, Full}
-use Rattle.norec_core.specs.Core.{Core, in_transaction}
-use Rattle.norec_core.specs.Stands.{stands_for, state_in}
-use Rattle.shared_words.specs.declared.view.View.{View}
-use Rattle.call_rules.specs.Served.{Start, Served, came_over, left_over, mine_after}
-use Rattle.call_rules.specs.Ties.{Stands}
-use Rattle.transactions.specs.Runs.{usual}
+use Rattle.transactions.proofs.Common.{Abort, Answer, Begin, Block, Busy, Call, Commit, Committed, Conflict, Core, Full, Refusal, Reply, Restarted, Saved, Served, Stands, Start, State, View, after, after_unless, back_from, came_over, closed_irrevocable, effect, entered, in_transaction, is_open, left_over, opened, refusal, rolled_back, stands_for, state_in, usual}
+use Rattle.call_rules.specs.Served.{mine_after}
 
 -- the call's effect leaves a revocable transaction so
 abbrev pub KeepsMode : Call → Type 0

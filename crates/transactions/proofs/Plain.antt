@@ -1,53 +1,20 @@
 -- The calls of a transaction are the plain machine's, on every memory that agrees with what was read.
 use Rattle.std.proofs.Common.{◌≡◌, ◌∙◌, ◌⊎◌, inl, inr, ℕ, ◌/◌, ◌&&◌, not, if◌then◌else◌, Bool, true, false, List, [], ◌∷◌, ◌++◌, map, Option, None, Some, Result, Ok, Err, ap, refl, subst, sym, true≢false}
-use Rattle.std.specs.Borrow.{MutBor}
-use Rattle.std.specs.Fn.{CalledAtMut, Mut}
-use Rattle.itm_types.specs.declared.call.Action.{Action}
-use Rattle.itm_types.specs.declared.call.Call.{Call}
-use Rattle.itm_types.specs.declared.call.Call.TheVariants.{Begin, Commit, Abort, Mode, InTransaction, Read, Write, Log, LogBytes, Copy, Fill, CommitAction, UndoAction, Load, Save}
+use Rattle.transactions.proofs.Common.{Abort, Action, Answer, Begin, Block, Call, CalledAtMut, Calls, Cancelled, Code, Commit, CommitAction, Copy, CopyPair, Core, Deed, EndsBy, Engine, Fill, Frame, GoesOn, GoesOver, In, InTransaction, IsAnswered, IsMemory, IsPlainRun, IsTry, KeepsBody, KeepsLent, LeftBy, Lent, Load, Log, LogBytes, Makes, Makings, Mode, Mut, MutBor, Out, Props, Read, Refusal, Replied, Reply, Save, Standing, Stands, Start, StartsWith, State, Stopped, TakesBack, Tried, UndoAction, Value, Within, Words, Write, after, after_unless, as_undo, back, calls_of, came_over, commit_told, effect, entered, in_transaction, irrevocable_from, is_inside, is_memory, is_open, left_over, memory_of, opened, outside, pushed, recoded, refusal, replies, reply, reply_unless, rolled_back, source_bytes, stands_for, start_of, state_after, state_in, state_with, target_written, undone, undone_from, usual, view_of, with_action}
 use Rattle.itm_types.specs.declared.call.ActionKind.TheVariants as kinds
-use Rattle.itm_types.specs.declared.call.Props.{Props}
-use Rattle.itm_types.specs.declared.call.Refusal.{Refusal}
-use Rattle.itm_types.specs.declared.call.Reply.{Reply as Replied}
-use Rattle.itm_types.specs.declared.call.Reply.TheVariants.{Code}
-use Rattle.itm_types.specs.declared.copy.CopyPair.{CopyPair}
-use Rattle.itm_types.specs.declared.copy.CopyPair.TheVariants.{Out, In, Within}
 use Rattle.itm_types.specs.Calls.{is_abort}
-use Rattle.itm_types.specs.Memory.{Agrees, IsMemory, bytes_of}
-use Rattle.itm_model.specs.Machine.{after, after_unless, back, effect, entered, irrevocable_from, is_open, opened, outside, pushed, refusal, reply, reply_unless, rolled_back, source_bytes, target_written, undone, undone_from, with_action}
-use Rattle.itm_model.specs.Runs.{replies, state_after}
-use Rattle.itm_model.specs.State.{Block, State}
-use Rattle.user_actions.specs.Actions.{as_undo}
-use Rattle.norec_core.specs.declared.answer.Answer.{Answer}
+use Rattle.itm_types.specs.Memory.{Agrees, bytes_of}
 use Rattle.norec_core.specs.declared.answer.Answer.TheVariants as answers
-use Rattle.norec_core.specs.declared.answer.Answer.TheVariants.{Reply}
-use Rattle.nest_frames.specs.Nest.{Frame}
 use Rattle.write_set.specs.declared.row.Row.{Row}
-use Rattle.norec_core.specs.Core.{Core, in_transaction, is_inside}
-use Rattle.norec_core.specs.Effects.{recoded}
-use Rattle.norec_core.specs.Proceeds.{GoesOver}
-use Rattle.norec_core.specs.Stands.{stands_for, state_in, state_over}
+use Rattle.norec_core.specs.Stands.{state_over}
 use Rattle.norec_core.proofs.Accesses.Logs.{agrees_less}
 use Rattle.norec_core.proofs.Replies.AnsweredEngines.{told_plainly}
-use Rattle.shared_words.specs.Commits.{StartsWith}
-use Rattle.shared_words.specs.InGlobal.{Words}
-use Rattle.shared_words.specs.Passes.{view_of}
-use Rattle.call_rules.specs.CallResults.{IsAnswered}
-use Rattle.call_rules.specs.Served.{Start, came_over, left_over, memory_in}
-use Rattle.call_rules.specs.Standing.{Standing, start_of}
-use Rattle.itm_runtime.specs.Stops.{GoesOn}
-use Rattle.call_rules.specs.Ties.{Stands, memory_of}
+use Rattle.call_rules.specs.Served.{memory_in}
 use Rattle.itm_runtime.specs.declared.stop.Stop.TheVariants as stops
-use Rattle.call_rules.proofs.Steps.CallsInHand.{is_memory}
-use Rattle.transactions.specs.Lent.{Lent}
 use Rattle.transactions.specs.Blocks.{IsTakenBack}
-use Rattle.transactions.specs.Plain.{Calls, Deed, IsPlain, IsPlainRun, Makes, Makings, Stays, TakesBack, begun_at, calls_of, committed_at, replies_of, state_with, with_gone}
-use Rattle.transactions.specs.declared.tried.Done.{Done as Value}
-use Rattle.transactions.specs.declared.tried.Tried.{Tried}
+use Rattle.transactions.specs.Plain.{IsPlain, Stays, begun_at, committed_at, replies_of, with_gone}
 use Rattle.transactions.specs.declared.tried.Tried.TheVariants.{Done}
-use Rattle.transactions.specs.declared.stopped.Stopped.{Stopped}
-use Rattle.transactions.specs.declared.stopped.Stopped.TheVariants.{Engine, Cancelled}
-use Rattle.transactions.specs.Runs.{EndsBy, HasBegun, IsTry, KeepsBody, KeepsLent, LeftBy, Tells, commit_told, usual}
+use Rattle.transactions.specs.Runs.{HasBegun, Tells}
 use Rattle.transactions.proofs.Looks.{engine_open}
 use Rattle.transactions.proofs.RanActions.{ran_as, same_after, same_left, same_replies}
 use Rattle.transactions.proofs.Tries.{is_other, not_cancelled, not_stopped, told_at}

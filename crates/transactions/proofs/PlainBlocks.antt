@@ -1,20 +1,7 @@
 -- The calls of a block, with its begin and its commit, are calls of its transaction.
 use Rattle.std.proofs.Common.{◌≡◌, ◌∙◌, inl, inr, false, [], ◌∷◌, Result, Ok, Err, ap, refl, subst, sym}
-use Rattle.std.specs.Borrow.{MutBor}
-use Rattle.std.specs.Fn.{CalledAtMut, Mut}
-use Rattle.itm_types.specs.declared.call.Call.TheVariants.{Begin, Commit}
-use Rattle.itm_types.specs.declared.call.Reply.TheVariants.{Code, Done}
-use Rattle.norec_core.specs.declared.answer.Answer.TheVariants.{Reply}
-use Rattle.shared_words.specs.InGlobal.{Words}
-use Rattle.call_rules.specs.CallResults.{IsAnswered}
-use Rattle.call_rules.specs.Standing.{start_of}
-use Rattle.itm_runtime.specs.declared.stop.Stop.{Stop}
-use Rattle.transactions.specs.declared.stopped.Stopped.{Stopped}
-use Rattle.transactions.specs.declared.stopped.Stopped.TheVariants.{Engine, Cancelled}
-use Rattle.transactions.specs.Blocks.{EndsBlockBy, HasRunBlock, IsAsBefore, KeepsBlocks, Leaves, TellsBlock, block_told}
-use Rattle.transactions.specs.Lent.{IsKept, Lent}
-use Rattle.transactions.specs.Plain.{Calls, IsPlainBlock, IsPlainIn, Makes, Makings}
-use Rattle.transactions.specs.Runs.{KeepsLent, usual}
+use Rattle.transactions.proofs.Common.{Begin, CalledAtMut, Calls, Cancelled, Code, Commit, Done, EndsBlockBy, Engine, HasRunBlock, IsAnswered, IsAsBefore, IsKept, KeepsBlocks, KeepsLent, Leaves, Lent, Makes, Makings, Mut, MutBor, Reply, Stop, Stopped, TellsBlock, Words, block_told, start_of, usual}
+use Rattle.transactions.specs.Plain.{IsPlainBlock, IsPlainIn}
 use Rattle.transactions.proofs.BlockOutcomes.{commit_served}
 use Rattle.transactions.proofs.Deeds.{makes_then}
 

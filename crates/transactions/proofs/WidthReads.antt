@@ -1,5 +1,6 @@
 -- How reads and writes of bytes are answered where the transaction goes on.
 use Rattle.std.proofs.Common.{◌≡◌, ℕ, ◌+◌, ◌≤◌, Bool, true, false, length, drop, List, Option, None, Some, refl, sym, ap, subst, arith, length-drop}
+use Rattle.transactions.proofs.Common.{Answer, Busy, Call, Commit, Committed, Conflict, Core, Datum, Full, GoesOn, HasValue, Read, Refusal, Replied, Reply, Restarted, Served, Standing, State, View, bytes_reply, came_over, or_else, refusal, reply_unless, standing, stands_for, start_of, unless}
 use Rattle.std.proofs.lemmas.Bool.{leb-true}
 use Rattle.std.proofs.lemmas.List.{length-take-le}
 use mathlib.Core.HLevel.{is_prop→PathP}
@@ -7,26 +8,11 @@ use native.Mathlib.Nat.{ℕ_set}
 use Rattle.itm_types.specs.Access.{size_of}
 use Rattle.itm_types.specs.declared.access.ReadHint.{ReadHint}
 use Rattle.itm_types.specs.declared.access.Width.{Width}
-use Rattle.itm_types.specs.declared.datum.Datum.{Datum}
-use Rattle.itm_types.specs.declared.call.Call.{Call}
-use Rattle.itm_types.specs.declared.call.Call.TheVariants.{Commit, Read}
-use Rattle.itm_types.specs.declared.call.Refusal.{Refusal}
 use Rattle.itm_types.specs.declared.call.Refusal.TheVariants.{OutOfRange}
-use Rattle.itm_types.specs.declared.call.Reply.{Reply as Replied}
 use Rattle.itm_types.specs.Slices.{slice}
-use Rattle.itm_model.specs.Machine.{bytes_reply, or_else, ranges, refusal, reply_unless, standing, unless}
+use Rattle.itm_model.specs.Machine.{ranges}
 use Rattle.itm_model.specs.Places.{in_range}
-use Rattle.itm_model.specs.State.{State}
-use Rattle.norec_core.specs.declared.answer.Answer.{Answer}
-use Rattle.norec_core.specs.declared.answer.Answer.TheVariants.{Reply, Committed, Conflict, Restarted, Busy, Full}
-use Rattle.norec_core.specs.Core.{Core}
-use Rattle.norec_core.specs.Stands.{stands_for}
-use Rattle.shared_words.specs.declared.view.View.{View}
 use Rattle.itm_runtime.specs.declared.stop.Stop.TheVariants as stops
-use Rattle.call_rules.specs.Served.{Served, came_over}
-use Rattle.call_rules.specs.Standing.{Standing, start_of}
-use Rattle.itm_runtime.specs.Stops.{GoesOn}
-use Rattle.transactions.specs.Widths.{HasValue}
 
 -- values of one width with the same bytes are the same
 pub datum_is : (d e : Datum) → d.width ≡ e.width → d.bytes.items ≡ e.bytes.items → d ≡ e

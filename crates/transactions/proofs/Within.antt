@@ -1,33 +1,13 @@
 -- What a call leaves of the open blocks.
 use Rattle.std.proofs.Common.{◌≡◌, ◌∙◌, ◌⊎◌, inl, inr, ℕ, Bool, true, false, List, [], ◌∷◌, ◌++◌, length, map, take, drop, reverse, Option, None, Some, ap, refl, subst, sym, true≢false, append_assoc, append-nil, arith, if◌then◌else◌}
+use Rattle.transactions.proofs.Common.{Action, Actions, Answer, Begin, Call, Commit, CommitAction, Core, Done, Frame, GoesOver, IsAnswered, IsFresh, IsWithin, IsWithinStill, Lent, LogRow, Old, Ran, Read, ReadsOn, Refusal, Refused, Replied, Reply, Standing, StartsWith, Tells, UndoAction, Words, Write, actions_after, actions_cancelled, arena_after, as_undo, blocks_after, cells_of, in_transaction, irrevocable_room, is_inside, log_of, put_back, start_of, usual, view_of}
 use Rattle.std.proofs.lemmas.List.{map-append, take-append-le, take_all}
-use Rattle.itm_types.specs.declared.call.Action.{Action}
 use Rattle.itm_types.specs.declared.call.ActionKind.TheVariants as kinds
-use Rattle.itm_types.specs.declared.call.Ran.{Ran}
-use Rattle.itm_types.specs.declared.call.Refusal.{Refusal}
-use Rattle.itm_types.specs.declared.call.Call.{Call}
-use Rattle.itm_types.specs.declared.call.Call.TheVariants.{Begin, Commit, CommitAction, Read, UndoAction, Write}
-use Rattle.itm_types.specs.declared.call.Reply.{Reply as Replied}
-use Rattle.itm_types.specs.declared.call.Reply.TheVariants.{Done, Refused}
-use Rattle.itm_types.specs.declared.row.LogRow.{LogRow}
-use Rattle.user_actions.specs.Actions.{Actions, as_undo, registered}
-use Rattle.undo_log.specs.Rollback.{Old, put_back}
-use Rattle.nest_frames.specs.Nest.{Frame, actions_cancelled, log_of, reads_of, renewed}
-use Rattle.norec_core.specs.declared.answer.Answer.{Answer}
+use Rattle.user_actions.specs.Actions.{registered}
+use Rattle.nest_frames.specs.Nest.{reads_of, renewed}
 use Rattle.norec_core.specs.declared.answer.Answer.TheVariants as answers
-use Rattle.norec_core.specs.declared.answer.Answer.TheVariants.{Reply}
-use Rattle.norec_core.specs.Core.{Core, in_transaction, irrevocable_room, is_inside}
-use Rattle.norec_core.specs.Effects.{actions_after, arena_after, blocks_after}
-use Rattle.norec_core.specs.Proceeds.{GoesOver}
 use Rattle.norec_core.specs.Restarts.{Restarts}
-use Rattle.shared_words.specs.Commits.{StartsWith}
-use Rattle.shared_words.specs.InGlobal.{Words}
-use Rattle.shared_words.specs.Passes.{cells_of, view_of}
-use Rattle.call_rules.specs.CallResults.{IsAnswered, Tells}
-use Rattle.call_rules.specs.Standing.{Standing, start_of}
-use Rattle.transactions.specs.Blocks.{CameToRun, IsFresh, IsWithin, IsWithinStill, ReadsOn}
-use Rattle.transactions.specs.Lent.{Lent}
-use Rattle.transactions.specs.Runs.{usual}
+use Rattle.transactions.specs.Blocks.{CameToRun}
 use Rattle.transactions.proofs.LastEngines.{IsLast, arena_left, last, last_of, mid, replied}
 
 -- ## Lists

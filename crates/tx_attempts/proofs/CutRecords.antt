@@ -1,10 +1,6 @@
 -- Records of inner blocks that ran again, where one of them runs again once more: those before it stay.
 use Rattle.std.proofs.Common.{◌≡◌, ℕ, zero, suc, ◌<◌, ◌≤◌, Bool, true, false, nat_lt, if◌then◌else◌, List, [], ◌∷◌, ◌++◌, length, take, slice_get, refl, sym, ap, subst, ◌∙◌, arith}
-use Rattle.std.proofs.lemmas.Bool.{le-ltb, ltb-false, ltb-true}
-use Rattle.std.proofs.lemmas.List.{take-append-le}
-use Rattle.tx_attempts.specs.declared.attempt.Again.{Again}
-use Rattle.tx_attempts.specs.declared.attempt.CallRecord.{CallRecord}
-use Rattle.tx_attempts.specs.Restarts.{AreAgain, AtEach, IsAgain, IsInnerBegin, before}
+use Rattle.tx_attempts.proofs.Common.{Again, AreAgain, AtEach, CallRecord, IsAgain, IsInnerBegin, before, le-ltb, ltb-false, ltb-true, take-append-le}
 
 -- ## Where they stand
 

@@ -1,26 +1,17 @@
 -- An attempt within which a block ran again, and attempts in conflict, worked by computation.
-use Rattle.std.proofs.Common.{◌≡◌, ℕ, suc, ◌-◌, false, true, List, [], ◌∷◌, ◌++◌, take, refl, subst, arith}
-use Rattle.std.specs.Prelude.{slice_get}
+use Rattle.std.proofs.Common.{◌≡◌, ℕ, suc, ◌-◌, false, true, List, [], ◌∷◌, ◌++◌, take, refl, subst, arith, slice_get}
+use Rattle.tx_attempts.proofs.Common.{Again, AreAgain, AreOutrun, Attempt, Begin, Call, CallRecord, Commit, Conflict, IsDisturbed, IsInnerBegin, Props, Reply, Rules, State, breaks_of, opened, with_again}
 use Rattle.itm_types.specs.declared.access.Width.TheVariants.{U1, U8}
 use Rattle.itm_types.specs.declared.access.ReadHint.TheVariants.{R}
 use Rattle.itm_types.specs.declared.datum.Datum.{Datum}
-use Rattle.itm_types.specs.declared.call.Props.{Props}
-use Rattle.itm_types.specs.declared.call.Call.{Call}
-use Rattle.itm_types.specs.declared.call.Call.TheVariants.{Begin, Commit, Load, Log, Read, Save}
-use Rattle.itm_types.specs.declared.call.Reply.{Reply}
+use Rattle.itm_types.specs.declared.call.Call.TheVariants.{Load, Log, Read, Save}
 use Rattle.itm_types.specs.declared.call.Reply.TheVariants.{Done, Code}
-use Rattle.itm_model.specs.State.{State}
-use Rattle.itm_model.specs.Machine.{opened, bytes_reply}
+use Rattle.itm_model.specs.Machine.{bytes_reply}
 use Rattle.itm_model.specs.Runs.{replies_through, state_after, unbroken}
-use Rattle.tx_player.specs.Rules.{Rules}
-use Rattle.tx_attempts.specs.declared.attempt.Again.{Again}
-use Rattle.tx_attempts.specs.declared.attempt.Attempt.{Attempt}
-use Rattle.tx_attempts.specs.declared.attempt.CallRecord.{CallRecord}
-use Rattle.tx_attempts.specs.declared.attempt.Outcome.TheVariants.{Conflict, ReadOnly}
+use Rattle.tx_attempts.specs.declared.attempt.Outcome.TheVariants.{ReadOnly}
 use Rattle.tx_attempts.specs.Attempts.{alone, calls_of, replies_of}
-use Rattle.tx_attempts.specs.Restarts.{AreAgain, IsInnerBegin, breaks_of, open_in, with_again}
+use Rattle.tx_attempts.specs.Restarts.{open_in}
 use Rattle.tx_attempts.specs.Opacity.{EndsAs, IsOpaque, ran_of}
-use Rattle.tx_attempts.specs.Outrun.{AreOutrun, IsDisturbed}
 use Rattle.tx_attempts.proofs.LaterClocks.{outrun_more, outrun_none}
 
 abbrev pub plain : Props

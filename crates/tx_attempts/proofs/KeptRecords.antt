@@ -1,7 +1,6 @@
 -- Of the inner blocks that ran again, those of before so many calls.
 use Rattle.std.proofs.Common.{◌≡◌, ℕ, ◌≤◌, Bool, true, false, nat_lt, if◌then◌else◌, List, [], ◌∷◌, ◌++◌, length, refl, sym, ap, ◌∙◌, arith, append-nil}
-use Rattle.tx_attempts.specs.declared.attempt.Again.{Again}
-use Rattle.tx_attempts.specs.Restarts.{before}
+use Rattle.tx_attempts.proofs.Common.{Again, before}
 
 module _ (kept : ℕ) where
   early : (a : Again) (rest : List Again) → nat_lt a.kept kept ≡ true → before kept (a ∷ rest) ≡ a ∷ before kept rest

@@ -1,9 +1,7 @@
 -- Conflicts that a later clock has outrun too, and lists of them.
 use Rattle.std.proofs.Common.{◌≡◌, ℕ, ◌*◌, ◌<◌, ◌≤◌, List, [], ◌∷◌, ◌++◌, arith}
-use Rattle.std.proofs.lemmas.List.Elements.{All-push, All-append}
-use Rattle.tx_attempts.specs.declared.attempt.Attempt.{Attempt}
-use Rattle.tx_attempts.specs.declared.attempt.Outcome.TheVariants.{Conflict}
-use Rattle.tx_attempts.specs.Outrun.{AreOutrun}
+use Rattle.tx_attempts.proofs.Common.{All-append, AreOutrun, Attempt, Conflict}
+use Rattle.std.proofs.lemmas.List.Elements.{All-push}
 
 pub outrun_later : (early late : ℕ) → early ≤ late → (xs : List Attempt) → AreOutrun early xs → AreOutrun late xs
 outrun_later early late on xs all k d inside conflict = let before = all k d inside conflict in omega arith

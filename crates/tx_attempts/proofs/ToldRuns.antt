@@ -1,25 +1,15 @@
 -- What has run decides nothing: a run in which it is told otherwise has the same replies, and all else of its states.
-use Rattle.std.proofs.Common.{◌≡◌, ℕ, suc, Bool, true, false, List, [], ◌∷◌, ◌++◌, map, Option, None, Some, refl, sym, ap, subst, ◌∙◌, append-nil, append_assoc, if◌then◌else◌}
-use Rattle.std.specs.Prelude.{drop, reverse}
+use Rattle.std.proofs.Common.{◌≡◌, ℕ, suc, Bool, true, false, List, [], ◌∷◌, ◌++◌, map, Option, None, Some, refl, sym, ap, subst, ◌∙◌, append-nil, append_assoc, if◌then◌else◌, drop, reverse}
+use Rattle.tx_attempts.proofs.Common.{Again, Begin, Breaks, Call, CallRecord, Commit, IsAlone, Props, Ran, Refusal, Rules, State, after, after_unless, again_at, arena_set, breaks_in, breaks_of, effect, is_open, later, opened, outside, refusal, reply, run_on, state_then}
 use Rattle.itm_types.specs.declared.call.Action.{Action}
-use Rattle.itm_types.specs.declared.call.Call.{Call}
-use Rattle.itm_types.specs.declared.call.Call.TheVariants.{Begin, Commit, Abort, Mode, Copy, UndoAction}
-use Rattle.itm_types.specs.declared.call.Props.{Props}
-use Rattle.itm_types.specs.declared.call.Ran.{Ran}
-use Rattle.itm_types.specs.declared.call.Refusal.{Refusal}
+use Rattle.itm_types.specs.declared.call.Call.TheVariants.{Abort, Mode, Copy, UndoAction}
 use Rattle.itm_types.specs.declared.copy.CopyPair.{CopyPair}
 use Rattle.itm_types.specs.declared.copy.CopyPair.TheVariants.{Out, In, Within}
-use Rattle.itm_model.specs.State.{Block, Saved, State}
-use Rattle.itm_model.specs.Machine.{after, after_unless, answer, back_from, closed_actions, closed_in, closed_irrevocable, effect, is_clear, is_open, made_irrevocable, opened, or_else, outside, pushed, refusal, reply, reply_unless, rolled_back, source_bytes, source_range, standing, target_range, target_written, undone, undone_from, unless, with_action}
+use Rattle.itm_model.specs.State.{Block, Saved}
+use Rattle.itm_model.specs.Machine.{answer, back_from, closed_actions, closed_in, closed_irrevocable, is_clear, made_irrevocable, or_else, pushed, reply_unless, rolled_back, source_bytes, source_range, standing, target_range, target_written, undone, undone_from, unless, with_action}
 use Rattle.user_actions.specs.Actions.{as_commit, as_undo}
 use Rattle.itm_types.specs.declared.call.ActionKind.TheVariants as kinds
 use Rattle.itm_types.specs.declared.call.Refusal.TheVariants.{Overlap}
-use Rattle.itm_model.specs.Runs.{Breaks, later}
-use Rattle.tx_player.specs.Rules.{Rules}
-use Rattle.tx_attempts.specs.declared.attempt.Again.{Again}
-use Rattle.tx_attempts.specs.declared.attempt.CallRecord.{CallRecord}
-use Rattle.tx_attempts.specs.Alone.{IsAlone, state_then}
-use Rattle.tx_attempts.specs.Restarts.{again_at, arena_set, breaks_in, breaks_of, run_on}
 
 -- the state with this told as run
 abbrev pub telling : State → List Ran → State

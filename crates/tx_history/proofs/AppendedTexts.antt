@@ -1,11 +1,6 @@
 -- The parts of a history, one after another.
-use Rattle.std.proofs.Common.{◌≡◌, ℕ, ◌+◌, ◌<◌, ◌≤◌, All, List, [], ◌++◌, length, take, drop, Option, sym, subst, get_or, flat_map, rules, arith}
-use Rattle.std.proofs.lemmas.Grind.{common_steps}
-use Rattle.std.proofs.lemmas.List.Elements.{All-more}
-use Rattle.std.specs.Prelude.{decimal}
-use Rattle.hex.specs.Hex.{encode_lower, encode_with}
-use Rattle.tx_history.specs.declared.page.Page.{Page}
-use Rattle.tx_history.specs.Pages.{Carries, Spells}
+use Rattle.std.proofs.Common.{◌≡◌, ℕ, ◌+◌, ◌<◌, ◌≤◌, All, List, [], ◌++◌, length, take, drop, Option, sym, subst, get_or, flat_map, rules, arith, decimal}
+use Rattle.tx_history.proofs.Common.{All-more, Carries, Page, Spells, common_steps, encode_lower, encode_with}
 use Rattle.tx_history.proofs.PagedTexts.{carries_none, carries_then}
 use Rattle.tx_history.proofs.TextPieces.{encode_more, take_past}
 

@@ -1,3 +1,4 @@
+pub mod Common
 pub mod SameDepths
 pub mod TextPieces
 pub mod PagedTexts

@@ -1,15 +1,7 @@
 -- A text that goes to its writer page by page.
-use Rattle.std.proofs.Common.{◌≡◌, refl, ℕ, ◌+◌, ◌<◌, Bool, true, false, List, [], ◌++◌, length, take, Option, None, Result, Ok, Err, sym, ap, ◌∙◌, subst, append-nil, append_assoc, arith}
-use Rattle.std.proofs.KnownBytes.{Appends-nil, Appends-trans}
-use Rattle.std.proofs.lemmas.List.{length-append, take-append-le}
-use Rattle.std.proofs.Math.Seq.{take-append-add}
-use Rattle.std.specs.Prelude.{is_err, is_some}
-use Rattle.std.specs.Result.{result_err}
-use Rattle.std.specs.Io.KnownBytes.{Appends}
-use Rattle.std.specs.declared.io.Error.{Error}
-use Rattle.tx_history.specs.declared.page.Page.{Page}
-use Rattle.tx_history.specs.Pages.{Carries, IsSent, Grows, Sheet, Spells}
-use Rattle.tx_history.specs.Spelling.{Puts}
+use Rattle.std.proofs.Common.{◌≡◌, refl, ℕ, ◌+◌, ◌<◌, Bool, true, false, List, [], ◌++◌, length, take, Option, None, Result, Ok, Err, sym, ap, ◌∙◌, subst, append-nil, append_assoc, arith, is_err, is_some}
+use Rattle.tx_history.proofs.Common.{Appends, Appends-nil, Appends-trans, Carries, Error, Grows, Page, Puts, Spells, length-append, result_err, take-append-add, take-append-le}
+use Rattle.tx_history.specs.Pages.{IsSent, Sheet}
 
 -- nothing is written
 pub grows_nil : (f : Bool) (w : Option (List ℕ)) (p : List ℕ) → Grows (record { failed = f; written = w; page = p }) (record { failed = f; written = w; page = p }) []

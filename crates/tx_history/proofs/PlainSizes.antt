@@ -1,31 +1,16 @@
 -- Calls on the plain machine leave the memory and the arena as long as they were, also where blocks run again from arenas of that length.
 use Rattle.std.proofs.Common.{◌≡◌, ℕ, zero, suc, ◌+◌, ◌≤◌, ◌%◌, Bool, true, false, if◌then◌else◌, ◌==◌, List, [], ◌∷◌, ◌++◌, length, take, drop, replicate, map, Option, None, Some, refl, sym, ap, subst, ◌∙◌, arith, length-append, length-drop}
-use Rattle.std.specs.Option.{option_map}
+use Rattle.tx_history.proofs.Common.{Abort, Again, AreAgain, Attempt, Begin, Block, Breaks, Call, CallRecord, Commit, CommitAction, Copy, CopyPair, Fill, History, In, InTransaction, Load, Log, LogBytes, Mode, Out, Props, Read, Refusal, Save, Saved, State, UndoAction, Within, Write, after, after_unless, again_at, alone, also_kept, arena_set, back, back_from, breaks_of, closed_in, depth_of, effect, entered, handed, irrevocable_from, is_open, later, logged_in, made_irrevocable, opened, option_map, or_else, outside, pushed, refusal, rolled_back, size_of, source_bytes, state_through, target_written, undone, undone_from, unless, with_action, with_slice, written}
 use Rattle.std.proofs.lemmas.Bool.{leb-true}
 use Rattle.std.proofs.lemmas.List.{length-replicate, length-take-le}
-use Rattle.itm_types.specs.Access.{size_of}
-use Rattle.itm_types.specs.KeptBytes.{also_kept, restored}
-use Rattle.itm_types.specs.Slices.{slice, with_slice}
-use Rattle.itm_types.specs.declared.call.Call.{Call}
-use Rattle.itm_types.specs.declared.call.Call.TheVariants.{Begin, Commit, Abort, Mode, InTransaction, Read, Write, Log, LogBytes, Copy, Fill, CommitAction, UndoAction, Load, Save}
+use Rattle.itm_types.specs.KeptBytes.{restored}
+use Rattle.itm_types.specs.Slices.{slice}
 use Rattle.itm_types.specs.declared.call.ActionKind.TheVariants as kinds
-use Rattle.itm_types.specs.declared.call.Props.{Props}
-use Rattle.itm_types.specs.declared.call.Refusal.{Refusal}
 use Rattle.itm_types.specs.declared.call.Refusal.TheVariants.{OutOfRange, OutOfArena}
-use Rattle.itm_types.specs.declared.copy.CopyPair.{CopyPair}
-use Rattle.itm_types.specs.declared.copy.CopyPair.TheVariants.{Out, In, Within}
 use Rattle.itm_model.specs.Places.{in_range}
-use Rattle.itm_model.specs.State.{Block, Saved, State}
-use Rattle.itm_model.specs.Machine.{after, after_unless, back, back_from, closed_in, effect, entered, handed, irrevocable_from, is_open, logged_in, made_irrevocable, opened, or_else, outside, pushed, ranges, refusal, rolled_back, saved_in_arena, source_bytes, source_range, standing, target_range, target_written, undone, undone_from, unless, with_action, written}
-use Rattle.itm_model.specs.Runs.{Breaks, later, state_through}
-use Rattle.tx_attempts.specs.declared.attempt.Again.{Again}
-use Rattle.tx_attempts.specs.declared.attempt.Attempt.{Attempt}
-use Rattle.tx_attempts.specs.declared.attempt.CallRecord.{CallRecord}
-use Rattle.tx_attempts.specs.Attempts.{alone, calls_of, committed_at, memory_after, memory_left}
-use Rattle.tx_attempts.specs.Restarts.{AreAgain, again_at, arena_set, breaks_of}
-use Rattle.tx_history.specs.declared.history.History.{History}
+use Rattle.itm_model.specs.Machine.{ranges, saved_in_arena, source_range, standing, target_range}
+use Rattle.tx_attempts.specs.Attempts.{calls_of, committed_at, memory_after, memory_left}
 use Rattle.tx_history.specs.Legal.{memory_at}
-use Rattle.tx_history.specs.Versions.{depth_of}
 
 -- what a block goes back to has so many bytes
 abbrev pub IsSavedSized : ℕ → Option Saved → Type 0

@@ -1,10 +1,8 @@
 -- The rows of a history, one after the other, are its text.
-use Rattle.std.proofs.Common.{◌≡◌, refl, List, [], ◌∷◌, ◌++◌, ℕ, sym, ap, ◌∙◌, append-nil, append_assoc}
-use Rattle.std.specs.Prelude.{flat_map}
-use Rattle.tx_attempts.specs.declared.attempt.Attempt.{Attempt}
-use Rattle.tx_history.specs.Histories.{attempt_lines, first_lines, history_text, last_line}
+use Rattle.std.proofs.Common.{◌≡◌, List, [], ◌∷◌, ◌++◌, sym, ap, ◌∙◌, append-nil, append_assoc, flat_map}
+use Rattle.tx_history.proofs.Common.{Attempt, History, attempt_lines, first_lines, history_text}
+use Rattle.tx_history.specs.Histories.{last_line}
 use Rattle.tx_history.specs.Rows.{AreRest, AreRowsOf, IsLastOf, IsStartOf, IsTriedOf, row_lines}
-use Rattle.tx_history.specs.declared.history.History.{History}
 use Rattle.tx_history.specs.declared.parts.Row.{Row}
 use Rattle.tx_history.specs.declared.parts.Row.TheVariants.{Start, Tried, Last}
 

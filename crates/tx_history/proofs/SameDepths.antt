@@ -1,8 +1,8 @@
 -- Depths by their numbers.
 use Rattle.std.proofs.Common.{◌≡◌, ℕ, ◌<◌, ◌≤◌, arith}
+use Rattle.tx_history.proofs.Common.{Depth}
 use denote.Struct.Props.{props}
 use mathlib.Core.HLevel.{is_prop→PathP}
-use Rattle.itm_types.specs.declared.limits.Depth.{Depth}
 use Rattle.itm_types.specs.declared.limits.TheConstants.{MAX_DEPTH}
 use Rattle.tx_history.specs.Depths.{near}
 

@@ -1,18 +1,8 @@
 -- Texts that a stream writes, one after another.
-use Rattle.std.proofs.Common.{◌≡◌, false, true≢false, refl, ℕ, ◌+◌, ◌<◌, List, [], ◌∷◌, ◌++◌, length, take, Option, None, Some, Result, Ok, Err, sym, ap, ◌∙◌, subst, append-nil, arith}
-use Rattle.std.proofs.KnownBytes.{Appends-nil, Appends-trans, Appends-kept, Keeps-refl, Keeps-trans}
-use Rattle.std.proofs.lemmas.Grind.{common_steps}
-use Rattle.std.proofs.lemmas.List.{length-append, take-append-le}
-use Rattle.std.specs.Prelude.{IsErr, OnOk, get_or, flat_map, is_some}
-use Rattle.std.specs.Result.{result_err}
-use Rattle.std.specs.declared.io.Error.{Error}
-use Rattle.std.specs.Io.KnownBytes.{Appends}
-use Rattle.tx_attempts.specs.declared.attempt.Attempt.{Attempt}
-use Rattle.tx_history.specs.Histories.{attempt_lines}
-use Rattle.tx_history.specs.Pages.{Grows, Spells}
-use Rattle.tx_history.specs.declared.page.Page.{Page}
-use Rattle.tx_history.specs.Spelling.{IsCut, Puts}
-use Rattle.tx_history.specs.Streams.{Adds, Leaves, Sends, Standing, standing}
+use Rattle.std.proofs.Common.{◌≡◌, false, true≢false, refl, ℕ, ◌+◌, ◌<◌, List, [], ◌∷◌, ◌++◌, length, take, Option, None, Some, Result, Ok, Err, sym, ap, ◌∙◌, subst, append-nil, arith, IsErr, OnOk, get_or, flat_map, is_some}
+use Rattle.tx_history.proofs.Common.{Adds, Appends, Appends-kept, Appends-nil, Appends-trans, Attempt, Error, Grows, IsCut, Page, Puts, Spells, Standing, attempt_lines, common_steps, length-append, result_err, take-append-le}
+use Rattle.std.proofs.KnownBytes.{Keeps-refl, Keeps-trans}
+use Rattle.tx_history.specs.Streams.{Leaves, Sends, standing}
 use Rattle.tx_history.proofs.TextPieces.{cut_short}
 
 leaves_nothing : (f : Option Error) (u : Option (List ℕ)) → Leaves f f u u []

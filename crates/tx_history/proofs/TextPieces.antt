@@ -1,13 +1,8 @@
 -- Writing the bytes of a text.
-use Rattle.std.proofs.Common.{◌≡◌, ℕ, ◌+◌, ◌/◌, ◌%◌, ◌<◌, ◌≤◌, List, [], ◌∷◌, ◌++◌, length, take, drop, Option, Result, refl, sym, ap, ◌∙◌, arith, subst}
-use Rattle.std.specs.Io.KnownBytes.{Appends, Keeps}
-use Rattle.std.proofs.KnownBytes.{Appends-nil, Appends-trans, Appends-kept}
-use Rattle.std.proofs.lemmas.Grind.{common_steps}
-use Rattle.std.proofs.lemmas.List.{length-append, take-take, drop-take, take-append-drop, take-append-le}
-use Rattle.std.proofs.Math.Seq.{take-append-add}
-use Rattle.hex.specs.Hex.{encode_lower, encode_with, lower_digits}
-use Rattle.tx_history.specs.Spelling.{IsCut, Puts}
-use Rattle.std.specs.Prelude.{slice_index}
+use Rattle.std.proofs.Common.{◌≡◌, ℕ, ◌+◌, ◌/◌, ◌%◌, ◌<◌, ◌≤◌, List, [], ◌∷◌, ◌++◌, length, take, drop, Option, Result, refl, sym, ap, ◌∙◌, arith, subst, slice_index}
+use Rattle.tx_history.proofs.Common.{Appends, Appends-kept, Appends-nil, Appends-trans, IsCut, Puts, common_steps, encode_lower, encode_with, length-append, lower_digits, take-append-add, take-append-drop, take-append-le}
+use Rattle.std.specs.Io.KnownBytes.{Keeps}
+use Rattle.std.proofs.lemmas.List.{take-take, drop-take}
 
 pub take_past : (n : ℕ) (xs : List ℕ) → length xs ≤ n → take n xs ≡ xs
 take_past n xs h = grind (arith, common_steps)

@@ -1,14 +1,10 @@
 -- Worked copies and fills with their lines, by computation.
-use Rattle.std.proofs.Common.{◌≡◌, List, ℕ, [], ◌∷◌, ◌++◌, refl, arith, false, true}
-use Rattle.std.specs.Prelude.{codes, decimal}
-use Rattle.std.proofs.lemmas.Fmt.{decimal_digit, decimal_step}
-use Rattle.itm_types.specs.declared.access.WriteHint.TheVariants.{W, WaR}
-use Rattle.itm_types.specs.declared.call.Call.TheVariants.{Copy, Fill}
+use Rattle.std.proofs.Common.{◌≡◌, List, ℕ, [], ◌∷◌, ◌++◌, refl, arith, false, true, codes, decimal}
+use Rattle.tx_history.proofs.Common.{Copy, Fill, In, Out, W, Within, body_text, call_line, copy_text, decimal_digit, decimal_step, fill_text, reply_text}
+use Rattle.itm_types.specs.declared.access.WriteHint.TheVariants.{WaR}
 use Rattle.itm_types.specs.declared.call.Refusal.TheVariants.{Outside, Overlap}
 use Rattle.itm_types.specs.declared.call.Reply.TheVariants.{Done, Refused}
-use Rattle.itm_types.specs.declared.copy.CopyPair.TheVariants.{Out, In, Within}
 use Rattle.itm_types.specs.declared.copy.SharedSide.TheVariants.{T, TaR, TaW}
-use Rattle.tx_history.specs.Histories.{call_line, body_text, copy_text, fill_text, reply_text}
 
 abbrev pub line : List ℕ → List ℕ
 line t = t ++ 10 ∷ []

@@ -1,8 +1,6 @@
 -- Texts that a stream is given, with what its writer then holds, by computation.
 use Rattle.std.proofs.Common.{refl, ℕ, List, [], ◌∷◌, None, Some, arith}
-use Rattle.std.proofs.lemmas.Grind.{common_steps}
-use Rattle.std.specs.declared.io.Error.{Error}
-use Rattle.tx_history.specs.Streams.{Adds, Standing}
+use Rattle.tx_history.proofs.Common.{Adds, Error, Standing, common_steps}
 
 abbrev good : List ℕ → Standing
 good bytes = record { written = Some bytes; fault = None }

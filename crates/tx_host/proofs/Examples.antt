@@ -1,28 +1,9 @@
 -- Worked cases: attempts by thread, the lists of two workers, how threads with no call end, after which answers there is no further try, and which version tells of a run.
 use Rattle.std.proofs.Common.{◌≡◌, ℕ, false, List, [], ◌∷◌, Ok, refl, inl, arith}
-use Rattle.norec_core.specs.declared.answer.Answer.TheVariants.{Busy, Full}
-use Rattle.shared_words.specs.InGlobal.{Words}
-use Rattle.shared_words.specs.Passes.{Owns, view_of}
-use Rattle.script_vm.specs.Threads.{opening}
-use Rattle.call_rules.specs.Standing.{Standing}
-use Rattle.call_rules.specs.Ties.{Stands}
-use Rattle.tx_attempts.specs.declared.attempt.Attempt.{Attempt}
-use Rattle.tx_attempts.specs.declared.attempt.Outcome.TheVariants.{Conflict, ReadOnly}
-use Rattle.tx_runs.specs.declared.ending.End.TheVariants.{Finished, GaveUp}
-use Rattle.script_program.specs.Listing.{Listing, codes_of}
-use Rattle.tx_history.specs.declared.history.Version.TheVariants.{One, Two, Three}
-use Rattle.tx_history.specs.Depths.{depth_from}
-use Rattle.tx_history.specs.Versions.{depth_of}
+use Rattle.tx_host.proofs.Common.{Attempt, Busy, Conflict, Done, EndsBy, Finished, Full, GaveUp, IsFresh, IsLast, Listing, Numbered, One, Owns, ReadOnly, Standing, Stands, Three, Two, WasRun, Words, attempts_in, by_number, depth_from, depth_of, ends_in, first_of, opening, version_of, view_of}
+use Rattle.script_program.specs.Listing.{codes_of}
 use Rattle.worker_rules.specs.Accounts.{first_account}
 use Rattle.worker_rules.specs.Gates.{all_let}
-use Rattle.tx_host.specs.declared.join.Done.{Done}
-use Rattle.tx_host.specs.Courses.{EndsBy, first_of}
-use Rattle.tx_host.specs.Joins.{attempts_in, ends_in}
-use Rattle.tx_host.specs.Numbers.{Numbered}
-use Rattle.tx_host.specs.Reports.{by_number}
-use Rattle.tx_host.specs.Rows.{IsLast, WasRun}
-use Rattle.tx_host.specs.Starts.{IsFresh}
-use Rattle.tx_host.specs.Versions.{version_of}
 use Rattle.tx_host.proofs.Passes.WorkerViews.{joined_self}
 
 -- the second try of a thread's block

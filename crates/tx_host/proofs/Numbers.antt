@@ -1,6 +1,6 @@
 -- Lists whose members have numbers.
 use Rattle.std.proofs.Common.{◌≡◌, ℕ, ◌+◌, List, [], ◌∷◌, ◌++◌, length, subst, arith}
-use Rattle.tx_host.specs.Numbers.{Numbered}
+use Rattle.tx_host.proofs.Common.{Numbered}
 
 pub numbered_push : {A : Type 0} (P : ℕ → A → Type 0) (n m : ℕ) (xs : List A) (x : A) → n + length xs ≡ m → Numbered P n xs → P m x → Numbered P n (xs ++ x ∷ [])
 numbered_push P n m [] x e t h = (let e' : m ≡ n = omega arith in subst (λ k. P k x) e' h, tt)

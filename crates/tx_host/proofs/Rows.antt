@@ -1,23 +1,15 @@
 -- How a thread's row of calls ended.
 use Rattle.std.proofs.Common.{◌≡◌, inl, inr, ℕ, ◌<◌, Bool, true, false, nat_lt, if◌then◌else◌, ◌+◌, List, [], Option, None, Some, ltb-true, refl}
-use Rattle.itm_types.specs.declared.call.Call.{Call}
+use Rattle.tx_host.proofs.Common.{Attempt, Busy, Call, End, Finished, Full, Gating, GaveUp, IsLast, NoMemory, Rules, Standing, Thread, Words, thread_rules}
 use Rattle.itm_types.specs.declared.call.Reply.{Reply as Replied}
 use Rattle.norec_core.specs.declared.answer.Answer.{Answer}
-use Rattle.norec_core.specs.declared.answer.Answer.TheVariants.{Busy, Committed, Conflict, Full, Reply, Restarted}
-use Rattle.shared_words.specs.InGlobal.{Words}
-use Rattle.script_vm.specs.Threads.{Thread, thread_rules}
-use Rattle.call_rules.specs.Standing.{Standing}
-use Rattle.tx_attempts.specs.declared.attempt.Attempt.{Attempt}
+use Rattle.norec_core.specs.declared.answer.Answer.TheVariants.{Committed, Conflict, Reply, Restarted}
 use Rattle.tx_attempts.specs.declared.attempt.Outcome.TheVariants as outcomes
-use Rattle.tx_player.specs.Rules.{Rules}
-use Rattle.tx_runs.specs.declared.ending.End.{End}
-use Rattle.tx_runs.specs.declared.ending.End.TheVariants.{Finished, GaveUp, NoMemory}
 use Rattle.tx_runs.specs.declared.savepoint.Savepoint.{Savepoint}
 use Rattle.tx_runs.specs.Tallies.{Stage, Stand, Taken, Tally, begins, outside, over_as, replied, sent_back, took_in, tried, went_on, within, stand_of}
 use Rattle.worker_rules.specs.Accounts.{Account}
-use Rattle.worker_rules.specs.Gates.{Gating}
 use Rattle.worker_rules.specs.Calls.{StopsAt, asked}
-use Rattle.tx_host.specs.Rows.{EndsWhere, IsLast}
+use Rattle.tx_host.specs.Rows.{EndsWhere}
 
 went_on_end : {P : Type 0} (open_still : Bool) (t : Tally P) (row : Attempt) (points : List Savepoint) (s : Stand) → (went_on open_still t row points s).end ≡ None
 went_on_end true t row points s = refl

@@ -1,37 +1,13 @@
 -- A block that goes back to its begin: where the engine stands then is where the attempt leads, cut to that begin, with its record.
-use Rattle.std.proofs.Common.{◌≡◌, ℕ, zero, suc, ◌≤◌, Bool, true, false, List, [], ◌∷◌, ◌++◌, length, map, take, drop, reverse, Option, None, Some, refl, sym, ap, ◌∙◌, append_assoc, if◌then◌else◌, ◌+◌, length-append, subst, arith}
-use Rattle.std.proofs.lemmas.List.{drop-append-le, length-take, take-append-drop, take-append-le}
-use Rattle.std.specs.Prelude.{nat_lt}
-use Rattle.std.proofs.lemmas.Bool.{le-ltb, ltb-false, ltb-true}
-use Rattle.itm_types.specs.declared.call.Call.{Call}
-use Rattle.itm_types.specs.declared.call.Call.TheVariants.{Begin}
-use Rattle.itm_types.specs.declared.call.Props.{Props}
-use Rattle.itm_types.specs.declared.call.Ran.{Ran}
-use Rattle.itm_types.specs.declared.call.Refusal.{Refusal}
-use Rattle.itm_types.specs.declared.call.Reply.TheVariants.{Code}
-use Rattle.itm_types.specs.KeptBytes.{nothing, restored}
-use Rattle.itm_types.specs.Memory.{Agrees, IsMemory, bytes_of}
-use Rattle.itm_model.specs.State.{State}
-use Rattle.itm_model.specs.Machine.{after, after_unless, back, effect, entered, irrevocable_from, is_open, opened, pushed, refusal, reply, reply_unless}
-use Rattle.itm_model.specs.Runs.{Breaks, later}
-use Rattle.nest_frames.specs.Nest.{Frame}
-use Rattle.undo_log.specs.Rollback.{kept_of, put_back}
+use Rattle.std.proofs.Common.{◌≡◌, ℕ, zero, suc, ◌≤◌, Bool, true, false, List, [], ◌∷◌, ◌++◌, length, map, take, drop, reverse, Option, None, Some, refl, sym, ap, ◌∙◌, append_assoc, if◌then◌else◌, ◌+◌, length-append, subst, arith, nat_lt}
+use Rattle.tx_runs.proofs.Common.{Again, Agrees, AtEach, Attempt, Begin, Breaks, Call, CallRecord, Code, Core, Frame, HasBegun, IsAlone, IsMemory, Props, Ran, Refusal, Rules, Savepoint, State, StaysRevocable, after, after_unless, again_of, as_undo, back, begun_again, breaks_in, breaks_of, bytes_of, count_undone, cut_to, due_at, earlier, effect, entered, irrevocable_from, is_open, kept_of, le-ltb, length-take, ltb-false, ltb-true, nothing, opened, pushed, refusal, renewed, reply, reply_unless, restored, stands_for, state_then, state_under, take-append-le, with_again}
+use Rattle.std.proofs.lemmas.List.{drop-append-le, take-append-drop}
+use Rattle.itm_model.specs.Runs.{later}
+use Rattle.undo_log.specs.Rollback.{put_back}
 use Rattle.norec_core.proofs.Engines.BlocksAgain.{blocks_sized}
-use Rattle.norec_core.specs.Core.{Core, renewed}
-use Rattle.norec_core.specs.Restarts.{begun_again}
-use Rattle.norec_core.specs.Stands.{stands_for}
-use Rattle.user_actions.specs.Actions.{as_undo}
-use Rattle.tx_attempts.specs.declared.attempt.Again.{Again}
-use Rattle.tx_attempts.specs.declared.attempt.Attempt.{Attempt}
-use Rattle.tx_attempts.specs.declared.attempt.CallRecord.{CallRecord}
-use Rattle.tx_attempts.specs.Alone.{IsAlone, state_then}
 use Rattle.tx_attempts.proofs.CutRecords.{at_each_also}
-use Rattle.tx_attempts.specs.Restarts.{AtEach, arena_set, before as earlier, breaks_in, breaks_of, count_undone, run_on, with_again}
+use Rattle.tx_attempts.specs.Restarts.{arena_set, run_on}
 use Rattle.tx_attempts.proofs.RunsAgain.{AreAlike, alike_before, alone_alike, state_again_in, state_alike}
-use Rattle.tx_player.specs.Rules.{Rules}
-use Rattle.tx_runs.specs.declared.savepoint.Savepoint.{Savepoint}
-use Rattle.tx_runs.specs.Savepoints.{again_of, cut_to, due_at}
-use Rattle.tx_runs.specs.OpenTries.{HasBegun, StaysRevocable, state_under}
 
 -- ## A begin that was accepted
 

@@ -1,28 +1,8 @@
 -- An inner block that has just begun: what it goes back to is where the calls before it led.
 use Rattle.std.proofs.Common.{◌≡◌, ℕ, suc, ◌+◌, ◌≤◌, Bool, true, false, List, [], ◌∷◌, ◌++◌, length, take, refl, sym, ap, subst, ◌∙◌, arith, append-nil, length-append}
+use Rattle.tx_runs.proofs.Common.{Actions, Agrees, AreAlone, AreRead, AtEach, Attempt, Begin, Between, CallRecord, Code, Core, Frame, HasBegun, HaveBegun, IsMemory, IsOpenTry, LogRow, Props, Ran, ReadsFrom, Rules, Savepoint, State, StaysRevocable, begun, bounds_now, count_undone, due_at, earlier, entered_by, in_transaction, is_inside, nothing, stands_for, state_in, state_over, state_under, whole_then}
 use Rattle.std.proofs.Math.Seq.{take-append_seam, take-length}
-use Rattle.itm_types.specs.KeptBytes.{nothing}
-use Rattle.itm_types.specs.Memory.{Agrees, IsMemory}
-use Rattle.itm_types.specs.declared.call.Call.TheVariants.{Begin}
-use Rattle.itm_types.specs.declared.call.Props.{Props}
-use Rattle.itm_types.specs.declared.call.Ran.{Ran}
-use Rattle.itm_types.specs.declared.call.Reply.TheVariants.{Code}
-use Rattle.itm_types.specs.declared.row.LogRow.{LogRow}
-use Rattle.itm_model.specs.State.{State}
-use Rattle.nest_frames.specs.Nest.{Frame, begun}
-use Rattle.user_actions.specs.Actions.{Actions}
-use Rattle.norec_core.specs.Core.{Core, in_transaction, is_inside}
-use Rattle.norec_core.specs.Proceeds.{AreRead}
-use Rattle.norec_core.specs.Stands.{stands_for, state_in, state_over}
-use Rattle.tx_player.specs.Rules.{Rules}
-use Rattle.tx_attempts.specs.declared.attempt.Attempt.{Attempt}
-use Rattle.tx_attempts.specs.declared.attempt.CallRecord.{CallRecord}
-use Rattle.tx_attempts.specs.Opacity.{Between}
-use Rattle.tx_attempts.specs.Restarts.{AtEach, before as earlier, count_undone}
 use Rattle.tx_attempts.proofs.RunsAgain.{all_before}
-use Rattle.tx_runs.specs.declared.savepoint.Savepoint.{Savepoint}
-use Rattle.tx_runs.specs.OpenTries.{AreAlone, HasBegun, HaveBegun, IsOpenTry, ReadsFrom, StaysRevocable, bounds_now, entered_by, state_under, whole_then}
-use Rattle.tx_runs.specs.Savepoints.{due_at}
 use Rattle.tx_runs.proofs.BlocksAgain.{under_still}
 use Rattle.tx_runs.proofs.BlocksStill.{KeepsAll, blocks_still, keeps_same}
 use Rattle.tx_runs.proofs.EngineStates.{stands_arena}

@@ -1,32 +1,12 @@
 -- The open inner blocks after a reply within their transaction: each is known as it was, but for the one that the call opens, closes or cancels.
 use Rattle.std.proofs.Common.{◌≡◌, ℕ, suc, ◌+◌, ◌≤◌, Bool, true, false, if◌then◌else◌, List, [], ◌∷◌, ◌++◌, length, take, drop, refl, sym, ap, subst, ◌∙◌, arith, length-append}
-use Rattle.std.proofs.lemmas.List.{length-take-le, take-append-le, take-take}
-use Rattle.itm_types.specs.Access.{size_of}
-use Rattle.itm_types.specs.KeptBytes.{nothing}
+use Rattle.tx_runs.proofs.Common.{Abort, Actions, AreRead, Attempt, Begin, Bounds, Call, CallRecord, Code, Commit, CommitAction, Core, Done, Frame, HaveBegun, Log, LogBytes, LogRow, Old, Props, Ran, Reply, Rules, Savepoint, UndoAction, actions_after, before_no_more, begun, blocks_after, bounds_now, bounds_of, closed, count_undone, due_at, is_code, is_inside, logged, nothing, registered, savepoints_after, size_of, take-append-le, take-take}
+use Rattle.std.proofs.lemmas.List.{length-take-le}
 use Rattle.itm_types.specs.declared.call.Action.{Action}
 use Rattle.itm_types.specs.declared.call.ActionKind.TheVariants as kinds
-use Rattle.itm_types.specs.declared.call.Call.{Call}
-use Rattle.itm_types.specs.declared.call.Call.TheVariants.{Abort, Begin, Commit, CommitAction, Log, LogBytes, UndoAction}
-use Rattle.itm_types.specs.declared.call.Props.{Props}
-use Rattle.itm_types.specs.declared.call.Ran.{Ran}
-use Rattle.itm_types.specs.declared.call.Reply.{Reply}
-use Rattle.itm_types.specs.declared.call.Reply.TheVariants.{Code, Done}
-use Rattle.itm_types.specs.declared.row.LogRow.{LogRow}
-use Rattle.nest_frames.specs.Nest.{Frame, actions_cancelled, actions_closed, begun, closed, logged}
-use Rattle.undo_log.specs.Rollback.{Old, found}
-use Rattle.user_actions.specs.Actions.{Actions, cut_back, registered}
-use Rattle.norec_core.specs.Core.{Core, is_inside}
-use Rattle.norec_core.specs.Effects.{actions_after, blocks_after}
-use Rattle.norec_core.specs.Proceeds.{AreRead}
-use Rattle.tx_attempts.specs.declared.attempt.Attempt.{Attempt}
-use Rattle.tx_attempts.specs.declared.attempt.CallRecord.{CallRecord}
-use Rattle.tx_attempts.specs.Restarts.{count_undone}
-use Rattle.tx_attempts.proofs.UndoneCounts.{before_no_more}
-use Rattle.tx_player.specs.Depth.{is_code}
-use Rattle.tx_player.specs.Rules.{Rules}
-use Rattle.tx_runs.specs.declared.savepoint.Savepoint.{Savepoint}
-use Rattle.tx_runs.specs.OpenTries.{Bounds, HaveBegun, bounds_now, bounds_of}
-use Rattle.tx_runs.specs.Savepoints.{due_at, savepoints_after}
+use Rattle.nest_frames.specs.Nest.{actions_cancelled, actions_closed}
+use Rattle.undo_log.specs.Rollback.{found}
+use Rattle.user_actions.specs.Actions.{cut_back}
 use Rattle.tx_runs.proofs.BlocksAgain.{begun_still}
 
 -- ## The actions that are registered

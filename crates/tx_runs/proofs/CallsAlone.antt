@@ -1,25 +1,7 @@
 -- One call more of an open attempt, over a memory that it may have read: it is its player's alone, and leads on from where its calls led.
-use Rattle.std.proofs.Common.{◌≡◌, ℕ, Bool, true, false, List, [], ◌∷◌, ◌++◌, length, map, Option, None, Some, refl, sym, ap, ◌∙◌}
-use Rattle.std.specs.Prelude.{drop}
-use Rattle.itm_types.specs.Calls.{is_begin}
-use Rattle.itm_types.specs.Memory.{IsMemory, bytes_of}
-use Rattle.itm_types.specs.declared.call.Call.{Call}
-use Rattle.itm_types.specs.declared.call.Call.TheVariants.{Begin}
-use Rattle.itm_types.specs.declared.call.Refusal.{Refusal}
-use Rattle.itm_types.specs.declared.call.Reply.{Reply}
-use Rattle.itm_types.specs.declared.call.Reply.TheVariants.{Code, Done}
-use Rattle.itm_model.specs.State.{State}
-use Rattle.itm_model.specs.Machine.{after, is_open, opened, refusal, reply, reply_unless}
-use Rattle.norec_core.specs.Core.{Core}
-use Rattle.tx_player.specs.Depth.{is_code}
-use Rattle.tx_player.specs.Rules.{Obeys, Rules}
-use Rattle.tx_attempts.specs.declared.attempt.Attempt.{Attempt}
-use Rattle.tx_attempts.specs.declared.attempt.CallRecord.{CallRecord}
-use Rattle.tx_attempts.specs.Opacity.{Between}
-use Rattle.tx_attempts.specs.Restarts.{AtEach, breaks_in, open_by}
-use Rattle.tx_attempts.proofs.RunsAgain.{all_more, state_more, state_more_in}
-use Rattle.tx_runs.specs.declared.savepoint.Savepoint.{Savepoint}
-use Rattle.tx_runs.specs.OpenTries.{AreAlone, IsOpenTry, ReadsFrom, StaysRevocable, entered_by, told_then, whole_then}
+use Rattle.std.proofs.Common.{◌≡◌, ℕ, Bool, true, false, List, [], ◌∷◌, ◌++◌, length, map, Option, None, Some, refl, sym, ap, ◌∙◌, drop}
+use Rattle.tx_runs.proofs.Common.{AreAlone, AtEach, Attempt, Begin, Between, Call, CallRecord, Code, Core, Done, IsMemory, IsOpenTry, Obeys, ReadsFrom, Refusal, Reply, Rules, Savepoint, State, StaysRevocable, after, all_more, breaks_in, bytes_of, entered_by, is_begin, is_code, is_open, open_by, opened, refusal, reply, reply_unless, state_more, told_then, whole_then}
+use Rattle.tx_attempts.proofs.RunsAgain.{state_more_in}
 use Rattle.tx_runs.proofs.Tries.{alone_more}
 
 -- ## The begins of its blocks

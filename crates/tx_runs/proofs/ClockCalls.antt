@@ -1,13 +1,8 @@
 -- A call that wants the clock takes it where it is served.
 use Rattle.std.proofs.Common.{◌≡◌, ◌≢◌, ℕ, ◌&&◌, Bool, true, false, not, nat_lt, List, [], ◌∷◌, length, None, Some, is_some, if◌then◌else◌, refl, sym, ap, ◌∙◌}
-use Rattle.std.proofs.lemmas.Bool.{ltb-true}
-use Rattle.itm_types.specs.declared.call.{Call.Call, Call.TheVariants.Begin, Call.TheVariants.Commit, Call.TheVariants.Mode}
-use Rattle.itm_model.specs.Machine.{after}
-use Rattle.write_set.specs.declared.row.Row.{Row}
-use Rattle.nest_frames.specs.Nest.{stays_revocable}
-use Rattle.norec_core.proofs.Engines.{IrrevocableCalls.begin_enters, IrrevocableCalls.mode_enters, Machines.commits}
-use Rattle.norec_core.specs.{Core.Core, Core.in_transaction, Core.may_go, Proceeds.WantsClock, Stands.is_some_row, Stands.stands_for, Stands.state_in, Stands.state_over}
-use Rattle.tx_attempts.specs.Opacity.{takes_clock}
+use Rattle.tx_runs.proofs.Common.{Begin, Call, Commit, Core, Mode, Row, after, in_transaction, ltb-true, may_go, mode_enters, stands_for, state_in, state_over, stays_revocable, takes_clock}
+use Rattle.norec_core.proofs.Engines.{IrrevocableCalls.begin_enters, Machines.commits}
+use Rattle.norec_core.specs.{Proceeds.WantsClock, Stands.is_some_row}
 
 pub both_true : (x y : Bool) → (x && y) ≡ true → (x ≡ true) × (y ≡ true)
 both_true true y e = (refl, e)

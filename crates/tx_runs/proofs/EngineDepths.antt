@@ -1,13 +1,7 @@
 -- How many blocks are open in an engine after a reply, by the depth that its player tells.
 use Rattle.std.proofs.Common.{◌≡◌, ℕ, ◌<◌, ◌-◌, ◌&&◌, Bool, true, false, if◌then◌else◌, List, [], ◌∷◌, length, drop, refl, sym, ap, subst, ◌∙◌, arith, length-drop}
+use Rattle.tx_runs.proofs.Common.{Abort, Begin, Call, Code, Commit, Core, Done, Frame, IsDeep, Log, LogBytes, Old, Reply as Replied, blocks_after, closed, depth_after, is_begin, is_code, is_inside, logged, opens}
 use Rattle.std.proofs.lemmas.Bool.{cond_both}
-use Rattle.itm_types.specs.declared.call.{Call.Call, Call.TheVariants.Abort, Call.TheVariants.Begin, Call.TheVariants.Commit, Call.TheVariants.Log, Call.TheVariants.LogBytes, Reply.Reply as Replied, Reply.TheVariants.Code, Reply.TheVariants.Done}
-use Rattle.itm_types.specs.Calls.{is_begin}
-use Rattle.nest_frames.specs.Nest.{Frame, closed, logged}
-use Rattle.undo_log.specs.Rollback.{Old}
-use Rattle.norec_core.specs.{Core.Core, Core.is_inside, Effects.blocks_after}
-use Rattle.tx_player.specs.Depth.{depth_after, is_code, opens}
-use Rattle.tx_runs.specs.Nesting.{IsDeep}
 use Rattle.tx_runs.proofs.Players.{opens_at_begin}
 
 length-closed : (bs : List Frame) → length (closed bs) ≡ length bs - 1

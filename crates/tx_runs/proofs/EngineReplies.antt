@@ -1,26 +1,9 @@
 -- What an engine replies: what its player knows of it, and what a reply tells that leaves no transaction open.
 use Rattle.std.proofs.Common.{◌≡◌, ℕ, ◌<◌, Bool, true, false, List, [], length, replicate, Option, None, Some, sym, ap, subst, inl, inr, refl, true≢false, ◌∙◌}
-use Rattle.std.proofs.lemmas.Bool.{lt-ltb}
-use Rattle.itm_types.specs.Memory.{IsMemory, Agrees}
-use Rattle.itm_types.specs.declared.call.Call.{Call}
-use Rattle.itm_types.specs.declared.call.Call.TheVariants.{Begin, Commit, Abort}
-use Rattle.itm_types.specs.declared.call.Props.{Props}
-use Rattle.itm_types.specs.declared.call.Refusal.{Refusal}
-use Rattle.itm_types.specs.declared.call.Refusal.TheVariants.{Outside}
-use Rattle.itm_types.specs.declared.call.Reply.{Reply}
-use Rattle.itm_types.specs.declared.call.Reply.TheVariants.{Code, Done}
-use Rattle.itm_model.specs.Machine.{or_else, refusal, reply, reply_unless, unless, after, is_open}
-use Rattle.itm_model.specs.State.{State}
-use Rattle.norec_core.specs.Core.{Core, in_transaction, is_inside}
-use Rattle.norec_core.specs.Effects.{recoded, blocks_after}
-use Rattle.norec_core.specs.Proceeds.{Ends, IsSettled, reply_held, Replies}
-use Rattle.norec_core.specs.Stands.{stands_for, state_in, state_over}
-use Rattle.norec_core.specs.declared.answer.Answer.TheVariants.{Reply as Replied}
-use Rattle.norec_core.proofs.Replies.ReplyCases.{reply_cases}
+use Rattle.tx_runs.proofs.Common.{Abort, Agrees, Begin, Call, Code, Commit, Core, Done, Ends, IsMemory, IsSettled, Outside, Props, Refusal, Replied, Replies, Reply, State, after, blocks_after, in_transaction, is_inside, is_open, lt-ltb, none_inside, or_else, recoded, refusal, reply, reply_cases, reply_unless, shut_revocable, stands_for, state_in, state_over, unless}
+use Rattle.norec_core.specs.Proceeds.{reply_held}
 use Rattle.tx_player.specs.Replies.{MayReply}
 use Rattle.tx_runs.proofs.EngineStates.{stands_blocks}
-use Rattle.norec_core.proofs.Engines.Blocks.{none_inside}
-use Rattle.norec_core.proofs.Engines.HeldStores.{shut_revocable}
 
 -- ## The replies of the plain machine
 

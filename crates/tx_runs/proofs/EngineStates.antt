@@ -1,12 +1,8 @@
 -- What the plain state that an engine stands for has of the engine.
 use Rattle.std.proofs.Common.{◌≡◌, ℕ, Bool, true, false, List, [], ◌∷◌, length, map, refl, ◌∙◌, arith, lt-ltb}
-use Rattle.std.proofs.lemmas.List.{length-map}
-use Rattle.itm_model.specs.Machine.{is_open}
-use Rattle.user_actions.specs.Actions.{Actions}
-use Rattle.nest_frames.specs.Nest.{Frame}
-use Rattle.norec_core.proofs.Engines.IrrevocableCalls.{length-over}
+use Rattle.tx_runs.proofs.Common.{Actions, Core, Frame, in_transaction, is_inside, is_open, length-map, length-over, stands_for, state_in}
 use Rattle.norec_core.proofs.Engines.Machines.{open_is}
-use Rattle.norec_core.specs.{Core.Core, Core.in_transaction, Core.is_inside, Stands.block_kept, Stands.stands_for, Stands.state_in, Stands.state_kept}
+use Rattle.norec_core.specs.{Stands.block_kept, Stands.state_kept}
 
 -- what an engine stands for has its actions and its arena
 pub stands_actions : (c : Core) (m : List ℕ) → (stands_for c m).actions ≡ c.actions

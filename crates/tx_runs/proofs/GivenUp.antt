@@ -1,10 +1,7 @@
 -- The actions that have run as a transaction is given up.
 use Rattle.std.proofs.Common.{◌≡◌, ◌≤◌, ℕ, length, Bool, true, false, if◌then◌else◌, List, ◌++◌, refl, sym, ap, ◌∙◌, arith}
-use Rattle.itm_types.specs.declared.call.Ran.{Ran}
-use Rattle.itm_model.specs.Machine.{undone}
-use Rattle.user_actions.specs.Actions.{total}
-use Rattle.norec_core.specs.Core.{Core, rolled_back}
-use Rattle.norec_core.specs.Stands.{stands_for, state_in, state_over}
+use Rattle.tx_runs.proofs.Common.{Core, Ran, stands_for, state_in, state_over, total, undone}
+use Rattle.norec_core.specs.Core.{rolled_back}
 use Rattle.norec_core.specs.Undoing.{after_undoing}
 use Rattle.norec_core.specs.declared.answer.Undone.TheVariants.{Done, Held, Nothing}
 use Rattle.norec_core.proofs.Replies.ActionCounts.{RunsOn, all_run, given_up_actions, undone_actions}

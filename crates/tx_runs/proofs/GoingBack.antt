@@ -1,38 +1,11 @@
 -- Where the innermost block of an open attempt goes back to its begin, the attempt, cut to that begin with its record, is what the engine stands for then, and its player is where its calls lead.
 use Rattle.std.proofs.Common.{◌≡◌, ℕ, ◌/◌, ◌<◌, ◌≤◌, false, List, [], ◌∷◌, ◌++◌, length, map, take, drop, reverse, refl, sym, ap, ◌∙◌, subst, arith, length-append, slice_get, Some}
-use Rattle.std.proofs.lemmas.List.{length-drop, length-take, take-append-le, take-take}
-use Rattle.itm_types.specs.declared.call.Call.TheVariants.{Begin}
-use Rattle.itm_types.specs.declared.call.Ran.{Ran}
-use Rattle.itm_types.specs.declared.call.Reply.TheVariants.{Code}
-use Rattle.itm_types.specs.KeptBytes.{nothing, restored}
-use Rattle.itm_types.specs.Memory.{Agrees, IsMemory, bytes_of}
-use Rattle.itm_types.proofs.KeptBytes.{length-restored, nothing_same}
-use Rattle.itm_model.specs.State.{State}
-use Rattle.itm_model.specs.Machine.{back, opened, pushed}
-use Rattle.nest_frames.specs.Nest.{Frame}
-use Rattle.undo_log.specs.Rollback.{kept_of}
-use Rattle.user_actions.specs.Actions.{as_undo}
-use Rattle.norec_core.specs.Core.{Core, renewed}
+use Rattle.tx_runs.proofs.Common.{Again, Agrees, AreAlone, AreRead, AtEach, Attempt, Begin, Between, Bounds, CallRecord, Code, Core, Frame, HasBegun, HasBlocks, HaveBegun, IsAlone, IsMemory, IsOpenTry, Ran, Rules, Savepoint, State, StaysRevocable, again_of, as_undo, back, before_no_more, begun_again, bounds_of, breaks_in, breaks_of, bytes_of, cut_to, due_at, earlier, entered_by, kept_of, length-drop, length-restored, length-take, nothing, nothing_same, opened, pushed, renewed, restored, stands_for, take-append-le, take-take, told_alone, told_state, told_then, undone_both, whole_then, with_again}
 use Rattle.norec_core.specs.Phases.{Phase}
-use Rattle.norec_core.specs.Proceeds.{AreRead}
-use Rattle.norec_core.specs.Restarts.{begun_again}
-use Rattle.norec_core.specs.Stands.{stands_for}
-use Rattle.tx_player.specs.Rules.{Rules}
-use Rattle.tx_attempts.specs.declared.attempt.Again.{Again}
-use Rattle.tx_attempts.specs.declared.attempt.Attempt.{Attempt}
-use Rattle.tx_attempts.specs.declared.attempt.CallRecord.{CallRecord}
-use Rattle.tx_attempts.specs.Alone.{IsAlone}
-use Rattle.tx_attempts.specs.Opacity.{Between}
-use Rattle.tx_attempts.specs.Restarts.{AtEach, IsInnerBegin, before as earlier, breaks_in, breaks_of, with_again}
+use Rattle.tx_attempts.specs.Restarts.{IsInnerBegin}
 use Rattle.tx_attempts.proofs.CutRecords.{again_cut, at_each_before, at_each_both}
 use Rattle.tx_attempts.proofs.KeptRecords.{before_short}
 use Rattle.tx_attempts.proofs.RunsAgain.{alone_start, state_again}
-use Rattle.tx_attempts.proofs.ToldRuns.{told_alone, told_state}
-use Rattle.tx_attempts.proofs.UndoneCounts.{before_no_more, undone_both}
-use Rattle.tx_runs.specs.declared.savepoint.Savepoint.{Savepoint}
-use Rattle.tx_runs.specs.Nesting.{HasBlocks}
-use Rattle.tx_runs.specs.OpenTries.{AreAlone, Bounds, HasBegun, HaveBegun, IsOpenTry, StaysRevocable, bounds_of, entered_by, told_then, whole_then}
-use Rattle.tx_runs.specs.Savepoints.{again_of, cut_to, due_at}
 use Rattle.tx_runs.proofs.BlocksAgain.{accepted, before_all, begun_cut, entered_so, goes_back, last_alone, taken}
 use Rattle.tx_runs.proofs.OpenBegins.{goes_back as player_back}
 use Rattle.tx_runs.proofs.OpenCalls.{open_cut}

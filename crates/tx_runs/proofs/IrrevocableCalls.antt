@@ -1,29 +1,10 @@
 -- Calls that make a transaction irrevocable, and what a reply leaves of the room of one that is.
-use Rattle.std.proofs.lemmas.Bool.{cond-true, false_from_ne_true, ltb-true}
+use Rattle.std.proofs.lemmas.Bool.{false_from_ne_true}
 use Rattle.std.proofs.Common.{true≢false, is_some, subst, ◌≡◌, ℕ, ◌+◌, ◌-◌, ◌<◌, ◌≤◌, ◌&&◌, not, nat_lt, Bool, true, false, List, replicate, if◌then◌else◌, length, Option, None, Some, IsSome, refl, sym, ap, ◌∙◌, inl, inr, arith}
-use Rattle.itm_types.specs.Calls.{is_abort}
+use Rattle.tx_runs.proofs.Common.{Abort, Agrees, Answer, Begin, Busy, Call, Code, CommitAction, Committed, Conflict, Core, Done, Ends, Full, IsIrrevocable, IsMemory, IsSettled, Mode, NoAbort, Outside, Props, Refusal, Refused, Replied, Replies, RepliesHeld, Reply, Restarted, State, UndoAction, accepted as begin_served, actions_after, after, after_unless, cond-true, effect, entered, in_transaction, irrevocable_from, irrevocable_room, is_abort, is_open, keeps_any, keeps_innermost, ltb-true, made_irrevocable, may_go, mode_enters, opened, or_else, outside, pushed, refusal, registered, registers, reply_cases, reply_unless, stands_for, state_in, state_over, stays_revocable, total, unless}
 use Rattle.itm_types.specs.declared.call.ActionKind.TheVariants as kinds
-use Rattle.itm_types.specs.declared.call.Call.{Call}
-use Rattle.itm_types.specs.declared.call.Call.TheVariants.{Abort, Begin, CommitAction, Mode, UndoAction}
-use Rattle.itm_types.specs.declared.call.Refusal.{Refusal}
-use Rattle.itm_types.specs.declared.call.Refusal.TheVariants.{IsIrrevocable, NoAbort, Outside}
-use Rattle.itm_types.specs.declared.call.Reply.{Reply}
-use Rattle.itm_types.specs.declared.call.Reply.TheVariants.{Code, Done, Refused}
-use Rattle.itm_model.specs.Machine.{after, after_unless, effect, entered, irrevocable_from, is_open, keeps_any, keeps_innermost, made_irrevocable, opened, or_else, outside, pushed, refusal, reply_unless, unless}
-use Rattle.itm_model.specs.State.{State}
-use Rattle.user_actions.specs.Actions.{registered, total}
-use Rattle.nest_frames.specs.Nest.{stays_revocable}
-use Rattle.norec_core.specs.Core.{Core, in_transaction, irrevocable_room, may_go}
-use Rattle.norec_core.specs.Effects.{actions_after, room_left}
-use Rattle.itm_types.specs.Memory.{Agrees, IsMemory}
-use Rattle.itm_types.specs.declared.call.Props.{Props}
-use Rattle.norec_core.proofs.Engines.IrrevocableCalls.{begin_served, mode_enters}
-use Rattle.norec_core.specs.Proceeds.{ConflictsIn, Ends, IsSettled, MayStarveHeld, Replies, RepliesHeld}
-use Rattle.norec_core.specs.Stands.{stands_for, state_in, state_over}
-use Rattle.norec_core.specs.declared.answer.Answer.{Answer}
-use Rattle.norec_core.specs.declared.answer.Answer.TheVariants.{Reply as Replied, Busy, Committed, Conflict, Full, Restarted}
-use Rattle.norec_core.proofs.Replies.ActionCounts.{registers}
-use Rattle.norec_core.proofs.Replies.ReplyCases.{reply_cases}
+use Rattle.norec_core.specs.Effects.{room_left}
+use Rattle.norec_core.specs.Proceeds.{ConflictsIn, MayStarveHeld}
 
 -- ## A call that makes it so
 

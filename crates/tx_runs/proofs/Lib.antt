@@ -1,3 +1,4 @@
+pub mod Common
 pub mod EngineStates
 pub mod EngineDepths
 pub mod ClockCalls

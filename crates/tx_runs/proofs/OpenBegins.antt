@@ -1,20 +1,7 @@
 -- A player and the begins of its open inner blocks, by its calls: where it goes back to is where the calls up to a begin lead.
-use Rattle.std.proofs.Common.{◌≡◌, ℕ, suc, ◌+◌, ◌<◌, ◌≤◌, Bool, true, false, List, [], ◌∷◌, ◌++◌, length, take, Option, None, Some, refl, sym, ap, ◌∙◌, arith, length-append, if◌then◌else◌, nat_lt}
-use Rattle.std.specs.Prelude.{drop}
-use Rattle.std.proofs.lemmas.Bool.{le-ltb, lt-ltb}
-use Rattle.std.proofs.lemmas.List.{length-take, take-append-le, take-take}
-use Rattle.itm_types.specs.declared.call.Call.{Call}
-use Rattle.itm_types.specs.declared.call.Reply.{Reply}
-use Rattle.itm_types.specs.declared.call.Reply.TheVariants.{Done, Bytes, Code, Refused}
-use Rattle.itm_types.specs.Calls.{abort_of, is_begin, is_commit}
-use Rattle.tx_player.specs.Depth.{depth_after, depth_by, is_code}
-use Rattle.tx_player.specs.Rules.{Obeys, Rules}
-use Rattle.tx_attempts.specs.declared.attempt.CallRecord.{CallRecord}
-use Rattle.tx_attempts.specs.Alone.{player_then}
-use Rattle.tx_attempts.specs.Restarts.{open_after, open_by}
-use Rattle.tx_attempts.proofs.AloneCalls.{player_snoc}
-use Rattle.tx_runs.specs.Nesting.{HasBlocks}
-use Rattle.tx_runs.specs.OpenBegins.{IsAt, Knows}
+use Rattle.std.proofs.Common.{◌≡◌, ℕ, suc, ◌+◌, ◌<◌, ◌≤◌, Bool, true, false, List, [], ◌∷◌, ◌++◌, length, take, Option, None, Some, refl, sym, ap, ◌∙◌, arith, length-append, if◌then◌else◌, nat_lt, drop}
+use Rattle.tx_runs.proofs.Common.{Bytes, Call, CallRecord, Code, Done, HasBlocks, IsAt, Obeys, Refused, Reply, Rules, abort_of, depth_after, depth_by, is_begin, is_code, is_commit, le-ltb, length-take, lt-ltb, open_after, open_by, player_snoc, player_then, take-append-le, take-take}
+use Rattle.tx_runs.specs.OpenBegins.{Knows}
 use Rattle.tx_runs.proofs.Players.{is_opened}
 
 take_whole : (xs : List CallRecord) (x : CallRecord) → take (suc (length xs)) (xs ++ x ∷ []) ≡ xs ++ x ∷ []

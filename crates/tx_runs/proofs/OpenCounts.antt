@@ -1,18 +1,7 @@
 -- Counts of an open attempt: its open blocks after a call, and what it tells of actions as its innermost block goes back.
 use Rattle.std.proofs.Common.{◌≡◌, ℕ, suc, ◌+◌, ◌-◌, ◌<◌, ◌≤◌, Bool, true, false, List, [], ◌∷◌, drop, length, length-append, Option, None, Some, arith}
-use Rattle.std.proofs.lemmas.List.{length-drop, length-take}
-use Rattle.itm_types.specs.Calls.{abort_of, is_begin, is_commit}
-use Rattle.itm_types.specs.declared.call.Call.{Call}
-use Rattle.itm_types.specs.declared.call.Ran.{Ran}
-use Rattle.itm_types.specs.declared.call.Reply.{Reply}
-use Rattle.itm_types.specs.declared.call.Reply.TheVariants.{Bytes, Code, Done, Refused}
-use Rattle.tx_player.specs.Depth.{depth_after, depth_by}
-use Rattle.tx_attempts.specs.declared.attempt.Attempt.{Attempt}
-use Rattle.tx_attempts.specs.Restarts.{before as earlier, count_undone, open_after, open_by, ran_on}
-use Rattle.tx_attempts.proofs.UndoneCounts.{before_no_more, undone_both}
-use Rattle.tx_runs.specs.declared.savepoint.Savepoint.{Savepoint}
+use Rattle.tx_runs.proofs.Common.{Attempt, Bytes, Call, Code, Done, Ran, Refused, Reply, Savepoint, abort_of, again_of, before_no_more, count_undone, cut_to, depth_after, depth_by, due_at, earlier, is_begin, is_commit, length-drop, length-take, open_after, open_by, ran_on, undone_both}
 use Rattle.tx_runs.specs.OpenAttempts.{told_in}
-use Rattle.tx_runs.specs.Savepoints.{again_of, cut_to, due_at}
 
 -- as many inner blocks are open after a call as the depth says, where the outermost one still is
 pub open_deep : {A : Type 0} (new : A) (begins : List A) (call : Call) (reply : Reply) → 0 < depth_after (suc (length begins)) call reply

@@ -1,20 +1,9 @@
 -- The room of an open attempt serves whatever comes of an answer.
 use Rattle.std.proofs.Common.{◌≡◌, Bool, true, false, if◌then◌else◌, ℕ, ◌+◌, ◌<◌, ◌≤◌, max, List, [], ◌∷◌, drop, length, Option, None, Some, is_some, unwrap_or, Result, Ok, Err, OnErr, refl, ap, arith}
-use Rattle.itm_types.specs.declared.call.Call.{Call}
-use Rattle.itm_types.specs.declared.call.Reply.{Reply}
+use Rattle.tx_runs.proofs.Common.{Attempt, Begin, Call, CallRecord, Code, Core, Current, Done, Props, Reply, Stage, abort_of, is_begin, is_commit, open_after, open_by, stage_of}
 use Rattle.tx_attempts.specs.Kept.{Kept, reserved}
-use Rattle.tx_runs.specs.declared.player_run.Current.{Current}
 use Rattle.tx_runs.specs.declared.player_run.Current.TheVariants.{Outside}
-use Rattle.tx_runs.specs.PlayerRuns.{stage_of}
-use Rattle.tx_attempts.specs.declared.attempt.CallRecord.{CallRecord}
-use Rattle.tx_attempts.specs.Restarts.{open_after, open_by}
-use Rattle.tx_runs.specs.Tallies.{Stage, outside, begins_again, stage_at}
-use Rattle.itm_types.specs.Calls.{abort_of, is_begin, is_commit}
-use Rattle.itm_types.specs.declared.call.Reply.TheVariants.{Code, Done}
-use Rattle.itm_types.specs.declared.call.Call.TheVariants.{Begin}
-use Rattle.itm_types.specs.declared.call.Props.{Props}
-use Rattle.norec_core.specs.Core.{Core}
-use Rattle.tx_attempts.specs.declared.attempt.Attempt.{Attempt}
+use Rattle.tx_runs.specs.Tallies.{outside, begins_again, stage_at}
 use Rattle.tx_runs.specs.OpenAttempts.{promised}
 
 -- ## Where memory is refused

@@ -1,26 +1,10 @@
 -- A begin that comes to an engine outside a transaction, and other calls there.
 use Rattle.std.proofs.Common.{◌≡◌, ℕ, ◌<◌, not, nat_lt, Bool, true, false, true≢false, List, [], length, Option, None, Some, IsSome, is_some, refl, sym, ap, ◌∙◌}
-use Rattle.itm_types.specs.Access.{size_of}
-use Rattle.itm_types.specs.Calls.{is_begin}
-use Rattle.itm_types.specs.Memory.{Agrees, IsMemory}
-use Rattle.itm_types.specs.declared.call.Call.{Call}
-use Rattle.itm_types.specs.declared.call.Call.TheVariants.{Begin, Load, Save}
-use Rattle.itm_types.specs.declared.call.Props.{Props}
-use Rattle.itm_types.specs.declared.call.Refusal.{Refusal}
-use Rattle.itm_types.specs.declared.call.Refusal.TheVariants.{NoIrrevocable, TooDeep}
-use Rattle.itm_types.specs.declared.call.Reply.{Reply}
-use Rattle.itm_types.specs.declared.call.Reply.TheVariants.{Code}
-use Rattle.itm_model.specs.Machine.{after, answer, in_arena, or_else, outside, refusal, reply, reply_unless, unless}
-use Rattle.itm_model.specs.State.{State}
-use Rattle.user_actions.specs.Actions.{Actions, no_actions}
-use Rattle.write_set.specs.declared.row.Row.{Row}
-use Rattle.norec_core.specs.Core.{Core, in_transaction, irrevocable_room, is_inside, may_go}
-use Rattle.norec_core.specs.Effects.{blocks_after, recoded}
-use Rattle.norec_core.specs.Proceeds.{IsBegin, Replies}
-use Rattle.norec_core.specs.Stands.{stands_for, state_in, state_over}
-use Rattle.norec_core.proofs.Engines.Blocks.{none_inside}
-use Rattle.norec_core.proofs.Engines.IrrevocableCalls.{begin_served as accepted}
-use Rattle.tx_attempts.specs.Opacity.{begin_code, stays_outside}
+use Rattle.tx_runs.proofs.Common.{Actions, Agrees, Begin, Call, Code, Core, IsMemory, NoIrrevocable, Props, Refusal, Replies, Reply, Row, State, TooDeep, accepted, after, answer, begin_code, blocks_after, in_transaction, irrevocable_room, is_begin, is_inside, may_go, none_inside, or_else, outside, recoded, refusal, reply, reply_unless, size_of, stands_for, state_in, state_over, stays_outside, unless}
+use Rattle.itm_types.specs.declared.call.Call.TheVariants.{Load, Save}
+use Rattle.itm_model.specs.Machine.{in_arena}
+use Rattle.user_actions.specs.Actions.{no_actions}
+use Rattle.norec_core.specs.Proceeds.{IsBegin}
 use Rattle.tx_runs.proofs.Begins.{opened_arena, same_arena}
 use Rattle.tx_runs.proofs.IrrevocableCalls.{goes_with}
 

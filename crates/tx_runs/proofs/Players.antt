@@ -1,15 +1,8 @@
 -- What a player is after a reply.
 use Rattle.std.proofs.Common.{◌&&◌, ◌≡◌, ◌==◌, ℕ, suc, ◌+◌, ◌*◌, ◌<◌, ◌≤◌, Bool, true, false, Option, None, Some, refl, ap, subst, ◌∙◌, sym, arith, if◌then◌else◌, nat_lt}
-use Rattle.std.proofs.Math.Nat.{mul-le-mul_right}
-use Rattle.std.proofs.lemmas.Bool.{le-ltb, ltb-false, ltb-true, ne_eqb}
-use Rattle.itm_types.specs.declared.call.Call.{Call}
-use Rattle.itm_types.specs.declared.call.Call.TheVariants.{Begin, Commit, Abort}
-use Rattle.itm_types.specs.declared.call.Reply.{Reply as Replied}
-use Rattle.itm_types.specs.declared.call.Reply.TheVariants.{Done, Bytes, Code, Refused}
-use Rattle.itm_types.specs.Calls.{abort_of, is_begin, is_commit}
-use Rattle.tx_player.specs.Depth.{depth_after, depth_by, is_code, opens}
-use Rattle.tx_player.specs.Rules.{Obeys, Rules}
-use Rattle.tx_runs.specs.Nesting.{HasBlocks, IsBlock, IsDeep, IsNested, whole}
+use Rattle.tx_runs.proofs.Common.{Abort, Begin, Bytes, Call, Code, Commit, Done, HasBlocks, IsDeep, IsNested, Obeys, Refused, Reply as Replied, Rules, abort_of, depth_after, depth_by, is_begin, is_code, is_commit, le-ltb, ltb-false, ltb-true, mul-le-mul_right, opens}
+use Rattle.std.proofs.lemmas.Bool.{ne_eqb}
+use Rattle.tx_runs.specs.Nesting.{IsBlock, whole}
 
 -- ## Numbers
 

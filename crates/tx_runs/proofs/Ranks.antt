@@ -1,8 +1,6 @@
 -- How much a player has left to do falls with each call.
 use Rattle.std.proofs.Common.{◌≡◌, ℕ, ◌+◌, ◌-◌, ◌*◌, ◌<◌, ◌≤◌, Bool, true, false, if◌then◌else◌, refl, ap, arith}
-use Rattle.std.proofs.Math.Nat.{mul-le-mul_right}
-use Rattle.tx_player.specs.Rules.{Obeys, Rules}
-use Rattle.tx_runs.specs.Nesting.{IsNested}
+use Rattle.tx_runs.proofs.Common.{IsNested, Obeys, Rules, mul-le-mul_right}
 use Rattle.tx_runs.specs.Ranks.{Falls}
 use Rattle.tx_runs.proofs.Players.{Played, block_same, rank_less, rank_same}
 

@@ -1,6 +1,6 @@
 -- How often inner blocks of attempts ran again, in lists of them.
 use Rattle.std.proofs.Common.{ℕ, List, [], ◌∷◌, ◌++◌, ◌≤◌, length}
-use Rattle.tx_attempts.specs.declared.attempt.Attempt.{Attempt}
+use Rattle.tx_runs.proofs.Common.{Attempt}
 use Rattle.tx_runs.specs.Restarts.{RestartAtMost}
 
 pub few_both : (most : ℕ) (xs ys : List Attempt) → RestartAtMost most xs → RestartAtMost most ys → RestartAtMost most (xs ++ ys)

@@ -1,11 +1,7 @@
 -- What a block that goes back to its begin leaves: the arena its length, and as many blocks open.
 use Rattle.std.proofs.Common.{◌≡◌, Bool, true, false, if◌then◌else◌, List, [], ◌∷◌, length, Option, None, Some, refl, ◌∙◌}
-use Rattle.itm_types.proofs.KeptBytes.{length-restored}
-use Rattle.itm_types.specs.declared.call.Props.{Props}
-use Rattle.itm_model.specs.Machine.{back, back_from, entered, irrevocable_from, made_irrevocable, pushed, rolled_back}
-use Rattle.itm_model.specs.State.{Block, Saved, State}
-use Rattle.nest_frames.specs.Nest.{Frame, renewed}
-use Rattle.norec_core.specs.Restarts.{begun_again}
+use Rattle.tx_runs.proofs.Common.{Block, Frame, Props, Saved, State, back, back_from, begun_again, entered, irrevocable_from, length-restored, made_irrevocable, pushed, rolled_back}
+use Rattle.nest_frames.specs.Nest.{renewed}
 
 -- ## The arena
 

@@ -1,6 +1,6 @@
 -- How often inner blocks may still go back to their begins.
 use Rattle.std.proofs.Common.{◌≡◌, ◌-◌, ◌≤◌, Bool, true, false, if◌then◌else◌, ap, arith}
-use Rattle.norec_core.specs.Core.{Core, in_transaction}
+use Rattle.tx_runs.proofs.Common.{Core, in_transaction}
 use Rattle.tx_runs.specs.Ranks.{restarts_left}
 
 pub left_inside : (e : Core) → in_transaction e ≡ true → restarts_left e ≡ e.restarts - e.restarted

@@ -1,19 +1,13 @@
 -- Calls by what they ask of an engine: a step, a place for an action, or memory.
 use Rattle.std.proofs.Common.{◌≡◌, ◌&&◌, not, if◌then◌else◌, unwrap_or, ℕ, ◌+◌, ◌<◌, ◌≤◌, Bool, true, false, true≢false, [], length, is_some, None, Some, refl, sym, ap, subst, ◌∙◌, arith}
-use Rattle.itm_types.specs.Calls.{is_abort, is_begin, registered_by}
-use Rattle.itm_types.specs.declared.call.Call.{Call}
-use Rattle.itm_types.specs.declared.call.Call.TheVariants.{Abort, Begin, CommitAction, Copy, Fill, Log, LogBytes, Mode, Read, UndoAction, Write}
-use Rattle.itm_types.specs.declared.step.Step.{Step}
+use Rattle.tx_runs.proofs.Common.{Abort, Begin, Call, CommitAction, Copy, Core, IsSettled, Log, LogBytes, Mode, Step, UndoAction, in_transaction, irrevocable_room, is_abort, is_begin, is_inside, none_inside, registers, shut_revocable, stays_revocable}
+use Rattle.itm_types.specs.Calls.{registered_by}
+use Rattle.itm_types.specs.declared.call.Call.TheVariants.{Fill, Read, Write}
 use Rattle.norec_core.specs.Copies.{copy_refusal}
-use Rattle.norec_core.specs.Core.{Core, in_transaction, irrevocable_room, is_inside}
 use Rattle.norec_core.specs.Order.{asked, asked_from, stage_at}
-use Rattle.nest_frames.specs.Nest.{stays_revocable}
 use Rattle.norec_core.specs.declared.answer.Next.{Next}
 use Rattle.norec_core.specs.declared.answer.Next.TheVariants.{Step as Asks}
-use Rattle.norec_core.specs.Proceeds.{IsSettled, Proceeds, MayStarve, MayStarveIn, MayStarveOpen}
-use Rattle.norec_core.proofs.Engines.Blocks.{none_inside}
-use Rattle.norec_core.proofs.Engines.HeldStores.{shut_revocable}
-use Rattle.norec_core.proofs.Replies.ActionCounts.{registers}
+use Rattle.norec_core.specs.Proceeds.{Proceeds, MayStarve, MayStarveIn, MayStarveOpen}
 
 -- ## A place for an action
 

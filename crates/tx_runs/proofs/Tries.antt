@@ -1,30 +1,14 @@
 -- A try of a block: its calls go on alone, and it is over, or is to be told as it stands.
 use Rattle.std.proofs.Common.{◌≡◌, ℕ, ◌+◌, ◌<◌, ◌≤◌, Bool, true, false, if◌then◌else◌, List, [], ◌∷◌, ◌++◌, length, map, None, Some, refl, sym, ap, subst, ◌∙◌, arith, append-nil, append_assoc}
+use Rattle.tx_runs.proofs.Common.{Attempt, Begin, Beginning, Between, Breaks, Call, CallRecord, IsAlone, IsOfBlock, IsTryAt, Obeys, Outcome, Props, Ran, Reply, Rules, State, after, after_try, again_more, all_more, begin_code, breaks_of, is_begin, is_done, is_open, opened, player_snoc, player_then, ran_of, reply, state_more, state_then, takes_clock}
 use Rattle.std.proofs.lemmas.List.{map-append}
-use Rattle.itm_types.specs.declared.call.Call.{Call}
-use Rattle.itm_types.specs.declared.call.Call.TheVariants.{Begin}
-use Rattle.itm_types.specs.declared.call.Props.{Props}
-use Rattle.itm_types.specs.declared.call.Ran.{Ran}
-use Rattle.itm_types.specs.declared.call.Reply.{Reply}
-use Rattle.itm_types.specs.Calls.{is_begin}
-use Rattle.itm_model.specs.Machine.{after, is_open, opened, reply}
-use Rattle.itm_model.specs.Runs.{Breaks, answers_through, gets_through, turn}
-use Rattle.itm_model.specs.State.{State}
-use Rattle.tx_player.specs.Rules.{Obeys, Rules}
-use Rattle.tx_attempts.specs.Alone.{IsAlone, player_then, state_then}
+use Rattle.itm_model.specs.Runs.{answers_through, gets_through, turn}
 use Rattle.tx_attempts.specs.Attempts.{ClosedBy, alone, pair_of}
-use Rattle.tx_attempts.specs.Opacity.{AreRestarts, Beginning, Between, EndsAs, IsTryAt, LacksClock, after_try, begin_code, follows, ran_of, takes_clock}
+use Rattle.tx_attempts.specs.Opacity.{AreRestarts, EndsAs, LacksClock, follows}
 use Rattle.tx_attempts.specs.Outrun.{IsDisturbed}
-use Rattle.tx_attempts.specs.declared.attempt.Attempt.{Attempt}
-use Rattle.tx_attempts.specs.declared.attempt.CallRecord.{CallRecord}
-use Rattle.tx_attempts.specs.declared.attempt.Outcome.{Outcome}
 use Rattle.tx_attempts.specs.declared.attempt.Outcome.TheVariants as outcomes
-use Rattle.tx_attempts.specs.Restarts.{breaks_of}
-use Rattle.tx_attempts.proofs.AloneCalls.{alone_snoc, begins_alone, breaks_after, gets_none, player_snoc}
+use Rattle.tx_attempts.proofs.AloneCalls.{alone_snoc, begins_alone, breaks_after, gets_none}
 use Rattle.tx_attempts.specs.Kept.{grown}
-use Rattle.tx_attempts.proofs.RunsAgain.{again_more, all_more, state_more}
-use Rattle.tx_runs.specs.Outcomes.{is_done}
-use Rattle.tx_runs.specs.Runs.{IsOfBlock}
 
 -- a begin, by its arguments
 pub begin_call : (call : Call) → is_begin call ≡ true → (props : Props) × (room : ℕ) × (call ≡ Begin props room)

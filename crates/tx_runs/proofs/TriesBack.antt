@@ -1,23 +1,10 @@
 -- An open attempt whose innermost block has gone back to its begin, whichever blocks are open.
 use Rattle.std.proofs.Common.{◌≡◌, ℕ, ◌%◌, ◌≤◌, false, true, List, [], ◌∷◌, length, refl, sym, ap, subst, ◌∙◌, arith}
-use Rattle.itm_types.specs.Memory.{Agrees, IsMemory}
-use Rattle.itm_types.specs.declared.call.Ran.{Ran}
-use Rattle.itm_model.specs.Machine.{back}
-use Rattle.nest_frames.specs.Nest.{Frame}
-use Rattle.norec_core.specs.Core.{Core, is_within, renewed}
-use Rattle.norec_core.specs.Proceeds.{AreRead}
-use Rattle.norec_core.specs.Restarts.{Restarts, begun_again}
-use Rattle.norec_core.specs.Stands.{stands_for}
+use Rattle.tx_runs.proofs.Common.{Agrees, AreRead, Attempt, Between, Bounds, Core, Frame, HasBlocks, HaveBegun, IsMemory, IsOpenTry, Ran, Rules, Savepoint, back, before_no_more, begun_again, bounds_now, cut_back, due_at, entered_by, renewed, stands_for}
+use Rattle.norec_core.specs.Core.{is_within}
+use Rattle.norec_core.specs.Restarts.{Restarts}
 use Rattle.norec_core.proofs.Engines.BlocksAgain.{restart_parts}
-use Rattle.tx_player.specs.Rules.{Rules}
-use Rattle.tx_attempts.specs.declared.attempt.Attempt.{Attempt}
-use Rattle.tx_attempts.specs.Opacity.{Between}
-use Rattle.tx_attempts.proofs.UndoneCounts.{before_no_more}
-use Rattle.tx_runs.specs.declared.savepoint.Savepoint.{Savepoint}
-use Rattle.tx_runs.specs.Nesting.{HasBlocks}
 use Rattle.tx_runs.specs.OpenAttempts.{BeganBy}
-use Rattle.tx_runs.specs.OpenTries.{Bounds, HaveBegun, IsOpenTry, bounds_now, entered_by}
-use Rattle.tx_runs.specs.Savepoints.{cut_back, due_at}
 use Rattle.tx_runs.proofs.GoingBack.{gone_back}
 
 -- an attempt that is cut back is the same try of the same block, and no more places are promised in it

@@ -1,33 +1,10 @@
 -- An open attempt begins: it is the engine's open attempt as its outermost begin has been accepted.
 use Rattle.std.proofs.Common.{◌≡◌, ℕ, suc, ◌/◌, ◌<◌, ◌≤◌, Bool, true, false, true≢false, List, [], ◌∷◌, length, Option, None, Some, refl, sym, ap, subst, ◌∙◌, arith, if◌then◌else◌}
-use Rattle.itm_types.specs.Memory.{Agrees, IsMemory, bytes_of}
-use Rattle.itm_types.specs.declared.call.Call.TheVariants.{Begin}
-use Rattle.itm_types.specs.declared.call.Props.{Props}
-use Rattle.itm_types.specs.declared.call.Ran.{Ran}
-use Rattle.itm_types.specs.declared.call.Refusal.{Refusal}
-use Rattle.itm_types.specs.declared.call.Reply.{Reply}
-use Rattle.itm_model.specs.State.{State}
-use Rattle.itm_model.specs.Machine.{after, after_unless, opened, refusal, reply}
-use Rattle.nest_frames.specs.Nest.{Frame, begun}
-use Rattle.user_actions.specs.Actions.{Actions}
+use Rattle.tx_runs.proofs.Common.{Actions, Again, Agrees, AreAlone, AtEach, Attempt, Begin, Between, CallRecord, Core, Enters, Frame, HaveBegun, IsAt, IsMemory, IsOfBlock, IsOpenTry, Obeys, Props, Ran, Refusal, Replies, Reply, Rules, State, StaysRevocable, actions_after, after, after_unless, begin_code, begins_at, begun, blocks_after, bounds_now, bytes_of, count_undone, depth_after, in_transaction, inside_all, is_inside, none_inside, open_in, opened, player_then, recoded, refusal, reply, stands_for, told_then, whole_then}
 use Rattle.write_set.specs.Rows.{overlay}
-use Rattle.norec_core.specs.Core.{Core, in_transaction, is_inside}
-use Rattle.norec_core.specs.Effects.{actions_after, arena_after, blocks_after, recoded}
-use Rattle.norec_core.specs.Proceeds.{Enters, Replies}
-use Rattle.norec_core.specs.Stands.{stands_for}
-use Rattle.norec_core.proofs.Engines.Blocks.{inside_all, none_inside}
-use Rattle.tx_player.specs.Depth.{depth_after}
-use Rattle.tx_player.specs.Rules.{Obeys, Rules}
-use Rattle.tx_attempts.specs.declared.attempt.Again.{Again}
-use Rattle.tx_attempts.specs.declared.attempt.Attempt.{Attempt}
-use Rattle.tx_attempts.specs.declared.attempt.CallRecord.{CallRecord}
-use Rattle.tx_attempts.specs.Alone.{player_then}
-use Rattle.tx_attempts.specs.Opacity.{Between, begin_code}
-use Rattle.tx_attempts.specs.Restarts.{AreAgain, AtEach, count_undone, open_in}
+use Rattle.norec_core.specs.Effects.{arena_after}
+use Rattle.tx_attempts.specs.Restarts.{AreAgain}
 use Rattle.tx_attempts.proofs.ToldRuns.{opened_told}
-use Rattle.tx_runs.specs.OpenBegins.{IsAt}
-use Rattle.tx_runs.specs.OpenTries.{AreAlone, HaveBegun, IsOpenTry, StaysRevocable, bounds_now, told_then, whole_then}
-use Rattle.tx_runs.specs.Runs.{IsOfBlock, begins_at}
 use Rattle.tx_runs.proofs.OpenBegins.{none_begun}
 use Rattle.tx_runs.proofs.OutermostBegins.{begin_served, outside_of, stands_outside}
 

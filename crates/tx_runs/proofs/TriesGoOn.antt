@@ -1,28 +1,6 @@
 -- An open attempt goes on: it is the engine's open attempt after a reply to one call more.
 use Rattle.std.proofs.Common.{◌≡◌, ℕ, suc, ◌+◌, ◌<◌, ◌≤◌, true, false, List, [], ◌∷◌, ◌++◌, length, map, Some, sym, ap, subst, ◌∙◌, arith}
-use Rattle.itm_types.specs.Calls.{abort_of, is_begin, is_commit}
-use Rattle.itm_types.specs.Memory.{Agrees, IsMemory}
-use Rattle.itm_types.specs.declared.call.Call.{Call}
-use Rattle.itm_types.specs.declared.call.Ran.{Ran}
-use Rattle.itm_types.specs.declared.call.Reply.{Reply}
-use Rattle.itm_types.specs.declared.call.Reply.TheVariants.{Code}
-use Rattle.itm_model.specs.State.{State}
-use Rattle.itm_model.specs.Machine.{after}
-use Rattle.norec_core.specs.Core.{Core}
-use Rattle.norec_core.specs.Stands.{stands_for}
-use Rattle.tx_player.specs.Depth.{depth_after, is_code}
-use Rattle.tx_player.specs.Rules.{Obeys, Rules}
-use Rattle.tx_attempts.specs.declared.attempt.Attempt.{Attempt}
-use Rattle.tx_attempts.specs.declared.attempt.CallRecord.{CallRecord}
-use Rattle.tx_attempts.specs.Opacity.{Between}
-use Rattle.tx_attempts.specs.Restarts.{count_undone, open_after, ran_on}
-use Rattle.tx_attempts.proofs.RunsAgain.{again_more}
-use Rattle.tx_attempts.proofs.ToldRuns.{adds_after}
-use Rattle.tx_runs.specs.declared.savepoint.Savepoint.{Savepoint}
-use Rattle.tx_runs.specs.OpenBegins.{IsAt}
-use Rattle.tx_runs.specs.OpenTries.{HaveBegun, IsOpenTry, ReadsFrom, bounds_now, entered_by, told_then, whole_then}
-use Rattle.tx_runs.specs.Savepoints.{savepoints_after}
-use Rattle.tx_runs.specs.Tallies.{with_call}
+use Rattle.tx_runs.proofs.Common.{Agrees, Attempt, Between, Call, CallRecord, Code, Core, HaveBegun, IsAt, IsMemory, IsOpenTry, Obeys, Ran, ReadsFrom, Reply, Rules, Savepoint, State, abort_of, adds_after, after, again_more, bounds_now, count_undone, depth_after, entered_by, is_begin, is_code, is_commit, open_after, ran_on, savepoints_after, stands_for, told_then, whole_then, with_call}
 use Rattle.tx_runs.proofs.CallsAlone.{IsReplied, alone_so, begin_accepted, kept_by, revocable_so, told_more, whole_so}
 use Rattle.tx_runs.proofs.OpenBegins.{one_more}
 use Rattle.tx_runs.proofs.OpenCalls.{open_snoc}

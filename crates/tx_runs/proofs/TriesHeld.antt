@@ -1,26 +1,7 @@
 -- A reply within an open attempt, as its transaction becomes irrevocable, and once it is: over the memory of its position.
 use Rattle.std.proofs.Common.{◌≡◌, ℕ, ◌<◌, ◌≤◌, Bool, true, false, true≢false, List, length, Some, sym, ap, subst, ◌∙◌, arith}
-use Rattle.itm_types.specs.Memory.{Agrees, IsMemory}
-use Rattle.itm_types.specs.declared.call.Call.{Call}
-use Rattle.itm_types.specs.declared.call.Reply.{Reply}
-use Rattle.itm_model.specs.State.{State}
-use Rattle.itm_model.specs.Machine.{after, is_open, reply}
-use Rattle.user_actions.specs.Actions.{Actions}
-use Rattle.norec_core.specs.Core.{Core, in_transaction, is_inside}
-use Rattle.norec_core.specs.Effects.{blocks_after, recoded}
-use Rattle.norec_core.specs.Proceeds.{Enters, RepliesHeld, backed}
-use Rattle.norec_core.specs.Stands.{stands_for}
-use Rattle.norec_core.proofs.Engines.Blocks.{inside_all}
-use Rattle.norec_core.proofs.Replies.AnsweredEngines.{told_plainly}
-use Rattle.tx_player.specs.Depth.{depth_after}
-use Rattle.tx_player.specs.Rules.{Obeys, Rules}
-use Rattle.tx_attempts.specs.declared.attempt.Attempt.{Attempt}
-use Rattle.tx_attempts.specs.Opacity.{Between}
-use Rattle.tx_attempts.specs.Restarts.{ran_on}
-use Rattle.tx_runs.specs.declared.savepoint.Savepoint.{Savepoint}
-use Rattle.tx_runs.specs.OpenTries.{IsOpenTry, ReadsFrom, whole_then}
-use Rattle.tx_runs.specs.Savepoints.{savepoints_after}
-use Rattle.tx_runs.specs.Tallies.{with_call}
+use Rattle.tx_runs.proofs.Common.{Actions, Agrees, Attempt, Between, Call, Core, Enters, IsMemory, IsOpenTry, Obeys, ReadsFrom, RepliesHeld, Reply, Rules, Savepoint, State, after, blocks_after, depth_after, in_transaction, inside_all, is_inside, is_open, ran_on, recoded, reply, savepoints_after, stands_for, told_plainly, whole_then, with_call}
+use Rattle.norec_core.specs.Proceeds.{backed}
 use Rattle.tx_runs.proofs.EngineStates.{stands_actions}
 use Rattle.tx_runs.proofs.TriesGoOn.{IsServed, goes_on}
 use Rattle.tx_runs.proofs.TriesReply.{deep_so, within_so}

@@ -1,39 +1,8 @@
 -- A reply within an open attempt, in a transaction that may be tried again before and after it.
 use Rattle.std.proofs.Common.{◌≡◌, ℕ, suc, ◌+◌, ◌-◌, ◌<◌, ◌≤◌, ◌&&◌, ◌||◌, not, nat_lt, Bool, true, false, true≢false, List, [], ◌∷◌, ◌++◌, length, drop, Option, None, Some, refl, sym, ap, subst, ◌∙◌, arith, if◌then◌else◌}
-use Rattle.std.proofs.lemmas.List.{length-map}
-use Rattle.itm_types.specs.Calls.{is_begin}
-use Rattle.itm_types.specs.KeptBytes.{nothing}
-use Rattle.itm_types.specs.Memory.{Agrees, IsMemory}
-use Rattle.itm_types.specs.declared.call.Call.{Call}
-use Rattle.itm_types.specs.declared.call.Call.TheVariants.{Begin}
-use Rattle.itm_types.specs.declared.call.Props.{Props}
-use Rattle.itm_types.specs.declared.call.Refusal.{Refusal}
-use Rattle.itm_types.specs.declared.call.Refusal.TheVariants.{NoIrrevocable, TooDeep}
-use Rattle.itm_types.specs.declared.call.Reply.{Reply}
-use Rattle.itm_types.specs.declared.call.Reply.TheVariants.{Code}
-use Rattle.itm_types.specs.declared.row.LogRow.{LogRow}
-use Rattle.itm_types.proofs.KeptBytes.{nothing_same}
-use Rattle.itm_model.specs.State.{State}
-use Rattle.itm_model.specs.Machine.{after, entered, irrevocable_from, or_else, pushed, refusal, reply, reply_unless, unless}
+use Rattle.tx_runs.proofs.Common.{Actions, Agrees, AreRead, Attempt, Begin, Between, Bounds, Call, Code, Core, Frame, HaveBegun, IsDeep, IsMemory, IsOpenTry, LogRow, NoIrrevocable, Obeys, Props, ReadsFrom, Refusal, Replies, Reply, Rules, Savepoint, State, TooDeep, actions_after, after, agrees_less, begun, blocks_after, bounds_now, count_undone, depth_after, entered, entered_by, in_transaction, irrevocable_from, is_begin, is_code, is_inside, length-map, length-over, nothing, nothing_same, or_else, pushed, ran_on, recoded, refusal, reply, reply_unless, savepoints_after, stands_for, state_in, state_over, told_plainly, unless, whole_then, with_call}
 use Rattle.itm_model.proofs.ArenaSizes.{after_long}
-use Rattle.nest_frames.specs.Nest.{Frame, begun}
-use Rattle.user_actions.specs.Actions.{Actions}
-use Rattle.norec_core.specs.Core.{Core, in_transaction, is_inside}
-use Rattle.norec_core.specs.Effects.{actions_after, blocks_after, recoded}
-use Rattle.norec_core.specs.Proceeds.{AreRead, Replies}
-use Rattle.norec_core.specs.Stands.{stands_for, state_in, state_over}
-use Rattle.norec_core.proofs.Accesses.Logs.{agrees_less}
-use Rattle.norec_core.proofs.Engines.IrrevocableCalls.{length-over, revocable_over}
-use Rattle.norec_core.proofs.Replies.AnsweredEngines.{told_plainly}
-use Rattle.tx_player.specs.Depth.{depth_after, is_code}
-use Rattle.tx_player.specs.Rules.{Obeys, Rules}
-use Rattle.tx_attempts.specs.declared.attempt.Attempt.{Attempt}
-use Rattle.tx_attempts.specs.Opacity.{Between}
-use Rattle.tx_attempts.specs.Restarts.{count_undone, ran_on}
-use Rattle.tx_runs.specs.declared.savepoint.Savepoint.{Savepoint}
-use Rattle.tx_runs.specs.OpenTries.{Bounds, HaveBegun, IsOpenTry, ReadsFrom, bounds_now, entered_by, whole_then}
-use Rattle.tx_runs.specs.Savepoints.{savepoints_after}
-use Rattle.tx_runs.specs.Tallies.{with_call}
+use Rattle.norec_core.proofs.Engines.IrrevocableCalls.{revocable_over}
 use Rattle.tx_runs.proofs.BlocksAgain.{accepted}
 use Rattle.tx_runs.proofs.BlocksBegun.{begun_blocks}
 use Rattle.tx_runs.proofs.BlocksStill.{begun_after}
@@ -43,7 +12,6 @@ use Rattle.tx_runs.proofs.EngineStates.{stands_actions, stands_arena, stands_mod
 use Rattle.tx_runs.proofs.IrrevocableCalls.{from_irrevocable}
 use Rattle.tx_runs.proofs.TriesGoOn.{IsServed, goes_on, later_so}
 use Rattle.tx_runs.proofs.TriesTold.{open_so}
-use Rattle.tx_runs.specs.Nesting.{IsDeep}
 
 -- ## Begins
 

@@ -1,25 +1,9 @@
 -- An open attempt stays the engine's over a step, as a call comes, and where it is told elsewhere or with other room.
 use Rattle.std.proofs.Common.{◌≡◌, ℕ, ◌≤◌, Bool, true, false, true≢false, List, [], ◌∷◌, ◌++◌, length, take, Some, refl, sym, ap, subst, ◌∙◌, arith, append-nil}
-use Rattle.std.proofs.lemmas.List.{take-append-le}
-use Rattle.itm_types.specs.KeptBytes.{nothing}
-use Rattle.itm_types.specs.Memory.{Agrees, IsMemory}
-use Rattle.itm_types.specs.declared.call.Call.{Call}
-use Rattle.itm_types.specs.declared.row.LogRow.{LogRow}
-use Rattle.itm_types.specs.declared.step.Step.{Step}
-use Rattle.itm_model.specs.State.{State}
-use Rattle.nest_frames.specs.Nest.{Frame}
-use Rattle.user_actions.specs.Actions.{Actions}
-use Rattle.norec_core.specs.Core.{Core, came, handed_to, in_transaction}
-use Rattle.norec_core.specs.Proceeds.{AreRead, AsksFor}
-use Rattle.norec_core.specs.Stands.{state_in}
-use Rattle.norec_core.proofs.Accesses.Logs.{agrees_less}
+use Rattle.tx_runs.proofs.Common.{Actions, Agrees, AreRead, Attempt, Between, Bounds, Call, Core, Frame, HasBegun, HaveBegun, IsMemory, IsOpenTry, LogRow, ReadsFrom, Rules, Savepoint, State, Step, agrees_less, bounds_now, bounds_of, due_at, entered_by, in_transaction, nothing, state_in, take-append-le}
+use Rattle.norec_core.specs.Core.{came, handed_to}
+use Rattle.norec_core.specs.Proceeds.{AsksFor}
 use Rattle.norec_core.proofs.Engines.KeptFields.{came_restarted, handed_is, keeps_asked}
-use Rattle.tx_player.specs.Rules.{Rules}
-use Rattle.tx_attempts.specs.declared.attempt.Attempt.{Attempt}
-use Rattle.tx_attempts.specs.Opacity.{Between}
-use Rattle.tx_runs.specs.declared.savepoint.Savepoint.{Savepoint}
-use Rattle.tx_runs.specs.OpenTries.{Bounds, HasBegun, HaveBegun, IsOpenTry, ReadsFrom, bounds_now, bounds_of, entered_by}
-use Rattle.tx_runs.specs.Savepoints.{due_at}
 use Rattle.tx_runs.proofs.BlocksAgain.{under_still}
 use Rattle.tx_runs.proofs.Tries.{block_with}
 

@@ -1,23 +1,9 @@
 -- An open attempt as it is told, over a memory that it may have read: its calls are its player's alone, and what is told as run is what they run.
 use Rattle.std.proofs.Common.{◌≡◌, ℕ, ◌+◌, Bool, true, false, List, [], ◌++◌, drop, length, refl, sym, ap, subst, ◌∙◌, arith, append-nil, length-append}
+use Rattle.tx_runs.proofs.Common.{Attempt, Between, Call, Core, IsAlone, IsMemory, IsOpenTry, Outcome, Ran, ReadsFrom, Rules, Savepoint, State, adds_after, after, begin_code, breaks_of, bytes_of, count_undone, entered_by, in_transaction, is_done, is_open, opened, ran_of, ran_on, reply, state_then, told_alone, told_state, told_then, undone, whole_then}
 use Rattle.std.proofs.Math.Seq.{drop-append_seam}
-use Rattle.itm_types.specs.declared.call.Call.{Call}
-use Rattle.itm_types.specs.declared.call.Ran.{Ran}
-use Rattle.itm_types.specs.Memory.{IsMemory, bytes_of}
-use Rattle.itm_model.specs.State.{State}
-use Rattle.itm_model.specs.Machine.{after, is_open, opened, reply, undone}
-use Rattle.norec_core.specs.Core.{Core, in_transaction}
-use Rattle.tx_player.specs.Rules.{Rules}
-use Rattle.tx_attempts.specs.declared.attempt.Attempt.{Attempt}
-use Rattle.tx_attempts.specs.declared.attempt.Outcome.{Outcome}
 use Rattle.tx_attempts.specs.declared.attempt.Outcome.TheVariants as outcomes
-use Rattle.tx_attempts.specs.Alone.{IsAlone, state_then}
-use Rattle.tx_attempts.specs.Opacity.{Between, begin_code, ran_of}
-use Rattle.tx_attempts.specs.Restarts.{breaks_of, count_undone, ran_on}
-use Rattle.tx_attempts.proofs.ToldRuns.{Adds, adds_after, adds_given_up, reply_told, telling, told_alone, told_state}
-use Rattle.tx_runs.specs.declared.savepoint.Savepoint.{Savepoint}
-use Rattle.tx_runs.specs.OpenTries.{IsOpenTry, ReadsFrom, entered_by, told_then, whole_then}
-use Rattle.tx_runs.specs.Outcomes.{is_done}
+use Rattle.tx_attempts.proofs.ToldRuns.{Adds, adds_given_up, reply_told, telling}
 use Rattle.tx_runs.proofs.EngineStates.{stands_open}
 use Rattle.tx_runs.proofs.Tries.{IsMadeAlone}
 

@@ -1,3 +1,4 @@
+pub mod Common
 pub mod Machines
 pub mod Runs
 pub mod Begins

@@ -1,15 +1,7 @@
 -- What an answer makes of an account, part by part.
 use Rattle.std.proofs.Common.{ℕ, ◌+◌, false, List, [], ◌∷◌, ◌++◌}
-use Rattle.itm_types.specs.declared.call.Call.{Call}
-use Rattle.itm_types.specs.declared.call.Ran.{Ran}
-use Rattle.itm_types.specs.declared.call.Reply.{Reply as Replied}
-use Rattle.tx_attempts.specs.declared.attempt.Attempt.{Attempt}
-use Rattle.tx_attempts.specs.declared.attempt.Outcome.{Outcome}
-use Rattle.tx_attempts.specs.Kept.{reserved, spent}
-use Rattle.tx_attempts.specs.Restarts.{ran_on}
-use Rattle.tx_runs.specs.declared.savepoint.Savepoint.{Savepoint}
-use Rattle.tx_runs.specs.Tallies.{outside, with_call, within}
-use Rattle.worker_rules.specs.Accounts.{Account}
+use Rattle.worker_rules.proofs.Common.{Account, Attempt, Call, Outcome, Ran, Replied, Savepoint, outside, ran_on, reserved, with_call, within}
+use Rattle.tx_attempts.specs.Kept.{spent}
 
 -- the open attempt as a call comes, with room for it and for so many more
 abbrev pub with_room : ℕ → Attempt → Attempt

@@ -1,10 +1,8 @@
 -- Worked cases, computed: all that a player does alone.
 use Rattle.std.proofs.Common.{◌≡◌, [], ◌∷◌, replicate, refl, true, false}
+use Rattle.world_laws.proofs.Common.{Attempt, Begin, Commit, Committed, Finished, Full, GaveUp, Mode, Props, Unfinished, Write}
 use Rattle.itm_types.specs.declared.access.WriteHint.TheVariants.{W}
-use Rattle.itm_types.specs.declared.call.Call.TheVariants.{Commit, Mode}
-use Rattle.tx_attempts.specs.declared.attempt.Outcome.TheVariants.{Committed, Full}
-use Rattle.world_rules.proofs.Common.{Attempt, Begin, Done, Props, Unfinished, Write}
-use Rattle.tx_runs.specs.declared.ending.End.TheVariants.{Finished, GaveUp}
+use Rattle.world_rules.proofs.Common.{Done}
 use Rattle.world_rules.proofs.Plan.{Plan}
 use Rattle.world_rules.proofs.Examples.{begin, cancelled, commit, counter, counter_rules, fresh, next, plain, plan_rules, planned, refused, two, word, write}
 use Rattle.world_laws.specs.Solo.{solo}

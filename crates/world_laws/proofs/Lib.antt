@@ -1,3 +1,4 @@
+pub mod Common
 mod Examples
 pub mod Solos
 pub mod Likeness

@@ -1,17 +1,13 @@
 -- Rows of which an index has the places: what their list and the index become where a row comes, goes or changes.
-use Rattle.std.proofs.Common.{add-one, ◌≡◌, ◌<◌, ◌≤◌, ◌+◌, ℕ, zero, suc, ◌^◌, min, List, [], ◌∷◌, ◌++◌, length, take, ◌==◌, false, get_or, length-take-le, nat_eq, Bool, cond, position, Option, Some, None, slice_get, slice_set, refl, sym, ap, ◌∙◌, ◌⊎◌, inl, inr, arith, subst}
-use Rattle.std.specs.Prelude.{IfNone, IfSome}
-use Rattle.std.specs.List.{IsDistinct}
-use Rattle.std.specs.Map.{keys_of, values_of}
-use Rattle.std.proofs.lemmas.Bool.{eqb-true, eqb-false, cases_Bool, eq-eqb, ne_eqb}
-use Rattle.std.proofs.lemmas.List.{length_push, take_all}
+use Rattle.std.proofs.Common.{add-one, ◌≡◌, ◌<◌, ◌≤◌, ◌+◌, ℕ, zero, suc, ◌^◌, min, List, [], ◌∷◌, ◌++◌, length, take, ◌==◌, false, get_or, length-take-le, nat_eq, Bool, cond, position, Option, Some, None, slice_get, slice_set, refl, sym, ap, ◌∙◌, ◌⊎◌, inl, inr, arith, subst, IfNone, IfSome}
+use Rattle.write_set.proofs.Common.{AreHeld, AreRows, Index, IsDistinct, IsFirst, Puts, Row, cases_Bool, eqb-false, eqb-true, get_or_from_slice_get, keys_of, lookup, ne_eqb, place_in, row, same_Some, set_row, slice_get_within, take_all}
+use Rattle.std.specs.Map.{values_of}
+use Rattle.std.proofs.lemmas.Bool.{eq-eqb}
+use Rattle.std.proofs.lemmas.List.{length_push}
 use Rattle.std.proofs.lemmas.List.Quantifiers.{position-Some}
 use Rattle.std.proofs.lemmas.Map.Keys.{apart_from_distinct}
-use Rattle.std.proofs.lemmas.Option.{get_or_from_slice_get, slice_get_within, slice_get-get_or, same_Some}
+use Rattle.std.proofs.lemmas.Option.{slice_get-get_or}
 use Rattle.indexmap.proofs.MapLemmas.{Missing-position}
-use Rattle.write_set.specs.declared.row.Row.{Row}
-use Rattle.write_set.specs.Indexed.{AreHeld, Index, Puts, place_in}
-use Rattle.write_set.specs.Rows.{lookup, row, set_row, AreRows, IsFirst}
 use Rattle.write_set.proofs.Overlays.{AreRows-push, AreRows-take}
 use Rattle.write_set.proofs.Places.{indexed, none_before, other_at, place_of_found, AreRows-set_row}
 

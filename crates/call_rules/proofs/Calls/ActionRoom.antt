@@ -1,11 +1,8 @@
 -- The room for commit actions.
 use Rattle.std.proofs.Common.{◌≡◌, ℕ, ◌-◌, IsSome, refl, ap}
-use Rattle.itm_types.specs.declared.call.Call.{Call}
+use Rattle.call_rules.proofs.Common.{Call, Core, Reply, irrevocable_room, room_left}
 use Rattle.itm_types.specs.declared.call.Call.TheVariants.{CommitAction}
-use Rattle.itm_types.specs.declared.call.Reply.{Reply}
 use Rattle.itm_types.specs.declared.call.Reply.TheVariants.{Done}
-use Rattle.norec_core.specs.Core.{Core, irrevocable_room}
-use Rattle.norec_core.specs.Effects.{room_left}
 
 pub room_same : (a b : Core) (call : Call) (r : Reply) → a.room ≡ b.room → room_left a call r ≡ room_left b call r
 room_same a b (CommitAction action) Done e = ap (λ (n : ℕ). n - 1) e

@@ -1,35 +1,19 @@
 -- Each kind of answer.
 use Rattle.std.proofs.Common.{◌≡◌, inl, inr, ℕ, suc, ◌/◌, ◌<◌, ◌&&◌, not, Bool, true, false, List, [], ◌∷◌, ◌++◌, length, take, Option, None, Some, refl, sym, ap, subst, ◌∙◌, arith, length-append}
+use Rattle.call_rules.proofs.Common.{Agrees, Answer, Answers, Asks, Busy, Call, ComesTo, Commit, Committed, Conflict, Core, Ends, Full, GoesBegin, IsDue, IsMemory, IsPatient, IsRest, IsWithin, Loads, Next, Proceeds, Reply as Replied, Restarted, Served, Stands, Start, State, Tells, View, WantsClock, after_call as after, after_snoc, backed, came, held, in_transaction, is_inside, memory_of, reply, rests, room_left, stands_for, stored, take_all, undone}
 use Rattle.std.proofs.lemmas.Bool.{false_from_ne_true}
-use Rattle.std.proofs.lemmas.List.{take_all, take_at}
-use Rattle.itm_types.specs.declared.call.Call.{Call}
-use Rattle.itm_types.specs.declared.call.Call.TheVariants.{Commit}
-use Rattle.itm_types.specs.declared.call.Reply.{Reply as Replied}
-use Rattle.itm_types.specs.Memory.{Agrees, IsMemory, bytes_of}
-use Rattle.itm_model.specs.State.{State}
-use Rattle.itm_model.specs.Machine.{after, reply, undone}
-use Rattle.norec_core.specs.declared.answer.Answer.{Answer}
-use Rattle.norec_core.specs.declared.answer.Answer.TheVariants.{Reply, Committed, Conflict, Restarted, Busy, Full}
-use Rattle.norec_core.specs.declared.answer.Next.{Next}
-use Rattle.norec_core.specs.declared.answer.Next.TheVariants.{Step as Asks, Answer as Answers}
-use Rattle.norec_core.specs.Core.{Core, came, in_transaction, is_inside}
-use Rattle.norec_core.specs.Held.{ComesTo}
-use Rattle.norec_core.specs.Proceeds.{ConflictsIn, Differs, Ends, Enters, IsAtOnce, IsBegin, IsWithin, Proceeds, Replies, RepliesHeld, RepliesTo, WantsClock, backed}
-use Rattle.norec_core.specs.Effects.{recoded, room_left}
+use Rattle.std.proofs.lemmas.List.{take_at}
+use Rattle.itm_types.specs.Memory.{bytes_of}
+use Rattle.norec_core.specs.declared.answer.Answer.TheVariants.{Reply}
+use Rattle.norec_core.specs.Proceeds.{ConflictsIn, Differs, Enters, IsAtOnce, IsBegin, Replies, RepliesHeld}
+use Rattle.norec_core.specs.Effects.{recoded}
 use Rattle.norec_core.specs.Proceeds as engine
-use Rattle.norec_core.specs.Stands.{stands_for}
-use Rattle.norec_core.proofs.Replies.AnsweredEngines.{IsRest, rests, told_plainly}
+use Rattle.norec_core.proofs.Replies.AnsweredEngines.{told_plainly}
 use Rattle.norec_core.proofs.Replies.ReplyCases.{reply_cases}
-use Rattle.shared_words.specs.declared.view.View.{View}
-use Rattle.shared_words.specs.Commits.{stored}
 use Rattle.shared_words.specs.Commits as past
-use Rattle.shared_words.specs.Views.{held}
-use Rattle.shared_words.proofs.StoredWords.{after_snoc}
-use Rattle.call_rules.specs.Ties.{memory_of, Stands}
-use Rattle.call_rules.specs.Served.{Start, Served, GoesBegin, IsPatient, Tells, Meets, Closes, Commits, Conflicts, IsBusy, IsFull, IsRead, came_over, left_over, memory_in, mine_if}
+use Rattle.call_rules.specs.Served.{Meets, Commits, Conflicts, IsBusy, IsFull, IsRead, came_over, left_over, memory_in, mine_if}
 use Rattle.call_rules.specs.Served as served_so
 use Rattle.call_rules.proofs.Steps.CallsInHand.{both, Freed, IsMid, IsHeldMid, Tried, is_memory}
-use Rattle.call_rules.specs.InCall.{IsDue, Loads}
 use Rattle.call_rules.proofs.Steps.NewCalls.{asked_on}
 use Rattle.call_rules.proofs.Calls.ActionRoom.{room_entered, room_same}
 use Rattle.call_rules.proofs.Calls.BlocksBack.{went_back}

@@ -1,25 +1,11 @@
 -- The call is answered: what holds of the thread then, whatever the answer.
 use Rattle.std.proofs.Common.{◌≡◌, ℕ, suc, ◌/◌, ◌&&◌, not, nat_lt, Bool, true, false, List, [], length, None, Some, IsSome, if◌then◌else◌, refl, sym, ap, subst, ◌∙◌, arith}
-use Rattle.std.proofs.lemmas.List.{take_all}
-use Rattle.itm_types.specs.declared.call.Call.{Call}
-use Rattle.itm_types.specs.declared.call.Call.TheVariants.{Begin, Commit, Mode}
-use Rattle.itm_types.specs.Memory.{Agrees, IsMemory}
-use Rattle.itm_model.specs.Machine.{undone}
-use Rattle.nest_frames.specs.Nest.{stays_revocable}
-use Rattle.norec_core.specs.declared.answer.Answer.{Answer}
-use Rattle.norec_core.specs.Core.{Core, irrevocable_room, in_transaction, is_inside, may_go}
-use Rattle.norec_core.specs.Proceeds.{WantsClock}
-use Rattle.norec_core.specs.Restarts.{IsRestart}
-use Rattle.norec_core.specs.Stands.{stands_for, state_in, state_over}
-use Rattle.norec_core.proofs.Replies.AnsweredEngines.{IsRest}
+use Rattle.call_rules.proofs.Common.{Agrees, Answer, Call, Commit, Core, IsMemory, IsOver, IsRest, IsRestart, Served, Stands, Start, Tells, View, WantsClock, after, agrees_less, in_transaction, irrevocable_room, is_inside, may_go, memory_of, stands_for, starts_le, stays_revocable, take_all, undone}
+use Rattle.itm_types.specs.declared.call.Call.TheVariants.{Begin, Mode}
+use Rattle.norec_core.specs.Stands.{state_in, state_over}
 use Rattle.norec_core.proofs.Engines.Blocks.{none_inside}
-use Rattle.norec_core.proofs.Accesses.Logs.{agrees_less}
-use Rattle.shared_words.specs.declared.view.View.{View}
-use Rattle.shared_words.specs.Commits.{after}
-use Rattle.shared_words.specs.Passes.{IsOver}
-use Rattle.shared_words.proofs.ListPlaces.{starts_le}
-use Rattle.call_rules.specs.Ties.{memory_of, Reads, Stands}
-use Rattle.call_rules.specs.Served.{Closes, IsUndone, Served, Start, Tells, mine_after}
+use Rattle.call_rules.specs.Ties.{Reads}
+use Rattle.call_rules.specs.Served.{Closes, IsUndone, mine_after}
 use Rattle.call_rules.proofs.Steps.CallsInHand.{IsMid}
 
 module _ (s : Start) (w : View) (mid new : Core) (m : IsMid s w mid new) where

@@ -1,16 +1,8 @@
 -- Calls after which no block has gone back alone.
 use Rattle.std.proofs.Common.{◌≡◌, Bool, ap, ◌∙◌, if◌then◌else◌, arith}
-use Rattle.itm_types.specs.declared.call.Call.{Call}
-use Rattle.itm_types.specs.declared.call.Call.TheVariants.{Abort, Commit}
-use Rattle.norec_core.specs.declared.answer.Answer.{Answer}
-use Rattle.norec_core.specs.declared.answer.Answer.TheVariants.{Restarted}
-use Rattle.norec_core.specs.Core.{Core}
-use Rattle.norec_core.specs.Order.{commit_stage, stage_at}
-use Rattle.norec_core.specs.Phases.{Idle}
-use Rattle.norec_core.specs.Restarts.{IsRestart}
+use Rattle.call_rules.proofs.Common.{Answer, Call, Commit, Core, Idle, IsRestart, Restarted, Served, Start, View, commit_stage, stage_at}
+use Rattle.itm_types.specs.declared.call.Call.TheVariants.{Abort}
 use Rattle.norec_core.proofs.Engines.RestartingCalls.{inner}
-use Rattle.shared_words.specs.declared.view.View.{View}
-use Rattle.call_rules.specs.Served.{Served, Start}
 
 -- a call with no step to ask for looks at nothing
 no_step : (s : Start) (a : Answer) (v : View) (e : Core) → Served s a v e → stage_at s.engine s.call s.again ≡ Idle → IsRestart a → ⊥

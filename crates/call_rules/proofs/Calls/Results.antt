@@ -1,20 +1,8 @@
 -- A call of a thread, once its engine was called.
 use Rattle.std.proofs.Common.{◌≡◌, [], Bool, refl, subst, sym}
-use Rattle.itm_types.specs.declared.call.Call.{Call}
-use Rattle.norec_core.specs.declared.answer.Answer.{Answer}
-use Rattle.norec_core.specs.declared.answer.Next.{Next}
-use Rattle.norec_core.specs.declared.answer.Next.TheVariants.{Answer as Answers}
-use Rattle.norec_core.specs.Core.{Core}
-use Rattle.norec_core.specs.Moves.{IsCalled}
-use Rattle.shared_words.specs.declared.pass.Pass.{Pass}
-use Rattle.shared_words.specs.declared.words.Words.{Words}
-use Rattle.shared_words.specs.Passes.{cells_of, Owns, view_of}
+use Rattle.call_rules.proofs.Common.{Answer, Answers, Call, Core, Finishes, IsCalled, IsDriven, IsDue, Next, Owns, Pass, Stands, Start, Words, cells_of, view_of}
 use Rattle.call_rules.specs.CallResults.{IsAnswered}
-use Rattle.call_rules.specs.Drives.{Finishes, IsDriven}
-use Rattle.call_rules.specs.InCall.{IsDue}
-use Rattle.call_rules.specs.Served.{Start}
 use Rattle.call_rules.specs.Standing.{Standing, start_of}
-use Rattle.call_rules.specs.Ties.{Stands}
 use Rattle.call_rules.proofs.Steps.DrivenCalls.{noted, served}
 use Rattle.call_rules.proofs.Steps.StepChains.{starts}
 

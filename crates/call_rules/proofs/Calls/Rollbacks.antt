@@ -1,10 +1,8 @@
 -- A thread whose transaction is given up.
 use Rattle.std.proofs.Common.{◌≡◌, Bool, true, false, [], refl, sym, ap, subst, ◌∙◌, if◌then◌else◌}
-use Rattle.norec_core.specs.Core.{Core, rolled_back}
+use Rattle.call_rules.proofs.Common.{Core, Idle, Stands, View}
+use Rattle.norec_core.specs.Core.{rolled_back}
 use Rattle.norec_core.specs.Undoing.{after_undoing}
-use Rattle.norec_core.specs.Phases.{Idle}
-use Rattle.shared_words.specs.declared.view.View.{View}
-use Rattle.call_rules.specs.Ties.{Stands}
 
 -- the engine outside
 abbrev outside : Core → Core

@@ -1,17 +1,8 @@
 -- A call of a thread that was left off between a step and what comes of it.
 use Rattle.std.proofs.Common.{ℕ, ◌++◌, Bool, Result, Ok, Err, IfOk, IfErr}
-use Rattle.itm_types.specs.declared.call.Call.{Call}
-use Rattle.norec_core.specs.declared.answer.Answer.{Answer}
-use Rattle.norec_core.specs.declared.answer.Next.TheVariants.{Step as Asks, Answer as Answers}
-use Rattle.norec_core.specs.Core.{Core}
-use Rattle.shared_words.specs.declared.pass.Pass.{Pass}
-use Rattle.shared_words.specs.declared.words.Words.{Words}
-use Rattle.shared_words.specs.Passes.{cells_of, IsOver, view_of}
+use Rattle.call_rules.proofs.Common.{Answer, Answers, Asks, Call, Core, Finishes, HasStepped, IsOver, Pass, Stands, Start, Words, cells_of, view_of}
 use Rattle.call_rules.specs.Underway.{IsUnderway}
-use Rattle.call_rules.specs.Drives.{Finishes, HasStepped}
 use Rattle.call_rules.specs.InCall.{IsDone}
-use Rattle.call_rules.specs.Served.{Start}
-use Rattle.call_rules.specs.Ties.{Stands}
 use Rattle.call_rules.proofs.Steps.DrivenCalls.{due_on, leads_further}
 use Rattle.call_rules.proofs.Steps.StepChains.{starts}
 

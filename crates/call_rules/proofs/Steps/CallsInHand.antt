@@ -1,26 +1,9 @@
 -- An engine with a call that came, or with the value of its step, and the view of its pass.
 use Rattle.std.proofs.Common.{◌≡◌, ◌≢◌, ◌⊎◌, ℕ, suc, ◌+◌, ◌/◌, ◌<◌, ◌≤◌, Bool, true, false, List, [], ◌∷◌, ◌++◌, length, take, None, Some, slice_get, slice_index, ap, ◌∙◌, arith}
+use Rattle.call_rules.proofs.Common.{Agrees, ComesTo, Core, Follows, Got, Grows, Idle, IsFresh, IsHolding, IsMemory, IsOpening, IsOver, IsSettled, Keeps, Loads, Next, Stand, Start, StartsWith, Store, View, Went, after, after_call, asked, backed, came, held, in_transaction, length_after, memory_of, most, pending, reads_of, reply, stage_at, stands_for, stored}
 use Rattle.std.proofs.lemmas.Option.{slice_get-get_or}
-use Rattle.itm_types.specs.declared.step.Step.TheVariants.{Store}
-use Rattle.itm_types.specs.Memory.{Agrees, IsMemory}
-use Rattle.itm_model.specs.Machine.{after as after_call, reply}
-use Rattle.nest_frames.specs.Nest.{reads_of}
-use Rattle.norec_core.specs.declared.answer.Next.{Next}
-use Rattle.norec_core.specs.Core.{Core, came, in_transaction}
-use Rattle.norec_core.specs.Held.{ComesTo}
-use Rattle.norec_core.specs.Keeps.{Keeps}
-use Rattle.norec_core.specs.Order.{asked, stage_at}
-use Rattle.norec_core.specs.Phases.{Idle}
-use Rattle.norec_core.specs.Proceeds.{Got, backed, IsSettled, most}
-use Rattle.norec_core.specs.Stands.{stands_for}
-use Rattle.shared_words.specs.declared.view.View.{View}
-use Rattle.shared_words.specs.Commits.{stored, after, Stand, StartsWith}
-use Rattle.shared_words.specs.Passes.{IsOver}
-use Rattle.shared_words.specs.Views.{held}
-use Rattle.shared_words.proofs.StoredWords.{length_after, after_fits, commits_take}
-use Rattle.call_rules.specs.Ties.{memory_of, Follows, IsFresh, IsHolding}
-use Rattle.call_rules.specs.Served.{Start, Went, Grows}
-use Rattle.call_rules.specs.InCall.{IsOpening, IsShut, Loads, pending}
+use Rattle.shared_words.proofs.StoredWords.{after_fits, commits_take}
+use Rattle.call_rules.specs.InCall.{IsShut}
 
 pub both : (n : Bool) → n ≡ true → n ≡ false → ⊥
 both n t f = absurd (cc)

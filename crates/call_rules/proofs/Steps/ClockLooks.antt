@@ -1,11 +1,6 @@
 -- Outside a transaction the clock may be loaded before the call that asks for it has come.
 use Rattle.std.proofs.Common.{◌≡◌, ℕ, ◌<◌, ◌≤◌, Bool, true, false, refl, sym, ◌∙◌, arith}
-use Rattle.itm_types.specs.declared.step.Step.TheVariants.{Load}
-use Rattle.norec_core.specs.Core.{Core, in_transaction}
-use Rattle.shared_words.specs.declared.view.View.{View}
-use Rattle.shared_words.specs.Passes.{IsOver}
-use Rattle.shared_words.specs.Steps.{Lawful, StepTells}
-use Rattle.call_rules.specs.Ties.{Stands}
+use Rattle.call_rules.proofs.Common.{Core, IsOver, Lawful, Load, Stands, StepTells, View, in_transaction}
 
 free_outside : (b : Bool) (v : View) (e : Core) → v.holds ≡ b → Stands v e → in_transaction e ≡ false → b ≡ false
 free_outside false v e is t closed = refl

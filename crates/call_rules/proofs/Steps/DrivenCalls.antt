@@ -1,20 +1,6 @@
 -- What a thread says of a call follows from the steps of its engine.
 use Rattle.std.proofs.Common.{◌≡◌, ◌≢◌, ℕ, zero, suc, ◌+◌, Bool, true, false, List, [], ◌∷◌, ◌++◌, refl, sym, ap, ◌∙◌, subst, arith, append_assoc, append-nil}
-use mathlib.Core.Logic.{dite}
-use native.Mathlib.Decide.{ℕ_discrete}
-use Rattle.itm_types.specs.declared.step.Step.{Step}
-use Rattle.itm_types.specs.declared.step.Step.TheVariants.{Load, Store, Cas}
-use Rattle.norec_core.specs.declared.answer.Answer.{Answer}
-use Rattle.norec_core.specs.declared.answer.Next.{Next}
-use Rattle.norec_core.specs.declared.answer.Next.TheVariants.{Step as Asks, Answer as Answers}
-use Rattle.norec_core.specs.Core.{Core}
-use Rattle.shared_words.specs.declared.view.View.{View}
-use Rattle.shared_words.specs.Passes.{IsOver}
-use Rattle.shared_words.specs.Steps.{Loaded, StepTells}
-use Rattle.call_rules.specs.Drives.{Drives, HasStepped, IsDriven, LeadsOn}
-use Rattle.call_rules.specs.InCall.{IsDue}
-use Rattle.call_rules.specs.Served.{Served, Start}
-use Rattle.call_rules.specs.Ties.{Stands}
+use Rattle.call_rules.proofs.Common.{Answer, Answers, Asks, Cas, Core, Drives, HasStepped, IsDriven, IsDue, IsOver, LeadsOn, Load, Loaded, Next, Served, Stands, Start, Step, StepTells, Store, View, dite, ℕ_discrete}
 use Rattle.call_rules.proofs.Steps.StepChains.{goes, starts}
 
 -- what is due stays due, step by step

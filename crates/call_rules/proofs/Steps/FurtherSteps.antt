@@ -1,20 +1,8 @@
 -- Steps that are known ahead, as steps of the call.
 use Rattle.std.proofs.Common.{◌≡◌, ℕ, ◌<◌, ◌≤◌, List, [], ◌∷◌, ◌++◌, Some, refl, sym, ap, subst, arith}
-use Rattle.itm_types.specs.declared.step.Step.{Step}
-use Rattle.norec_core.specs.declared.answer.Answer.{Answer}
-use Rattle.norec_core.specs.declared.answer.Next.{Next}
-use Rattle.norec_core.specs.declared.answer.Next.TheVariants.{Step as Asks, Answer as Answers}
-use Rattle.norec_core.specs.Core.{Core}
-use Rattle.norec_core.specs.Moves.{IsResumed}
-use Rattle.shared_words.specs.declared.view.View.{View}
-use Rattle.shared_words.specs.declared.pass.Pass.{Pass}
-use Rattle.shared_words.specs.declared.words.Words.{Words}
-use Rattle.shared_words.specs.Passes.{cells_of, IsOver, Owns, view_of}
-use Rattle.shared_words.specs.Steps.{StepTells}
+use Rattle.call_rules.proofs.Common.{Answer, Answers, Asks, Core, Drives, Finishes, HasStepped, InCall, IsDue, IsOver, IsResumed, LeadsOn, Next, Owns, Pass, Start, Step, StepTells, View, Words, cells_of, left, view_of}
 use Rattle.call_rules.specs.Underway.{Finds}
-use Rattle.call_rules.specs.Drives.{Drives, Finishes, HasStepped, LeadsOn, StepsOn}
-use Rattle.call_rules.specs.InCall.{InCall, IsDue, left}
-use Rattle.call_rules.specs.Served.{Start}
+use Rattle.call_rules.specs.Drives.{StepsOn}
 use Rattle.call_rules.proofs.Steps.DrivenCalls.{due_on, leads_further}
 use Rattle.call_rules.proofs.Steps.StepChains.{at_step, goes, smaller}
 

@@ -1,26 +1,13 @@
 -- The step was done, and its value is handed in.
 use Rattle.std.proofs.Common.{◌≡◌, ◌≢◌, ◌⊎◌, inr, ℕ, zero, suc, ◌+◌, ◌/◌, ◌<◌, ◌≤◌, ◌==◌, Bool, true, false, List, [], ◌∷◌, ◌++◌, length, set, take, if◌then◌else◌, None, Some, slice_get, refl, sym, ap, subst, ◌∙◌, arith, eqb-true, eq-eqb, length-append}
-use Rattle.itm_types.specs.declared.step.Step.{Step}
-use Rattle.itm_types.specs.declared.step.Step.TheVariants.{Load, Store, Cas}
-use Rattle.itm_types.specs.Memory.{IsMemory}
+use Rattle.call_rules.proofs.Common.{Cas, Core, Follows, Got, InCall, IsFresh, IsHolding, IsLawful, IsMemory, IsOver, IsSettled, IsTied, Joins, Load, Loaded, Start, Step, StepTells, Store, View, after, asked, backed, handed_is, handed_to, held, in_transaction, is_inside, keeps_twice, starts_self, stored_snoc, word_loaded}
 use Rattle.norec_core.specs.Phases as at
-use Rattle.norec_core.specs.Core.{Core, handed_to, in_transaction, is_inside, word_loaded}
-use Rattle.norec_core.specs.Order.{asked}
-use Rattle.norec_core.specs.Proceeds.{backed, Got, Joins, IsSettled, IsLawful}
 use Rattle.norec_core.specs.OwnAccesses.{got_in}
 use Rattle.write_set.specs.Rows.{overlay}
-use Rattle.norec_core.proofs.Engines.KeptFields.{IsHanded, keeps_twice, handed_is}
+use Rattle.norec_core.proofs.Engines.KeptFields.{IsHanded}
 use Rattle.norec_core.proofs.Accesses.Logs.{agrees_more, snapshot_same}
-use Rattle.shared_words.specs.declared.view.View.{View}
-use Rattle.shared_words.specs.Commits.{after}
-use Rattle.shared_words.specs.Views.{looked, took, read, noted, wrote, freed, held}
-use Rattle.shared_words.specs.Steps.{Sees, Loaded, StepTells}
-use Rattle.shared_words.specs.Passes.{IsOver}
-use Rattle.shared_words.proofs.ListPlaces.{starts_self}
-use Rattle.shared_words.proofs.StoredWords.{stored_snoc}
-use Rattle.call_rules.specs.Ties.{Follows, IsFresh, IsHolding, IsTied}
-use Rattle.call_rules.specs.Served.{Start}
-use Rattle.call_rules.specs.InCall.{InCall}
+use Rattle.shared_words.specs.Views.{looked, took, read, noted, wrote, freed}
+use Rattle.shared_words.specs.Steps.{Sees}
 use Rattle.call_rules.proofs.Steps.CallsInHand.{Freed, both, IsMid, stand_less, get_of, whole_memory}
 use Rattle.call_rules.proofs.Steps.NewCalls.{held_memory}
 use Rattle.norec_core.proofs.Engines.HeldStores.{got_now, got_or}

@@ -1,26 +1,9 @@
 -- A step of an irrevocable transaction was done, and its value is handed in.
 use Rattle.std.proofs.Common.{◌≡◌, ℕ, zero, suc, ◌+◌, true, List, length, Option, Some, slice_get, refl, sym, ap, subst, ◌∙◌, arith}
-use Rattle.itm_types.specs.declared.call.Reply.{Reply}
-use Rattle.itm_types.specs.declared.step.Step.{Step}
-use Rattle.itm_types.specs.declared.step.Step.TheVariants.{Load, Store, Cas}
-use Rattle.itm_model.specs.Machine.{reply}
-use Rattle.itm_model.specs.State.{State}
-use Rattle.norec_core.specs.declared.answer.Next.{Next}
-use Rattle.norec_core.specs.declared.answer.Next.TheVariants.{Step as Asks, Answer as Answers}
-use Rattle.norec_core.specs.Core.{Core, handed_to}
-use Rattle.norec_core.specs.Held.{ComesTo, IsFound, StepsHeld, answers, leaves, memory_after}
-use Rattle.norec_core.specs.Order.{asked, asked_from, stage_after, stage_from}
-use Rattle.norec_core.specs.Proceeds.{Got, Proceeds}
-use Rattle.norec_core.specs.Stands.{stands_for}
-use Rattle.norec_core.proofs.Replies.AnsweredEngines.{rests}
-use Rattle.norec_core.proofs.Engines.KeptFields.{handed_is}
-use Rattle.shared_words.specs.declared.view.View.{View}
-use Rattle.shared_words.specs.Commits.{after}
-use Rattle.shared_words.specs.Steps.{StepTells}
-use Rattle.shared_words.specs.Views.{held}
-use Rattle.shared_words.proofs.StoredWords.{after_snoc, stored_snoc}
-use Rattle.call_rules.specs.Served.{Start}
-use Rattle.call_rules.specs.InCall.{InCall, HeldOn}
+use Rattle.call_rules.proofs.Common.{Answers, Asks, Cas, ComesTo, Core, Got, InCall, Load, Next, Proceeds, Reply, Start, State, Step, StepTells, Store, View, after, after_snoc, asked, asked_from, handed_is, handed_to, held, reply, rests, stage_from, stands_for, stored_snoc}
+use Rattle.norec_core.specs.Held.{IsFound, StepsHeld, answers, leaves, memory_after}
+use Rattle.norec_core.specs.Order.{stage_after}
+use Rattle.call_rules.specs.InCall.{HeldOn}
 use Rattle.call_rules.proofs.Steps.CallsInHand.{both, IsHeldMid, get_of}
 use Rattle.call_rules.proofs.Steps.NewCalls.{held_memory}
 use Rattle.norec_core.proofs.Engines.HeldStores.{IsLoaded, got_handed}

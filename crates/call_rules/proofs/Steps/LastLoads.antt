@@ -1,12 +1,6 @@
 -- The word that was loaded last.
 use Rattle.std.proofs.Common.{◌≡◌, ℕ, zero, suc, ◌+◌, Bool, true, false, List, [], ◌∷◌, ◌++◌, Some, ap, ◌∙◌, arith}
-use Rattle.itm_types.specs.declared.row.LogRow.{LogRow}
-use Rattle.itm_types.specs.declared.step.Step.{Step}
-use Rattle.itm_types.specs.declared.step.Step.TheVariants.{Load, Store, Cas}
-use Rattle.norec_core.specs.Core.{Core, handed_to, word_loaded}
-use Rattle.shared_words.specs.declared.view.View.{View}
-use Rattle.shared_words.specs.Steps.{Loaded, StepTells}
-use Rattle.call_rules.specs.InCall.{Loads}
+use Rattle.call_rules.proofs.Common.{Cas, Core, Load, Loaded, Loads, LogRow, Step, StepTells, Store, View, handed_to, word_loaded}
 
 pub no_last : (before : List LogRow) (row : LogRow) → [] ≡ before ++ row ∷ [] → ⊥
 no_last [] row e = absurd (cc)

@@ -1,27 +1,11 @@
 -- A call comes, and the engine asks for a step.
 use Rattle.std.proofs.Common.{◌≡◌, ◌≢◌, inl, inr, ℕ, suc, ◌+◌, ◌/◌, ◌≤◌, Bool, true, List, [], ◌∷◌, length, ◌++◌, None, Some, refl, sym, ap, subst, ◌∙◌, arith}
-use Rattle.itm_types.specs.declared.call.Call.{Call}
-use Rattle.itm_types.specs.declared.step.Step.{Step}
-use Rattle.itm_types.specs.declared.row.LogRow.{LogRow}
-use Rattle.itm_types.specs.Memory.{Agrees, IsMemory}
-use Rattle.nest_frames.specs.Nest.{Frame, reads_of}
-use Rattle.norec_core.specs.Core.{Core, came, in_transaction, is_inside}
+use Rattle.call_rules.proofs.Common.{Agrees, Asks, Call, Core, Follows, Frame, Grows, InCall, IsHolding, IsMemory, IsOpening, IsOver, IsSettled, IsWithin, Keeps, LogRow, Next, Proceeds, Stands, Start, Step, View, after, asked, asked_from, came, held, in_transaction, is_inside, keeps_twice, memory_of, most, most_same, pending, reads_of, stage_at, starts_self, tries_at}
 use Rattle.norec_core.specs.Held.{ComesHeld}
-use Rattle.norec_core.specs.Keeps.{Keeps}
-use Rattle.norec_core.specs.Order.{asked, asked_from, stage_at, tries_at}
-use Rattle.norec_core.specs.Proceeds.{AreRead, AsksFor, IsSettled, IsWithin, Proceeds, StaysOn, most}
-use Rattle.norec_core.specs.declared.answer.Next.{Next}
-use Rattle.norec_core.specs.declared.answer.Next.TheVariants.{Step as Asks}
-use Rattle.norec_core.proofs.Engines.KeptFields.{keeps_self, keeps_twice, keeps_asked, most_same}
-use Rattle.shared_words.specs.declared.view.View.{View}
-use Rattle.shared_words.specs.Commits.{after}
-use Rattle.shared_words.specs.Passes.{IsOver}
-use Rattle.shared_words.specs.Views.{held}
-use Rattle.shared_words.proofs.ListPlaces.{starts_self}
+use Rattle.norec_core.specs.Proceeds.{AreRead, AsksFor, StaysOn}
+use Rattle.norec_core.proofs.Engines.KeptFields.{keeps_self, keeps_asked}
 use Rattle.shared_words.proofs.StoredWords.{length_stored, stored_fits}
-use Rattle.call_rules.specs.Ties.{memory_of, Follows, IsHolding, Stands}
-use Rattle.call_rules.specs.Served.{Start, Grows}
-use Rattle.call_rules.specs.InCall.{InCall, IsOpening, Grew, pending}
+use Rattle.call_rules.specs.InCall.{Grew}
 use Rattle.call_rules.proofs.Steps.Tries.{first_opens, first_tries}
 use Rattle.call_rules.proofs.Steps.LastLoads.{no_last}
 use Rattle.norec_core.proofs.Engines.HeldStores.{none_got, shut_revocable}

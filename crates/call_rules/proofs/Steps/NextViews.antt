@@ -1,21 +1,11 @@
 -- What the next view has seen, and what the log comes to by it.
 use Rattle.std.proofs.Common.{◌≡◌, ◌⊎◌, inl, inr, ℕ, ◌+◌, ◌/◌, ◌%◌, ◌<◌, ◌≤◌, true, false, List, length, Some, sym, ap, subst, ◌∙◌, arith}
-use Rattle.std.proofs.lemmas.List.{take_all}
-use Rattle.itm_types.specs.declared.row.LogRow.{LogRow}
-use Rattle.itm_types.specs.declared.step.Step.{Step}
-use Rattle.itm_types.specs.declared.step.Step.TheVariants.{Load, Cas}
-use Rattle.itm_types.specs.Memory.{Agrees}
-use Rattle.norec_core.specs.Core.{Core, in_transaction, is_inside}
-use Rattle.norec_core.specs.Proceeds.{GoesBack, GoesOver, IsLawful, Joins, Settles, IsSettled}
-use Rattle.norec_core.proofs.Accesses.Logs.{agrees_less, snapshot_late, log_longer, still_logged}
+use Rattle.call_rules.proofs.Common.{Agrees, Cas, Core, Grows, InCall, IsLawful, IsSettled, IsTied, Joins, Load, LogRow, Stand, Start, StartsWith, Step, View, Went, after, agrees_less, in_transaction, is_inside, length_after, memory_of, starts_le, starts_trans, take_all}
+use Rattle.norec_core.specs.Proceeds.{GoesBack, GoesOver, Settles}
+use Rattle.norec_core.proofs.Accesses.Logs.{snapshot_late, log_longer, still_logged}
 use Rattle.norec_core.proofs.Accesses.Logs as logs
-use Rattle.shared_words.specs.declared.view.View.{View}
-use Rattle.shared_words.specs.Commits.{after, memory_at, Stand, StartsWith}
-use Rattle.shared_words.proofs.ListPlaces.{starts_le, starts_trans}
-use Rattle.shared_words.proofs.StoredWords.{length_after, memory_stays}
-use Rattle.call_rules.specs.Ties.{memory_of, IsTied}
-use Rattle.call_rules.specs.Served.{Start, Went, Grows}
-use Rattle.call_rules.specs.InCall.{InCall}
+use Rattle.shared_words.specs.Commits.{memory_at}
+use Rattle.shared_words.proofs.StoredWords.{memory_stays}
 use Rattle.call_rules.proofs.Steps.CallsInHand.{Before, both}
 
 abbrev pub Log : Type 0

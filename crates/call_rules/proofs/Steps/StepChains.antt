@@ -1,31 +1,11 @@
 -- From step to step of a call.
 use Rattle.std.proofs.Common.{◌≡◌, ◌≢◌, ℕ, zero, suc, ◌+◌, ◌/◌, ◌<◌, ◌≤◌, Bool, true, false, Option, None, Some, IsSome, slice_get, refl, sym, ap, subst, ◌∙◌, arith}
-use mathlib.Core.Logic.{dite}
-use native.Mathlib.Decide.{ℕ_discrete}
+use Rattle.call_rules.proofs.Common.{Answer, Answers, Asks, Busy, Call, Cas, Committed, Conflict, Core, Ends, Full, Got, Idle, InCall, IsCalled, IsDue, IsEnding, IsLawful, IsOpening, IsOver, IsPatient, IsResumed, IsTied, Lawful, Load, Next, Phase, Proceeds, Restarted, Served, Stands, Start, Step, StepTells, Store, View, asked_from, came, dite, ending_from, handed_is, handed_to, held, in_transaction, is_inside, left, most, most_same, pending, rests, stage_from, ℕ_discrete}
 use Rattle.itm_types.specs.declared.limits.TheConstants.{MAX_COMMITS}
-use Rattle.itm_types.specs.declared.call.Call.{Call}
-use Rattle.itm_types.specs.declared.step.Step.{Step}
-use Rattle.itm_types.specs.declared.step.Step.TheVariants.{Load, Store, Cas}
-use Rattle.norec_core.specs.declared.answer.Next.{Next}
-use Rattle.norec_core.specs.declared.answer.Next.TheVariants.{Step as Asks, Answer as Answers}
-use Rattle.norec_core.specs.declared.answer.Answer.{Answer}
-use Rattle.norec_core.specs.declared.answer.Answer.TheVariants.{Reply, Committed, Conflict, Restarted, Busy, Full}
-use Rattle.norec_core.specs.Phases.{Phase}
-use Rattle.norec_core.specs.Phases.{Idle}
-use Rattle.norec_core.specs.Endings.{EndsSo, IsEnding, ending_after, ending_from}
-use Rattle.norec_core.proofs.Replies.AnsweredEngines.{rests}
-use Rattle.norec_core.specs.Core.{Core, came, handed_to, in_transaction, is_inside}
-use Rattle.norec_core.specs.Order.{asked_from, stage_from}
-use Rattle.norec_core.specs.Proceeds.{Ends, Got, Proceeds, IsLawful, Fits, FitsStep, most}
-use Rattle.norec_core.specs.Moves.{IsCalled, IsResumed}
-use Rattle.norec_core.proofs.Engines.KeptFields.{handed_is, most_same}
-use Rattle.shared_words.specs.declared.view.View.{View}
-use Rattle.shared_words.specs.Steps.{Lawful, StepTells, WasFound, cell_of}
-use Rattle.shared_words.specs.Views.{held}
-use Rattle.shared_words.specs.Passes.{IsOver}
-use Rattle.call_rules.specs.Ties.{IsTied, Stands}
-use Rattle.call_rules.specs.Served.{Start, Served, IsPatient}
-use Rattle.call_rules.specs.InCall.{InCall, IsDue, IsOpening, left, pending}
+use Rattle.norec_core.specs.declared.answer.Answer.TheVariants.{Reply}
+use Rattle.norec_core.specs.Endings.{EndsSo, ending_after}
+use Rattle.norec_core.specs.Proceeds.{Fits, FitsStep}
+use Rattle.shared_words.specs.Steps.{WasFound, cell_of}
 use Rattle.call_rules.proofs.Steps.CallsInHand.{IsMid, IsHeldMid, Tried}
 use Rattle.call_rules.proofs.Steps.NewCalls.{comes, comes_held, comes_tried}
 use Rattle.call_rules.proofs.Steps.HandedValues.{hands, closed_look}

@@ -1,13 +1,6 @@
 -- A read of one whole word, whose word and clock are loaded one right after the other.
 use Rattle.std.proofs.Common.{◌≡◌, ℕ, ◌+◌, ◌<◌, false, refl, ap, ◌∙◌, arith}
-use Rattle.itm_types.specs.declared.step.Step.TheVariants.{Load}
-use Rattle.norec_core.specs.Core.{Core}
-use Rattle.shared_words.specs.declared.view.View.{View}
-use Rattle.shared_words.specs.Passes.{IsOver}
-use Rattle.shared_words.specs.Steps.{Lawful, StepTells}
-use Rattle.call_rules.specs.Ties.{Stands}
-use Rattle.call_rules.specs.Served.{Start}
-use Rattle.call_rules.specs.InCall.{InCall}
+use Rattle.call_rules.proofs.Common.{Core, InCall, IsOver, Lawful, Load, Stands, Start, StepTells, View}
 use Rattle.call_rules.proofs.Steps.StepChains.{cell_within}
 
 module _ (cells : ℕ) (v w : View) (ov : IsOver cells v) (ow : IsOver cells w) (e mid : Core) (word value : ℕ) (turn : StepTells v (Load (word + 1)) value w) where

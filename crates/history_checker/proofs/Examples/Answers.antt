@@ -1,12 +1,8 @@
 -- Worked answers, computed: what the plain machine answers where an attempt is wrong.
 use Rattle.std.proofs.Common.{◌≡◌, [], ◌∷◌, refl, None, Some}
-use Rattle.itm_types.specs.declared.call.Reply.TheVariants.{Bytes}
-use Rattle.tx_attempts.specs.declared.attempt.Outcome.TheVariants.{Committed, Cancelled}
+use Rattle.history_checker.proofs.Common.{Bad, Bytes, Cancelled, Committed, Legal, at_call, at_head, fault_in, verdict_of}
 use Rattle.history_checker.specs.declared.verdict.BadKind.TheVariants as kind
-use Rattle.history_checker.specs.declared.verdict.Verdict.TheVariants.{Legal, Bad}
 use Rattle.history_checker.specs.Answers.{finding_of}
-use Rattle.history_checker.specs.Replays.{at_call, at_head, fault_in}
-use Rattle.history_checker.specs.Verdicts.{verdict_of}
 use Rattle.history_checker.proofs.Examples.Histories.{attempt, cancels, commits, eight, history, reader, reads, writer, writes}
 
 -- the second writer read what was before the first one, which wrote 1

@@ -1,21 +1,9 @@
 -- The histories of worked verdicts: calls on one word that is zero at first, and attempts of one thread.
 use Rattle.std.proofs.Common.{ℕ, ◌+◌, List, [], ◌∷◌, false, refl}
-use Rattle.itm_types.specs.declared.access.Width.TheVariants.{U8}
+use Rattle.history_checker.proofs.Common.{Abort, Attempt, Bytes, Call, CallRecord, Code, Commit, Committed, Done, History, Mode, One, Outcome, Ran, Read, ReadOnly, Reply, U8, UndoAction, Unfinished, W, Write}
 use Rattle.itm_types.specs.declared.access.ReadHint.TheVariants.{R}
-use Rattle.itm_types.specs.declared.access.WriteHint.TheVariants.{W}
 use Rattle.itm_types.specs.declared.call.Action.{Action}
-use Rattle.itm_types.specs.declared.call.Call.{Call}
-use Rattle.itm_types.specs.declared.call.Call.TheVariants.{Commit, Abort, Mode, Read, Write, UndoAction}
 use Rattle.itm_types.specs.declared.call.Props.{Props}
-use Rattle.itm_types.specs.declared.call.Ran.{Ran}
-use Rattle.itm_types.specs.declared.call.Reply.{Reply}
-use Rattle.itm_types.specs.declared.call.Reply.TheVariants.{Done, Bytes, Code}
-use Rattle.tx_attempts.specs.declared.attempt.Attempt.{Attempt}
-use Rattle.tx_attempts.specs.declared.attempt.CallRecord.{CallRecord}
-use Rattle.tx_attempts.specs.declared.attempt.Outcome.{Outcome}
-use Rattle.tx_attempts.specs.declared.attempt.Outcome.TheVariants.{Committed, ReadOnly, Unfinished}
-use Rattle.tx_history.specs.declared.history.History.{History}
-use Rattle.tx_history.specs.declared.history.Version.TheVariants.{One}
 
 -- ## Calls with their replies
 

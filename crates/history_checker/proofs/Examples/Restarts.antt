@@ -1,26 +1,12 @@
 -- Worked verdicts on histories in which a block ran again, and on those of another depth, computed.
 use Rattle.std.proofs.Common.{◌≡◌, ℕ, List, [], ◌∷◌, ◌++◌, refl, replicate, arith}
-use Rattle.itm_types.specs.declared.access.WriteHint.TheVariants.{W}
-use Rattle.itm_types.specs.declared.access.Width.TheVariants.{U1, U8}
+use Rattle.history_checker.proofs.Common.{Again, Attempt, Bad, Begin, CallRecord, Code, Commit, Committed, Done, History, Legal, Load, Mode, One, Refused, Reply, TooDeep, Two, U8, Unfinished, Version, W, Write, bytes_reply, fault_in, verdict_of}
+use Rattle.itm_types.specs.declared.access.Width.TheVariants.{U1}
 use Rattle.itm_types.specs.declared.call.ActionKind.TheVariants.{Undo}
-use Rattle.itm_types.specs.declared.call.Call.TheVariants.{Begin, Commit, Load, Mode, Write}
-use Rattle.itm_types.specs.declared.call.Refusal.TheVariants.{TooDeep}
-use Rattle.itm_types.specs.declared.call.Reply.{Reply}
-use Rattle.itm_types.specs.declared.call.Reply.TheVariants.{Done, Code, Refused}
 use Rattle.itm_types.specs.declared.limits.Depth.{Depth}
-use Rattle.itm_model.specs.Machine.{bytes_reply}
-use Rattle.tx_attempts.specs.declared.attempt.Again.{Again}
-use Rattle.tx_attempts.specs.declared.attempt.Attempt.{Attempt}
-use Rattle.tx_attempts.specs.declared.attempt.CallRecord.{CallRecord}
-use Rattle.tx_attempts.specs.declared.attempt.Outcome.TheVariants.{Committed, Unfinished}
 use Rattle.tx_attempts.proofs.Examples.{again, eight, plain}
-use Rattle.tx_history.specs.declared.history.History.{History}
-use Rattle.tx_history.specs.declared.history.Version.{Version}
-use Rattle.tx_history.specs.declared.history.Version.TheVariants.{One, Two, Three}
+use Rattle.tx_history.specs.declared.history.Version.TheVariants.{Three}
 use Rattle.history_checker.specs.declared.verdict.BadKind.TheVariants as kind
-use Rattle.history_checker.specs.declared.verdict.Verdict.TheVariants.{Legal, Bad}
-use Rattle.history_checker.specs.Replays.{fault_in}
-use Rattle.history_checker.specs.Verdicts.{verdict_of}
 
 -- ## A block that ran again
 

@@ -1,14 +1,8 @@
 -- Worked verdicts, computed. The text of a history has its header in line 1 and the memory in line 2; an attempt has a line for its head, one for its arena, one for each call and each action that ran, and its `end`; the final line comes last.
 use Rattle.std.proofs.Common.{◌≡◌, [], ◌∷◌, refl}
-use Rattle.itm_types.specs.declared.call.Call.TheVariants.{Commit}
-use Rattle.itm_types.specs.declared.call.Refusal.TheVariants.{Outside}
-use Rattle.itm_types.specs.declared.call.Reply.TheVariants.{Refused}
+use Rattle.history_checker.proofs.Common.{Bad, Cancelled, Commit, Committed, Legal, Outside, ReadOnly, Refused, Unfinished, fault_in, verdict_of}
 use Rattle.user_actions.specs.Actions.{as_undo}
-use Rattle.tx_attempts.specs.declared.attempt.Outcome.TheVariants.{Committed, ReadOnly, Cancelled, Unfinished}
 use Rattle.history_checker.specs.declared.verdict.BadKind.TheVariants as kind
-use Rattle.history_checker.specs.declared.verdict.Verdict.TheVariants.{Legal, Bad}
-use Rattle.history_checker.specs.Replays.{fault_in}
-use Rattle.history_checker.specs.Verdicts.{verdict_of}
 use Rattle.history_checker.proofs.Examples.Histories.{action, answered, attempt, attempt_ran, cancels, commits, history, holder, on_undo, reader, reads, writer, writes}
 
 -- ## Legal ones

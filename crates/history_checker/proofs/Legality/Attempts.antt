@@ -1,32 +1,13 @@
 -- An attempt has no fault on a memory exactly where it is one alone on it.
-use Rattle.std.proofs.Common.{◌≡◌, ℕ, zero, suc, ◌-◌, ◌<◌, Bool, true, false, not, ◌&&◌, if◌then◌else◌, is_some, List, [], ◌∷◌, ◌++◌, length, map, take, Option, None, Some, refl, sym, ap, subst, ◌∙◌, arith, length-append}
-use Rattle.std.specs.Prelude.{bytes_eq}
-use Rattle.std.specs.Bool.{Decides}
-use Rattle.std.specs.Cmp.Lexicographic.{pointwise}
+use Rattle.std.proofs.Common.{◌≡◌, ℕ, zero, suc, ◌-◌, ◌<◌, Bool, true, false, not, ◌&&◌, if◌then◌else◌, is_some, List, [], ◌∷◌, ◌++◌, length, map, take, Option, None, Some, refl, sym, ap, subst, ◌∙◌, arith, length-append, bytes_eq}
+use Rattle.history_checker.proofs.Common.{Abort, Again, Attempt, Begin, Breaks, Bytes, Call, CallRecord, Cancelled, Code, Commit, CommitAction, Committed, Conflict, Copy, Decides, Decides-and, Done, Fault, Fill, Full, InTransaction, IsAlone, Load, Log, LogBytes, Mode, NoMemory, Outcome, Read, ReadOnly, Refused, Reply, Save, State, UndoAction, Unfinished, Write, after, again_at, again_fault, alone, and_from, and_parts, are_again, arena_set, at_call, at_head, bytes_eq-Decides, calls_fault, cond-false, cond-true, end_fault, eqb-true, fault_in, first_of, is_abort_done, is_commit_done, is_open, last_is, may_stand, not-true, not_from_false, opened, pointwise, reply, same_ran, same_reply, state_through}
 use Rattle.std.proofs.Math.Seq.{take-append_seam}
-use Rattle.std.proofs.lemmas.Bool.{and_from, and_parts, cond-false, cond-true, eqb-true, not-true, not_from_false}
-use Rattle.std.proofs.lemmas.Bool.Decides.{Decides-and}
-use Rattle.std.proofs.lemmas.Slice.Eq.{bytes_eq-Decides}
-use Rattle.itm_types.specs.declared.call.Call.{Call}
-use Rattle.itm_types.specs.declared.call.Call.TheVariants.{Begin, Commit, Abort, Mode, InTransaction, Read, Write, Log, LogBytes, Copy, Fill, CommitAction, UndoAction, Load, Save}
-use Rattle.itm_types.specs.declared.call.Reply.{Reply}
-use Rattle.itm_types.specs.declared.call.Reply.TheVariants.{Done, Bytes, Code, Refused}
-use Rattle.itm_model.specs.State.{State}
-use Rattle.itm_model.specs.Machine.{after, is_open, opened, reply}
-use Rattle.itm_model.specs.Runs.{Breaks, replies_through, state_through}
-use Rattle.tx_attempts.specs.declared.attempt.Again.{Again}
-use Rattle.tx_attempts.specs.declared.attempt.Attempt.{Attempt}
-use Rattle.tx_attempts.specs.declared.attempt.CallRecord.{CallRecord}
-use Rattle.tx_attempts.specs.declared.attempt.Outcome.{Outcome}
-use Rattle.tx_attempts.specs.declared.attempt.Outcome.TheVariants.{Committed, ReadOnly, Cancelled, Conflict, Full, NoMemory, Unfinished}
-use Rattle.tx_attempts.specs.Attempts.{ByAbort, ByCommit, ClosedBy, alone}
+use Rattle.itm_model.specs.Runs.{replies_through}
+use Rattle.tx_attempts.specs.Attempts.{ByAbort, ByCommit, ClosedBy}
 use Rattle.tx_attempts.specs.Opacity.{StaysRevocable}
-use Rattle.tx_attempts.specs.Restarts.{again_at, arena_set}
-use Rattle.tx_history.specs.Legal.{EndsIn, IsAlone, may_begin, ran_alone, state_at}
+use Rattle.tx_history.specs.Legal.{EndsIn, may_begin, ran_alone, state_at}
 use Rattle.history_checker.specs.declared.verdict.BadKind.TheVariants as kind
-use Rattle.history_checker.specs.declared.verdict.Fault.{Fault}
-use Rattle.history_checker.specs.Matches.{same_ran, same_reply}
-use Rattle.history_checker.specs.Replays.{again_fault, are_again, at_call, at_head, calls_fault, came_irrevocable, end_fault, ends_by_abort, ends_by_commit, fault_in, first_of, fits, is_abort_done, is_cancelled, is_commit_done, is_done, last_is, may_stand}
+use Rattle.history_checker.specs.Replays.{came_irrevocable, ends_by_abort, ends_by_commit, fits, is_cancelled, is_done}
 use Rattle.history_checker.proofs.Steps.Calls.{made}
 use Rattle.history_checker.proofs.Legality.Replies.{all_ran_decides, reply_decides}
 use Rattle.history_checker.proofs.Legality.Restarts.{again_decides, each_at, each_from}

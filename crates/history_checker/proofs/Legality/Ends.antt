@@ -1,17 +1,9 @@
 -- What a history's end says, by tests and by what it means.
-use Rattle.std.proofs.Common.{◌≡◌, ◌⊎◌, ℕ, ◌+◌, ◌*◌, ◌≤◌, ◌==◌, true, false, not, ◌&&◌, ◌||◌, nat_le, All, List, [], ◌∷◌, ◌++◌, length, refl, sym, ap, ◌∙◌, inl, inr, eq-eqb, eqb-true}
-use Rattle.std.specs.Prelude.{bytes_eq}
-use Rattle.std.specs.Bool.{Decides}
-use Rattle.std.proofs.lemmas.Bool.{and_cases, and_from, and_left, and_parts, and_right, cases_Bool, le-leb, leb-true, not-false, not-true, not_from_false, not_from_true, or_cases, or_from, or_left, or_parts, or_right}
-use Rattle.std.proofs.lemmas.Bool.Decides.{Decides-and, Decides-eqb, Decides-or}
-use Rattle.std.proofs.lemmas.List.Elements.{All-nil, All-cons, All-head, All-tail}
-use Rattle.std.proofs.lemmas.Slice.Eq.{bytes_eq-Decides}
-use Rattle.tx_attempts.specs.declared.attempt.Attempt.{Attempt}
-use Rattle.tx_attempts.specs.declared.attempt.Outcome.{Outcome}
-use Rattle.tx_attempts.specs.declared.attempt.Outcome.TheVariants.{Committed, ReadOnly, Cancelled, Conflict, Full, NoMemory, Unfinished}
-use Rattle.tx_history.specs.declared.history.History.{History}
-use Rattle.tx_history.specs.Legal.{EndsFree, EndsHeld, count_holding, is_holding, is_unfinished, memory_at}
-use Rattle.history_checker.specs.Verdicts.{ends_free, ends_held, is_away, is_waiting}
+use Rattle.std.proofs.Common.{◌≡◌, ◌⊎◌, ℕ, ◌+◌, ◌*◌, ◌≤◌, ◌==◌, true, false, not, ◌&&◌, ◌||◌, nat_le, All, List, [], ◌∷◌, ◌++◌, length, refl, sym, ap, ◌∙◌, inl, inr, eq-eqb, eqb-true, bytes_eq}
+use Rattle.history_checker.proofs.Common.{All-cons, All-head, All-nil, All-tail, Attempt, Cancelled, Committed, Conflict, Decides, Decides-and, Full, History, NoMemory, Outcome, ReadOnly, Unfinished, and_cases, and_from, and_left, and_parts, and_right, bytes_eq-Decides, cases_Bool, count_holding, ends_free, ends_held, is_away, is_holding, is_unfinished, is_waiting, le-leb, memory_at, not-true, not_from_false, or_from, or_parts}
+use Rattle.std.proofs.lemmas.Bool.{leb-true, not-false, not_from_true, or_cases, or_left, or_right}
+use Rattle.std.proofs.lemmas.Bool.Decides.{Decides-eqb, Decides-or}
+use Rattle.tx_history.specs.Legal.{EndsFree, EndsHeld}
 
 -- ## Who holds the clock
 

@@ -1,27 +1,8 @@
 -- The machine's answer is told just where a call has another reply, and is its reply there.
-use Rattle.std.proofs.Common.{◌≡◌, ℕ, zero, suc, ◌+◌, ◌<◌, ◌≤◌, ◌⊎◌, Bool, true, false, not, ◌&&◌, ◌==◌, nat_lt, if◌then◌else◌, List, [], ◌∷◌, ◌++◌, length, take, Option, None, Some, refl, sym, ap, subst, ◌∙◌, inl, inr, arith, length-append}
-use Rattle.std.specs.Prelude.{is_none, nat_le, slice_get}
-use Rattle.std.proofs.lemmas.Bool.{and_from, and_parts, cases_Bool, cases_lt, cond-false, cond-true, eqb-true, lt-leb, le-leb, ltb-true}
-use Rattle.itm_types.specs.declared.call.Reply.{Reply}
-use Rattle.itm_model.specs.State.{State}
-use Rattle.itm_model.specs.Machine.{after, is_open, opened, reply}
-use Rattle.itm_model.specs.Runs.{Breaks, state_through}
-use Rattle.tx_attempts.specs.declared.attempt.Again.{Again}
-use Rattle.tx_attempts.specs.declared.attempt.Attempt.{Attempt}
-use Rattle.tx_attempts.specs.declared.attempt.CallRecord.{CallRecord}
-use Rattle.tx_attempts.specs.Attempts.{alone, is_at, is_committed}
-use Rattle.tx_attempts.specs.Counts.{count_committed}
-use Rattle.tx_attempts.specs.Restarts.{again_at, arena_set}
-use Rattle.tx_history.specs.declared.history.History.{History}
-use Rattle.tx_history.specs.Legal.{memory_at}
-use Rattle.tx_history.specs.Versions.{depth_of}
+use Rattle.std.proofs.Common.{◌≡◌, ℕ, zero, suc, ◌+◌, ◌<◌, ◌≤◌, ◌⊎◌, Bool, true, false, not, ◌&&◌, ◌==◌, nat_lt, if◌then◌else◌, List, [], ◌∷◌, ◌++◌, length, take, Option, None, Some, refl, sym, ap, subst, ◌∙◌, inl, inr, arith, length-append, is_none, nat_le, slice_get}
+use Rattle.history_checker.proofs.Common.{Again, Attempt, Breaks, CallRecord, Fault, HasReason, History, Reply, Spot, State, after, again_at, again_fault, alone, and_from, and_parts, answer_at, answer_in, answer_of, answer_on, answer_to, arena_set, at_call, at_fault, at_head, at_place, call_answer, calls_fault, cases_Bool, cases_lt, committed_fault, cond-false, cond-true, count_committed, depth_of, end_fault, eqb-true, fault_at, fault_in, first_fault, first_of, is_at, is_beyond, is_committed, is_known, is_misplaced, is_open, is_reached, le-leb, lt-leb, ltb-true, may_stand, memory_at, opened, others_fault, position_fault, reply, same_reply, spot_answer, state_behind, state_through}
 use Rattle.history_checker.specs.declared.verdict.BadKind.TheVariants as kind
-use Rattle.history_checker.specs.declared.verdict.Fault.{Fault}
-use Rattle.history_checker.specs.declared.verdict.Spot.{Spot}
-use Rattle.history_checker.specs.Answers.{HasReason, IsReason, IsReasonIn, answer_at, answer_in, answer_of, answer_on, answer_to, call_answer, is_known, is_reached, spot_answer, state_behind}
-use Rattle.history_checker.specs.Matches.{same_reply}
-use Rattle.history_checker.specs.Replays.{again_fault, at_call, at_head, calls_fault, end_fault, fault_in, first_of, may_stand}
-use Rattle.history_checker.specs.Verdicts.{at_fault, at_place, committed_fault, fault_at, first_fault, is_beyond, is_misplaced, others_fault, position_fault}
+use Rattle.history_checker.specs.Answers.{IsReason, IsReasonIn}
 use Rattle.history_checker.proofs.Steps.Answers.{second_fails}
 use Rattle.history_checker.proofs.Steps.Calls.{made}
 use Rattle.history_checker.proofs.Steps.Tables.{seen_within}

@@ -1,17 +1,7 @@
 -- No attempt of a history has a fault exactly where each is one alone on the memory at its position.
 use Rattle.std.proofs.Common.{◌≡◌, ℕ, zero, suc, ◌<◌, ◌≤◌, ◌==◌, Bool, true, false, not, nat_lt, if◌then◌else◌, All, List, [], ◌∷◌, length, get_or, Option, None, Some, refl, sym, ap, subst, ◌∙◌, inl, inr, arith}
-use Rattle.std.proofs.lemmas.Bool.{and_parts, and_right, cases_Bool, cases_lt, cond-false, cond-true, eqb-true, le-ltb}
-use Rattle.std.proofs.lemmas.List.Elements.{All-nil, All-cons, All-head, All-tail}
-use Rattle.tx_attempts.specs.declared.attempt.Attempt.{Attempt}
-use Rattle.tx_attempts.specs.Attempts.{is_at, is_committed}
-use Rattle.tx_attempts.specs.Counts.{count_at, one_where}
-use Rattle.tx_history.specs.declared.history.History.{History}
-use Rattle.tx_history.specs.Legal.{IsAlone, memory_at}
-use Rattle.tx_history.specs.Versions.{depth_of}
+use Rattle.history_checker.proofs.Common.{All-cons, All-head, All-nil, All-tail, Attempt, Fault, History, IsAlone, and_parts, and_right, at_fault, at_head, at_place, cases_Bool, cases_lt, committed_fault, cond-false, cond-true, count_at, depth_of, eqb-true, fault_at, fault_in, first_of, is_at, is_beyond, is_committed, le-ltb, memory_at, one_where, others_fault}
 use Rattle.history_checker.specs.declared.verdict.BadKind.TheVariants as kind
-use Rattle.history_checker.specs.declared.verdict.Fault.{Fault}
-use Rattle.history_checker.specs.Replays.{at_head, fault_in, first_of}
-use Rattle.history_checker.specs.Verdicts.{at_fault, at_place, committed_fault, fault_at, is_beyond, others_fault}
 use Rattle.history_checker.proofs.Legality.Attempts.{alone_from, faultless, first_nothing}
 use Rattle.history_checker.proofs.Legality.Positions.{AtMostOnce, at_its_own, counts_there, once_each, once_there}
 use Rattle.history_checker.proofs.Steps.Tables.{none_beyond, seen_within}

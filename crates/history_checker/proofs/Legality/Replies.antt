@@ -1,19 +1,12 @@
 -- The tests of replies and of actions are true exactly where both are the same.
 use Rattle.std.proofs.Common.{◌≡◌, ℕ, true, ◌&&◌, ◌==◌, if◌then◌else◌, List, refl, sym, ap, subst, ◌∙◌, eq-eqb, eqb-true}
-use Rattle.std.specs.Bool.{Decides}
-use Rattle.std.specs.Cmp.Lexicographic.{pointwise}
-use Rattle.std.proofs.lemmas.Bool.{and_from, and_parts}
-use Rattle.std.proofs.lemmas.Slice.Eq.{bytes_eq-Decides, slice_eq-Decides}
+use Rattle.history_checker.proofs.Common.{Bytes, Code, Decides, Done, Outside, Ran, Refusal, Refused, Reply, TooDeep, and_from, and_parts, bytes_eq-Decides, bytes_reply, pointwise, same_ran, same_reply}
+use Rattle.std.proofs.lemmas.Slice.Eq.{slice_eq-Decides}
 use Rattle.itm_types.specs.Refusals.{number_of}
 use Rattle.itm_types.specs.declared.call.ActionKind.{ActionKind}
 use Rattle.itm_types.specs.declared.call.ActionKind.TheVariants as kinds
-use Rattle.itm_types.specs.declared.call.Ran.{Ran}
-use Rattle.itm_types.specs.declared.call.Refusal.{Refusal}
-use Rattle.itm_types.specs.declared.call.Refusal.TheVariants.{Outside, OutOfRange, OutOfArena, Overlap, NoAbort, IsIrrevocable, NoIrrevocable, TooDeep}
-use Rattle.itm_types.specs.declared.call.Reply.{Reply}
-use Rattle.itm_types.specs.declared.call.Reply.TheVariants.{Done, Bytes, Code, Refused}
-use Rattle.itm_model.specs.Machine.{bytes_reply}
-use Rattle.history_checker.specs.Matches.{same_kind, same_ran, same_reply}
+use Rattle.itm_types.specs.declared.call.Refusal.TheVariants.{OutOfRange, OutOfArena, Overlap, NoAbort, IsIrrevocable, NoIrrevocable}
+use Rattle.history_checker.specs.Matches.{same_kind}
 
 -- ## Refusals
 

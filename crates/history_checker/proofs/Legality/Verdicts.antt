@@ -1,15 +1,10 @@
 -- A history has the verdict that it is legal exactly where it is.
 use Rattle.std.proofs.Common.{◌≡◌, ◌↔◌, ℕ, Bool, true, false, ◌||◌, if◌then◌else◌, [], length, Option, None, Some, refl, sym, ap, ◌∙◌, arith}
-use Rattle.tx_attempts.specs.Counts.{count_committed}
-use Rattle.tx_history.specs.declared.history.History.{History}
+use Rattle.history_checker.proofs.Common.{Bad, History, Legal, Spot, at_fault, committed_fault, count_committed, ends_free, ends_held, final_verdict, first_fault, first_of, head_row, others_fault, position_fault, told_row, verdict_of, verdict_on}
 use Rattle.tx_history.specs.Legal.{IsLegal}
 use Rattle.history_checker.specs.declared.verdict.BadKind.{BadKind}
 use Rattle.history_checker.specs.declared.verdict.BadKind.TheVariants as kind
-use Rattle.history_checker.specs.declared.verdict.Spot.{Spot}
 use Rattle.history_checker.specs.declared.verdict.Verdict.{Verdict}
-use Rattle.history_checker.specs.declared.verdict.Verdict.TheVariants.{Legal, Bad}
-use Rattle.history_checker.specs.Replays.{first_of}
-use Rattle.history_checker.specs.Verdicts.{at_fault, committed_fault, ends_free, ends_held, final_verdict, first_fault, head_row, others_fault, position_fault, told_row, verdict_of, verdict_on}
 use Rattle.history_checker.proofs.Legality.Attempts.{first_nothing}
 use Rattle.history_checker.proofs.Legality.Ends.{ends_decides}
 use Rattle.history_checker.proofs.Legality.Positions.{AtMostOnce, each_once, none_from, once_from}

@@ -1,24 +1,7 @@
 -- What the machine answers, once the calls before one are made.
-use Rattle.std.proofs.Common.{◌≡◌, ℕ, ◌<◌, ◌≤◌, Bool, true, false, ◌&&◌, List, [], length, get_or, take, refl, sym, ap, subst, ◌∙◌, Option, None, Some, Result, Ok, Err}
-use Rattle.std.specs.Prelude.{IfOk, is_none, is_some}
-use Rattle.std.proofs.lemmas.Bool.{and_from, cond-false, cond-true}
+use Rattle.std.proofs.Common.{◌≡◌, ℕ, ◌<◌, ◌≤◌, Bool, true, false, ◌&&◌, List, [], length, get_or, take, refl, sym, ap, subst, ◌∙◌, Option, None, Some, Result, Ok, Err, IfOk, is_none, is_some}
+use Rattle.history_checker.proofs.Common.{Again, Attempt, CallRecord, History, Reaches, Reply, Spot, State, Undoable, and_from, answer_of, answer_on, answer_to, breaks_of, call_answer, cond-false, cond-true, count_committed, depth_of, is_known, is_reached, memory_at, position_fault, reply, spot_answer, state_behind, state_through}
 use Rattle.std.proofs.lemmas.Option.{slice_get-get_or, slice_get_past, slice_get_read}
-use Rattle.itm_types.specs.declared.call.Reply.{Reply}
-use Rattle.itm_model.specs.State.{State}
-use Rattle.itm_model.specs.Machine.{reply}
-use Rattle.itm_model.specs.Runs.{state_through}
-use Rattle.itm_model.specs.Undoable.{Undoable}
-use Rattle.tx_attempts.specs.declared.attempt.Again.{Again}
-use Rattle.tx_attempts.specs.declared.attempt.Attempt.{Attempt}
-use Rattle.tx_attempts.specs.declared.attempt.CallRecord.{CallRecord}
-use Rattle.tx_attempts.specs.Counts.{count_committed}
-use Rattle.tx_attempts.specs.Restarts.{breaks_of}
-use Rattle.tx_history.specs.declared.history.History.{History}
-use Rattle.tx_history.specs.Legal.{memory_at}
-use Rattle.tx_history.specs.Versions.{depth_of}
-use Rattle.history_checker.specs.declared.verdict.Spot.{Spot}
-use Rattle.history_checker.specs.Answers.{Reaches, answer_of, answer_on, answer_to, call_answer, is_known, is_reached, spot_answer, state_behind}
-use Rattle.history_checker.specs.Verdicts.{position_fault}
 use Rattle.history_checker.proofs.Steps.Calls.{made}
 use Rattle.history_checker.proofs.Steps.Verdicts.{place_is}
 

@@ -1,20 +1,10 @@
 -- One call after the other.
 use Rattle.std.proofs.Common.{◌≡◌, ℕ, zero, suc, ◌+◌, ◌-◌, ◌<◌, Bool, true, List, [], ◌∷◌, length, get_or, take, drop, map, refl, ap, subst, ◌∙◌, arith, drop-cons, Option, None, Some}
-use Rattle.std.proofs.lemmas.Bool.{cond-true}
-use Rattle.itm_types.specs.declared.call.Refusal.{Refusal}
-use Rattle.itm_types.specs.declared.call.Call.{Call}
-use Rattle.itm_types.specs.declared.call.Call.TheVariants.{Begin, Commit, Abort, Mode, InTransaction, Read, Write, Log, LogBytes, Copy, Fill, CommitAction, UndoAction, Load, Save}
-use Rattle.itm_model.specs.State.{State}
-use Rattle.itm_model.specs.Machine.{is_open, reply, after, refusal}
-use Rattle.itm_model.specs.Runs.{Breaks, later, state_through}
-use Rattle.itm_model.specs.Undoable.{Undoable, before_after, before_next, before_unless}
-use Rattle.tx_attempts.specs.declared.attempt.Again.{Again}
-use Rattle.tx_attempts.specs.declared.attempt.CallRecord.{CallRecord}
-use Rattle.tx_attempts.specs.Restarts.{arena_set}
+use Rattle.history_checker.proofs.Common.{Abort, Again, Begin, Breaks, Call, CallRecord, Commit, CommitAction, Copy, Fault, Fill, InTransaction, Load, Log, LogBytes, Mode, Read, Refusal, Save, State, UndoAction, Undoable, Write, after, again_fault, arena_set, calls_fault, cond-true, is_open, last_is, reply, same_reply, state_through}
+use Rattle.itm_model.specs.Machine.{refusal}
+use Rattle.itm_model.specs.Runs.{later}
+use Rattle.itm_model.specs.Undoable.{before_after, before_next, before_unless}
 use Rattle.history_checker.specs.declared.verdict.BadKind.TheVariants as kind
-use Rattle.history_checker.specs.declared.verdict.Fault.{Fault}
-use Rattle.history_checker.specs.Matches.{same_reply}
-use Rattle.history_checker.specs.Replays.{again_fault, calls_fault, last_is}
 
 -- the last of some calls
 pub last_item : (test : CallRecord → Bool) (es : List CallRecord) (d : CallRecord) → 0 < length es → last_is test es ≡ test (get_or es (length es - 1) d)

@@ -1,22 +1,7 @@
 -- What a history's end says, one attempt after the other.
 use Rattle.std.proofs.Common.{◌≡◌, ℕ, zero, suc, ◌+◌, ◌<◌, ◌≤◌, Bool, true, false, not, ◌&&◌, ◌||◌, ◌==◌, if◌then◌else◌, is_some, List, [], ◌∷◌, length, get_or, take, map, sum_by, refl, ap, sym, ◌∙◌, arith, inl, inr, Option, None, Some}
-use Rattle.std.proofs.lemmas.Grind.{common_steps}
-use Rattle.std.proofs.lemmas.Bool.{cases_lt}
-use Rattle.tx_attempts.specs.declared.attempt.Attempt.{Attempt}
-use Rattle.tx_attempts.specs.Attempts.{alone, is_committed}
-use Rattle.tx_attempts.specs.declared.attempt.Outcome.{Outcome}
-use Rattle.tx_attempts.specs.declared.attempt.Outcome.TheVariants.{Committed, ReadOnly, Cancelled, Conflict, Full, NoMemory, Unfinished}
-use Rattle.tx_attempts.specs.Counts.{one_where}
-use Rattle.tx_history.specs.declared.history.History.{History}
-use Rattle.tx_history.specs.declared.history.Version.{Version}
-use Rattle.tx_history.specs.Legal.{is_unfinished, is_holding, count_holding, memory_at}
-use Rattle.tx_history.specs.Versions.{depth_of}
-use Rattle.history_checker.specs.declared.verdict.Fault.{Fault}
-use Rattle.history_checker.specs.declared.verdict.Spot.{Spot}
-use Rattle.history_checker.specs.declared.replays.Told.{Told}
-use Rattle.history_checker.specs.Replays.{first_of, fault_in}
-use Rattle.history_checker.specs.Verdicts.{at_fault, at_place, committed_fault, fault_at, is_beyond, first_row, head_row, is_away, line_count, others_fault, told_row}
-use Rattle.history_checker.specs.Tables.{AreTold, IsTold, nothing_told, told_away, told_fault, told_holding, told_of, told_on, unless_fault}
+use Rattle.history_checker.proofs.Common.{AreTold, Attempt, Cancelled, Committed, Conflict, Fault, Full, History, IsTold, NoMemory, Outcome, ReadOnly, Spot, Told, Unfinished, Version, alone, at_fault, at_place, cases_lt, committed_fault, common_steps, count_holding, depth_of, fault_at, fault_in, first_of, head_row, is_away, is_beyond, is_committed, is_holding, is_unfinished, line_count, memory_at, nothing_told, one_where, others_fault, told_away, told_fault, told_holding, told_of, told_on, told_row, unless_fault}
+use Rattle.history_checker.specs.Verdicts.{first_row}
 use Rattle.history_checker.proofs.Steps.Tables.{none_beyond, seen_within}
 use Rattle.history_checker.proofs.Steps.Walks.{place_none}
 

@@ -1,18 +1,8 @@
 -- The fault of an attempt, by where it is found.
 use Rattle.std.proofs.Common.{◌≡◌, ℕ, Bool, true, false, ◌&&◌, is_some, List, refl, ap, sym, ◌∙◌, Option, None, Some}
-use Rattle.std.proofs.lemmas.Bool.{cond-true, cond-false}
-use Rattle.itm_model.specs.State.{State}
-use Rattle.itm_model.specs.Machine.{opened}
-use Rattle.tx_attempts.specs.declared.attempt.Attempt.{Attempt}
-use Rattle.tx_attempts.specs.declared.attempt.Outcome.{Outcome}
-use Rattle.tx_attempts.specs.declared.attempt.Outcome.TheVariants.{Committed, ReadOnly, Cancelled, Conflict, Full, NoMemory, Unfinished}
-use Rattle.tx_attempts.specs.Attempts.{alone}
-use Rattle.tx_attempts.specs.Restarts.{again_at}
-use Rattle.tx_history.specs.Legal.{is_unfinished}
+use Rattle.history_checker.proofs.Common.{Attempt, Cancelled, Committed, Conflict, Fault, Full, NoMemory, Outcome, ReadOnly, State, Unfinished, again_at, alone, at_head, calls_fault, cond-false, cond-true, end_fault, fault_in, first_of, is_unfinished, may_stand, opened, told_on, unless_fault}
 use Rattle.history_checker.specs.declared.verdict.BadKind.TheVariants as kind
-use Rattle.history_checker.specs.declared.verdict.Fault.{Fault}
-use Rattle.history_checker.specs.Replays.{first_of, at_head, calls_fault, end_fault, fault_in, may_stand}
-use Rattle.history_checker.specs.Tables.{ended, told_on, unless_fault}
+use Rattle.history_checker.specs.Tables.{ended}
 
 pub fault_refused : (deepest : ℕ) (m : List ℕ) (a : Attempt) → may_stand a ≡ false → fault_in deepest m a ≡ Some (at_head kind.Shape)
 unfolding fault_in

@@ -1,18 +1,10 @@
 -- Tables of attempts, with one attempt more.
 use Rattle.std.proofs.Common.{◌≡◌, inl, inr, ℕ, zero, suc, ◌+◌, ◌<◌, ◌≤◌, Bool, true, false, not, ◌&&◌, ◌||◌, ◌==◌, nat_lt, nat_le, if◌then◌else◌, is_some, List, [], ◌∷◌, ◌++◌, length, get_or, take, drop, refl, ap, sym, ◌∙◌, arith, add-one, zero-add, drop-cons, length-append, Option, None, Some}
+use Rattle.history_checker.proofs.Common.{AreLinks, AreSlots, Attempt, at_fault, at_head, at_place, cases_eq, cases_lt, cond-false, cond-true, count_at, count_committed, eq-eqb, eqb-true, first_at, first_of, get_or-set_other, get_or-set_same, is_at, is_beyond, is_committed, is_misplaced, is_other, last_other, le-leb, length-set, lt-ltb, one_where, position_fault, set}
 use Rattle.std.proofs.Math.Seq.{take-suc}
-use Rattle.std.proofs.Math.ListN.{set}
-use Rattle.std.proofs.lemmas.List.{length-take-le, get_or-set_same, get_or-set_other, get_or_append_left}
+use Rattle.std.proofs.lemmas.List.{length-take-le, get_or_append_left}
 use Rattle.std.proofs.Math.Seq.{get_or-append_seam}
-use Rattle.std.proofs.lemmas.List.{length-set}
-use Rattle.std.proofs.lemmas.Bool.{cond-true, cond-false, lt-ltb, cases_lt, cases_eq, le-leb, eq-eqb, eqb-true}
-use Rattle.tx_attempts.specs.declared.attempt.Attempt.{Attempt}
-use Rattle.tx_attempts.specs.Attempts.{is_committed, is_at}
-use Rattle.tx_attempts.specs.Counts.{one_where, count_at, count_committed}
 use Rattle.history_checker.specs.declared.verdict.BadKind.TheVariants as kind
-use Rattle.history_checker.specs.Replays.{first_of, at_head}
-use Rattle.history_checker.specs.Verdicts.{at_place, at_fault, is_beyond, is_misplaced, position_fault}
-use Rattle.history_checker.specs.Tables.{AreLinks, AreSlots, first_at, is_other, last_other}
 
 -- ## Counts
 

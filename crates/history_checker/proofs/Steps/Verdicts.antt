@@ -1,11 +1,7 @@
 -- The verdict, by what is found first.
 use Rattle.std.proofs.Common.{◌≡◌, ℕ, List, [], refl, ap, sym, ◌∙◌, Option, None, Some}
-use Rattle.tx_attempts.specs.declared.attempt.Attempt.{Attempt}
-use Rattle.tx_attempts.specs.Counts.{count_committed}
-use Rattle.tx_history.specs.declared.history.History.{History}
-use Rattle.history_checker.specs.declared.verdict.Spot.{Spot}
-use Rattle.history_checker.specs.Replays.{first_of}
-use Rattle.history_checker.specs.Verdicts.{at_fault, bad, committed_fault, final_verdict, first_fault, others_fault, position_fault, verdict_of, verdict_on}
+use Rattle.history_checker.proofs.Common.{Attempt, History, Spot, at_fault, committed_fault, count_committed, final_verdict, first_fault, first_of, others_fault, position_fault, verdict_of, verdict_on}
+use Rattle.history_checker.specs.Verdicts.{bad}
 
 pub record Found (h : History) (ts : List Attempt) (n : ℕ) (p b c o : Option Spot) : Type 0 where
   pub attempts : ts ≡ h.attempts

@@ -1,18 +1,6 @@
 -- The attempts that a walk meets at a position.
 use Rattle.std.proofs.Common.{◌≡◌, inl, inr, ℕ, zero, suc, ◌+◌, ◌<◌, ◌≤◌, Bool, true, false, not, ◌&&◌, ◌==◌, if◌then◌else◌, List, [], ◌∷◌, length, get_or, take, refl, ap, sym, subst, ◌∙◌, arith, add-one, Option, None, Some}
-use Rattle.std.proofs.Math.ListN.{set}
-use Rattle.std.proofs.lemmas.List.{get_or-set_same, get_or-set_other, length-set}
-use Rattle.std.proofs.lemmas.Bool.{cond-true, cond-false, cases_lt, cases_eq, eq-eqb, eqb-true}
-use Rattle.tx_attempts.specs.declared.attempt.Attempt.{Attempt}
-use Rattle.tx_attempts.specs.Attempts.{is_committed, is_at, committed_at}
-use Rattle.tx_history.specs.declared.history.History.{History}
-use Rattle.tx_history.specs.Legal.{memory_at}
-use Rattle.tx_history.specs.Versions.{depth_of}
-use Rattle.history_checker.specs.declared.verdict.Fault.{Fault}
-use Rattle.history_checker.specs.declared.replays.Told.{Told}
-use Rattle.history_checker.specs.Replays.{fault_in}
-use Rattle.history_checker.specs.Verdicts.{at_place, fault_at}
-use Rattle.history_checker.specs.Tables.{AreTold, IsTold, first_at, is_other, last_other, nothing_told, told_of, told_on}
+use Rattle.history_checker.proofs.Common.{AreTold, Attempt, Fault, History, IsTold, Told, at_place, cases_eq, cases_lt, committed_at, cond-false, cond-true, depth_of, eq-eqb, eqb-true, fault_at, fault_in, first_at, get_or-set_other, get_or-set_same, is_at, is_committed, is_other, last_other, length-set, memory_at, nothing_told, set, told_of, told_on}
 use Rattle.history_checker.proofs.Steps.Tables.{last_next, same_item}
 
 -- ## The committed one

@@ -1,27 +1,15 @@
 -- The canonical attempt of one that is alone on a memory is alone there.
 use Rattle.std.proofs.Common.{◌≡◌, ℕ, true, false, List, [], ◌∷◌, ◌++◌, map, take, length, Option, None, Some, refl, sym, ap, subst, ◌∙◌}
-use Rattle.std.specs.Option.{option_map}
-use Rattle.std.specs.List.{slice_get}
-use Rattle.std.proofs.lemmas.List.{take-map}
+use Rattle.history_reader.proofs.Common.{Abort, Again, AreAgain, Attempt, Breaks, Call, CallRecord, Code, Commit, Committed, Done, IsAgain, IsAlone, IsInnerBegin, Outcome, ReadOnly, alone, breaks_of, canonical_again, canonical_attempt, canonical_call, canonical_entry, is_begin, opened, option_map, replies_through, slice_get, state_through, take-map}
 use Rattle.std.proofs.lemmas.Option.{slice_get-map}
-use Rattle.itm_types.specs.Calls.{is_begin}
-use Rattle.itm_types.specs.declared.call.Call.{Call}
 use Rattle.itm_types.specs.declared.call.Call.TheVariants as calls
-use Rattle.itm_types.specs.declared.call.Call.TheVariants.{Commit, Abort}
-use Rattle.itm_types.specs.declared.call.Reply.TheVariants.{Done, Code}
 use Rattle.itm_model.specs.State.{State}
-use Rattle.itm_model.specs.Machine.{is_open, opened}
-use Rattle.itm_model.specs.Runs.{Breaks, replies_through, state_through}
+use Rattle.itm_model.specs.Machine.{is_open}
 use Rattle.tx_attempts.specs.Opacity.{AreRestarts, StaysRevocable}
-use Rattle.tx_attempts.specs.Restarts.{AreAgain, AtEach, IsAgain, IsInnerBegin, breaks_of}
-use Rattle.tx_attempts.specs.declared.attempt.Again.{Again}
-use Rattle.tx_attempts.specs.declared.attempt.Attempt.{Attempt}
-use Rattle.tx_attempts.specs.declared.attempt.CallRecord.{CallRecord}
-use Rattle.tx_attempts.specs.declared.attempt.Outcome.{Outcome}
-use Rattle.tx_attempts.specs.declared.attempt.Outcome.TheVariants.{Committed, ReadOnly, Cancelled, Conflict, Full, NoMemory, Unfinished}
-use Rattle.tx_attempts.specs.Attempts.{ByAbort, ByCommit, ClosedBy, alone}
-use Rattle.tx_history.specs.Legal.{EndsIn, IsAlone, ran_alone, state_at}
-use Rattle.history_reader.specs.Canonical.{canonical_again, canonical_attempt, canonical_call, canonical_entry}
+use Rattle.tx_attempts.specs.Restarts.{AtEach}
+use Rattle.tx_attempts.specs.declared.attempt.Outcome.TheVariants.{Cancelled, Conflict, Full, NoMemory, Unfinished}
+use Rattle.tx_attempts.specs.Attempts.{ByAbort, ByCommit, ClosedBy}
+use Rattle.tx_history.specs.Legal.{EndsIn, ran_alone, state_at}
 use Rattle.history_reader.proofs.Canon.Runs.{calls_in, same_alone, same_breaks, same_replies, same_state, same_told}
 
 -- ## Lists that a function made

@@ -1,13 +1,8 @@
 -- Worked canonical calls and attempts, by computation.
 use Rattle.std.proofs.Common.{◌≡◌, ℕ, List, [], ◌∷◌, false, refl}
+use Rattle.history_reader.proofs.Common.{Attempt, Begin, CallRecord, Commit, Committed, Done, Props, canonical_attempt, canonical_call}
 use Rattle.itm_types.specs.declared.access.WriteHint.TheVariants.{W}
-use Rattle.itm_types.specs.declared.call.Call.TheVariants.{Begin, Commit, Fill, Mode}
-use Rattle.itm_types.specs.declared.call.Props.{Props}
-use Rattle.itm_types.specs.declared.call.Reply.TheVariants.{Done}
-use Rattle.tx_attempts.specs.declared.attempt.Attempt.{Attempt}
-use Rattle.tx_attempts.specs.declared.attempt.CallRecord.{CallRecord}
-use Rattle.tx_attempts.specs.declared.attempt.Outcome.TheVariants.{Committed}
-use Rattle.history_reader.specs.Canonical.{canonical_attempt, canonical_call}
+use Rattle.itm_types.specs.declared.call.Call.TheVariants.{Fill, Mode}
 
 abbrev plain : Props
 plain = record { no_abort = false; no_irrevocable = false; goes_irrevocable = false }

@@ -1,22 +1,14 @@
 -- A reply of the plain machine is of the kind that its call has.
 use Rattle.std.proofs.Common.{◌≡◌, ℕ, ◌≤◌, Bool, true, false, if◌then◌else◌, List, [], ◌∷◌, map, All, Option, None, Some, refl, sym, subst, arith, lit≤}
-use Rattle.std.proofs.lemmas.List.Elements.{All-nil, All-cons, All-head, All-tail}
-use Rattle.itm_types.specs.Access.{size_of}
-use Rattle.itm_types.specs.declared.call.Call.{Call}
+use Rattle.history_reader.proofs.Common.{All-cons, All-head, All-nil, All-tail, Breaks, Call, CallRecord, IsCall, IsEntry, IsReply, Refusal, ReplyKind, after, answer, answer_to, canonical_call, canonical_entry, later, refusal, replies_through as replies_to, reply, reply_unless, size_of}
 use Rattle.itm_types.specs.declared.call.Call.TheVariants as calls
-use Rattle.itm_types.specs.declared.call.Refusal.{Refusal}
 use Rattle.itm_types.specs.declared.call.Refusal.TheVariants.{OutOfRange, OutOfArena}
 use Rattle.itm_types.specs.declared.call.Reply.TheVariants as replies
 use Rattle.itm_model.specs.State.{State}
-use Rattle.itm_model.specs.Machine.{after, answer, refusal, reply, reply_unless, standing}
-use Rattle.itm_model.specs.Runs.{Breaks, later, replies_through as replies_to}
-use Rattle.tx_attempts.specs.declared.attempt.CallRecord.{CallRecord}
+use Rattle.itm_model.specs.Machine.{standing}
 use Rattle.tx_history.specs.Bounds.{CallFits, EntryFits, HasArenaWidth, ReplyFits}
 use Rattle.tx_history.proofs.PlainSizes.{later_none, length-slice, within}
-use Rattle.history_reader.specs.declared.reply.ReplyKind.{ReplyKind}
 use Rattle.history_reader.specs.declared.reply.ReplyKind.TheVariants as answers
-use Rattle.history_reader.specs.Tellable.{IsCall, IsEntry, IsReply, answer_to}
-use Rattle.history_reader.specs.Canonical.{canonical_call, canonical_entry}
 use Rattle.history_reader.proofs.Canon.Runs.{calls_in, replies_in}
 
 -- ## Replies

@@ -1,17 +1,13 @@
 -- The canonical history of a legal one is legal.
 use Rattle.std.proofs.Common.{◌≡◌, ◌⊎◌, inl, inr, ℕ, zero, suc, ◌+◌, ◌≤◌, Bool, true, false, ◌&&◌, if◌then◌else◌, nat_lt, List, [], ◌∷◌, map, All, Option, None, Some, refl, sym, ap, subst, ◌∙◌}
-use Rattle.std.specs.Option.{option_map}
-use Rattle.std.proofs.lemmas.List.Elements.{All-map, All-weaker}
+use Rattle.history_reader.proofs.Common.{All-map, All-weaker, Attempt, EndsFree, EndsHeld, History, IsAlone, IsLegal, alone, canonical, canonical_attempt, count_committed, memory_at, option_map}
 use Rattle.itm_model.specs.State.{State}
-use Rattle.tx_attempts.specs.declared.attempt.Attempt.{Attempt}
-use Rattle.tx_attempts.specs.Attempts.{alone, committed_at, is_at, is_committed, memory_after, memory_left}
-use Rattle.tx_attempts.specs.Counts.{count_at, count_committed, one_where}
-use Rattle.tx_history.specs.declared.history.History.{History}
-use Rattle.tx_history.specs.Versions.{depth_of}
-use Rattle.tx_history.specs.Legal.{EndsFree, EndsHeld, IsAlone, IsLegal, count_holding, is_holding, is_unfinished, memory_at}
-use Rattle.history_reader.specs.Canonical.{canonical, canonical_attempt}
+use Rattle.tx_attempts.specs.Attempts.{committed_at, is_at, is_committed, memory_after, memory_left}
+use Rattle.tx_attempts.specs.Counts.{count_at, one_where}
+use Rattle.tx_history.specs.Legal.{count_holding, is_holding, is_unfinished}
 use Rattle.history_reader.proofs.Canon.Runs.{same_alone}
 use Rattle.history_reader.proofs.Canon.Attempts.{canonical_alone, map_both}
+use Rattle.tx_history.specs.Versions.{depth_of}
 
 -- ## Positions
 

@@ -1,28 +1,15 @@
 -- The text of a legal history, of which each number fits its type and each size its limit, is that of its canonical one, which a text can tell and which is legal.
 use Rattle.std.proofs.Common.{◌≡◌, ◌⊎◌, inl, inr, ℕ, List, length, map, get_or, refl, sym, ap, ◌∙◌}
-use Rattle.std.proofs.lemmas.List.Elements.{All-map}
-use Rattle.itm_model.specs.Machine.{opened}
-use Rattle.tx_attempts.specs.Restarts.{breaks_of}
-use Rattle.tx_attempts.specs.declared.attempt.Again.{Again}
-use Rattle.tx_attempts.specs.declared.attempt.Attempt.{Attempt}
-use Rattle.tx_attempts.specs.Counts.{count_committed}
-use Rattle.tx_history.specs.declared.history.History.{History}
-use Rattle.tx_history.specs.declared.history.Version.{Version}
-use Rattle.tx_history.specs.declared.history.Version.TheVariants.{One, Two, Three}
+use Rattle.history_reader.proofs.Common.{Again, All-map, Attempt, EndsFree, EndsHeld, History, IsAlone, IsAttempt, IsHistory, IsLegal, IsTold, IsUndone, MayTell, One, Three, Two, Version, breaks_of, canonical, canonical_again, canonical_attempt, canonical_undone, count_committed, history_text, memory_at, opened, read_of}
 use Rattle.tx_history.specs.Bounds.{AgainFits, AreLimited, AttemptFits, HistoryFits, IsLimited}
-use Rattle.tx_history.specs.Versions.{MayTell, depth_of}
-use Rattle.tx_history.specs.Histories.{history_text}
-use Rattle.tx_history.specs.Legal.{EndsFree, EndsHeld, IsAlone, IsLegal, memory_at}
 use Rattle.tx_history.proofs.PlainSizes.{sized_at}
-use Rattle.history_reader.specs.Canonical.{canonical, canonical_again, canonical_attempt, canonical_undone}
 use Rattle.history_reader.specs.LegalTexts.{IsLegalText}
-use Rattle.history_reader.specs.Reading.{read_of}
-use Rattle.history_reader.specs.Tellable.{IsAttempt, IsHistory, IsTold, IsUndone}
 use Rattle.history_reader.proofs.RoundTrips.Texts.{read_again}
 use Rattle.history_reader.proofs.Canon.Attempts.{stand_so}
 use Rattle.history_reader.proofs.Canon.Histories.{canonical_legal}
 use Rattle.history_reader.proofs.Canon.Texts.{canonical_text}
 use Rattle.history_reader.proofs.Canon.FittingReplies.{entries_are}
+use Rattle.tx_history.specs.Versions.{depth_of}
 
 told_is : (a : Again) → AgainFits a → IsTold (canonical_again a)
 told_is a f = (f.arena, All-map IsUndone canonical_undone a.undone (λ k d l. (refl, f.undone k d l)))

@@ -1,17 +1,10 @@
 -- The plain machine gives the calls of a history and those of its canonical one the same replies and leaves the same state: it looks at no room, and of a fill's byte at the low 8 bits.
 use Rattle.std.proofs.Common.{◌≡◌, ℕ, replicate, Bool, true, false, if◌then◌else◌, ◌==◌, List, [], ◌∷◌, map, Some, refl, ap, ◌∙◌}
-use Rattle.itm_types.specs.declared.call.Call.{Call}
+use Rattle.history_reader.proofs.Common.{Again, Attempt, Breaks, Call, CallRecord, Reply, after, alone, answer, breaks_of, canonical_again, canonical_attempt, canonical_call, canonical_entry, later, opened, refusal, replies_through, reply, reply_unless, state_through}
 use Rattle.itm_types.specs.declared.call.Call.TheVariants as calls
-use Rattle.itm_types.specs.declared.call.Reply.{Reply}
 use Rattle.itm_model.specs.State.{State}
-use Rattle.itm_model.specs.Machine.{after, after_unless, answer, effect, opened, refusal, reply, reply_unless, written}
-use Rattle.itm_model.specs.Runs.{Breaks, later, replies_through, state_through}
-use Rattle.tx_attempts.specs.Restarts.{again_at, arena_set, breaks_of}
-use Rattle.tx_attempts.specs.declared.attempt.Again.{Again}
-use Rattle.tx_attempts.specs.declared.attempt.Attempt.{Attempt}
-use Rattle.tx_attempts.specs.declared.attempt.CallRecord.{CallRecord}
-use Rattle.tx_attempts.specs.Attempts.{alone}
-use Rattle.history_reader.specs.Canonical.{canonical_again, canonical_attempt, canonical_call, canonical_entry}
+use Rattle.itm_model.specs.Machine.{after_unless, effect, written}
+use Rattle.tx_attempts.specs.Restarts.{again_at, arena_set}
 use Rattle.history_reader.proofs.Canon.Texts.{low_again}
 
 -- the calls of entries

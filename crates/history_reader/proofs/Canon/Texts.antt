@@ -1,18 +1,9 @@
 -- A history and its canonical one have one text.
-use Rattle.std.proofs.Common.{◌≡◌, ℕ, ◌-◌, ◌%◌, List, [], ◌∷◌, ◌++◌, take, drop, map, refl, ap, ◌∙◌, arith}
-use Rattle.std.specs.Prelude.{codes, decimal, flat_map}
-use Rattle.std.proofs.lemmas.List.{drop-map, take-map}
-use Rattle.itm_entries.specs.Names.{name_of}
-use Rattle.itm_types.specs.declared.call.Call.{Call}
+use Rattle.std.proofs.Common.{◌≡◌, ℕ, ◌-◌, ◌%◌, List, [], ◌∷◌, ◌++◌, take, drop, map, refl, ap, ◌∙◌, arith, codes, decimal, flat_map}
+use Rattle.history_reader.proofs.Common.{Again, Attempt, Call, CallRecord, History, Ran, again_lines, arena_line, attempt_lines, body_text, call_line, call_lines, canonical, canonical_again, canonical_attempt, canonical_call, canonical_entry, canonical_undone, fill_text, first_lines, head_line, history_text, last_line, name_of, ran_line, reply_text, restart_line, take-map, try_text, undone_line}
+use Rattle.std.proofs.lemmas.List.{drop-map}
 use Rattle.itm_types.specs.declared.call.Call.TheVariants as calls
-use Rattle.itm_types.specs.declared.call.Ran.{Ran}
 use Rattle.itm_entries.specs.declared.entry.Entry.TheVariants as points
-use Rattle.tx_attempts.specs.declared.attempt.Again.{Again}
-use Rattle.tx_attempts.specs.declared.attempt.Attempt.{Attempt}
-use Rattle.tx_attempts.specs.declared.attempt.CallRecord.{CallRecord}
-use Rattle.tx_history.specs.declared.history.History.{History}
-use Rattle.tx_history.specs.Histories.{again_lines, arena_line, attempt_lines, body_text, call_line, call_lines, fill_text, first_lines, head_line, history_text, last_line, ran_line, reply_text, restart_line, try_text, undone_line}
-use Rattle.history_reader.specs.Canonical.{canonical, canonical_again, canonical_attempt, canonical_call, canonical_entry, canonical_undone}
 
 -- the low bits of low bits are these
 pub low_again : (byte : ℕ) → (byte % 256) % 256 ≡ byte % 256

@@ -1,29 +1,11 @@
 -- A line within an attempt that is read adds just itself to the text that the state stands for.
-use Rattle.std.proofs.Common.{◌≡◌, ℕ, suc, Bool, true, false, cond, List, [], ◌∷◌, ◌++◌, length, Some, Ok, refl, sym, ap, subst, ◌∙◌, arith, append_assoc, append-nil, length-append}
-use Rattle.std.specs.Prelude.{All, codes}
-use Rattle.std.specs.List.{slice_get}
-use Rattle.std.proofs.lemmas.Bool.{and_parts, eqb-true}
-use Rattle.std.proofs.lemmas.List.Elements.{All-append, All-cons, All-nil, All-push}
-use Rattle.itm_types.specs.Calls.{is_begin}
-use Rattle.itm_types.specs.declared.call.Reply.{Reply}
+use Rattle.std.proofs.Common.{◌≡◌, ℕ, suc, Bool, true, false, cond, List, [], ◌∷◌, ◌++◌, length, Some, Ok, refl, sym, ap, subst, ◌∙◌, arith, append_assoc, append-nil, length-append, All, codes}
+use Rattle.history_reader.proofs.Common.{Again, All-append, All-cons, All-nil, AreAgain, Behind, CallRecord, Head, IsAttempt, IsEntry, IsInnerBegin, IsRan, IsTold, IsUndone, One, Place, Reply, State, Three, Two, Version, again_lines, and_parts, behind_call, call_lines, call_of, end_line, ended, eqb-true, is_begin, is_five, none, ran_of, restart_line, restart_of, restart_said, slice_get, undone_of, with_undone}
+use Rattle.std.proofs.lemmas.List.Elements.{All-push}
 use Rattle.itm_types.specs.declared.call.Reply.TheVariants as replies
-use Rattle.tx_attempts.specs.Restarts.{AreAgain, IsInnerBegin}
-use Rattle.tx_attempts.specs.declared.attempt.Again.{Again}
-use Rattle.tx_attempts.specs.declared.attempt.CallRecord.{CallRecord}
-use Rattle.tx_history.specs.declared.history.Version.{Version}
-use Rattle.tx_history.specs.declared.history.Version.TheVariants.{One, Two, Three}
-use Rattle.tx_history.specs.Histories.{again_lines, call_lines, restart_line}
-use Rattle.history_reader.specs.declared.state.Behind.{Behind}
 use Rattle.history_reader.specs.declared.state.Behind.TheVariants as behinds
-use Rattle.history_reader.specs.declared.state.Head.{Head}
-use Rattle.history_reader.specs.declared.state.Place.{Place}
 use Rattle.history_reader.specs.declared.state.Place.TheVariants as places
-use Rattle.history_reader.specs.declared.state.State.{State}
-use Rattle.history_reader.specs.Fields.{none}
-use Rattle.history_reader.specs.Lines.{ran_of, undone_of, restart_of, ended, is_entered, behind_call, with_undone, call_line, restart_line as restart_said, undone_line, ran_line, end_line}
-use Rattle.history_reader.specs.Replies.{is_five}
-use Rattle.history_reader.specs.Calls.{call_of}
-use Rattle.history_reader.specs.Tellable.{IsAttempt, IsEntry, IsRan, IsTold, IsUndone}
+use Rattle.history_reader.specs.Lines.{is_entered, call_line, undone_line, ran_line}
 use Rattle.history_reader.proofs.BlocksAgain.{AreBetween, also, again_also, again_more, again_push, between_first, between_of, got_last, lines_also, told_also, undone_is, whole_again, whole_call}
 use Rattle.history_reader.proofs.Exactness.Fields.{bind_ok}
 use Rattle.history_reader.proofs.Exactness.Calls.{none_exact}

@@ -1,20 +1,9 @@
 -- Lower-case digits are those of the bytes that they say.
-use Rattle.std.proofs.Common.{◌≡◌, ℕ, zero, suc, ◌+◌, ◌-◌, ◌*◌, ◌/◌, ◌%◌, ◌<◌, ◌≤◌, Bool, true, cond, eqb, leb, not, ◌&&◌, List, [], ◌∷◌, length, get_or, Option, Some, None, Result, Ok, Err, refl, sym, ap, subst, ◌∙◌, arith, inl, inr}
-use Rattle.std.specs.Prelude.{bytes_eq, codes}
-use Rattle.std.specs.List.{list_all}
-use Rattle.std.proofs.lemmas.Bool.{and_parts, or_cases, leb-true, le-leb, lt-leb, ne_eqb, eqb-true}
-use Rattle.std.proofs.lemmas.Slice.Eq.{bytes_eq-Decides}
-use Rattle.hex.specs.declared.error.FromHexError.{FromHexError}
-use Rattle.hex.specs.Hex.{IsBytes, ◌>>=◌, encode_lower, encode_with, lower_digits, hex_digit_value, digit_or_error, value_at, pair_value, decode_pairs}
+use Rattle.std.proofs.Common.{◌≡◌, ℕ, zero, suc, ◌+◌, ◌-◌, ◌*◌, ◌/◌, ◌%◌, ◌<◌, ◌≤◌, Bool, true, cond, eqb, leb, not, ◌&&◌, List, [], ◌∷◌, length, get_or, Option, Some, None, Result, Ok, Err, refl, sym, ap, subst, ◌∙◌, arith, inl, inr, bytes_eq, codes}
+use Rattle.history_reader.proofs.Common.{FromHexError, IsBytes, IsMemory, MAX_ARENA, and_parts, are_words, arena_bytes, arena_text, bytes_eq-Decides, bytes_if, chosen, decode_of-hex, decoded, encode_lower, encode_with, eqb-true, is_lower_digit, is_lower_hex, le-leb, leb-true, list_all, lower_digits, lt-leb, memory_bytes, ne_eqb, or_cases, restart_bytes, sized}
+use Rattle.hex.specs.Hex.{◌>>=◌, hex_digit_value, digit_or_error, value_at, pair_value, decode_pairs}
 use Rattle.hex.proofs.HexLemmas.{decode_of-even}
-use Rattle.itm_types.specs.declared.limits.TheConstants.{MAX_ARENA}
 use Rattle.script_fields.specs.declared.fault.AsmKind.TheVariants as kinds
-use Rattle.script_fields.specs.Operands.{decoded}
-use Rattle.script_fields.proofs.FirstLines.{chosen}
-use Rattle.script_fields.proofs.HexDigits.{decode_of-hex}
-use Rattle.history_reader.specs.Digits.{is_lower_digit, is_lower_hex, bytes_if, sized, are_words, memory_bytes, arena_bytes, restart_bytes}
-use Rattle.history_reader.specs.Tellable.{IsMemory}
-use Rattle.history_reader.specs.LineFields.{arena_text}
 use Rattle.history_reader.proofs.Values.{hex_is, some_said}
 
 -- ## One digit

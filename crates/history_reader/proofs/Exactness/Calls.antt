@@ -1,34 +1,11 @@
 -- A call that is read, with its reply, is so spelled.
-use Rattle.std.proofs.Common.{◌≡◌, ℕ, zero, suc, ◌%◌, ◌≤◌, true, false, cond, List, [], ◌∷◌, Result, Ok, Err, refl, sym, ap, subst, ◌∙◌, arith, inl, inr}
-use Rattle.std.specs.Prelude.{decimal, bytes_eq, codes}
-use Rattle.std.proofs.lemmas.Slice.Eq.{bytes_eq-Decides}
-use Rattle.hex.specs.Hex.{IsBytes, encode_lower}
-use Rattle.itm_types.specs.Access.{size_of}
-use Rattle.itm_types.specs.Refusals.{number_of}
-use Rattle.itm_types.specs.declared.access.Width.{Width}
-use Rattle.itm_types.specs.declared.call.Refusal.{Refusal}
-use Rattle.itm_types.specs.declared.call.Reply.{Reply}
+use Rattle.std.proofs.Common.{◌≡◌, ℕ, zero, suc, ◌%◌, ◌≤◌, true, false, cond, List, [], ◌∷◌, Result, Ok, Err, refl, sym, ap, subst, ◌∙◌, arith, inl, inr, decimal, bytes_eq, codes}
+use Rattle.history_reader.proofs.Common.{AsmKind, Datum, IsBytes, IsDatum, IsReply, IsWord, Refusal, Reply, ReplyKind, Width, accepted, block_props, both, byte, bytes_eq-Decides, chosen, datum, datum_of, encode_lower, equals, exactly, function, lookup, low, mode, mode_text, next, next_three, no_transaction, no_transaction_text, none, number, number_of, one, one_operand, props_text, ranged, refusal_of, refused, reply_fields, reply_of, scope, scope_text, size_of, sized, three_operands, two_operands, with_reply, ◌>>=◌}
 use Rattle.itm_types.specs.declared.call.Reply.TheVariants as replies
-use Rattle.itm_types.specs.declared.datum.Datum.{Datum}
-use Rattle.script_fields.specs.Properties.{props_text}
-use Rattle.script_fields.specs.Spelling.{scope_text, mode_text, no_transaction_text}
-use Rattle.script_fields.specs.declared.fault.AsmKind.{AsmKind}
 use Rattle.script_fields.specs.declared.fault.AsmKind.TheVariants as kinds
-use Rattle.script_fields.specs.Names.{lookup}
-use Rattle.script_fields.specs.Operands.{◌>>=◌, both, exactly, number, function, scope, mode, no_transaction}
-use Rattle.script_fields.proofs.FirstLines.{chosen}
 use Rattle.script_fields.proofs.SpelledNumbers.{number_form}
-use Rattle.history_reader.specs.declared.reply.ReplyKind.{ReplyKind}
 use Rattle.history_reader.specs.declared.reply.ReplyKind.TheVariants as answers
-use Rattle.history_reader.specs.Fields.{next, next_three, none, one, equals}
-use Rattle.history_reader.specs.Numbers.{ranged, byte}
-use Rattle.history_reader.specs.Words.{block_props, props_names}
-use Rattle.history_reader.specs.Digits.{sized, low, datum, datum_of}
-use Rattle.history_reader.specs.Replies.{refusal_of, refused, accepted, reply_of, with_reply}
-use Rattle.history_reader.specs.Calls.{one_operand, two_operands, three_operands}
-use Rattle.tx_history.specs.Bounds.{IsWord, IsDatum}
-use Rattle.history_reader.specs.Tellable.{IsReply}
-use Rattle.history_reader.specs.LineFields.{reply_fields}
+use Rattle.history_reader.specs.Words.{props_names}
 use Rattle.history_reader.proofs.Values.{low_is}
 use Rattle.history_reader.proofs.Exactness.Fields.{bind_ok, both_ok, exactly_exact, lookup_exact, or_operand_ok, number_exact, ranged_exact, function_exact}
 use Rattle.history_reader.proofs.Exactness.Bytes.{sized_exact}

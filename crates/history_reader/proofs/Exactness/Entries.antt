@@ -1,34 +1,13 @@
 -- The line of a call that is read is so spelled.
-use Rattle.std.proofs.Common.{◌≡◌, ℕ, ◌%◌, ◌<◌, ◌≤◌, List, [], ◌∷◌, ◌++◌, Option, Some, None, Ok, refl, sym, ap, subst, ◌∙◌, inl, inr, lit<, ◌+◌}
-use Rattle.std.specs.Prelude.{decimal, bytes_eq, codes}
-use Rattle.std.proofs.lemmas.Fmt.{decimal_digit}
-use Rattle.hex.specs.Hex.{encode_lower}
+use Rattle.std.proofs.Common.{◌≡◌, ℕ, ◌%◌, ◌<◌, ◌≤◌, List, [], ◌∷◌, ◌++◌, Option, Some, None, Ok, refl, sym, ap, subst, ◌∙◌, inl, inr, lit<, ◌+◌, decimal, bytes_eq, codes}
+use Rattle.history_reader.proofs.Common.{CallRecord, Datum, IsArenaWidth, IsDatum, IsEntry, IsWord, Point, Verb, Width, abort_operand, access_names, begin_operand, block_props, byte, call_of, chosen, commit_action, control_call, copy_operands, datum, decimal_digit, encode_lower, entry_of-exact, fill_operands, function, lookup, mode, mode_operand, mode_text, next, no_operand, no_transaction, no_transaction_text, number, or_operand, or_point, place_datum, place_operand, place_size, point_call, point_verb, props_text, rest_of, scope, scope_text, undo_action, verb_call, verb_in, verb_of, verb_text, ◌>>=◌}
 use Rattle.itm_entries.specs.Entries.{entry_of}
-use Rattle.itm_entries.proofs.UniqueNames.{entry_of-exact}
-use Rattle.itm_types.specs.declared.access.Width.{Width}
 use Rattle.itm_types.specs.declared.call.Call.TheVariants as calls
-use Rattle.itm_types.specs.declared.datum.Datum.{Datum}
 use Rattle.itm_entries.specs.declared.entry.Control.{Control}
 use Rattle.itm_entries.specs.declared.entry.Control.TheVariants as controls
-use Rattle.itm_entries.specs.declared.entry.Entry.{Entry as Point}
 use Rattle.itm_entries.specs.declared.entry.Entry.TheVariants as points
-use Rattle.script_fields.specs.Properties.{props_text}
-use Rattle.script_fields.specs.Spelling.{scope_text, mode_text, no_transaction_text}
-use Rattle.script_fields.specs.Names.{lookup}
-use Rattle.script_fields.specs.Operands.{◌>>=◌, or_operand, number, function, scope, mode, no_transaction}
-use Rattle.script_fields.proofs.FirstLines.{chosen}
-use Rattle.tx_attempts.specs.declared.attempt.CallRecord.{CallRecord}
 use Rattle.history_reader.specs.declared.reply.ReplyKind.TheVariants as answers
-use Rattle.history_reader.specs.declared.verb.Verb.{Verb}
 use Rattle.history_reader.specs.declared.verb.Verb.TheVariants as verbs
-use Rattle.history_reader.specs.Fields.{next}
-use Rattle.history_reader.specs.Numbers.{byte}
-use Rattle.history_reader.specs.Words.{block_props}
-use Rattle.history_reader.specs.Digits.{datum}
-use Rattle.history_reader.specs.Calls.{access_names, point_verb, or_point, verb_of, no_operand, begin_operand, abort_operand, mode_operand, place_operand, place_size, place_datum, undo_action, commit_action, copy_operands, fill_operands, control_call, point_call, verb_call, call_of}
-use Rattle.tx_history.specs.Bounds.{IsWord, IsArenaWidth, IsDatum}
-use Rattle.history_reader.specs.Tellable.{IsEntry}
-use Rattle.history_reader.specs.LineFields.{verb_text, verb_in, rest_of}
 use Rattle.history_reader.proofs.Exactness.Fields.{bind_ok, AreNamed, lookup_exact, or_operand_ok}
 use Rattle.history_reader.proofs.Exactness.Calls.{next_exact, reply_after, one_operand_exact, two_operands_exact, three_operands_exact, number_is, function_is, byte_is, props_is, scope_is, mode_is, no_transaction_is, datum_is}
 

@@ -1,17 +1,11 @@
 -- What is read of a field is so spelled.
-use Rattle.std.proofs.Common.{◌≡◌, ℕ, ◌^◌, ◌<◌, ◌≤◌, true, cond, eqb, ltb, leb, not, ◌&&◌, List, [], ◌∷◌, length, get_or, Option, Some, None, Result, Ok, Err, refl, sym, ap, subst, ◌∙◌, arith, rules, inl, inr}
-use Rattle.std.specs.Prelude.{decimal, bytes_eq}
-use Rattle.std.specs.List.{list_all}
-use Rattle.std.proofs.lemmas.Bool.{and_parts, leb-true, ltb-true, ltb-false, eqb-false, not-true, cases_Bool}
+use Rattle.std.proofs.Common.{◌≡◌, ℕ, ◌^◌, ◌<◌, ◌≤◌, true, cond, eqb, ltb, leb, not, ◌&&◌, List, [], ◌∷◌, length, get_or, Option, Some, None, Result, Ok, Err, refl, sym, ap, subst, ◌∙◌, arith, rules, inl, inr, decimal, bytes_eq}
+use Rattle.history_reader.proofs.Common.{AsmKind, and_parts, both, bytes_eq-Decides, cases_Bool, chosen, eqb-false, exactly, function, leb-true, list_all, lookup, not-true, number, or_operand, ranged, within, ◌>>=◌}
+use Rattle.std.proofs.lemmas.Bool.{ltb-true, ltb-false}
 use Rattle.std.proofs.lemmas.Fmt.{decimal-digits_value}
-use Rattle.std.proofs.lemmas.Slice.Eq.{bytes_eq-Decides}
 use Rattle.std.proofs.lemmas.Str.Parse.{IsNumeralModel, numerals_by_fold}
-use Rattle.script_fields.specs.declared.fault.AsmKind.{AsmKind}
 use Rattle.script_fields.specs.declared.fault.AsmKind.TheVariants as kinds
-use Rattle.script_fields.specs.Names.{lookup}
-use Rattle.script_fields.specs.Operands.{◌>>=◌, both, or_operand, exactly, value_after, value_of, in_range, is_number, is_digit, number, within, function}
-use Rattle.script_fields.proofs.FirstLines.{chosen}
-use Rattle.history_reader.specs.Numbers.{ranged}
+use Rattle.script_fields.specs.Operands.{value_after, value_of, in_range, is_number, is_digit}
 
 -- ## Two readings at once, and one after the other
 

@@ -1,29 +1,7 @@
 -- What is read of the fields of a line that is no call's is so spelled.
-use Rattle.std.proofs.Common.{◌≡◌, ℕ, ◌+◌, ◌≤◌, List, [], ◌∷◌, length, Ok, refl, sym, ap, subst, ◌∙◌}
-use Rattle.std.specs.Prelude.{decimal}
-use Rattle.hex.specs.Hex.{IsBytes, encode_lower}
-use Rattle.itm_types.specs.declared.call.ActionKind.{ActionKind}
-use Rattle.itm_types.specs.declared.call.ActionKind.TheVariants.{Undo}
-use Rattle.itm_types.specs.declared.call.Ran.{Ran}
-use Rattle.itm_types.specs.declared.call.Props.{Props}
-use Rattle.itm_types.specs.declared.limits.Depth.{Depth}
-use Rattle.itm_types.specs.declared.limits.TheConstants.{MAX_ARENA, MAX_DEPTH, MAX_RETRIES}
-use Rattle.script_fields.specs.Properties.{props_text}
-use Rattle.script_fields.specs.Names.{lookup}
-use Rattle.script_fields.specs.Operands.{◌>>=◌, both, number, function}
-use Rattle.tx_attempts.specs.declared.attempt.Outcome.{Outcome}
-use Rattle.tx_history.specs.Histories.{outcome_name, kind_text}
-use Rattle.history_reader.specs.declared.state.Head.{Head}
-use Rattle.history_reader.specs.Fields.{next, next_three, none, one}
-use Rattle.tx_history.specs.Depths.{depth_from}
-use Rattle.tx_history.proofs.SameDepths.{near_is}
-use Rattle.history_reader.specs.Numbers.{depth, ranged, thread, nth}
-use Rattle.history_reader.specs.Words.{outcome_names, outcome, kind_names, kind, block_props}
-use Rattle.history_reader.specs.Digits.{sized, memory_bytes, arena_bytes, restart_bytes}
-use Rattle.history_reader.specs.Lines.{depth_of, memory_of, arena_of, try_of, outcome_of, head_of, ran_of, undone_of, restart_of, final_of}
-use Rattle.tx_history.specs.Bounds.{IsWord}
-use Rattle.history_reader.specs.Tellable.{IsMemory, IsRan, IsUndone}
-use Rattle.history_reader.specs.LineFields.{arena_text}
+use Rattle.std.proofs.Common.{◌≡◌, ℕ, ◌+◌, ◌≤◌, List, [], ◌∷◌, length, Ok, refl, sym, ap, subst, ◌∙◌, decimal}
+use Rattle.history_reader.proofs.Common.{ActionKind, Depth, Head, IsBytes, IsMemory, IsRan, IsUndone, IsWord, MAX_ARENA, MAX_DEPTH, MAX_RETRIES, Outcome, Props, Ran, Undo, arena_bytes, arena_of, arena_text, block_props, both, depth, depth_from, depth_of, encode_lower, final_of, function, head_of, kind, kind_text, lookup, memory_bytes, memory_of, near_is, next, next_three, none, nth, number, one, outcome, outcome_name, outcome_of, props_text, ran_of, ranged, restart_bytes, restart_of, sized, thread, try_of, undone_of, ◌>>=◌}
+use Rattle.history_reader.specs.Words.{outcome_names, kind_names}
 use Rattle.history_reader.proofs.Exactness.Fields.{bind_ok, both_ok, lookup_exact, or_operand_ok, ranged_exact, function_exact}
 use Rattle.history_reader.proofs.Exactness.Bytes.{sized_exact, memory_exact, arena_exact, restart_exact}
 use Rattle.history_reader.proofs.Exactness.Calls.{next_exact, none_exact, one_exact, three_exact, number_is, props_is}

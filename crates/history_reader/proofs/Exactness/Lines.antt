@@ -1,24 +1,10 @@
 -- A line of a history is its fields with single spaces between them, and the feed.
-use Rattle.std.proofs.Common.{◌≡◌, ℕ, ◌%◌, Bool, true, false, cond, eqb, List, [], ◌∷◌, ◌++◌, length, refl, sym, ap, ◌∙◌, append_assoc}
-use Rattle.std.specs.Prelude.{decimal, codes}
-use Rattle.hex.specs.Hex.{encode_lower}
-use Rattle.itm_types.specs.Access.{size_of}
-use Rattle.itm_entries.specs.Names.{name_of}
-use Rattle.itm_types.specs.declared.call.Call.{Call}
+use Rattle.std.proofs.Common.{◌≡◌, ℕ, ◌%◌, Bool, true, false, cond, eqb, List, [], ◌∷◌, ◌++◌, length, refl, sym, ap, ◌∙◌, append_assoc, decimal, codes}
+use Rattle.history_reader.proofs.Common.{Attempt, Call, CallRecord, Depth, Ran, Reply, Three, Version, arena_fields, arena_line, body_text, call_fields, call_line, depth_fields, encode_lower, fill_text, final_fields, first_lines, head_fields, head_line, joined, kind_text, last_line, memory_fields, name_of, operands_of, outcome_name, props_text, ran_fields, ran_line, reply_fields, reply_text, restart_fields, restart_line, size_of, try_text, undone_fields, undone_line, verb_in, verb_text, version_lines}
 use Rattle.itm_types.specs.declared.call.Call.TheVariants as calls
-use Rattle.itm_types.specs.declared.call.Ran.{Ran}
-use Rattle.itm_types.specs.declared.call.Reply.{Reply}
 use Rattle.itm_types.specs.declared.call.Reply.TheVariants as replies
 use Rattle.itm_entries.specs.declared.entry.Entry.TheVariants as points
-use Rattle.itm_types.specs.declared.limits.Depth.{Depth}
-use Rattle.script_fields.specs.Properties.{props_text}
-use Rattle.script_fields.specs.Text.{joined}
-use Rattle.tx_attempts.specs.declared.attempt.Attempt.{Attempt}
-use Rattle.tx_attempts.specs.declared.attempt.CallRecord.{CallRecord}
-use Rattle.tx_history.specs.declared.history.Version.{Version}
-use Rattle.tx_history.specs.declared.history.Version.TheVariants.{Three}
-use Rattle.tx_history.specs.Histories.{outcome_name, kind_text, try_text, props_end, head_line, arena_line, copy_text, fill_text, commit_action_text, undo_action_text, body_text, reply_text, call_line, ran_line, restart_line, undone_line, version_lines, first_lines, last_line}
-use Rattle.history_reader.specs.LineFields.{verb_text, verb_in, operands_of, reply_fields, call_fields, ran_fields, head_fields, arena_fields, restart_fields, undone_fields, depth_fields, memory_fields, final_fields}
+use Rattle.tx_history.specs.Histories.{props_end, copy_text, commit_action_text, undo_action_text}
 
 -- ## Texts put together from the left, and from the right
 

@@ -1,26 +1,9 @@
 -- The text that a state stands for, and what holds of a state that lines have led to.
-use Rattle.std.proofs.Common.{◌≡◌, ℕ, suc, ◌≤◌, List, [], ◌∷◌, ◌++◌, length, refl, sym, ap, ◌∙◌, append_assoc}
-use Rattle.std.specs.Prelude.{All, codes}
-use Rattle.std.specs.List.{flat_map, slice_get}
-use Rattle.std.proofs.lemmas.List.{append-nil, flat_map_more}
-use Rattle.hex.specs.Hex.{IsBytes}
-use Rattle.itm_types.specs.declared.call.Ran.{Ran}
-use Rattle.itm_types.specs.declared.limits.TheConstants.{MAX_ARENA}
-use Rattle.tx_attempts.specs.declared.attempt.Again.{Again}
-use Rattle.tx_attempts.specs.declared.attempt.Attempt.{Attempt}
-use Rattle.tx_attempts.specs.declared.attempt.CallRecord.{CallRecord}
-use Rattle.tx_attempts.specs.Restarts.{AreAgain, IsInnerBegin}
-use Rattle.tx_history.specs.declared.history.Version.{Version}
-use Rattle.tx_history.specs.declared.history.Version.TheVariants.{One, Two, Three}
-use Rattle.tx_history.specs.Histories.{arena_line, call_lines, ran_line, attempt_lines, version_lines, first_lines, last_line, history_text}
-use Rattle.tx_history.specs.Versions.{MayTell, memory_limit, thread_limit}
-use Rattle.history_reader.specs.declared.state.Behind.{Behind}
+use Rattle.std.proofs.Common.{◌≡◌, ℕ, suc, ◌≤◌, List, [], ◌∷◌, ◌++◌, length, refl, sym, ap, ◌∙◌, append_assoc, All, codes}
+use Rattle.history_reader.proofs.Common.{Again, AreAgain, Attempt, Behind, CallRecord, Head, IsAttempt, IsBytes, IsEntry, IsHistory, IsInnerBegin, IsMemory, IsRan, IsTold, MAX_ARENA, MayTell, One, Place, Ran, State, Three, Two, Version, append-nil, arena_line, attempt_lines, call_lines, first_lines, flat_map, history_text, last_line, memory_limit, ran_line, slice_get, thread_limit, version_lines}
+use Rattle.std.proofs.lemmas.List.{flat_map_more}
 use Rattle.history_reader.specs.declared.state.Behind.TheVariants as behinds
-use Rattle.history_reader.specs.declared.state.Head.{Head}
-use Rattle.history_reader.specs.declared.state.Place.{Place}
 use Rattle.history_reader.specs.declared.state.Place.TheVariants as places
-use Rattle.history_reader.specs.declared.state.State.{State}
-use Rattle.history_reader.specs.Tellable.{IsAttempt, IsEntry, IsRan, IsMemory, IsHistory, IsTold}
 use Rattle.history_reader.proofs.BlocksAgain.{AreBetween}
 use Rattle.history_reader.proofs.Exactness.Heads.{IsHead, told_fields}
 use Rattle.history_reader.proofs.Exactness.Lines.{line_of, head_joined}

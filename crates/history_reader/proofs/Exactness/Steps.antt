@@ -1,34 +1,12 @@
 -- A line that is read adds just itself to the text that the state stands for.
-use Rattle.std.proofs.Common.{◌≡◌, ℕ, true, cond, List, [], ◌∷◌, ◌++◌, length, Result, Ok, Err, refl, sym, ap, subst, ◌∙◌, inl, inr, append-nil}
-use Rattle.std.specs.Prelude.{codes, bytes_eq}
-use Rattle.std.specs.List.{flat_map}
-use Rattle.std.proofs.lemmas.List.Elements.{All-nil, All-same}
-use Rattle.std.proofs.lemmas.List.Splits.{join_with_byte-slice_split}
-use Rattle.std.proofs.lemmas.Slice.Eq.{bytes_eq-Decides}
-use Rattle.script_fields.specs.declared.fault.AsmKind.{AsmKind}
+use Rattle.std.proofs.Common.{◌≡◌, ℕ, true, cond, List, [], ◌∷◌, ◌++◌, length, Result, Ok, Err, refl, sym, ap, subst, ◌∙◌, inl, inr, append-nil, codes, bytes_eq}
+use Rattle.history_reader.proofs.Common.{Again, All-nil, AreAgain, AsmKind, Attempt, Behind, Head, IsAttempt, IsEntry, IsRan, IsTold, MayTell, One, Place, ReadKind, State, Three, Two, Version, again_or_later, arena_fields, arena_of, attempt_lines, between_line, bytes_eq-Decides, call_or_later, chosen, depth_fields, depth_line, depth_of, end_line, exactly, fields, fields_line, final_line, final_of, first_lines, flat_map, head_of, join_with_byte-slice_split, later_line, meaning, memory_fields, memory_limit, memory_line, memory_of, next, none, placed, restart_said, thread_limit, told, version_lines, ◌>>=◌}
+use Rattle.std.proofs.lemmas.List.Elements.{All-same}
 use Rattle.script_fields.specs.declared.fault.AsmKind.TheVariants as operands
-use Rattle.script_fields.specs.Operands.{◌>>=◌, exactly}
-use Rattle.script_fields.proofs.FirstLines.{chosen}
-use Rattle.tx_attempts.specs.Restarts.{AreAgain}
-use Rattle.tx_attempts.specs.declared.attempt.Again.{Again}
-use Rattle.tx_attempts.specs.declared.attempt.Attempt.{Attempt}
-use Rattle.tx_history.specs.declared.history.Version.{Version}
-use Rattle.tx_history.specs.declared.history.Version.TheVariants.{One, Two, Three}
-use Rattle.tx_history.specs.Histories.{attempt_lines, first_lines, version_lines}
-use Rattle.tx_history.specs.Versions.{MayTell, memory_limit, thread_limit}
-use Rattle.history_reader.specs.declared.fault.ReadKind.{ReadKind}
 use Rattle.history_reader.specs.declared.fault.ReadKind.TheVariants as kinds
-use Rattle.history_reader.specs.declared.state.Behind.{Behind}
 use Rattle.history_reader.specs.declared.state.Behind.TheVariants as behinds
-use Rattle.history_reader.specs.declared.state.Head.{Head}
-use Rattle.history_reader.specs.declared.state.Place.{Place}
 use Rattle.history_reader.specs.declared.state.Place.TheVariants as places
-use Rattle.history_reader.specs.declared.state.State.{State}
-use Rattle.history_reader.specs.Faults.{told}
-use Rattle.history_reader.specs.Fields.{fields, next, none}
-use Rattle.history_reader.specs.Lines.{depth_of, memory_of, arena_of, head_of, final_of, depth_line, memory_line, head_line, final_line, arena_line, call_line, restart_line as restart_said, undone_line, ran_line, end_line, between_line, later_line, again_or_later, call_or_later, placed, header_line, fields_line, by_place, meaning}
-use Rattle.history_reader.specs.Tellable.{IsAttempt, IsEntry, IsRan, IsTold}
-use Rattle.history_reader.specs.LineFields.{arena_fields, depth_fields, memory_fields}
+use Rattle.history_reader.specs.Lines.{head_line, arena_line, call_line, undone_line, ran_line, header_line, by_place}
 use Rattle.history_reader.proofs.Exactness.Fields.{bind_ok, exactly_exact}
 use Rattle.history_reader.proofs.Exactness.Calls.{next_exact}
 use Rattle.history_reader.proofs.Exactness.Heads.{head_exact, depth_exact, memory_of_exact, arena_of_exact, final_exact}

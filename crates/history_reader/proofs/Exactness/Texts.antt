@@ -1,22 +1,10 @@
 -- A text that is read is the one spelling of its history.
 use Rattle.std.proofs.Common.{◌≡◌, ℕ, ◌+◌, eqb, List, [], ◌∷◌, ◌++◌, length, Result, Ok, Err, refl, sym, ap, subst, ◌∙◌, arith, inl, inr, append_assoc}
-use Rattle.std.specs.List.{slice_split, join_with_byte}
-use Rattle.std.proofs.lemmas.Bool.{eqb-true}
-use Rattle.std.proofs.lemmas.List.{append-nil}
-use Rattle.std.proofs.lemmas.List.Splits.{join_with_byte-slice_split}
-use Rattle.script_fields.specs.Text.{is_feed}
-use Rattle.script_fields.proofs.FirstLines.{chosen}
-use Rattle.tx_history.specs.declared.history.History.{History}
-use Rattle.tx_history.specs.Histories.{history_text}
-use Rattle.history_reader.specs.declared.fault.ReadKind.{ReadKind}
+use Rattle.history_reader.proofs.Common.{History, IsHistory, Place, ReadFault, ReadKind, State, append-nil, chosen, end_of, eqb-true, history_text, in_line, initial, is_feed, join_with_byte-slice_split, meaning, parts_say, read_of, slice_split, whole}
+use Rattle.std.specs.List.{join_with_byte}
 use Rattle.history_reader.specs.declared.fault.ReadKind.TheVariants as kinds
-use Rattle.history_reader.specs.declared.fault.ReadFault.{ReadFault}
-use Rattle.history_reader.specs.declared.state.Place.{Place}
 use Rattle.history_reader.specs.declared.state.Place.TheVariants as places
-use Rattle.history_reader.specs.declared.state.State.{State}
-use Rattle.history_reader.specs.Lines.{initial, meaning}
-use Rattle.history_reader.specs.Reading.{in_line, ◌>>=◌, whole, end_of, parts_say, read_of}
-use Rattle.history_reader.specs.Tellable.{IsHistory}
+use Rattle.history_reader.specs.Reading.{◌>>=◌}
 use Rattle.history_reader.proofs.Exactness.States.{so_far, IsSoFar, at_end}
 use Rattle.history_reader.proofs.Exactness.Steps.{line_exact}
 

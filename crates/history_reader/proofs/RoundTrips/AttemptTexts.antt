@@ -1,31 +1,9 @@
 -- The lines of attempts are read as these attempts.
-use Rattle.std.proofs.Common.{◌≡◌, ℕ, zero, suc, ◌+◌, ◌-◌, List, [], ◌∷◌, ◌++◌, length, take, drop, Option, None, Some, Ok, refl, sym, ap, subst, ◌∙◌, arith, append_assoc, append-nil, lit<, length-append, zero-add}
-use Rattle.std.specs.Prelude.{codes, decimal, flat_map}
-use Rattle.std.specs.List.{AllByRecursion, slice_get}
+use Rattle.std.proofs.Common.{◌≡◌, ℕ, zero, suc, ◌+◌, ◌-◌, List, [], ◌∷◌, ◌++◌, length, take, drop, Option, None, Some, Ok, refl, sym, ap, subst, ◌∙◌, arith, append_assoc, append-nil, lit<, length-append, zero-add, codes, decimal, flat_map}
+use Rattle.history_reader.proofs.Common.{Again, AllByRecursion, AreAgain, Attempt, Behind, CallRecord, Head, IsAgain, IsAttempt, IsEntry, IsInnerBegin, IsRan, IsTold, IsUndone, MayTell, One, Place, Ran, State, Three, Two, Version, again_lines, arena_fields, arena_line, arena_text, attempt_lines, behind_call, call_fields, call_line, call_lines, fields_line, head_fields, head_line, is_five, joined, kind_text, meaning, outcome_name, props_text, ran_fields, ran_line, recursion_from_All, rest_of, restart_fields, restart_line, slice_get, slice_get_within, undone_fields, undone_line, verb_in, verb_text}
 use Rattle.std.proofs.lemmas.List.{length-take-le, take-append-drop}
-use Rattle.std.proofs.lemmas.List.Elements.{recursion_from_All}
-use Rattle.std.proofs.lemmas.Option.{slice_get_within}
-use Rattle.itm_types.specs.declared.call.Ran.{Ran}
-use Rattle.script_fields.specs.Properties.{props_text}
-use Rattle.script_fields.specs.Text.{joined}
-use Rattle.tx_attempts.specs.Restarts.{AreAgain, IsAgain, IsInnerBegin}
-use Rattle.tx_attempts.specs.declared.attempt.Again.{Again}
-use Rattle.tx_attempts.specs.declared.attempt.Attempt.{Attempt}
-use Rattle.tx_attempts.specs.declared.attempt.CallRecord.{CallRecord}
-use Rattle.tx_history.specs.declared.history.Version.{Version}
-use Rattle.tx_history.specs.declared.history.Version.TheVariants.{One, Two, Three}
-use Rattle.tx_history.specs.Histories.{head_line, arena_line, again_lines, call_line, call_lines, restart_line, undone_line, ran_line, attempt_lines, kind_text, outcome_name}
-use Rattle.tx_history.specs.Versions.{MayTell}
-use Rattle.history_reader.specs.declared.state.Behind.{Behind}
 use Rattle.history_reader.specs.declared.state.Behind.TheVariants as behinds
-use Rattle.history_reader.specs.declared.state.Head.{Head}
-use Rattle.history_reader.specs.declared.state.Place.{Place}
 use Rattle.history_reader.specs.declared.state.Place.TheVariants as places
-use Rattle.history_reader.specs.declared.state.State.{State}
-use Rattle.history_reader.specs.Lines.{behind_call, meaning, fields_line}
-use Rattle.history_reader.specs.Replies.{is_five}
-use Rattle.history_reader.specs.Tellable.{IsEntry, IsRan, IsUndone, IsTold, IsAttempt}
-use Rattle.history_reader.specs.LineFields.{verb_text, verb_in, rest_of, arena_text, call_fields, ran_fields, restart_fields, undone_fields, head_fields, arena_fields}
 use Rattle.history_reader.proofs.BlocksAgain.{undone_is}
 use Rattle.history_reader.proofs.RoundTrips.LeadingLines.{Leads, leads_on, line_leads, stays}
 use Rattle.history_reader.proofs.RoundTrips.Spellings.{AreFields, call_are, ran_are, restart_are, undone_are, head_are, arena_are}

@@ -1,33 +1,10 @@
 -- A call that is spelled, with its reply, is read again.
-use Rattle.std.proofs.Common.{◌≡◌, ℕ, ◌%◌, ◌≤◌, Bool, cond, List, [], ◌∷◌, ◌++◌, Option, Result, Ok, refl, sym, ap, ◌∙◌, arith}
-use Rattle.std.specs.Prelude.{decimal, codes}
-use Rattle.hex.specs.Hex.{encode_lower}
-use Rattle.itm_types.specs.Access.{size_of}
-use Rattle.itm_types.specs.Refusals.{number_of}
-use Rattle.itm_types.specs.declared.access.Width.{Width}
-use Rattle.itm_types.specs.declared.call.Call.{Call}
+use Rattle.std.proofs.Common.{◌≡◌, ℕ, ◌%◌, ◌≤◌, Bool, cond, List, [], ◌∷◌, ◌++◌, Option, Result, Ok, refl, sym, ap, ◌∙◌, arith, decimal, codes}
+use Rattle.history_reader.proofs.Common.{AsmKind, Call, CallRecord, IsCall, IsEntry, IsReply, Refusal, Reply, ReplyKind, Verb, Width, abort_operand, accepted, answer_to, begin_operand, block_props, both, byte, call_of, commit_action, control_call, copy_operands, datum, encode_lower, equals, fill_operands, function, function_again, mode, mode_operand, mode_text, next, next_three, no_operand, no_transaction, no_transaction_text, none, number, number_again, number_of, one, one_operand, operands_of, or_operand, place_datum, place_operand, place_size, point_call, props_text, refusal_of, refused, reply_fields, reply_of, rest_of, scope, scope_text, size_of, three_operands, two_operands, undo_action, verb_call, verb_in, verb_text, with_reply, ◌>>=◌}
 use Rattle.itm_types.specs.declared.call.Call.TheVariants as calls
-use Rattle.itm_types.specs.declared.call.Refusal.{Refusal}
-use Rattle.itm_types.specs.declared.call.Reply.{Reply}
 use Rattle.itm_types.specs.declared.call.Reply.TheVariants as replies
-use Rattle.script_fields.specs.declared.fault.AsmKind.{AsmKind}
-use Rattle.script_fields.specs.Operands.{◌>>=◌, both, or_operand, number, function, scope, mode, no_transaction}
-use Rattle.script_fields.specs.Properties.{props_text}
-use Rattle.script_fields.specs.Spelling.{scope_text, mode_text, no_transaction_text}
-use Rattle.script_fields.proofs.SpelledNumbers.{number_again, function_again}
 use Rattle.script_fields.proofs.SpelledOperands.{scope_again, mode_again, no_transaction_again}
-use Rattle.tx_attempts.specs.declared.attempt.CallRecord.{CallRecord}
-use Rattle.history_reader.specs.declared.reply.ReplyKind.{ReplyKind}
 use Rattle.history_reader.specs.declared.reply.ReplyKind.TheVariants as answers
-use Rattle.history_reader.specs.declared.verb.Verb.{Verb}
-use Rattle.history_reader.specs.Fields.{next, next_three, none, one, equals}
-use Rattle.history_reader.specs.Numbers.{byte}
-use Rattle.history_reader.specs.Words.{block_props}
-use Rattle.history_reader.specs.Digits.{datum}
-use Rattle.history_reader.specs.Replies.{refusal_of, refused, accepted, reply_of, with_reply}
-use Rattle.history_reader.specs.Calls.{one_operand, two_operands, three_operands, no_operand, begin_operand, abort_operand, mode_operand, place_operand, place_size, place_datum, undo_action, commit_action, copy_operands, fill_operands, control_call, point_call, verb_call, call_of}
-use Rattle.history_reader.specs.Tellable.{IsCall, answer_to, IsReply, IsEntry}
-use Rattle.history_reader.specs.LineFields.{verb_text, verb_in, operands_of, reply_fields, rest_of}
 use Rattle.history_reader.proofs.RoundTrips.Fields.{ranged_again, sized_again, no_digits, some_bytes, datum_again, block_props_again, refusal_number, refusal_again, IsCalled, verb_again}
 
 -- ## Replies

@@ -1,51 +1,17 @@
 -- What is spelled in a field is read of it again.
-use Rattle.std.proofs.Common.{◌≡◌, ℕ, suc, ◌*◌, ◌/◌, ◌%◌, ◌^◌, ◌<◌, ◌≤◌, ◌+◌, Bool, true, false, cond, eqb, leb, List, [], ◌∷◌, ◌++◌, length, Option, Some, Result, Ok, Err, refl, sym, ap, subst, ◌∙◌, arith, lit<, inl, inr}
-use Rattle.std.specs.Prelude.{decimal, bytes_eq, codes, slice_index}
-use Rattle.std.specs.List.{list_all}
-use Rattle.std.proofs.lemmas.Bool.{ne_eqb, eq-eqb, le-leb, cases_Bool}
-use Rattle.std.proofs.lemmas.Fmt.{decimal_digit}
+use Rattle.std.proofs.Common.{◌≡◌, ℕ, suc, ◌*◌, ◌/◌, ◌%◌, ◌^◌, ◌<◌, ◌≤◌, ◌+◌, Bool, true, false, cond, eqb, leb, List, [], ◌∷◌, ◌++◌, length, Option, Some, Result, Ok, Err, refl, sym, ap, subst, ◌∙◌, arith, lit<, inl, inr, decimal, bytes_eq, codes, slice_index}
+use Rattle.history_reader.proofs.Common.{ActionKind, AllPass-from_list_all, AsmKind, Datum, Depth, IsArenaWidth, IsBytes, IsDatum, IsMemory, MAX_ARENA, MAX_DEPTH, Outcome, Point, Props, Refusal, Verb, Width, access_names, are_words, arena_bytes, arena_text, block_props, bytes_eq-Decides, bytes_if, cases_Bool, datum, datum_of, decimal_digit, depth, depth_from, encode_lower, encode_with, entry_of-exact, is_lower_digit, is_lower_hex, kind, kind_text, le-leb, list_all, lookup, lower_digits, memory_bytes, name_of, ne_eqb, near_is, number_again, number_of, or_point, outcome, outcome_name, point_verb, props_text, ranged, refusal_of, restart_bytes, same_depth, size_of, sized, verb_of, verb_text, within, ◌>>=◌}
+use Rattle.std.proofs.lemmas.Bool.{eq-eqb}
 use Rattle.std.proofs.lemmas.List.Elements.{All-get_or}
-use Rattle.std.proofs.lemmas.List.Sums.{AllPass-from_list_all}
-use Rattle.std.proofs.lemmas.Slice.Eq.{bytes_eq-Decides}
-use Rattle.hex.specs.Hex.{IsBytes, encode_lower, encode_with, lower_digits}
 use Rattle.hex.proofs.HexLemmas.{decode_of-encode_lower, length-encode_with}
-use Rattle.itm_types.specs.Access.{size_of}
-use Rattle.itm_entries.specs.Names.{name_of}
-use Rattle.itm_types.specs.Refusals.{number_of}
-use Rattle.itm_entries.proofs.UniqueNames.{entry_of-exact}
-use Rattle.itm_types.specs.declared.access.Width.{Width}
 use Rattle.itm_types.specs.declared.access.Width.TheVariants.{U1, U2, U4, U8, F, D, M64, M128, M256, CF, CD}
-use Rattle.itm_types.specs.declared.call.ActionKind.{ActionKind}
 use Rattle.itm_types.specs.declared.call.ActionKind.TheVariants as when
-use Rattle.itm_types.specs.declared.call.Props.{Props}
-use Rattle.itm_types.specs.declared.call.Refusal.{Refusal}
 use Rattle.itm_types.specs.declared.call.Refusal.TheVariants as refusals
-use Rattle.itm_types.specs.declared.datum.Datum.{Datum}
-use Rattle.itm_entries.specs.declared.entry.Entry.{Entry as Point}
-use Rattle.itm_types.specs.declared.limits.Depth.{Depth}
-use Rattle.itm_types.specs.declared.limits.TheConstants.{MAX_ARENA, MAX_DEPTH}
-use Rattle.script_fields.specs.declared.fault.AsmKind.{AsmKind}
 use Rattle.script_fields.specs.declared.fault.AsmKind.TheVariants as kinds
-use Rattle.script_fields.specs.Names.{lookup}
-use Rattle.script_fields.specs.Operands.{◌>>=◌, within}
-use Rattle.script_fields.specs.Properties.{props_text}
 use Rattle.script_fields.proofs.HexDigits.{decoded_is}
-use Rattle.script_fields.proofs.SpelledNumbers.{number_again, within_again}
-use Rattle.tx_attempts.specs.declared.attempt.Outcome.{Outcome}
+use Rattle.script_fields.proofs.SpelledNumbers.{within_again}
 use Rattle.tx_attempts.specs.declared.attempt.Outcome.TheVariants as outcomes
-use Rattle.tx_history.specs.Histories.{outcome_name, kind_text}
-use Rattle.history_reader.specs.declared.verb.Verb.{Verb}
 use Rattle.history_reader.specs.declared.verb.Verb.TheVariants as verbs
-use Rattle.tx_history.specs.Depths.{depth_from}
-use Rattle.tx_history.proofs.SameDepths.{near_is, same_depth}
-use Rattle.history_reader.specs.Numbers.{depth, ranged}
-use Rattle.history_reader.specs.Digits.{is_lower_digit, is_lower_hex, bytes_if, sized, are_words, memory_bytes, arena_bytes, restart_bytes, datum, datum_of}
-use Rattle.history_reader.specs.Words.{outcome, kind, block_props}
-use Rattle.history_reader.specs.Replies.{refusal_of}
-use Rattle.history_reader.specs.Calls.{access_names, point_verb, or_point, verb_of}
-use Rattle.tx_history.specs.Bounds.{IsArenaWidth, IsDatum}
-use Rattle.history_reader.specs.Tellable.{IsMemory}
-use Rattle.history_reader.specs.LineFields.{verb_text, arena_text}
 use Rattle.history_reader.proofs.Values.{low_is, same_datum}
 
 -- ## Numbers

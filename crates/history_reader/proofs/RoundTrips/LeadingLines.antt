@@ -1,12 +1,6 @@
 -- The lines of a text that lead from one state to another.
 use Rattle.std.proofs.Common.{◌≡◌, ℕ, ◌+◌, List, ◌∷◌, ◌++◌, [], Ok, refl, sym, ap, ◌∙◌, append_assoc}
-use Rattle.std.specs.List.{slice_split}
-use Rattle.std.proofs.lemmas.List.Splits.{slice_split_at}
-use Rattle.script_fields.specs.Text.{is_feed, joined}
-use Rattle.script_fields.proofs.SpelledFields.{joined_line}
-use Rattle.history_reader.specs.declared.state.State.{State}
-use Rattle.history_reader.specs.Lines.{meaning}
-use Rattle.history_reader.specs.Reading.{parts_say}
+use Rattle.history_reader.proofs.Common.{State, is_feed, joined, joined_line, meaning, parts_say, slice_split, slice_split_at}
 use Rattle.history_reader.proofs.RoundTrips.ReadLines.{ahead_on}
 use Rattle.history_reader.proofs.RoundTrips.Spellings.{AreFields}
 

@@ -1,40 +1,9 @@
 -- What a line's fields were spelled for is what they say where they stand.
-use Rattle.std.proofs.Common.{◌≡◌, ℕ, ◌+◌, ◌≤◌, List, [], ◌∷◌, ◌++◌, length, Option, None, Some, Result, Ok, refl, sym, ap, ◌∙◌, arith}
-use Rattle.std.specs.Prelude.{decimal, codes}
-use Rattle.hex.specs.Hex.{IsBytes, encode_lower}
-use Rattle.itm_types.specs.declared.call.ActionKind.{ActionKind}
-use Rattle.itm_types.specs.declared.call.ActionKind.TheVariants.{Undo}
-use Rattle.itm_types.specs.declared.call.Props.{Props}
-use Rattle.itm_types.specs.declared.call.Ran.{Ran}
-use Rattle.itm_types.specs.declared.limits.Depth.{Depth}
-use Rattle.itm_types.specs.declared.limits.TheConstants.{MAX_ARENA, MAX_RETRIES}
-use Rattle.script_fields.specs.declared.fault.AsmKind.{AsmKind}
-use Rattle.script_fields.specs.Operands.{◌>>=◌, both, number, function}
-use Rattle.script_fields.specs.Properties.{props_text}
-use Rattle.script_fields.specs.Text.{joined}
-use Rattle.script_fields.proofs.SpelledNumbers.{number_again, function_again}
-use Rattle.tx_attempts.specs.declared.attempt.Attempt.{Attempt}
-use Rattle.tx_attempts.specs.declared.attempt.CallRecord.{CallRecord}
-use Rattle.tx_attempts.specs.declared.attempt.Outcome.{Outcome}
-use Rattle.tx_history.specs.Histories.{outcome_name, kind_text}
-use Rattle.tx_history.specs.declared.history.Version.TheVariants.{Three}
-use Rattle.tx_history.specs.Versions.{memory_limit, thread_limit}
-use Rattle.history_reader.specs.declared.state.Behind.{Behind}
+use Rattle.std.proofs.Common.{◌≡◌, ℕ, ◌+◌, ◌≤◌, List, [], ◌∷◌, ◌++◌, length, Option, None, Some, Result, Ok, refl, sym, ap, ◌∙◌, arith, decimal, codes}
+use Rattle.history_reader.proofs.Common.{ActionKind, AsmKind, Attempt, Behind, CallRecord, Depth, Head, IsAttempt, IsBytes, IsEntry, IsMemory, IsRan, IsUndone, IsWord, MAX_ARENA, MAX_RETRIES, Outcome, Place, Props, Ran, State, Three, Undo, again_or_later, arena_of, arena_text, behind_call, between_line, block_props, both, call_or_later, depth_line, depth_of, encode_lower, end_line, fields_line, final_line, final_of, function, function_again, head_of, joined, kind, kind_text, later_line, meaning, memory_limit, memory_line, memory_of, next, next_three, none, nth, number, number_again, one, outcome, outcome_name, outcome_of, placed, props_text, ran_of, rest_of, restart_of, sized, thread, thread_limit, told, try_of, undone_of, verb_in, verb_text, with_undone, ◌>>=◌}
 use Rattle.history_reader.specs.declared.state.Behind.TheVariants as behinds
-use Rattle.history_reader.specs.declared.state.Head.{Head}
-use Rattle.history_reader.specs.declared.state.Place.{Place}
 use Rattle.history_reader.specs.declared.state.Place.TheVariants as places
-use Rattle.history_reader.specs.declared.state.State.{State}
-use Rattle.history_reader.specs.Faults.{told}
-use Rattle.history_reader.specs.Fields.{next, next_three, none, one}
-use Rattle.history_reader.specs.Numbers.{thread, nth}
-use Rattle.history_reader.specs.Words.{outcome, kind, block_props}
-use Rattle.history_reader.specs.Digits.{sized}
 use Rattle.history_reader.specs.Lines as lines
-use Rattle.history_reader.specs.Lines.{head_of, ran_of, undone_of, restart_of, final_of, depth_of, memory_of, arena_of, try_of, outcome_of, behind_call, with_undone, depth_line, memory_line, final_line, end_line, between_line, later_line, again_or_later, call_or_later, placed, fields_line, meaning}
-use Rattle.tx_history.specs.Bounds.{IsWord}
-use Rattle.history_reader.specs.Tellable.{IsRan, IsUndone, IsAttempt, IsEntry, IsMemory}
-use Rattle.history_reader.specs.LineFields.{arena_text, verb_text, verb_in, rest_of}
 use Rattle.history_reader.proofs.RoundTrips.Fields.{depth_again, ranged_again, sized_again, memory_again, arena_again, restart_again, outcome_again, kind_again, block_props_again}
 use Rattle.history_reader.proofs.RoundTrips.Calls.{both_again, call_again}
 use Rattle.history_reader.proofs.RoundTrips.Spellings.{AreFields, few_threads, fields_again}

@@ -1,17 +1,9 @@
 -- Lines that are read one after the other.
 use Rattle.std.proofs.Common.{◌≡◌, ℕ, ◌+◌, ◌<◌, Bool, true, false, cond, eqb, List, [], ◌∷◌, ◌++◌, length, Result, Ok, Err, refl, sym, ap, subst, ◌∙◌, arith, length-append, append_assoc, IfErr}
-use Rattle.std.specs.List.{slice_split}
-use Rattle.script_fields.specs.Text.{is_feed}
-use Rattle.script_fields.proofs.FirstLines.{parts_nonempty}
-use Rattle.tx_history.specs.declared.history.History.{History}
-use Rattle.history_reader.specs.declared.fault.ReadKind.{ReadKind}
+use Rattle.history_reader.proofs.Common.{History, Place, ReadFault, ReadKind, State, Steps, end_of, in_line, initial, is_feed, meaning, parts_nonempty, parts_say, slice_split, whole}
 use Rattle.history_reader.specs.declared.fault.ReadKind.TheVariants as kinds
-use Rattle.history_reader.specs.declared.fault.ReadFault.{ReadFault}
-use Rattle.history_reader.specs.declared.state.Place.{Place}
 use Rattle.history_reader.specs.declared.state.Place.TheVariants as places
-use Rattle.history_reader.specs.declared.state.State.{State}
-use Rattle.history_reader.specs.Lines.{initial, meaning}
-use Rattle.history_reader.specs.Reading.{in_line, ◌>>=◌, whole, end_of, parts_say, lines_leave, taken, Adds, Steps, RunsOut, Fails, Gives}
+use Rattle.history_reader.specs.Reading.{◌>>=◌, lines_leave, taken, Adds, RunsOut, Fails, Gives}
 
 -- the lines before the rest of a text are well, so many, and leave this state
 pub record HasRead (text rest : List ℕ) (n : ℕ) (s : State) : Type 0 where

@@ -1,44 +1,20 @@
 -- What is spelled stands in fields: visible bytes, with one space between each two fields of a line.
-use Rattle.std.proofs.Common.{◌≡◌, ℕ, ◌%◌, ◌<◌, ◌≤◌, Bool, true, false, cond, eqb, List, [], ◌∷◌, ◌++◌, length, All, refl, sym, ap, subst, ◌∙◌, arith, lit<, lit≤}
-use Rattle.std.specs.Prelude.{decimal, codes, Contains}
-use Rattle.std.specs.List.{AllByRecursion, list_all}
-use Rattle.std.proofs.lemmas.Bool.{ne_eqb, and_parts, leb-true}
-use Rattle.std.proofs.lemmas.List.Elements.{All-weaker}
-use Rattle.std.proofs.lemmas.List.Splits.{slice_split_at, slice_split_none}
-use Rattle.std.proofs.lemmas.List.Sums.{AllPass-from_list_all}
-use Rattle.hex.specs.Hex.{IsBytes, encode_lower}
-use Rattle.itm_types.specs.Access.{size_of}
+use Rattle.std.proofs.Common.{◌≡◌, ℕ, ◌%◌, ◌<◌, ◌≤◌, Bool, true, false, cond, eqb, List, [], ◌∷◌, ◌++◌, length, All, refl, sym, ap, subst, ◌∙◌, arith, lit<, lit≤, decimal, codes, Contains}
+use Rattle.history_reader.proofs.Common.{ActionKind, All-weaker, AllByRecursion, AllPass-from_list_all, Attempt, Call, CallRecord, IsAttempt, IsBytes, IsCall, IsEntry, IsField, IsMemory, IsRan, IsReply, IsUndone, IsWord, Outcome, Point, Ran, Reply, ReplyKind, Verb, Version, and_parts, answer_to, arena_fields, arena_text, call_fields, depth_fields, encode_lower, fields, final_fields, head_fields, joined, kind_text, leb-true, list_all, memory_fields, name_of, ne_eqb, number_of, operands_of, outcome_name, ran_fields, reply_fields, restart_fields, size_of, slice_split_at, thread_limit, undone_fields, verb_in, verb_text}
+use Rattle.std.proofs.lemmas.List.Splits.{slice_split_none}
 use Rattle.itm_entries.specs.Entries.{entries}
-use Rattle.itm_entries.specs.Names.{name_of}
-use Rattle.itm_types.specs.Refusals.{number_of}
 use Rattle.itm_entries.proofs.AllEntries.{listed}
-use Rattle.itm_types.specs.declared.call.ActionKind.{ActionKind}
 use Rattle.itm_types.specs.declared.call.ActionKind.TheVariants as when
-use Rattle.itm_types.specs.declared.call.Call.{Call}
 use Rattle.itm_types.specs.declared.call.Call.TheVariants as calls
-use Rattle.itm_types.specs.declared.call.Ran.{Ran}
-use Rattle.itm_types.specs.declared.call.Reply.{Reply}
 use Rattle.itm_types.specs.declared.call.Reply.TheVariants as replies
-use Rattle.itm_entries.specs.declared.entry.Entry.{Entry as Point}
-use Rattle.script_fields.specs.Text.{IsField, is_field_byte, joined}
+use Rattle.script_fields.specs.Text.{is_field_byte}
 use Rattle.script_fields.proofs.SpelledNumbers.{decimal_field}
 use Rattle.script_fields.proofs.SpelledOperands.{hex_field, props_field, scope_field, mode_field, no_transaction_field}
-use Rattle.tx_attempts.specs.declared.attempt.Attempt.{Attempt}
-use Rattle.tx_attempts.specs.declared.attempt.CallRecord.{CallRecord}
-use Rattle.tx_attempts.specs.declared.attempt.Outcome.{Outcome}
 use Rattle.tx_attempts.specs.declared.attempt.Outcome.TheVariants as outcomes
-use Rattle.tx_history.specs.declared.history.Version.{Version}
 use Rattle.tx_history.specs.declared.history.Version.TheVariants as versions
-use Rattle.tx_history.specs.Histories.{outcome_name, kind_text}
-use Rattle.tx_history.specs.Versions.{thread_limit}
-use Rattle.history_reader.specs.declared.reply.ReplyKind.{ReplyKind}
 use Rattle.history_reader.specs.declared.reply.ReplyKind.TheVariants as answers
-use Rattle.history_reader.specs.declared.verb.Verb.{Verb}
 use Rattle.history_reader.specs.declared.verb.Verb.TheVariants as verbs
-use Rattle.history_reader.specs.Fields.{is_space, fields}
-use Rattle.tx_history.specs.Bounds.{IsWord}
-use Rattle.history_reader.specs.Tellable.{IsCall, answer_to, IsReply, IsEntry, IsRan, IsUndone, IsAttempt, IsMemory}
-use Rattle.history_reader.specs.LineFields.{arena_text, verb_text, verb_in, operands_of, reply_fields, call_fields, ran_fields, head_fields, arena_fields, restart_fields, undone_fields, depth_fields, memory_fields, final_fields}
+use Rattle.history_reader.specs.Fields.{is_space}
 use Rattle.history_reader.proofs.RoundTrips.Fields.{some_bytes, refusal_number, IsCalled, arena_cases}
 use Rattle.history_reader.proofs.RoundTrips.Calls.{called}
 

@@ -1,21 +1,7 @@
 -- The text of a history that a text can tell is read as that history.
-use Rattle.std.proofs.Common.{◌≡◌, ℕ, ◌≤◌, List, [], ◌∷◌, ◌++◌, length, Ok, refl, sym, ap, subst, ◌∙◌, arith, append_assoc, append-nil, lit<}
-use Rattle.std.specs.Prelude.{codes, decimal, flat_map}
-use Rattle.std.specs.List.{slice_split}
-use Rattle.std.proofs.lemmas.List.Elements.{recursion_from_All}
-use Rattle.hex.specs.Hex.{encode_lower}
-use Rattle.script_fields.specs.Text.{IsField, is_feed, joined}
-use Rattle.tx_history.specs.declared.history.History.{History}
-use Rattle.tx_history.specs.declared.history.Version.{Version}
-use Rattle.tx_history.specs.declared.history.Version.TheVariants.{One, Two, Three}
-use Rattle.tx_history.specs.Histories.{attempt_lines, version_lines, first_lines, last_line, history_text}
-use Rattle.tx_history.specs.Versions.{memory_limit}
+use Rattle.std.proofs.Common.{◌≡◌, ℕ, ◌≤◌, List, [], ◌∷◌, ◌++◌, length, Ok, refl, sym, ap, subst, ◌∙◌, arith, append_assoc, append-nil, lit<, codes, decimal, flat_map}
+use Rattle.history_reader.proofs.Common.{History, IsAttempt, IsField, IsHistory, IsMemory, One, State, Three, Two, Version, attempt_lines, depth_fields, encode_lower, end_of, fields_line, final_fields, first_lines, history_text, initial, is_feed, joined, last_line, meaning, memory_fields, memory_limit, parts_say, read_of, recursion_from_All, slice_split, version_lines}
 use Rattle.history_reader.specs.declared.state.Place.TheVariants as places
-use Rattle.history_reader.specs.declared.state.State.{State}
-use Rattle.history_reader.specs.Lines.{initial, meaning, fields_line}
-use Rattle.history_reader.specs.Reading.{end_of, parts_say, read_of}
-use Rattle.history_reader.specs.Tellable.{IsAttempt, IsMemory, IsHistory}
-use Rattle.history_reader.specs.LineFields.{depth_fields, memory_fields, final_fields}
 use Rattle.history_reader.proofs.RoundTrips.AttemptTexts.{attempts_lead, between, between_lines}
 use Rattle.history_reader.proofs.RoundTrips.LeadingLines.{Leads, leads_on, line_leads}
 use Rattle.history_reader.proofs.RoundTrips.Spellings.{AreFields, depth_are, memory_are, final_are}

@@ -1,14 +1,7 @@
 -- Worked cases of actions, computed.
 use Rattle.std.proofs.Common.{◌≡◌, ◌+◌, ℕ, List, [], ◌∷◌, ◌++◌, true, false, map, refl, replicate}
-use Rattle.itm_types.specs.declared.call.Action.{Action}
-use Rattle.itm_types.specs.declared.call.Call.{Call}
-use Rattle.itm_types.specs.declared.call.Call.TheVariants.{Begin, Commit, Abort, CommitAction, UndoAction}
-use Rattle.itm_types.specs.declared.call.Ran.{Ran}
-use Rattle.user_actions.specs.Actions.{as_commit, as_undo}
-use Rattle.itm_model.specs.State.{State}
-use Rattle.itm_model.specs.Machine.{after, outside}
-use Rattle.itm_model.specs.Undoable.{takes_memory}
-use Rattle.itm_model.specs.Runs.{state_after}
+use Rattle.itm_model.proofs.Common.{Abort, Action, Begin, Call, Commit, CommitAction, Ran, State, UndoAction, after, as_commit, outside, state_after, takes_memory}
+use Rattle.user_actions.specs.Actions.{as_undo}
 use Rattle.itm_model.proofs.Examples.Machines.{plain, eight, start_with}
 
 abbrev action : ℕ → Action

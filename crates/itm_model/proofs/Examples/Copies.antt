@@ -1,17 +1,8 @@
 -- Worked cases of copies and fills, computed.
 use Rattle.std.proofs.Common.{◌≡◌, ℕ, ◌+◌, Bool, List, [], ◌∷◌, true, false, map, refl, replicate}
-use Rattle.itm_types.specs.declared.access.WriteHint.TheVariants.{W}
+use Rattle.itm_model.proofs.Common.{Abort, Begin, Call, Copy, CopyPair, Done, Fill, In, Out, OutOfArena, OutOfRange, Refused, State, W, Within, Write, after, opened, outside, replies, state_after, takes_memory}
 use Rattle.itm_types.specs.declared.copy.SharedSide.TheVariants.{T}
-use Rattle.itm_types.specs.declared.copy.CopyPair.{CopyPair}
-use Rattle.itm_types.specs.declared.copy.CopyPair.TheVariants.{Out, In, Within}
-use Rattle.itm_types.specs.declared.call.Refusal.TheVariants.{OutOfRange, OutOfArena, Overlap}
-use Rattle.itm_types.specs.declared.call.Call.{Call}
-use Rattle.itm_types.specs.declared.call.Call.TheVariants.{Begin, Abort, Write, Copy, Fill}
-use Rattle.itm_types.specs.declared.call.Reply.TheVariants.{Done, Refused}
-use Rattle.itm_model.specs.State.{State}
-use Rattle.itm_model.specs.Machine.{outside, after, opened}
-use Rattle.itm_model.specs.Undoable.{takes_memory}
-use Rattle.itm_model.specs.Runs.{replies, state_after}
+use Rattle.itm_types.specs.declared.call.Refusal.TheVariants.{Overlap}
 use Rattle.itm_model.proofs.Examples.Machines.{plain, start_with, byte}
 
 abbrev copy : Bool → CopyPair → ℕ → ℕ → ℕ → Call

@@ -1,20 +1,8 @@
 -- Worked cases of irrevocable transactions, computed.
 use Rattle.std.proofs.Common.{◌≡◌, ◌+◌, ℕ, List, [], ◌∷◌, ◌++◌, None, true, false, map, refl, replicate}
-use Rattle.itm_types.specs.declared.access.Width.TheVariants.{U1}
-use Rattle.itm_types.specs.declared.access.ReadHint.TheVariants.{R}
-use Rattle.itm_types.specs.declared.access.WriteHint.TheVariants.{W}
-use Rattle.itm_types.specs.declared.call.Action.{Action}
-use Rattle.itm_types.specs.declared.call.Props.{Props}
-use Rattle.itm_types.specs.declared.call.Refusal.TheVariants.{Outside, NoAbort, IsIrrevocable, NoIrrevocable, TooDeep}
-use Rattle.itm_types.specs.declared.call.Call.{Call}
-use Rattle.itm_types.specs.declared.call.Call.TheVariants.{Begin, Commit, Abort, Mode, InTransaction, Read, Write, Log, LogBytes, CommitAction, UndoAction}
-use Rattle.itm_types.specs.declared.call.Ran.{Ran}
-use Rattle.itm_types.specs.declared.call.Reply.TheVariants.{Done, Bytes, Code, Refused}
-use Rattle.user_actions.specs.Actions.{as_commit, no_actions}
-use Rattle.itm_model.specs.State.{Block, State}
-use Rattle.itm_model.specs.Machine.{after, back, opened, outside, undone}
-use Rattle.itm_model.specs.Undoable.{Undoable, before_after, takes_memory}
-use Rattle.itm_model.specs.Runs.{replies, state_after}
+use Rattle.itm_model.proofs.Common.{Abort, Action, Begin, Block, Bytes, Call, Code, Commit, CommitAction, Done, InTransaction, Log, LogBytes, Mode, NoAbort, Outside, Props, R, Ran, Read, Refused, State, TooDeep, U1, UndoAction, Undoable, W, Write, after, as_commit, back, before_after, opened, outside, replies, state_after, takes_memory, undone}
+use Rattle.itm_types.specs.declared.call.Refusal.TheVariants.{IsIrrevocable, NoIrrevocable}
+use Rattle.user_actions.specs.Actions.{no_actions}
 use Rattle.itm_model.proofs.Examples.Machines.{plain, eight, byte, start_with}
 
 -- a block that makes its transaction irrevocable as it begins

@@ -1,7 +1,6 @@
 -- Worked cases of the pieces that a journal keeps, computed.
 use Rattle.std.proofs.Common.{◌≡◌, ℕ, [], ◌∷◌, map, refl}
-use Rattle.itm_model.specs.declared.journal.Old.{Old}
-use Rattle.itm_model.specs.Pieces.{pieces_in, piece_of, newest_in, handed_on}
+use Rattle.itm_model.proofs.Common.{Old, handed_on, newest_in, piece_of, pieces_in}
 
 abbrev old : ℕ → ℕ → ℕ → Old
 old place b earlier = record { place = place; bytes = record { items = b ∷ [] }; earlier = earlier }

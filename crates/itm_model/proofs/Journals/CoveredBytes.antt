@@ -1,12 +1,6 @@
 -- Laws of bytes that are put back: what stands at them before makes no difference.
 use Rattle.std.proofs.Common.{◌≡◌, ◌⊎◌, inl, inr, ℕ, ◌+◌, ◌<◌, ◌≤◌, List, [], ◌∷◌, ◌++◌, length, drop, get_or, refl, ap, sym, subst, ◌∙◌, arith}
-use Rattle.std.proofs.lemmas.Bool.{cases_lt}
-use Rattle.std.proofs.lemmas.Grind.{same_number_lists}
-use Rattle.std.proofs.lemmas.List.{drop-append-le}
-use Rattle.itm_types.specs.Slices.{slice, with_slice}
-use Rattle.itm_model.specs.declared.journal.Old.{Old}
-use Rattle.itm_model.specs.Undoing.{put_back, AreWithin}
-use Rattle.itm_model.specs.Pieces.{IsCovered, AreCovered}
+use Rattle.itm_model.proofs.Common.{AreCovered, AreWithin, IsCovered, Old, cases_lt, drop-append-le, put_back, same_number_lists, slice, with_slice}
 use Rattle.itm_model.proofs.Journals.Rollbacks.{length-with_slice, length-put_back, put_back-append}
 use Rattle.itm_model.proofs.Journals.LaidBytes.{byte_outside, byte_within, slice_same}
 

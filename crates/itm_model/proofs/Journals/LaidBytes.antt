@@ -1,12 +1,8 @@
 -- Laws of laying what stands at the places of a journal over what stood there before.
 use Rattle.std.proofs.Common.{◌≡◌, ◌⊎◌, inl, inr, ℕ, zero, suc, ◌+◌, ◌-◌, ◌<◌, ◌≤◌, List, [], ◌∷◌, ◌++◌, length, get_or, take, drop, ap, sym, subst, ◌∙◌, arith, add-one, drop-cons}
+use Rattle.itm_model.proofs.Common.{AreWithin, Old, cases_lt, common_steps, put_back, same_number_lists, slice, take-append-drop, with_slice}
 use Rattle.std.proofs.Math.Seq.{take-add}
-use Rattle.std.proofs.lemmas.Bool.{cases_lt}
-use Rattle.std.proofs.lemmas.List.{get_or-take, get_or-drop, take-append-drop}
-use Rattle.std.proofs.lemmas.Grind.{common_steps, same_number_lists}
-use Rattle.itm_types.specs.Slices.{slice, with_slice}
-use Rattle.itm_model.specs.declared.journal.Old.{Old}
-use Rattle.itm_model.specs.Undoing.{put_back, AreWithin}
+use Rattle.std.proofs.lemmas.List.{get_or-take, get_or-drop}
 use Rattle.itm_model.proofs.Journals.Rollbacks.{length-with_slice, length-slice, length-put_back}
 
 -- a byte outside a slice that is replaced

@@ -1,13 +1,6 @@
 -- Laws of bytes that are overwritten once the pieces that have them are kept, and of the entries of a block that closes.
 use Rattle.std.proofs.Common.{◌≡◌, ℕ, ◌+◌, ◌≤◌, Bool, ◌||◌, nat_lt, List, [], ◌∷◌, length, drop, take, reverse, subst, ap, sym, ◌∙◌, arith}
-use Rattle.itm_types.specs.Slices.{with_slice}
-use Rattle.std.proofs.lemmas.List.{length-take-le}
-use Rattle.user_actions.specs.Actions.{Actions}
-use Rattle.itm_model.specs.Machine.{written}
-use Rattle.itm_model.specs.declared.journal.Old.{Old}
-use Rattle.itm_model.specs.declared.journal.Mark.{Mark}
-use Rattle.itm_model.specs.Pieces.{Adds, AreAmong, AreCovered, AreLinked, AreNewest, ArePieces, AreOnce, IsIndexed, handed_on, top_of}
-use Rattle.itm_model.specs.Undoing.{put_back, AreUnder, AreWithin, IsSound, Restores}
+use Rattle.itm_model.proofs.Common.{Actions, Adds, AreAmong, AreCovered, AreLinked, AreNewest, AreOnce, ArePieces, AreUnder, AreWithin, IsIndexed, IsSound, Mark, Old, Restores, handed_on, length-take-le, put_back, top_of, with_slice, written}
 use Rattle.itm_model.proofs.Journals.CoveredBytes.{covered_write}
 use Rattle.itm_model.proofs.Journals.EntryChains.{handed_adds, handed_linked, handed_pieces, handed_same}
 use Rattle.itm_model.proofs.Journals.EntryBounds.{once_adds, top_under, under_top}

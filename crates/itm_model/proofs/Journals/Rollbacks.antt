@@ -1,9 +1,6 @@
 -- Laws of putting back.
 use Rattle.std.proofs.Common.{◌≡◌, ℕ, zero, suc, ◌+◌, ◌≤◌, List, [], ◌∷◌, ◌++◌, length, take, drop, refl, ap, sym, ◌∙◌, arith, length-append, length-drop}
-use Rattle.std.proofs.lemmas.List.{drop-append-le, length-take-le}
-use Rattle.itm_types.specs.Slices.{slice, with_slice}
-use Rattle.itm_model.specs.declared.journal.Old.{Old}
-use Rattle.itm_model.specs.Undoing.{put_back, AreWithin, Restores}
+use Rattle.itm_model.proofs.Common.{AreWithin, Old, Restores, drop-append-le, length-take-le, put_back, slice, with_slice}
 
 -- a slice in range keeps the length
 pub length-with_slice : (m : List ℕ) (p : ℕ) (new : List ℕ) → p + length new ≤ length m → length (with_slice m p new) ≡ length m

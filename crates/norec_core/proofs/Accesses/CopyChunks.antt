@@ -1,23 +1,9 @@
 -- The chunks of a copy's source, and the bytes that are read of one.
-use Rattle.std.proofs.Common.{◌≡◌, ℕ, ◌+◌, ◌*◌, ◌/◌, ◌%◌, ◌==◌, ◌<◌, ◌≤◌, List, [], ◌∷◌, length, replicate, None, Some, slice_get, refl, sym, ap, ◌∙◌, arith}
-use Rattle.std.proofs.lemmas.List.{length-append, length-replicate}
-use Rattle.std.proofs.lemmas.List.FromFn.{length-map-range_with_len, get_or-map-range_with_len}
-use Rattle.std.proofs.lemmas.Option.{get_or_from_slice_get}
-use Rattle.std.specs.List.{AllByRecursion}
-use Rattle.std.specs.Prelude.{slice_index}
-use Rattle.itm_types.proofs.Words.{length-bytes_of}
-use Rattle.itm_types.specs.Memory.{bytes_of}
-use Rattle.word_pieces.specs.declared.piece.Piece.{Piece}
-use Rattle.word_pieces.specs.declared.chunk.Chunk.{Chunk}
-use Rattle.word_pieces.specs.declared.chunk.Direction.{Direction}
-use Rattle.word_pieces.specs.declared.chunk.Direction.TheVariants.{Up, Down}
-use Rattle.word_pieces.specs.Chunks.{chunk_of, chunks_of, chunk_count}
-use Rattle.word_pieces.specs.Pieces.{IsPiece, count_of, gathered, part_of, pieces_of}
-use Rattle.word_pieces.proofs.Covers.{AllByRecursion-pieces_of, gathered-pieces_of}
-use Rattle.word_pieces.proofs.Lists.{length-slice}
-use Rattle.itm_types.specs.declared.call.Copying.{Copying}
-use Rattle.norec_core.specs.Copies.{chunks_in, direction_of, source_words, words_in}
-use Rattle.std.proofs.lemmas.Bool.{cond_both}
+use Rattle.std.proofs.Common.{◌≡◌, ℕ, ◌+◌, ◌*◌, ◌/◌, ◌%◌, ◌==◌, ◌<◌, ◌≤◌, List, [], ◌∷◌, length, replicate, None, Some, slice_get, refl, sym, ap, ◌∙◌, arith, slice_index}
+use Rattle.norec_core.proofs.Common.{AllByRecursion, AllByRecursion-pieces_of, Chunk, Copying, Direction, Down, IsPiece, Piece, Up, bytes_of, chunk_count, chunk_of, chunks_in, chunks_of, cond_both, count_of, direction_of, get_or-map-range_with_len, get_or_from_slice_get, length-bytes_of, length-map-range_with_len, length-replicate, length-slice, part_of, pieces_of, source_words, words_in}
+use Rattle.std.proofs.lemmas.List.{length-append}
+use Rattle.word_pieces.specs.Pieces.{gathered}
+use Rattle.word_pieces.proofs.Covers.{gathered-pieces_of}
 use Rattle.norec_core.proofs.Accesses.Ranges.{IsPart, parts-chunks_of}
 use Rattle.norec_core.proofs.Accesses.Readings.{some_count, none_count, length-part_of}
 

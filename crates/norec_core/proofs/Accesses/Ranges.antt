@@ -1,34 +1,14 @@
 -- Ranges of bytes go into the write set, chunk by chunk.
 use Rattle.std.proofs.Common.{◌≡◌, ℕ, zero, suc, ◌+◌, ◌*◌, ◌<◌, ◌≤◌, ◌==◌, ◌||◌, nat_lt, Bool, List, [], ◌∷◌, ◌++◌, length, map, true, false, Option, Some, None, All, slice_get, refl, append-nil, append_assoc, length-append, sym, ap, subst, ◌∙◌, inl, inr, arith}
-use Rattle.std.specs.List.{AllByRecursion, range_with_len}
+use Rattle.norec_core.proofs.Common.{Actions, AllByRecursion, AllFit, AllWritesWithin, AreBytes, AreBytes-slice, AreRows, Chunk, Direction, Down, Frame, IsPiece, Piece, Row, Up, blocks_over, bytes_of, bytes_of-written, cases_Bool, chunk_count, chunk_of, chunks_of, cond_both, is_some_row, length-bytes_of, length-map-range_with_len, length-overlay, length-slice, lookup, lookup_here, lookup_there, lt-ltb, mask_of, ne_eqb, overlay, pieces_of, put_all, reserved, reserved_all, row, slice, state_over, take_all, with_slice, words_of-pieces_of}
+use Rattle.std.specs.List.{range_with_len}
 use Rattle.std.specs.Int.Bits.{bit_and, and_zero_l}
-use Rattle.std.proofs.lemmas.Bool.{cases_Bool, cond_both, lt-ltb, ne_eqb}
-use Rattle.std.proofs.lemmas.List.{take_all}
 use Rattle.std.proofs.lemmas.List.Elements.{All-from_recursion, recursion_from_All}
-use Rattle.std.proofs.lemmas.List.FromFn.{length-map-range_with_len}
-use Rattle.itm_types.specs.Slices.{slice, with_slice, AreBytes}
-use Rattle.itm_types.specs.Memory.{bytes_of, AllFit}
-use Rattle.itm_types.proofs.Words.{length-bytes_of}
-use Rattle.word_pieces.specs.declared.chunk.Chunk.{Chunk}
-use Rattle.word_pieces.specs.declared.chunk.Direction.{Direction}
-use Rattle.word_pieces.specs.declared.chunk.Direction.TheVariants.{Up, Down}
-use Rattle.word_pieces.specs.declared.piece.Piece.{Piece}
-use Rattle.word_pieces.specs.Chunks.{chunk_of, chunk_count, chunks_of, chunks_written}
-use Rattle.word_pieces.specs.Masks.{mask_of}
-use Rattle.word_pieces.specs.Pieces.{pieces_of, IsPiece}
+use Rattle.word_pieces.specs.Chunks.{chunks_written}
 use Rattle.word_pieces.proofs.ChunkBytes.{all-written}
-use Rattle.word_pieces.proofs.Covers.{words_of-pieces_of, bytes_of-written}
-use Rattle.word_pieces.proofs.Lists.{length-slice}
 use Rattle.word_pieces.proofs.MaskBytes.{mask_of-some}
-use Rattle.word_pieces.proofs.Parts.{AreBytes-slice}
-use Rattle.write_set.specs.declared.row.Row.{Row}
-use Rattle.write_set.specs.Rows.{overlay, lookup, reserved, row, AreRows}
-use Rattle.write_set.proofs.Overlays.{length-overlay, lookup_here, lookup_there}
-use Rattle.norec_core.specs.Rows.{has_mask, is_covered, range_pieces, reserved_all, put_all, put_chunks, put_range, AllWritesWithin}
-use Rattle.user_actions.specs.Actions.{Actions}
-use Rattle.nest_frames.specs.Nest.{Frame}
+use Rattle.norec_core.specs.Rows.{has_mask, is_covered, range_pieces, put_chunks, put_range}
 use Rattle.itm_model.specs.Machine.{written}
-use Rattle.norec_core.specs.Stands.{is_some_row, blocks_over, state_over}
 use Rattle.norec_core.proofs.Engines.Machines.{is_some_row-put_all, or_true}
 use Rattle.norec_core.proofs.Accesses.Writings.{AllFitIn, fit_pieces, overlay-put_all, overlay-reserved_all, some_pieces, AllWritesWithin-put_all, AllWritesWithin-reserved_all, AreRows-put_all, AreRows-reserved_all}
 

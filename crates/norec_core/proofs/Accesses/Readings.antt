@@ -1,26 +1,14 @@
 -- The pieces of a read, one by one.
 use Rattle.std.proofs.Common.{◌≡◌, ℕ, zero, suc, ◌+◌, ◌/◌, ◌<◌, ◌≤◌, true, false, List, [], ◌∷◌, drop, take, None, Some, slice_get, length, refl, sym, ap, ◌∙◌, add-one, arith}
-use Rattle.std.proofs.lemmas.Bool.{cond-true, cond-false, cond_both}
-use Rattle.std.proofs.lemmas.List.FromFn.{length-map-range_with_len, get_or-map-range_with_len}
-use Rattle.std.proofs.lemmas.Option.{get_or_from_slice_get}
-use Rattle.std.proofs.lemmas.List.{length-take-le, length-drop}
-use Rattle.std.specs.Int.{w64, to_le_bytes}
-use Rattle.itm_types.specs.declared.row.LogRow.{LogRow}
-use Rattle.write_set.specs.declared.row.Row.{Row}
-use Rattle.word_pieces.specs.declared.piece.Piece.{Piece}
-use Rattle.word_pieces.specs.Pieces.{piece_of, pieces_of, count_of, part_of}
+use Rattle.norec_core.proofs.Common.{Chunk, Copying, Load, LogRow, Phase, Piece, Reading, Row, chunks_in, cond-false, cond-true, cond_both, count_of, get_or-map-range_with_len, get_or_from_slice_get, length-map-range_with_len, length-take-le, load_chunks, part_of, piece_of, pieces_of, source_words, tries_after, tries_at, w64, words_in}
+use Rattle.std.proofs.lemmas.List.{length-drop}
+use Rattle.std.specs.Int.{to_le_bytes}
 use Rattle.norec_core.specs.Accesses.{part, parts, count, passed_for, total_for}
-use Rattle.norec_core.specs.Phases.{Load}
-use Rattle.norec_core.specs.declared.call_parts.Reading.{Reading}
 use Rattle.norec_core.specs.Rows.{is_had}
-use Rattle.norec_core.specs.Order.{load_among, load_chunks, chunk_reading, tries_after, tries_at}
+use Rattle.norec_core.specs.Order.{load_among, chunk_reading}
 use Rattle.norec_core.specs.OwnAccesses.{word_of}
-use Rattle.norec_core.specs.Copies.{chunks_in, words_in, source_words}
 use Rattle.norec_core.specs.declared.call_parts.Purpose.{Purpose}
 use Rattle.norec_core.specs.declared.call_parts.Purpose.TheVariants as for
-use Rattle.itm_types.specs.declared.call.Copying.{Copying}
-use Rattle.word_pieces.specs.declared.chunk.Chunk.{Chunk}
-use Rattle.norec_core.specs.Phases.{Phase}
 
 pub none_drop : {X : Type 0} (xs : List X) (n : ℕ) → slice_get xs n ≡ None → drop n xs ≡ []
 none_drop [] zero e = refl

@@ -1,19 +1,13 @@
 -- A block that goes back to its begin: what the engine stands for then.
 use Rattle.std.proofs.Common.{◌≡◌, ℕ, ◌<◌, ◌≤◌, ◌&&◌, nat_le, nat_lt, Bool, true, false, List, [], ◌∷◌, length, take, Some, refl, sym, ap, ◌∙◌, if◌then◌else◌}
-use Rattle.std.proofs.lemmas.Bool.{and_parts, leb-true, ltb-true}
-use Rattle.std.proofs.lemmas.List.{length-take-le}
+use Rattle.norec_core.proofs.Common.{Core, Frame, State, back, begun_again, blocks_over, bytes_of, is_some_row, leb-true, length-take-le, may_restart, overlay, pushed, reads_of, renewed, stands_for}
+use Rattle.std.proofs.lemmas.Bool.{and_parts, ltb-true}
 use Rattle.itm_types.specs.KeptBytes.{nothing, restored}
 use Rattle.itm_types.proofs.KeptBytes.{nothing_same}
-use Rattle.itm_types.specs.Memory.{bytes_of}
-use Rattle.write_set.specs.Rows.{overlay}
-use Rattle.nest_frames.specs.Nest.{Frame, log_of, reads_of}
+use Rattle.nest_frames.specs.Nest.{log_of}
 use Rattle.undo_log.specs.Rollback.{kept_from, kept_of, put_back}
-use Rattle.itm_model.specs.State.{State}
-use Rattle.itm_model.specs.Machine.{back, irrevocable_from, pushed}
-use Rattle.norec_core.specs.Core.{Core, is_within, renewed}
-use Rattle.norec_core.specs.Order.{may_restart}
-use Rattle.norec_core.specs.Restarts.{begun_again}
-use Rattle.norec_core.specs.Stands.{blocks_over, is_some_row, stands_for}
+use Rattle.itm_model.specs.Machine.{irrevocable_from}
+use Rattle.norec_core.specs.Core.{is_within}
 
 -- what blocks keep of an arena tells no more of it than how long it is
 pub blocks_sized : (bs : List Frame) (a b m : List ℕ) → nothing a ≡ nothing b → blocks_over bs a m ≡ blocks_over bs b m

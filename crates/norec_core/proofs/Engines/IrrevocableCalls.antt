@@ -1,21 +1,11 @@
 -- A transaction that becomes irrevocable, by the plain machine.
 use Rattle.std.proofs.Common.{◌≡◌, ℕ, suc, ◌<◌, ◌&&◌, ◌||◌, not, nat_lt, Bool, true, false, List, [], ◌∷◌, length, map, Option, None, Some, refl, sym, ap, ◌∙◌}
-use Rattle.std.proofs.lemmas.Bool.{cond-true, lt-ltb}
-use Rattle.itm_types.specs.declared.call.Call.TheVariants.{Begin, Mode}
-use Rattle.itm_types.specs.declared.call.Props.{Props}
-use Rattle.itm_types.specs.declared.call.Refusal.{Refusal}
-use Rattle.itm_types.specs.declared.call.Refusal.TheVariants.{Outside, NoIrrevocable, TooDeep}
-use Rattle.itm_types.specs.declared.call.Reply.TheVariants.{Done, Code}
-use Rattle.itm_types.specs.Memory.{bytes_of}
-use Rattle.user_actions.specs.Actions.{Actions}
-use Rattle.write_set.specs.declared.row.Row.{Row}
-use Rattle.write_set.specs.Rows.{overlay}
-use Rattle.nest_frames.specs.Nest.{Frame, begun, made_irrevocable, stays_revocable}
-use Rattle.itm_model.specs.State.{Block, State}
-use Rattle.itm_model.specs.Machine.{after, after_unless, effect, entered, pushed, keeps_revocable, or_else, refusal, reply, reply_unless, unless, made_irrevocable as made_so}
+use Rattle.norec_core.proofs.Common.{Actions, Begin, Block, Code, Done, Frame, Mode, Outside, Props, Refusal, Row, State, after, after_unless, begun, blocks_over, bytes_of, cond-true, effect, is_inside, lt-ltb, made_irrevocable, may_go, or_else, overlay, pushed, refusal, reply, reply_unless, state_over, unless}
+use Rattle.itm_types.specs.declared.call.Refusal.TheVariants.{NoIrrevocable, TooDeep}
+use Rattle.nest_frames.specs.Nest.{stays_revocable}
+use Rattle.itm_model.specs.Machine.{entered, keeps_revocable, made_irrevocable as made_so}
 use Rattle.norec_core.specs.Accesses.{mode_refusal}
-use Rattle.norec_core.specs.Core.{is_inside, may_go}
-use Rattle.norec_core.specs.Stands.{block_kept, blocks_over, state_kept, state_over}
+use Rattle.norec_core.specs.Stands.{block_kept, state_kept}
 use Rattle.norec_core.proofs.Engines.Machines.{open_is}
 
 -- its blocks go back to nothing

@@ -1,18 +1,13 @@
 -- What no step changes in an engine, and what follows from that.
 use Rattle.std.proofs.Common.{◌≡◌, ℕ, zero, suc, ◌+◌, ◌*◌, ◌==◌, ◌&&◌, not, Bool, true, false, List, [], ◌∷◌, ◌++◌, length, if◌then◌else◌, Option, None, Some, refl, ap, ◌∙◌}
-use Rattle.itm_types.specs.declared.call.Call.{Call}
+use Rattle.norec_core.proofs.Common.{AsksFor, Call, Cas, Core, LogRow, Phase, Step, Store, came, count_of, got_in, handed_to, in_transaction, is_inside, may_go, size_of, source_words, word_loaded}
 use Rattle.itm_types.specs.declared.call.Call.TheVariants as calls
-use Rattle.itm_types.specs.declared.row.LogRow.{LogRow}
-use Rattle.itm_types.specs.declared.step.Step.{Step}
-use Rattle.itm_types.specs.declared.step.Step.TheVariants.{Load, Store, Cas}
-use Rattle.itm_types.specs.Access.{size_of}
-use Rattle.word_pieces.specs.Pieces.{count_of}
-use Rattle.norec_core.specs.Phases.{Phase}
+use Rattle.itm_types.specs.declared.step.Step.TheVariants.{Load}
 use Rattle.norec_core.specs.Phases as at
-use Rattle.norec_core.specs.Core.{Core, begins_anew, came, handed_to, in_transaction, is_inside, may_go, word_loaded}
-use Rattle.norec_core.specs.OwnAccesses.{gathered_in, got_in, saved_in}
-use Rattle.norec_core.specs.Proceeds.{AsksFor, most}
-use Rattle.norec_core.specs.Copies.{source_words, words_read, words_written}
+use Rattle.norec_core.specs.Core.{begins_anew}
+use Rattle.norec_core.specs.OwnAccesses.{gathered_in, saved_in}
+use Rattle.norec_core.specs.Proceeds.{most}
+use Rattle.norec_core.specs.Copies.{words_read, words_written}
 use Rattle.norec_core.specs.Keeps.{Keeps}
 
 -- within a transaction no outermost block begins

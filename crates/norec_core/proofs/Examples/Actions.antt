@@ -1,12 +1,7 @@
 -- Worked cases of registered actions, computed.
 use Rattle.std.proofs.Common.{◌≡◌, ℕ, [], ◌∷◌, true, false, refl}
-use Rattle.itm_types.specs.declared.call.Action.{Action}
+use Rattle.norec_core.proofs.Common.{Action, Actions, Code, Core, Done, actions_after, after_undoing, as_commit, as_undo, finished, no_actions, rolled_back}
 use Rattle.itm_types.specs.declared.call.Call.TheVariants as calls
-use Rattle.itm_types.specs.declared.call.Reply.TheVariants.{Done, Code}
-use Rattle.user_actions.specs.Actions.{Actions, as_commit, as_undo, no_actions}
-use Rattle.norec_core.specs.Core.{Core, finished, rolled_back}
-use Rattle.norec_core.specs.Effects.{actions_after}
-use Rattle.norec_core.specs.Undoing.{after_undoing}
 use Rattle.norec_core.proofs.Examples.StepOrder.{begin, outside}
 use Rattle.norec_core.proofs.Examples.Blocks.{inner, outer, nested}
 

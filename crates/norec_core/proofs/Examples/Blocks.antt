@@ -1,17 +1,10 @@
 -- Worked cases of blocks within one another, computed.
 use Rattle.std.proofs.Common.{◌≡◌, ℕ, List, [], ◌∷◌, true, false, None, Some, refl}
-use Rattle.itm_types.specs.declared.access.Width.TheVariants.{U2}
+use Rattle.norec_core.proofs.Common.{Code, Core, Done, Frame, Old, Refused, Row, U2, after_undoing, arena_after, block_over, blocks_after, ended, rolled_back, stands_for, writes_after}
 use Rattle.itm_types.specs.declared.call.Call.TheVariants as calls
 use Rattle.itm_types.specs.declared.call.Refusal.TheVariants.{NoAbort}
-use Rattle.itm_types.specs.declared.call.Reply.TheVariants.{Done, Code, Refused}
-use Rattle.undo_log.specs.Rollback.{Old}
-use Rattle.write_set.specs.declared.row.Row.{Row}
-use Rattle.nest_frames.specs.Nest.{Frame}
 use Rattle.norec_core.specs.declared.answer.Undone.TheVariants as undoings
-use Rattle.norec_core.specs.Core.{Core, ended, rolled_back}
-use Rattle.norec_core.specs.Effects.{writes_after, arena_after, blocks_after}
-use Rattle.norec_core.specs.Stands.{block_over, stands_for}
-use Rattle.norec_core.specs.Undoing.{undone_of, after_undoing}
+use Rattle.norec_core.specs.Undoing.{undone_of}
 use Rattle.norec_core.proofs.Examples.StepOrder.{Ends, lines, no_props, inside, logged, all_of, byte_of, begin}
 
 -- ## Where they come

@@ -1,22 +1,7 @@
 -- Worked cases of copies and fills, computed: what is refused, and what is written.
 use Rattle.std.proofs.Common.{◌≡◌, ℕ, List, [], ◌∷◌, true, false, None, Some, drop, refl}
-use Rattle.itm_types.specs.declared.access.WriteHint.TheVariants.{W}
-use Rattle.itm_types.specs.declared.call.Call.TheVariants.{Copy, Fill}
-use Rattle.itm_types.specs.declared.call.Copying.{Copying}
-use Rattle.itm_types.specs.declared.call.Refusal.TheVariants.{Outside, OutOfRange, OutOfArena, Overlap}
-use Rattle.itm_types.specs.declared.call.Reply.TheVariants.{Done}
-use Rattle.itm_types.specs.declared.copy.CopyPair.{CopyPair}
-use Rattle.itm_types.specs.declared.copy.CopyPair.TheVariants.{Out, In, Within}
-use Rattle.itm_types.specs.declared.copy.SharedSide.TheVariants.{T}
-use Rattle.word_pieces.specs.declared.chunk.Direction.TheVariants.{Up, Down}
-use Rattle.write_set.specs.declared.row.Row.{Row}
-use Rattle.write_set.specs.Rows.{row}
-use Rattle.norec_core.specs.Core.{Core}
-use Rattle.norec_core.specs.Copies.{chunks_in, copy_refusal, direction_of, source_words}
-use Rattle.norec_core.specs.Phases.{Load}
+use Rattle.norec_core.proofs.Common.{Copy, CopyPair, Copying, Core, Done, Down, Fill, In, Load, Out, OutOfArena, OutOfRange, Outside, Overlap, Row, T, Up, W, Within, arena_after, chunks_in, copy_refusal, direction_of, load_chunks, row, source_words, writes_after}
 use Rattle.norec_core.specs.declared.call_parts.Purpose.TheVariants as for
-use Rattle.norec_core.specs.Order.{load_chunks}
-use Rattle.norec_core.specs.Effects.{writes_after, arena_after}
 use Rattle.norec_core.proofs.Examples.StepOrder.{inside, all_of, byte_of, logged}
 
 -- with `memcpy`, and with `memmove`

@@ -1,25 +1,14 @@
 -- Worked cases of irrevocable transactions, computed: what their calls ask for, step by step, and what they come to.
 use Rattle.std.proofs.Common.{◌≡◌, ℕ, List, [], ◌∷◌, true, false, None, Some, refl}
-use Rattle.itm_types.specs.declared.access.Width.TheVariants.{U8}
-use Rattle.itm_types.specs.declared.access.WriteHint.TheVariants.{W}
-use Rattle.itm_types.specs.declared.datum.Datum.{Datum}
-use Rattle.itm_types.specs.declared.copy.CopyPair.TheVariants.{In, Within}
-use Rattle.itm_types.specs.declared.copy.SharedSide.TheVariants.{T}
-use Rattle.itm_types.specs.declared.call.Call.{Call}
+use Rattle.norec_core.proofs.Common.{BackLoad, Busy, Bytes, Call, Committed, Conflict, Core, Datum, Exchange, Free, In, Props, RoundEnd, RoundRow, RoundStart, T, U8, W, Within, after, irrevocable_room, stands_for}
 use Rattle.itm_types.specs.declared.call.Call.TheVariants as calls
-use Rattle.itm_types.specs.declared.call.Props.{Props}
-use Rattle.itm_types.specs.declared.call.Reply.TheVariants.{Bytes}
-use Rattle.itm_model.specs.Machine.{after}
-use Rattle.norec_core.specs.declared.answer.Answer.TheVariants.{Committed, Conflict, Busy}
 use Rattle.norec_core.specs.declared.call_parts.Opening.{Opening}
 use Rattle.norec_core.specs.declared.call_parts.Writing.{Writing}
 use Rattle.norec_core.specs.declared.call_parts.Target.TheVariants as into
 use Rattle.norec_core.specs.Aims as aims
 use Rattle.norec_core.specs.declared.call_parts.Taking.TheVariants as takings
-use Rattle.norec_core.specs.Phases.{Begin, Take, RoundStart, RoundRow, RoundEnd, Exchange, BackLoad, Store, Free, Fetch, Place}
-use Rattle.norec_core.specs.Core.{Core, irrevocable_room}
+use Rattle.norec_core.specs.Phases.{Begin, Take, Store, Fetch, Place}
 use Rattle.norec_core.specs.Held.{answers, leaves}
-use Rattle.norec_core.specs.Stands.{stands_for}
 use Rattle.norec_core.proofs.Examples.StepOrder.{all_of, byte_of, engine_after, exchanges, inside, lines, loads, logged, outside, read, stores}
 use Rattle.norec_core.proofs.Examples.StepOrder.Line.{Asks, Ends}
 

@@ -1,28 +1,15 @@
 -- Worked cases of the step order, computed: what a call asks for, step by step, and how it ends. The clock is cell 0, and word w is cell w + 1.
 use Rattle.std.proofs.Common.{◌≡◌, ℕ, ◌*◌, List, [], ◌∷◌, true, false, Option, None, Some, refl}
-use Rattle.itm_types.specs.declared.access.Width.TheVariants.{U8}
+use Rattle.norec_core.proofs.Common.{Answer, BackLoad, Busy, Call, Committed, Confirm, Conflict, Core, Exchange, Free, Full, Idle, Load, LogRow, Phase, Props, Reading, RoundEnd, RoundRow, RoundStart, Row, Step, U8, asked, begun, came, ending_after, ending_at, gathered_at, handed, log_after, no_actions, snapshot_after, tries_after, tries_at}
 use Rattle.itm_types.specs.declared.access.ReadHint.TheVariants.{R}
-use Rattle.itm_types.specs.declared.row.LogRow.{LogRow}
-use Rattle.itm_types.specs.declared.step.Step.{Step}
 use Rattle.itm_types.specs.declared.step.Step.TheVariants as steps
-use Rattle.itm_types.specs.declared.call.Props.{Props}
-use Rattle.itm_types.specs.declared.call.Call.{Call}
 use Rattle.itm_types.specs.declared.call.Call.TheVariants as calls
-use Rattle.user_actions.specs.Actions.{no_actions}
-use Rattle.nest_frames.specs.Nest.{begun}
-use Rattle.write_set.specs.declared.row.Row.{Row}
-use Rattle.norec_core.specs.declared.answer.Answer.{Answer}
-use Rattle.norec_core.specs.declared.answer.Answer.TheVariants.{Committed, Conflict, Busy, Full}
-use Rattle.norec_core.specs.declared.call_parts.Reading.{Reading}
 use Rattle.norec_core.specs.declared.call_parts.Purpose.TheVariants as for
 use Rattle.norec_core.specs.Aims as aims
 use Rattle.norec_core.specs.declared.call_parts.Taking.TheVariants as takings
-use Rattle.norec_core.specs.Phases.{Phase}
-use Rattle.norec_core.specs.Phases.{Idle, Begin, Load, Confirm, RoundStart, RoundRow, RoundEnd, Exchange, BackLoad, Store, Free}
-use Rattle.norec_core.specs.OwnAccesses.{gathered_at}
-use Rattle.norec_core.specs.Core.{Core, opening, came, handed}
-use Rattle.norec_core.specs.Order.{stage_at, stage_after, tries_at, tries_after, snapshot_after, log_after, asked}
-use Rattle.norec_core.specs.Endings.{ending_at, ending_after}
+use Rattle.norec_core.specs.Phases.{Begin, Store}
+use Rattle.norec_core.specs.Core.{opening}
+use Rattle.norec_core.specs.Order.{stage_at, stage_after}
 
 -- ## What is played
 

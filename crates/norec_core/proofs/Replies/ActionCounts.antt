@@ -1,26 +1,14 @@
 -- Over an answer, no action that has run is lost, and there are no more actions in all than before, but for one that is registered.
 use Rattle.std.proofs.Common.{◌≡◌, ℕ, ◌+◌, ◌≤◌, Bool, true, false, true≢false, if◌then◌else◌, List, [], ◌∷◌, ◌++◌, length, map, take, drop, reverse, refl, sym, ap, inl, inr, ◌∙◌, arith, append-nil, append_assoc, length-append}
-use Rattle.std.proofs.lemmas.List.{length-map, length-reverse, take-append-drop}
-use Rattle.itm_types.specs.declared.call.Call.{Call}
-use Rattle.itm_types.specs.declared.call.Call.TheVariants.{Begin, Commit, Abort, Log, LogBytes, CommitAction, UndoAction}
-use Rattle.itm_types.specs.declared.call.Action.{Action}
+use Rattle.norec_core.proofs.Common.{Abort, Action, Actions, Begin, Call, Code, Commit, CommitAction, Core, Done, Frame, Idle, Log, LogBytes, Old, Replied, State, UndoAction, actions_after, actions_back, after_undoing, as_commit, as_undo, block_over, blocks_after, blocks_over, cases_Bool, committed, in_transaction, is_abort, is_inside, is_outermost, length-map, rolled_back, size_of, total}
+use Rattle.std.proofs.lemmas.List.{length-reverse, take-append-drop}
 use Rattle.itm_types.specs.declared.call.Ran.{Ran}
-use Rattle.itm_types.specs.declared.call.Reply.{Reply as Replied}
-use Rattle.itm_types.specs.declared.call.Reply.TheVariants.{Done, Code}
-use Rattle.itm_types.specs.Calls.{is_abort, is_begin}
-use Rattle.user_actions.specs.Actions.{Actions, as_commit, as_undo, committed, cut_back, registered, total}
-use Rattle.nest_frames.specs.Nest.{Frame, actions_back, actions_cancelled, actions_closed, closed, logged}
-use Rattle.std.proofs.lemmas.Bool.{cases_Bool}
-use Rattle.itm_types.specs.Access.{size_of}
-use Rattle.undo_log.specs.Rollback.{Old, found}
+use Rattle.itm_types.specs.Calls.{is_begin}
+use Rattle.user_actions.specs.Actions.{cut_back, registered}
+use Rattle.nest_frames.specs.Nest.{actions_cancelled, actions_closed, closed, logged}
+use Rattle.undo_log.specs.Rollback.{found}
 use Rattle.norec_core.proofs.Engines.Blocks.{none_inside}
-use Rattle.norec_core.specs.Core.{Core, in_transaction, is_inside, is_outermost, rolled_back}
-use Rattle.itm_model.specs.State.{State}
 use Rattle.itm_model.specs.Machine.{rolled_back as plainly_back, undone_from}
-use Rattle.norec_core.specs.Phases.{Idle}
-use Rattle.norec_core.specs.Stands.{block_over, blocks_over}
-use Rattle.norec_core.specs.Undoing.{after_undoing}
-use Rattle.norec_core.specs.Effects.{actions_after, blocks_after}
 use Rattle.norec_core.proofs.Replies.ReplyCases.{IsReplied}
 use Rattle.itm_types.specs.declared.call.ActionKind.TheVariants as kinds
 

@@ -1,19 +1,8 @@
 -- What holds of an engine after any answer.
 use Rattle.norec_core.proofs.Engines.Blocks.{none_inside}
-use Rattle.norec_core.specs.Endings.{EndsSo, IsEnding, ending_at}
 use Rattle.std.proofs.Common.{arith, ◌≡◌, ◌⊎◌, inl, inr, ℕ, Bool, true, false, true≢false, List, [], Option, None, Some, refl, ap, subst, sym, ◌∙◌}
-use Rattle.itm_types.specs.declared.call.Call.{Call}
-use Rattle.itm_types.specs.declared.call.Call.TheVariants.{Begin}
-use Rattle.itm_types.specs.declared.call.Reply.{Reply as Replied}
-use Rattle.norec_core.specs.declared.answer.Answer.{Answer}
-use Rattle.norec_core.specs.declared.answer.Answer.TheVariants.{Reply, Committed, Conflict, Restarted, Busy, Full}
-use Rattle.norec_core.specs.declared.answer.Next.{Next}
-use Rattle.norec_core.specs.declared.answer.Next.TheVariants.{Step as Asks, Answer as Answers}
-use Rattle.norec_core.specs.Phases.{Phase}
-use Rattle.user_actions.specs.Actions.{Actions, committed, total}
-use Rattle.nest_frames.specs.Nest.{arena_back, actions_back}
-use Rattle.norec_core.specs.Core.{Core, ended, in_transaction}
-use Rattle.norec_core.specs.Proceeds.{ConflictsIn, Ends, Proceeds, RepliesTo}
+use Rattle.norec_core.proofs.Common.{Actions, Answer, Answers, Asks, Begin, Busy, Call, Committed, Conflict, ConflictsIn, Core, Ends, EndsSo, Full, IsEnding, Next, Phase, Proceeds, Replied, RepliesTo, Reply, Restarted, actions_back, committed, ended, ending_at, in_transaction, total}
+use Rattle.nest_frames.specs.Nest.{arena_back}
 use Rattle.norec_core.specs.Effects.{recoded}
 use Rattle.norec_core.specs.Restarts.{IsRestart}
 use Rattle.norec_core.proofs.Replies.ReplyCases.{Ways, replied_so, reply_cases}

@@ -1,22 +1,9 @@
 -- What an engine gives, and what it is then, follow from what it was and what it is handed.
 use Rattle.std.proofs.Common.{◌≡◌, ℕ, ◌+◌, Bool, true, false, List, [], map, Option, None, Some, refl, sym, ap, subst, ◌∙◌}
-use Rattle.itm_types.specs.declared.call.Call.{Call}
-use Rattle.itm_types.specs.declared.call.Reply.{Reply as Replied}
-use Rattle.itm_types.specs.declared.step.Step.{Step}
-use Rattle.itm_types.specs.Memory.{IsMemory, Agrees}
-use Rattle.norec_core.specs.declared.answer.Answer.{Answer}
-use Rattle.norec_core.specs.declared.answer.Answer.TheVariants.{Reply, Committed, Conflict, Restarted, Busy, Full}
-use Rattle.norec_core.specs.declared.answer.Next.{Next}
-use Rattle.norec_core.specs.declared.answer.Next.TheVariants.{Step as Asks, Answer as Answers}
-use Rattle.norec_core.specs.Phases.{Phase}
+use Rattle.norec_core.proofs.Common.{Agrees, Answer, Answers, Asks, AsksFor, Busy, Call, Committed, Conflict, ConflictsIn, Core, Ends, EndsSo, Full, IsEnding, IsMemory, IsSettled, Next, Phase, Proceeds, Replied, RepliesBy, RepliesTo, Reply, Restarted, Step, actions_after, arena_after, asked, asked_from, blocks_after, came, ended, ending_after, ending_at, finished, gathered_at, handed, in_transaction, is_inside, made_irrevocable, renewed, rolled_back, tries_after, tries_at, writes_after}
 use Rattle.norec_core.specs.Phases as at
-use Rattle.norec_core.specs.Core.{Core, came, handed, ended, finished, renewed, rolled_back, is_inside, in_transaction}
-use Rattle.norec_core.specs.Order.{asked, asked_in, asked_from, tries_at, tries_after}
-use Rattle.norec_core.specs.Endings.{EndsSo, IsEnding, ending_at, ending_after}
-use Rattle.norec_core.specs.Proceeds.{Proceeds, AsksFor, ConflictsIn, Ends, RepliesBy, RepliesTo, IsSettled}
-use Rattle.norec_core.specs.Effects.{writes_after, arena_after, arena_held, blocks_after, actions_after, room_left}
-use Rattle.norec_core.specs.OwnAccesses.{gathered_at}
-use Rattle.nest_frames.specs.Nest.{made_irrevocable}
+use Rattle.norec_core.specs.Order.{asked_in}
+use Rattle.norec_core.specs.Effects.{arena_held, room_left}
 use Rattle.norec_core.proofs.Replies.AnsweredEngines.{rests}
 use Rattle.norec_core.specs.Moves.{IsCalled, IsResumed}
 

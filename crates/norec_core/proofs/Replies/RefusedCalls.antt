@@ -1,11 +1,7 @@
 -- A refused call leaves all as it was.
 use Rattle.std.proofs.Common.{◌≡◌, ℕ, List, refl}
-use Rattle.itm_types.specs.declared.call.Call.{Call}
-use Rattle.itm_types.specs.declared.call.Call.TheVariants.{Begin, Commit, Abort, Write, Log, LogBytes, Copy, Fill, CommitAction, UndoAction, Save}
-use Rattle.itm_types.specs.declared.call.Refusal.{Refusal}
-use Rattle.itm_types.specs.declared.call.Reply.TheVariants.{Refused}
-use Rattle.norec_core.specs.Core.{Core}
-use Rattle.norec_core.specs.Effects.{writes_after, arena_after, blocks_after, actions_after}
+use Rattle.norec_core.proofs.Common.{Abort, Begin, Call, Commit, CommitAction, Copy, Core, Fill, Log, LogBytes, Refusal, Refused, UndoAction, Write, actions_after, arena_after, blocks_after, writes_after}
+use Rattle.itm_types.specs.declared.call.Call.TheVariants.{Save}
 
 pub writes_kept : (c : Core) (m : List ℕ) (call : Call) (why : Refusal) → writes_after c m call (Refused why) ≡ c.writes
 writes_kept c m (Write hint at value) why = refl

@@ -1,17 +1,7 @@
 -- The three ways of a reply: in a transaction that is not irrevocable, as it becomes so, and once it is; and what holds after each.
 use Rattle.std.proofs.Common.{◌≡◌, ◌≤◌, ◌⊎◌, inl, inr, [], Bool, true, false, Option, Some, IsSome, length, refl, sym, ap, subst, ◌∙◌, arith}
-use Rattle.std.proofs.lemmas.List.{length-map}
-use Rattle.itm_types.specs.Calls.{is_abort}
-use Rattle.itm_types.specs.declared.call.Call.{Call}
-use Rattle.itm_types.specs.declared.call.Call.TheVariants.{Begin, Mode}
-use Rattle.itm_types.specs.declared.call.Reply.{Reply as Replied}
-use Rattle.itm_types.specs.declared.call.Reply.TheVariants.{Code}
-use Rattle.user_actions.specs.Actions.{Actions, total}
-use Rattle.nest_frames.specs.Nest.{made_irrevocable}
-use Rattle.norec_core.specs.Core.{Core, irrevocable_room, in_transaction, is_inside}
-use Rattle.norec_core.specs.declared.answer.Answer.TheVariants.{Reply}
-use Rattle.norec_core.specs.Proceeds.{Ends, Enters, Replies, RepliesBy, RepliesHeld, RepliesTo}
-use Rattle.norec_core.specs.Effects.{actions_after, blocks_after}
+use Rattle.norec_core.proofs.Common.{Actions, Begin, Call, Code, Core, Ends, Mode, Replied, RepliesBy, RepliesTo, Reply, actions_after, blocks_after, in_transaction, irrevocable_room, is_abort, is_inside, length-map, made_irrevocable, total}
+use Rattle.norec_core.specs.Proceeds.{Enters, Replies, RepliesHeld}
 use Rattle.norec_core.proofs.Engines.Blocks.{inside_all}
 
 module _ (mid new : Core) (call : Call) (r : Replied) where

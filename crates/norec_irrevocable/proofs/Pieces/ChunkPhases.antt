@@ -1,33 +1,13 @@
 -- The chunks of a copy, as an irrevocable transaction takes them.
-use Rattle.std.proofs.Common.{◌≡◌, ℕ, suc, ◌+◌, ◌*◌, ◌^◌, ◌<◌, ◌≤◌, nat_lt, true, false, List, [], ◌∷◌, length, drop, take, Option, None, Some, slice_get, refl, sym, ap, ◌∙◌, arith, add-one}
-use Rattle.std.specs.Prelude.{option_map}
-use Rattle.std.proofs.lemmas.Bool.{cond-true, lt-ltb}
+use Rattle.std.proofs.Common.{◌≡◌, ℕ, suc, ◌+◌, ◌*◌, ◌^◌, ◌<◌, ◌≤◌, nat_lt, true, false, List, [], ◌∷◌, length, drop, take, Option, None, Some, slice_get, refl, sym, ap, ◌∙◌, arith, add-one, option_map}
+use Rattle.norec_irrevocable.proofs.Common.{Chunk, Copy, CopyPair, Copying, Data, Idle, In, IsHeld, IsServed, Load, MayCopy, Out, Phase, Reading, Within, WritesShared, accepted_sides, arena_within, chunk_from, chunk_reading, chunk_there, chunk_within, chunks_in, cond-true, count_of, counted, direction_of, held, in_call, is_in, is_out, lt-ltb, none_drop, place_from, read_from, read_past, shared_within, some_drop, source_refusal, word-pieces_of, word_of, words_in-next}
 use Rattle.itm_types.specs.declared.limits.TheConstants.{MAX_WORDS}
-use Rattle.itm_types.specs.declared.call.Call.TheVariants.{Copy}
-use Rattle.itm_types.specs.declared.call.Copying.{Copying}
-use Rattle.itm_types.specs.declared.copy.CopyPair.{CopyPair}
 use Rattle.itm_types.specs.declared.step.Step.TheVariants as steps
-use Rattle.itm_types.specs.declared.copy.CopyPair.TheVariants.{Out, In, Within}
-use Rattle.word_pieces.specs.declared.chunk.Chunk.{Chunk}
-use Rattle.word_pieces.specs.Pieces.{count_of}
-use Rattle.word_pieces.proofs.Covers.{word-pieces_of}
-use Rattle.norec_core.specs.Phases.{Phase}
-use Rattle.norec_core.specs.Phases.{Idle, Load}
-use Rattle.norec_core.specs.declared.call_parts.Reading.{Reading}
-use Rattle.norec_core.specs.Copies.{chunks_in, direction_of, is_out, source_refusal, target_refusal, words_in, WritesShared}
-use Rattle.norec_core.specs.Order.{chunk_from, chunk_reading, chunk_stage, chunk_read, chunk_writing, place_from, read_from, read_past}
-use Rattle.norec_core.specs.OwnAccesses.{word_of}
+use Rattle.norec_core.specs.Copies.{target_refusal, words_in}
+use Rattle.norec_core.specs.Order.{chunk_stage, chunk_read, chunk_writing}
 use Rattle.norec_core.specs.Proceeds.{AsksFor}
 use Rattle.norec_core.specs.declared.call_parts.Purpose.TheVariants as for
-use Rattle.norec_core.proofs.Accesses.CopyChunks.{chunk_there, chunk_within}
-use Rattle.norec_core.proofs.Replies.CopyRefusals.{accepted_sides, shared_within, arena_within}
-use Rattle.norec_core.proofs.Accesses.Readings.{none_drop, some_drop, words_in-next}
-use Rattle.norec_data.specs.declared.data.Data.{Data}
-use Rattle.norec_data.specs.Bounds.{IsHeld}
-use Rattle.norec_data.specs.Turns.{counted}
-use Rattle.norec_data.specs.View.{held}
-use Rattle.norec_irrevocable.specs.Outcomes.{in_call}
-use Rattle.norec_irrevocable.specs.Phases.{IsServed, IsSoundHeld, MayCopy, copy_steps, is_in, placed_before}
+use Rattle.norec_irrevocable.specs.Phases.{IsSoundHeld, copy_steps, placed_before}
 use Rattle.norec_irrevocable.proofs.Pieces.HeldCopies.{chunk_in_memory, some_chunk}
 use Rattle.norec_irrevocable.proofs.Pieces.PlacedPieces.{some_count_of}
 

@@ -1,33 +1,8 @@
 -- What copies and fills of an irrevocable transaction come to, chunk by chunk.
 use Rattle.std.proofs.Common.{◌≡◌, ℕ, suc, ◌+◌, ◌-◌, ◌*◌, ◌%◌, ◌<◌, ◌≤◌, true, false, List, length, drop, replicate, Option, None, Some, slice_get, refl, sym, ap, ◌∙◌, arith, add-one}
-use Rattle.itm_types.specs.declared.access.WriteHint.{WriteHint}
-use Rattle.itm_types.specs.declared.call.Call.TheVariants.{Copy, Fill}
-use Rattle.itm_types.specs.declared.call.Copying.{Copying}
-use Rattle.itm_types.specs.declared.call.Refusal.{Refusal}
-use Rattle.itm_types.specs.declared.call.Reply.TheVariants.{Done}
-use Rattle.itm_types.specs.declared.copy.CopyPair.{CopyPair}
-use Rattle.itm_types.specs.declared.copy.CopyPair.TheVariants.{Out, In, Within}
-use Rattle.itm_types.specs.Memory.{bytes_of, IsMemory}
-use Rattle.itm_types.specs.Slices.{slice}
-use Rattle.itm_types.proofs.Words.{length-bytes_of}
-use Rattle.itm_model.specs.State.{State}
-use Rattle.itm_model.specs.Machine.{after, after_unless, copied, effect, reply, reply_unless, source_bytes, target_written, written as written_at}
-use Rattle.word_pieces.specs.declared.chunk.Chunk.{Chunk}
-use Rattle.word_pieces.specs.declared.chunk.Direction.{Direction}
-use Rattle.word_pieces.specs.declared.chunk.Direction.TheVariants.{Up, Down}
-use Rattle.word_pieces.specs.Chunks.{chunk_of, chunks_of}
-use Rattle.word_pieces.specs.Pieces.{gathered, pieces_of}
-use Rattle.word_pieces.proofs.Covers.{gathered-pieces_of}
-use Rattle.norec_core.specs.Copies.{chunks_in, direction_of, is_out, source_refusal}
-use Rattle.norec_core.specs.OwnAccesses.{chunk_source}
-use Rattle.norec_core.specs.Parts.{chunk_copying, copied_each, filled_each}
-use Rattle.norec_core.proofs.Accesses.CopyChunks.{chunk_there, chunk_within}
-use Rattle.norec_core.proofs.Replies.CopyRefusals.{accepted_sides, shared_within}
-use Rattle.norec_core.proofs.Accesses.Readings.{none_drop, some_drop}
-use Rattle.norec_data.specs.declared.data.Data.{Data}
-use Rattle.norec_data.specs.View.{in_block}
-use Rattle.norec_irrevocable.specs.Outcomes.{kept}
-use Rattle.norec_irrevocable.specs.Phases.{IsServed}
+use Rattle.norec_irrevocable.proofs.Common.{Chunk, Copy, CopyPair, Copying, Data, Direction, Done, Down, Fill, In, IsMemory, IsServed, Out, Refusal, State, Up, Within, WriteHint, accepted_sides, after, after_unless, bytes_of, chunk_of, chunk_source, chunk_there, chunk_within, chunks_in, chunks_of, copied, copied_each, direction_of, effect, filled_each, gathered, gathered-pieces_of, in_block, is_out, kept, length-bytes_of, none_drop, pieces_of, reply, reply_unless, shared_within, slice, some_drop, source_refusal, target_written, written_at}
+use Rattle.itm_model.specs.Machine.{source_bytes}
+use Rattle.norec_core.specs.Parts.{chunk_copying}
 use Rattle.norec_irrevocable.proofs.Replies.HeldAccesses.{access_served}
 use Rattle.norec_irrevocable.proofs.Replies.Completions.{copy_served}
 use Rattle.norec_irrevocable.proofs.Pieces.PartCopies.{copied_by_chunks, filled_by_chunks}

@@ -1,23 +1,12 @@
 -- A read of an irrevocable transaction goes on from piece to piece.
-use Rattle.std.proofs.Common.{◌≡◌, ℕ, suc, ◌+◌, ◌/◌, ◌<◌, ◌≤◌, nat_lt, true, false, List, [], ◌++◌, length, drop, take, Option, None, Some, is_some, slice_get, length-append, refl, sym, ap, ◌∙◌, arith}
-use Rattle.std.specs.Prelude.{slice_index}
-use Rattle.std.proofs.lemmas.Bool.{cond-false, le-ltb}
-use Rattle.std.proofs.lemmas.List.{append-nil, drop_all}
-use Rattle.std.proofs.lemmas.List.FromFn.{length-map-range_with_len}
-use Rattle.word_pieces.specs.declared.piece.Piece.{Piece}
-use Rattle.word_pieces.specs.Pieces.{count_of, gathered, part_of, piece_of, pieces_of, IsPiece}
+use Rattle.std.proofs.Common.{◌≡◌, ℕ, suc, ◌+◌, ◌/◌, ◌<◌, ◌≤◌, nat_lt, true, false, List, [], ◌++◌, length, drop, take, Option, None, Some, is_some, slice_get, length-append, refl, sym, ap, ◌∙◌, arith, slice_index}
+use Rattle.norec_irrevocable.proofs.Common.{Data, IsPiece, Phase, Piece, Purpose, Reading, State, cond-false, copy_refusal, count_of, drop_all, gathered, length-map-range_with_len, part_of, piece_of, pieces_of, read_from, reading_of}
+use Rattle.std.proofs.lemmas.Bool.{le-ltb}
+use Rattle.std.proofs.lemmas.List.{append-nil}
 use Rattle.word_pieces.proofs.Covers.{take_all-pieces_of}
-use Rattle.norec_core.specs.Phases.{Phase}
-use Rattle.norec_core.specs.declared.call_parts.Purpose.{Purpose}
 use Rattle.norec_core.specs.declared.call_parts.Purpose.TheVariants as for
-use Rattle.norec_core.specs.declared.call_parts.Reading.{Reading}
-use Rattle.itm_model.specs.State.{State}
-use Rattle.norec_core.specs.Copies.{copy_refusal}
-use Rattle.norec_core.specs.Held.{reading as reading_of}
-use Rattle.norec_core.specs.Order.{read_from}
 use Rattle.norec_core.proofs.Accesses.CopyChunks.{length-gathered-all}
 use Rattle.norec_core.proofs.Accesses.Readings.{length-part_of}
-use Rattle.norec_data.specs.declared.data.Data.{Data}
 use Rattle.norec_irrevocable.specs.Phases.{LoadsFor}
 use Rattle.norec_irrevocable.proofs.Replies.HeldAccesses.{gathers_on}
 use Rattle.norec_irrevocable.proofs.Pieces.PlacedPieces.{none_there, piece_there}

@@ -1,26 +1,13 @@
 -- A copy or a fill chunk by chunk comes to what one of the whole range does.
 use Rattle.std.proofs.Common.{◌≡◌, ℕ, ◌+◌, ◌*◌, ◌-◌, ◌<◌, ◌≤◌, ◌&&◌, nat_lt, if◌then◌else◌, Bool, true, false, List, [], ◌∷◌, length, replicate, take, None, refl, ap, sym, ◌∙◌, inl, inr, arith}
-use Rattle.std.specs.List.{AllByRecursion}
+use Rattle.norec_irrevocable.proofs.Common.{AllByRecursion, Chunk, CopyPair, Copying, Direction, Down, In, Out, State, Up, Within, accepted_sides, arena_within, chunk_of, chunks_in, chunks_of, copied, copied_each, copy_refusal, direction_of, filled_each, length-map-range_with_len, length-replicate, shared_within, slice, take-replicate, with_slice, written_at as written}
 use Rattle.std.proofs.lemmas.Bool.{ltb-true, ltb-false}
-use Rattle.std.proofs.lemmas.List.{drop-replicate, length-replicate, take_all, take-replicate}
-use Rattle.std.proofs.lemmas.List.FromFn.{length-map-range_with_len}
-use Rattle.itm_types.specs.declared.call.Copying.{Copying}
-use Rattle.itm_types.specs.declared.copy.CopyPair.{CopyPair}
-use Rattle.itm_types.specs.declared.copy.CopyPair.TheVariants.{Out, In, Within}
+use Rattle.std.proofs.lemmas.List.{drop-replicate, take_all}
 use Rattle.itm_types.specs.declared.copy.SharedSide.{SharedSide}
 use Rattle.itm_types.specs.Copies.{overlap}
-use Rattle.itm_types.specs.Slices.{slice, with_slice}
-use Rattle.word_pieces.specs.declared.chunk.Chunk.{Chunk}
-use Rattle.word_pieces.specs.declared.chunk.Direction.{Direction}
-use Rattle.word_pieces.specs.declared.chunk.Direction.TheVariants.{Up, Down}
-use Rattle.word_pieces.specs.Chunks.{chunk_of, chunk_count, chunks_of, chunks_before, chunks_written, chunks_moved, IsSafe}
+use Rattle.word_pieces.specs.Chunks.{chunk_count, chunks_before, chunks_written, chunks_moved, IsSafe}
 use Rattle.word_pieces.proofs.ChunkBytes.{all-moved}
 use Rattle.word_pieces.proofs.Lists.{slice-slice, length-slice}
-use Rattle.itm_model.specs.Machine.{copied, written}
-use Rattle.itm_model.specs.State.{State}
-use Rattle.norec_core.specs.Copies.{copy_refusal, chunks_in, direction_of}
-use Rattle.norec_core.specs.Parts.{copied_each, filled_each}
-use Rattle.norec_core.proofs.Replies.CopyRefusals.{accepted_sides, arena_within, shared_within}
 use Rattle.norec_core.proofs.Accesses.Ranges.{IsPart, parts-chunks_of, written-chunks_of}
 
 -- the same state with this memory and this arena, a shared byte of it being written

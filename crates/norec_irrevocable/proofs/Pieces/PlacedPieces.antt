@@ -1,21 +1,12 @@
 -- The pieces of an access that writes, one by one.
 use Rattle.std.proofs.Common.{◌≡◌, ◌≢◌, ℕ, zero, suc, ◌+◌, ◌/◌, ◌%◌, ◌<◌, ◌≤◌, ◌==◌, List, [], ◌∷◌, drop, Option, None, Some, slice_get, refl, sym, ap, subst, ◌∙◌, arith, eq-eqb}
-use Rattle.std.proofs.lemmas.Bool.{cond_both, cond-true, cond-false, eqb-true, ne_eqb}
-use Rattle.std.proofs.lemmas.List.FromFn.{length-map-range_with_len, get_or-map-range_with_len}
+use Rattle.norec_irrevocable.proofs.Common.{AllByRecursion, Data, Fetch, InPhase, IsPiece, IsPlacing, Phase, Piece, Place, Writing, cond-false, cond-true, count_of, drop_all, length-map-range_with_len, mask_of, ne_eqb, none_drop, piece_mask, piece_of, pieces_of, place_from, some_drop, whole}
+use Rattle.std.proofs.lemmas.Bool.{cond_both, eqb-true}
+use Rattle.std.proofs.lemmas.List.FromFn.{get_or-map-range_with_len}
 use Rattle.std.proofs.lemmas.Option.{get_or_from_slice_get}
-use Rattle.word_pieces.specs.declared.piece.Piece.{Piece}
-use Rattle.word_pieces.specs.Masks.{mask_of, whole}
-use Rattle.word_pieces.specs.Pieces.{count_of, piece_of, pieces_of, IsPiece}
 use Rattle.word_pieces.proofs.Covers.{AllByRecursion-pieces_of}
-use Rattle.std.specs.List.{AllByRecursion}
-use Rattle.norec_core.specs.Phases.{Phase}
-use Rattle.norec_core.specs.Phases.{Fetch, Place}
-use Rattle.norec_core.specs.declared.call_parts.Writing.{Writing}
-use Rattle.norec_core.specs.Order.{place_among, place_from}
-use Rattle.norec_data.specs.declared.data.Data.{Data}
-use Rattle.std.proofs.lemmas.List.{drop_all}
-use Rattle.norec_core.proofs.Accesses.Readings.{none_count, none_drop, some_count, some_drop}
-use Rattle.norec_irrevocable.specs.Phases.{InPhase, IsPlacing, piece_mask}
+use Rattle.norec_core.specs.Order.{place_among}
+use Rattle.norec_core.proofs.Accesses.Readings.{none_count, some_count}
 
 -- a piece that is there is one of as many, and the access's of this number
 pub piece_there : (at size n : ℕ) (p : Piece) → slice_get (pieces_of at size) n ≡ Some p → (n < count_of at size) × (p ≡ piece_of at size (at / 8 + n))

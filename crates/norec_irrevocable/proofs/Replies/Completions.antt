@@ -1,22 +1,6 @@
 -- A write, a copy or a fill is done.
 use Rattle.std.proofs.Common.{◌≡◌, ℕ, ◌+◌, ◌*◌, ◌≤◌, true, List, replicate, Option, None, refl, sym, ap, ◌∙◌, Bool, length}
-use Rattle.itm_types.specs.declared.access.ReadHint.{ReadHint}
-use Rattle.itm_types.specs.declared.access.Width.{Width}
-use Rattle.itm_types.specs.declared.access.WriteHint.{WriteHint}
-use Rattle.itm_types.specs.declared.call.Call.TheVariants.{Read, Write, Copy, Fill}
-use Rattle.itm_types.specs.declared.call.Copying.{Copying}
-use Rattle.itm_types.specs.declared.call.Refusal.{Refusal}
-use Rattle.itm_types.specs.declared.call.Reply.TheVariants.{Done}
-use Rattle.itm_types.specs.declared.datum.Datum.{Datum}
-use Rattle.itm_types.specs.Access.{size_of}
-use Rattle.itm_types.specs.Memory.{IsMemory}
-use Rattle.itm_model.specs.Machine.{bytes_reply, refusal, reply_unless}
-use Rattle.norec_core.specs.Copies.{copy_refusal}
-use Rattle.norec_core.specs.Proceeds.{RepliesHeld}
-use Rattle.norec_data.specs.declared.data.Data.{Data}
-use Rattle.norec_data.specs.View.{core_held, in_block}
-use Rattle.norec_irrevocable.specs.Outcomes.{in_call, kept}
-use Rattle.norec_irrevocable.specs.Phases.{IsServed}
+use Rattle.norec_irrevocable.proofs.Common.{Copy, Copying, Data, Datum, Done, Fill, IsMemory, IsServed, Read, ReadHint, Refusal, RepliesHeld, Width, Write, WriteHint, bytes_reply, copy_refusal, core_held, in_block, in_call, kept, refusal, reply_unless, size_of}
 use Rattle.norec_irrevocable.proofs.Replies.KeptStates.{copy_kept}
 use Rattle.norec_irrevocable.proofs.Replies.HeldAccesses.{access_served}
 use Rattle.norec_irrevocable.proofs.Replies.HeldReplies.{zeros}

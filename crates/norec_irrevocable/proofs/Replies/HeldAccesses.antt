@@ -1,39 +1,14 @@
 -- What reads and writes of an irrevocable transaction come to.
-use Rattle.std.proofs.Common.{◌≡◌, ℕ, suc, ◌+◌, ◌*◌, ◌^◌, ◌<◌, ◌≤◌, nat_le, Bool, true, false, List, ◌++◌, length, drop, Option, None, Some, slice_get, slice_set, refl, sym, ap, subst, ◌∙◌, inl, inr, arith}
-use Rattle.std.specs.Prelude.{slice_index}
+use Rattle.std.proofs.Common.{◌≡◌, ℕ, suc, ◌+◌, ◌*◌, ◌^◌, ◌<◌, ◌≤◌, nat_le, Bool, true, false, List, ◌++◌, length, drop, Option, None, Some, slice_get, slice_set, refl, sym, ap, subst, ◌∙◌, inl, inr, arith, slice_index}
+use Rattle.norec_irrevocable.proofs.Common.{AllFit, AreBytes, Call, Data, Datum, Done, Got, IsMemory, IsPiece, OutOfRange, Outside, Piece, Read, ReadHint, Refusal, State, Width, Write, WriteHint, Writing, access_of, access_refusal, after, after_unless, answer, bytes_reply, effect, gathered, gathered-pieces_of, in_block, kept, mask_of, or_else, part_of, piece_mask, pieces_of, placed_piece, placed_value, refusal, reply, reply_unless, size_of, some_drop, unless, whole, written, written_at}
 use Rattle.std.proofs.lemmas.Bool.{cases_Bool, le-leb, leb-true}
 use Rattle.std.proofs.lemmas.List.{append_assoc, length-set}
-use Rattle.itm_types.specs.declared.access.ReadHint.{ReadHint}
-use Rattle.itm_types.specs.declared.access.WriteHint.{WriteHint}
-use Rattle.itm_types.specs.declared.access.Width.{Width}
-use Rattle.itm_types.specs.declared.call.Call.{Call}
-use Rattle.itm_types.specs.declared.call.Call.TheVariants.{Read, Write}
-use Rattle.itm_types.specs.declared.call.Refusal.{Refusal}
-use Rattle.itm_types.specs.declared.call.Refusal.TheVariants.{Outside, OutOfRange}
-use Rattle.itm_types.specs.declared.call.Reply.TheVariants.{Done}
-use Rattle.itm_types.specs.declared.datum.Datum.{Datum}
-use Rattle.itm_types.specs.Access.{size_of}
-use Rattle.itm_types.specs.Calls.{access_of}
-use Rattle.itm_types.specs.Memory.{AllFit, IsMemory}
-use Rattle.itm_types.specs.Slices.{AreBytes}
-use Rattle.itm_model.specs.State.{State}
-use Rattle.itm_model.specs.Machine.{after, after_unless, answer, bytes_reply, effect, or_else, refusal, reply, reply_unless, unless, written as written_at}
-use Rattle.word_pieces.specs.declared.piece.Piece.{Piece}
-use Rattle.word_pieces.specs.Masks.{mask_of, merge, whole}
-use Rattle.word_pieces.specs.Pieces.{gathered, part_of, pieces_of, scattered, with_piece, written, IsPiece}
+use Rattle.word_pieces.specs.Masks.{merge}
+use Rattle.word_pieces.specs.Pieces.{scattered, with_piece}
 use Rattle.word_pieces.proofs.Bits.{merge-lt, merge-whole}
-use Rattle.word_pieces.proofs.Covers.{AllFit-at, AllFit-set, bytes_of-written, gathered-pieces_of}
-use Rattle.norec_core.specs.Accesses.{access_refusal}
-use Rattle.norec_core.specs.Order.{placed_piece, placed_value}
-use Rattle.norec_core.specs.Proceeds.{Got}
-use Rattle.norec_core.specs.declared.call_parts.Writing.{Writing}
+use Rattle.word_pieces.proofs.Covers.{AllFit-at, AllFit-set, bytes_of-written}
 use Rattle.norec_core.proofs.Accesses.Overlays.{index_of}
-use Rattle.norec_core.proofs.Accesses.Readings.{some_drop}
 use Rattle.norec_core.proofs.Accesses.Writings.{scattered_lt}
-use Rattle.norec_data.specs.declared.data.Data.{Data}
-use Rattle.norec_data.specs.View.{in_block}
-use Rattle.norec_irrevocable.specs.Outcomes.{kept}
-use Rattle.norec_irrevocable.specs.Phases.{piece_mask}
 use Rattle.norec_irrevocable.proofs.Replies.KeptStates.{access_kept}
 
 -- ## What is served

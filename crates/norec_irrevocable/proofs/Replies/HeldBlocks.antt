@@ -1,23 +1,10 @@
 -- Blocks that begin in an irrevocable transaction, and a call that would make it irrevocable.
 use Rattle.std.proofs.Common.{◌≡◌, ℕ, ◌<◌, Bool, true, false, List, [], ◌∷◌, length, replicate, Option, None, if◌then◌else◌, refl, sym, ap, subst, ◌∙◌}
-use Rattle.std.proofs.lemmas.Bool.{cond-true, lt-ltb}
-use Rattle.itm_types.specs.declared.call.Call.TheVariants.{Begin, Mode}
-use Rattle.itm_types.specs.declared.call.Props.{Props}
-use Rattle.itm_types.specs.declared.call.Refusal.{Refusal}
-use Rattle.itm_types.specs.declared.call.Refusal.TheVariants.{NoIrrevocable, TooDeep}
-use Rattle.itm_types.specs.declared.call.Reply.TheVariants.{Done, Code}
-use Rattle.nest_frames.specs.Nest.{begun, stays_revocable}
-use Rattle.itm_model.specs.State.{State}
-use Rattle.itm_model.specs.Machine.{after, after_unless, effect, entered, or_else, pushed, refusal, reply, reply_unless, unless}
-use Rattle.norec_core.specs.Accesses.{mode_refusal}
-use Rattle.norec_core.specs.Core.{Core, came, is_inside, may_go}
-use Rattle.norec_core.specs.Proceeds.{RepliesHeld}
-use Rattle.norec_data.specs.declared.data.Data.{Data}
+use Rattle.norec_irrevocable.proofs.Common.{Begin, ComesBy, Core, Data, Done, EndIrrevocable, HeldTurns, Mode, NoIrrevocable, Props, Refusal, RepliesHeld, State, TooDeep, after, after_unless, begun, came, cond-true, core_held, effect, in_block, is_inside, kept, lt-ltb, may_go, mode_refusal, or_else, refusal, reply, reply_unless, stays_revocable, unless}
+use Rattle.itm_types.specs.declared.call.Reply.TheVariants.{Code}
+use Rattle.itm_model.specs.Machine.{entered, pushed}
 use Rattle.norec_data.specs.declared.end.CallEnd.TheVariants as ends
-use Rattle.norec_data.specs.declared.turn.Turn.TheVariants.{EndIrrevocable}
 use Rattle.norec_core.proofs.Engines.KeptFields.{came_restarted}
-use Rattle.norec_data.specs.View.{core_held, in_block}
-use Rattle.norec_irrevocable.specs.Outcomes.{kept, ComesBy, HeldTurns}
 use Rattle.norec_irrevocable.proofs.Replies.KeptStates.{begin_kept, mode_kept, open_kept}
 use Rattle.norec_irrevocable.proofs.Replies.HeldReplies.{room_kept}
 

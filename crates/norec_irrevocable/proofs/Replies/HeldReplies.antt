@@ -1,23 +1,14 @@
 -- Replies in an irrevocable transaction that leave the engine as it was, but for the counts.
 use Rattle.std.proofs.Common.{◌≡◌, ℕ, zero, suc, ◌&&◌, not, Bool, true, false, List, length, replicate, Option, None, Some, unwrap_or, nat_lt, refl, sym, ap, ◌∙◌, arith, if◌then◌else◌}
-use Rattle.std.proofs.lemmas.List.{length-replicate}
-use Rattle.itm_types.specs.declared.call.Call.{Call}
-use Rattle.itm_types.specs.declared.call.Call.TheVariants.{Begin, Mode, Read, CommitAction, Save}
-use Rattle.itm_types.specs.declared.call.Refusal.{Refusal}
+use Rattle.norec_irrevocable.proofs.Common.{AllFit, Begin, Call, Core, Data, IsMemory, Mode, Read, Refusal, RepliesHeld, State, after, after_unless, answer, bytes_reply, came, core_held, effect, in_block, kept, length-replicate, may_go, refusal, reply, reply_unless, stays_revocable}
+use Rattle.itm_types.specs.declared.call.Call.TheVariants.{CommitAction, Save}
 use Rattle.itm_types.specs.declared.call.Reply.TheVariants.{Refused}
-use Rattle.itm_types.specs.Memory.{AllFit, IsMemory}
-use Rattle.itm_model.specs.Machine.{after, after_unless, answer, bytes_reply, effect, refusal, reply, reply_unless}
-use Rattle.itm_model.specs.State.{State}
 use Rattle.norec_core.specs.Stands.{stands_for}
-use Rattle.norec_core.specs.Core.{Core, came, irrevocable_room, may_go}
-use Rattle.nest_frames.specs.Nest.{stays_revocable}
-use Rattle.norec_core.specs.Proceeds.{RepliesHeld, reply_held}
+use Rattle.norec_core.specs.Core.{irrevocable_room}
+use Rattle.norec_core.specs.Proceeds.{reply_held}
 use Rattle.norec_core.specs.Effects.{arena_held, room_left}
 use Rattle.norec_core.proofs.Engines.KeptFields.{anew_within}
 use Rattle.norec_core.proofs.Replies.RefusedCalls.{actions_kept, blocks_kept}
-use Rattle.norec_data.specs.declared.data.Data.{Data}
-use Rattle.norec_data.specs.View.{core_held, in_block}
-use Rattle.norec_irrevocable.specs.Outcomes.{kept}
 
 -- a memory of zeros
 fit-zeros : (n : ℕ) → AllFit (replicate n 0)

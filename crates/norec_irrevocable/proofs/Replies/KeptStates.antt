@@ -1,22 +1,11 @@
 -- What the plain machine refuses of an irrevocable transaction.
 use Rattle.std.proofs.Common.{◌≡◌, ℕ, suc, ◌+◌, ◌*◌, ◌&&◌, ◌||◌, not, nat_le, nat_lt, Bool, true, false, List, [], ◌∷◌, length, map, Option, None, Some, if◌then◌else◌, refl, ap, ◌∙◌, arith}
-use Rattle.std.proofs.lemmas.Bool.{lt-ltb}
-use Rattle.itm_types.specs.declared.call.Call.{Call}
-use Rattle.itm_types.specs.declared.call.Call.TheVariants.{Begin, Abort, Mode, Copy}
-use Rattle.itm_types.specs.declared.call.Copying.{Copying}
-use Rattle.itm_types.specs.declared.call.Props.{Props}
-use Rattle.itm_types.specs.declared.call.Refusal.{Refusal}
-use Rattle.itm_types.specs.declared.call.Refusal.TheVariants.{Outside, OutOfRange, Overlap, NoAbort, IsIrrevocable, NoIrrevocable, TooDeep}
-use Rattle.itm_types.specs.Calls.{access_of}
-use Rattle.itm_types.specs.Memory.{bytes_of, IsMemory}
-use Rattle.itm_types.proofs.Words.{length-bytes_of}
+use Rattle.norec_irrevocable.proofs.Common.{Abort, Begin, Call, Copy, Copying, IsMemory, Mode, NoIrrevocable, OutOfRange, Outside, Props, Refusal, State, TooDeep, access_of, access_refusal, bytes_of, copy_refusal, is_inside, length-bytes_of, lt-ltb, may_go, mode_refusal, or_else, refusal, stays_revocable, unless}
+use Rattle.itm_types.specs.declared.call.Refusal.TheVariants.{Overlap, NoAbort, IsIrrevocable}
 use Rattle.user_actions.specs.Actions.{Actions}
-use Rattle.nest_frames.specs.Nest.{Frame, is_kept, stays_revocable}
-use Rattle.itm_model.specs.Machine.{is_open, is_clear, keeps_any, keeps_innermost, keeps_revocable, or_else, refusal, unless}
-use Rattle.itm_model.specs.State.{State}
-use Rattle.norec_core.specs.Accesses.{access_refusal, begin_refusal, mode_refusal}
-use Rattle.norec_core.specs.Copies.{copy_refusal}
-use Rattle.norec_core.specs.Core.{is_inside, may_go}
+use Rattle.nest_frames.specs.Nest.{Frame, is_kept}
+use Rattle.itm_model.specs.Machine.{is_open, is_clear, keeps_any, keeps_innermost, keeps_revocable}
+use Rattle.norec_core.specs.Accesses.{begin_refusal}
 use Rattle.norec_core.specs.Stands.{block_kept, state_kept}
 use Rattle.norec_core.proofs.Replies.CopyRefusals.{source_is, target_is}
 use Rattle.norec_core.proofs.Engines.Machines.{refusal_of}

@@ -1,31 +1,12 @@
 -- Calls of an irrevocable transaction that are refused, and what is said of those that make another one irrevocable.
-use Rattle.std.proofs.Common.{◌≡◌, ℕ, Bool, true, false, List, length, Option, None, Some, refl, sym, ap, subst, ◌∙◌, if◌then◌else◌}
-use Rattle.std.proofs.lemmas.Bool.{cond-false, cond-true}
-use Rattle.std.specs.Prelude.{is_none}
-use Rattle.itm_types.specs.declared.call.Call.{Call}
-use Rattle.itm_types.specs.declared.call.Call.TheVariants.{Begin, Copy, Mode}
-use Rattle.itm_types.specs.declared.call.Copying.{Copying}
-use Rattle.itm_types.specs.declared.call.Props.{Props}
-use Rattle.itm_types.specs.declared.call.Refusal.{Refusal}
-use Rattle.itm_types.specs.Calls.{access_of}
-use Rattle.itm_types.specs.Memory.{IsMemory}
-use Rattle.itm_model.specs.Machine.{refusal}
-use Rattle.norec_core.specs.declared.answer.Answer.{Answer}
-use Rattle.norec_core.specs.Phases.{Idle}
+use Rattle.std.proofs.Common.{◌≡◌, ℕ, Bool, true, false, List, length, Option, None, Some, refl, sym, ap, subst, ◌∙◌, if◌then◌else◌, is_none}
+use Rattle.norec_irrevocable.proofs.Common.{Answer, Begin, Call, Copy, Copying, Data, EndIrrevocable, Idle, IsHeld, IsMemory, Mode, Props, Refusal, TurnEndsSo, access_of, access_refusal, cond-false, cond-true, copy_refusal, core_held, in_block, kept, refusal}
 use Rattle.norec_core.specs.declared.call_parts.Taking.TheVariants as takings
-use Rattle.norec_core.specs.Accesses.{access_refusal}
-use Rattle.norec_core.specs.Copies.{copy_refusal}
 use Rattle.norec_core.specs.Endings.{ending_at, going_ending}
 use Rattle.norec_core.specs.Order.{going_stage, stage_at}
 use Rattle.norec_data.proofs.RefusedAccesses.{access_ending, refused_stage}
-use Rattle.norec_data.specs.declared.data.Data.{Data}
 use Rattle.norec_data.specs.declared.end.CallEnd.TheVariants as ends
-use Rattle.norec_data.specs.declared.turn.Turn.TheVariants.{EndIrrevocable}
-use Rattle.norec_data.specs.Bounds.{IsHeld}
-use Rattle.norec_data.specs.Turns.{TurnEndsSo}
-use Rattle.norec_data.specs.View.{core_held, in_block}
 use Rattle.norec_irrevocable.specs.Moves.{HeldCallTurns}
-use Rattle.norec_irrevocable.specs.Outcomes.{kept}
 use Rattle.norec_irrevocable.proofs.Replies.HeldReplies.{denied, denied_comes, goes_nowhere}
 use Rattle.norec_irrevocable.proofs.Replies.KeptStates.{access_kept, copy_kept}
 

@@ -1,41 +1,16 @@
 -- Begins of blocks: refused ones, and those within a transaction.
 use Rattle.std.proofs.Common.{◌≡◌, ℕ, ◌<◌, ◌&&◌, ◌||◌, not, nat_lt, Bool, true, false, List, [], ◌∷◌, length, Option, None, Some, unwrap_or, if◌then◌else◌, arith, inl, inr, refl, sym, ap, subst, ◌∙◌}
-use Rattle.std.proofs.lemmas.Bool.{cases_Bool, cond-true, cond-false, lt-ltb}
-use Rattle.std.proofs.Math.Bool.{and-false, and-true}
-use Rattle.itm_types.specs.declared.call.Call.TheVariants.{Begin}
-use Rattle.itm_types.specs.declared.call.Props.{Props}
-use Rattle.itm_types.specs.declared.call.Refusal.{Refusal}
+use Rattle.norec_revocable.proofs.Common.{Actions, AllWritesWithin, AreFrames, AreRows, Begin, Code, Data, Frame, IsEnding, IsSound, Opening, Props, Refusal, Refused, Replies, Reply, Row, Turns, Wait, after_unless, and-false, begins_anew, begun, between, came, cases_Bool, cond-false, cond-true, core, effect, ending_at, going_ending, going_stage, in_block, is_inside, lt-ltb, may_go, moved, none_inside, open_is, or_else, place_of, refusal, refuses, reply, reply_unless, stage_at, state_over, unless}
+use Rattle.std.proofs.Math.Bool.{and-true}
 use Rattle.itm_types.specs.declared.call.Refusal.TheVariants.{NoIrrevocable, TooDeep}
-use Rattle.itm_types.specs.declared.call.Reply.TheVariants.{Code, Refused}
-use Rattle.user_actions.specs.Actions.{Actions}
-use Rattle.write_set.specs.Marks.{place_of}
-use Rattle.write_set.specs.declared.row.Row.{Row}
-use Rattle.nest_frames.specs.Nest.{Frame, begun}
-use Rattle.itm_model.specs.Machine.{after_unless, effect, entered, or_else, pushed, refusal, reply, reply_unless, unless}
-use Rattle.norec_core.specs.declared.answer.Answer.TheVariants.{Reply}
+use Rattle.itm_model.specs.Machine.{entered, pushed}
 use Rattle.norec_core.specs.Aims as aims
 use Rattle.norec_core.specs.Phases as at
 use Rattle.norec_core.specs.declared.call_parts.Taking.TheVariants as takings
 use Rattle.norec_core.specs.Accesses.{begin_refusal}
-use Rattle.norec_core.specs.Core.{begins_anew, came, is_inside, may_go}
-use Rattle.norec_core.specs.Endings.{IsEnding, going_ending, ending_at}
-use Rattle.norec_core.specs.Order.{going_stage, stage_at}
-use Rattle.norec_core.specs.Proceeds.{Replies}
 use Rattle.norec_core.specs.Effects.{recoded}
-use Rattle.norec_core.specs.Stands.{state_over}
-use Rattle.norec_core.proofs.Engines.Blocks.{none_inside}
-use Rattle.norec_core.proofs.Engines.Machines.{open_is, refuses}
-use Rattle.norec_data.specs.declared.data.Data.{Data}
-use Rattle.norec_core.specs.declared.call_parts.Opening.{Opening}
 use Rattle.norec_data.specs.declared.pending.Pending.TheVariants as waits
-use Rattle.norec_data.specs.declared.turn.Turn.TheVariants.{Wait}
-use Rattle.norec_data.specs.Turns.{Turns}
-use Rattle.norec_data.specs.View.{core, in_block}
-use Rattle.norec_core.specs.Rows.{AllWritesWithin}
-use Rattle.write_set.specs.Rows.{AreRows}
-use Rattle.norec_revocable.specs.InPhases.{AreFrames, IsSound}
 use Rattle.norec_revocable.proofs.Blocks.OpenBegins.{begun_within}
-use Rattle.norec_revocable.specs.Between.{between, moved}
 use Rattle.norec_core.proofs.Engines.IrrevocableCalls.{begin_served, length-over, or_none, revocable_over}
 use Rattle.norec_revocable.proofs.Replies.Refusals.{denied, stands}
 

@@ -1,32 +1,13 @@
 -- Cancels of open blocks, as replies.
 use Rattle.std.proofs.Common.{◌≡◌, ◌<◌, ℕ, Bool, true, false, not, List, [], ◌∷◌, length, drop, None, refl, sym, ap, subst, ◌∙◌, if◌then◌else◌}
+use Rattle.norec_revocable.proofs.Common.{Actions, AllWritesWithin, AreBegun, AreFrames, AreRows, Code, Core, Data, Frame, Idle, IsEnded, IsSound, Nest, Outside, Refused, Replies, Row, State, actions_back, actions_cancelled, after, after_unless, arena_back, arena_restored, back, blocks_over, blocks_over-same, bytes_of, came, core, core_ended, effect, ended, in_block, is_inside, is_kept, is_outermost, is_some_row, kept_of, log_of, open_is, or_else, overlay, refusal, refuses, reply, reply_unless, restored, rows_of, state_over, unless}
 use Rattle.itm_types.specs.declared.call.Call.TheVariants.{Abort}
-use Rattle.itm_types.specs.declared.call.Refusal.TheVariants.{Outside, NoAbort}
-use Rattle.itm_types.specs.declared.call.Reply.TheVariants.{Code, Refused}
-use Rattle.itm_types.specs.KeptBytes.{restored}
-use Rattle.itm_types.specs.Memory.{bytes_of}
-use Rattle.undo_log.specs.Rollback.{put_back, kept_of}
-use Rattle.write_set.specs.declared.row.Row.{Row}
-use Rattle.write_set.specs.Rows.{overlay, AreRows}
-use Rattle.user_actions.specs.Actions.{Actions}
-use Rattle.nest_frames.specs.Nest.{Frame, Nest, log_of, rows_of, is_kept, arena_back, arena_restored, actions_back, actions_cancelled}
-use Rattle.itm_model.specs.State.{State}
-use Rattle.itm_model.specs.Machine.{unless, or_else, refusal, effect, answer, after, after_unless, reply, reply_unless, back}
-use Rattle.norec_data.specs.declared.data.Data.{Data}
-use Rattle.norec_core.specs.Phases.{Idle}
-use Rattle.norec_core.specs.Core.{Core, came, ended, is_inside, is_outermost}
-use Rattle.norec_data.specs.View.{core, in_block}
-use Rattle.norec_revocable.specs.InPhases.{AreFrames, IsSound}
-use Rattle.norec_revocable.specs.OpenBegins.{AreBegun}
-use Rattle.norec_data.specs.Turns.{IsEnded}
-use Rattle.norec_core.specs.Proceeds.{Replies}
-use Rattle.norec_core.specs.Rows.{AllWritesWithin}
-use Rattle.norec_core.specs.Stands.{is_some_row, blocks_over, state_over}
-use Rattle.norec_core.proofs.Engines.Blocks.{blocks_over-same, kept_over}
+use Rattle.itm_types.specs.declared.call.Refusal.TheVariants.{NoAbort}
+use Rattle.undo_log.specs.Rollback.{put_back}
+use Rattle.itm_model.specs.Machine.{answer}
+use Rattle.norec_core.proofs.Engines.Blocks.{kept_over}
 use Rattle.norec_revocable.proofs.Blocks.EndedTransactions.{undone_over}
 use Rattle.norec_revocable.proofs.Blocks.OpenBegins.{begun_cancelled}
-use Rattle.norec_data.proofs.EndedTransactions.{core_ended}
-use Rattle.norec_core.proofs.Engines.Machines.{open_is, refuses}
 use Rattle.norec_revocable.proofs.Replies.Refusals.{stands, denied}
 
 -- the engine as a call comes

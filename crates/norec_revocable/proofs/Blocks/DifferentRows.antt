@@ -1,21 +1,10 @@
 -- A round that finds a row different, of the part that the innermost block has added: the clock decides.
 use Rattle.std.proofs.Common.{◌≡◌, ◌≢◌, ℕ, ◌+◌, ◌-◌, ◌*◌, ◌≤◌, ◌==◌, true, false, Option, Some, refl, sym, subst, ◌∙◌, arith}
-use Rattle.std.proofs.lemmas.Bool.{cond-true, cond-false, ne_eqb}
-use Rattle.norec_core.specs.Aims.{Aim}
+use Rattle.norec_revocable.proofs.Common.{Aim, Aims, Data, IsSound, IsSoundTurn, Taking, Turns, Wait, Wants, aim_of, cond-false, cond-true, core, first_of, handed, may_restart, ne_eqb, round_of, row_at, stage_after}
 use Rattle.norec_core.specs.Aims as aims
 use Rattle.norec_core.specs.Phases as at
-use Rattle.norec_core.specs.declared.call_parts.Taking.{Taking}
 use Rattle.norec_core.specs.declared.call_parts.Taking.TheVariants as takings
-use Rattle.norec_core.specs.Core.{handed}
-use Rattle.norec_core.specs.Order.{may_restart, stage_after}
-use Rattle.norec_core.specs.Rows.{row_at}
-use Rattle.norec_data.specs.declared.data.Data.{Data}
 use Rattle.norec_data.specs.declared.pending.Pending.TheVariants as waits
-use Rattle.norec_data.specs.declared.turn.Turn.TheVariants.{Wait}
-use Rattle.norec_data.specs.Turns.{Turns}
-use Rattle.norec_data.specs.View.{aim_of, core}
-use Rattle.norec_revocable.specs.Between.{IsSoundTurn}
-use Rattle.norec_revocable.specs.InPhases.{Aims, IsSound, Wants, first_of, round_of}
 
 wants_found : (d : Data) (taking : Taking) (got : Option ℕ) (spent : ℕ) → Wants d taking → Wants (record d { got = got; spent = spent }) taking
 wants_found d takings.Commit got spent w = w

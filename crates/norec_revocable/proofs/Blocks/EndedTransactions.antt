@@ -1,30 +1,17 @@
 -- The engine's fields as what its callers see, once a transaction is over.
 use Rattle.std.proofs.Common.{◌≡◌, ℕ, Bool, true, false, List, [], ◌∷◌, length, None, Some, refl, sym, ap, ◌∙◌, if◌then◌else◌}
-use Rattle.itm_types.specs.KeptBytes.{restored}
-use Rattle.itm_types.specs.Memory.{bytes_of}
-use Rattle.undo_log.specs.Rollback.{kept_of}
+use Rattle.norec_revocable.proofs.Common.{Actions, AreFrames, Core, Data, Frame, InPhase, IsEnded, IsOpen, Pending, Phase, Written, actions_back, arena_back, arena_restored, blocks_over, bytes_of, core, core_ended, ended, in_block, in_transaction, is_inside, is_some_row, kept_of, none_inside, overlay, phase_of, restored, rolled_back, stands_for, state_over}
 use Rattle.itm_types.proofs.KeptBytes.{length-restored}
 use Rattle.undo_log.proofs.KeptBytes.{kept_of-same}
-use Rattle.write_set.specs.Marks.{Written}
-use Rattle.write_set.specs.Rows.{overlay}
-use Rattle.user_actions.specs.Actions.{Actions, cut_back}
-use Rattle.nest_frames.specs.Nest.{Frame, arena_back, arena_restored, actions_back}
+use Rattle.user_actions.specs.Actions.{cut_back}
 use Rattle.itm_model.specs.Machine.{undone, undone_from}
-use Rattle.norec_core.specs.Phases.{Phase}
 use Rattle.norec_core.specs.Phases as at
-use Rattle.norec_data.specs.declared.data.Data.{Data}
-use Rattle.norec_core.specs.Core.{Core, is_inside, in_transaction, ended, rolled_back}
-use Rattle.norec_data.specs.declared.pending.Pending.{Pending}
 use Rattle.norec_data.specs.declared.pending.Pending.TheVariants as waits
-use Rattle.norec_data.specs.View.{core, in_block, holds_of, phase_of, writes_of}
-use Rattle.norec_data.proofs.EndedTransactions.{core_ended}
-use Rattle.norec_revocable.specs.InPhases.{AreFrames, InPhase, IsOpen}
-use Rattle.norec_data.specs.Turns.{IsEnded}
+use Rattle.norec_data.specs.View.{holds_of, writes_of}
 use Rattle.norec_core.specs.Proceeds.{IsUndone}
 use Rattle.norec_core.specs.declared.answer.Undone.TheVariants.{Nothing, Done, Held}
 use Rattle.norec_core.specs.Undoing.{undone_of, after_undoing}
-use Rattle.norec_core.proofs.Engines.Blocks.{none_inside}
-use Rattle.norec_core.specs.Stands.{is_some_row, blocks_over, state_in, state_over, stands_for}
+use Rattle.norec_core.specs.Stands.{state_in}
 
 -- a rollback of all these blocks: the memory without the write set, and the arena with what they logged
 pub undone_over : (words : ℕ) (blocks : List Frame) (arena now : List ℕ) (actions : Actions) (m memory : List ℕ) (wrote : Bool) → AreFrames words blocks → is_inside blocks ≡ true → length now ≡ length arena

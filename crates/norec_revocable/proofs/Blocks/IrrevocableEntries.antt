@@ -1,30 +1,17 @@
 -- A transaction that becomes irrevocable meets the plain machine.
 use Rattle.std.proofs.Common.{◌≡◌, ℕ, ◌%◌, ◌&&◌, not, Bool, true, false, List, [], length, map, take, Option, None, Some, is_some, unwrap_or, if◌then◌else◌, refl, sym, ap, ◌∙◌, arith}
-use Rattle.std.proofs.lemmas.Bool.{lt-ltb}
-use Rattle.std.proofs.lemmas.List.{take_all}
-use Rattle.itm_types.specs.declared.call.Call.TheVariants.{Begin, Mode}
-use Rattle.itm_types.specs.declared.call.Props.{Props}
-use Rattle.itm_types.specs.declared.call.Refusal.{Refusal}
-use Rattle.itm_types.specs.declared.call.Reply.TheVariants.{Done, Code, Refused}
-use Rattle.write_set.specs.declared.row.Row.{Row}
-use Rattle.write_set.specs.Rows.{overlay}
-use Rattle.nest_frames.specs.Nest.{made_irrevocable, stays_revocable}
+use Rattle.norec_revocable.proofs.Common.{Begin, Code, Core, Data, Done, Enters, Idle, IsHolding, IsSound, Props, Refusal, Refused, Replies, Row, Taking, Wants, between, call_of, came, core, core_held, in_block, in_stores, lt-ltb, moved, overlay, refuses, stands_for, stays_revocable, take_all}
+use Rattle.itm_types.specs.declared.call.Call.TheVariants.{Mode}
+use Rattle.nest_frames.specs.Nest.{made_irrevocable}
 use Rattle.write_set.specs.Marks.{unwritten}
 use Rattle.norec_core.specs.Aims as aims
-use Rattle.norec_core.specs.declared.call_parts.Taking.{Taking}
 use Rattle.norec_core.specs.declared.call_parts.Taking.TheVariants as takings
-use Rattle.norec_core.specs.Core.{Core, came}
-use Rattle.norec_core.specs.Proceeds.{Enters, Replies, WantsClock}
-use Rattle.norec_data.specs.declared.data.Data.{Data}
-use Rattle.norec_data.specs.View.{call_of, core, core_held, in_block}
-use Rattle.norec_revocable.specs.InPhases.{IsHolding, IsSound, Wants}
-use Rattle.norec_revocable.specs.Between.{between, blocks_with, in_stores, moved}
+use Rattle.norec_core.specs.Proceeds.{WantsClock}
+use Rattle.norec_revocable.specs.Between.{blocks_with}
 use Rattle.norec_core.proofs.Engines.Blocks.{one_outermost}
-use Rattle.norec_core.specs.Stands.{stands_for, state_kept}
+use Rattle.norec_core.specs.Stands.{state_kept}
 use Rattle.norec_core.proofs.Engines.IrrevocableCalls.{begin_enters, mode_enters, mode_refused}
-use Rattle.norec_core.proofs.Engines.Machines.{refuses}
 use Rattle.norec_core.specs.Accesses.{mode_refusal}
-use Rattle.norec_core.specs.Phases.{Idle}
 use Rattle.norec_revocable.proofs.Replies.Refusals.{denied, stands}
 
 -- ## The engine

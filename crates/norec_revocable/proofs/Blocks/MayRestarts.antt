@@ -1,13 +1,6 @@
 -- Whether a block may go back to its begin, by how many are open and how much it had read.
 use Rattle.std.proofs.Common.{◌≡◌, ℕ, ◌<◌, ◌≤◌, ◌&&◌, nat_le, nat_lt, Bool, true, false, List, [], ◌∷◌, length, refl, sym, ap, ◌∙◌, arith, inl, inr}
-use Rattle.std.proofs.lemmas.Bool.{cases_Bool, le-leb, leb-true}
-use Rattle.std.proofs.Math.Bool.{and-false}
-use Rattle.nest_frames.specs.Nest.{Frame, reads_of}
-use Rattle.norec_core.specs.Core.{is_within}
-use Rattle.norec_core.specs.Order.{may_restart}
-use Rattle.norec_core.specs.Phases.{Idle}
-use Rattle.norec_data.specs.declared.data.Data.{Data}
-use Rattle.norec_data.specs.View.{core}
+use Rattle.norec_revocable.proofs.Common.{Data, Frame, Idle, and-false, cases_Bool, core, is_within, le-leb, leb-true, may_restart, reads_of}
 
 no_other : (bs : List Frame) → length bs < 2 → is_within bs ≡ false
 no_other [] l = refl

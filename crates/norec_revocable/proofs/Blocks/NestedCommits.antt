@@ -1,15 +1,7 @@
 -- Commits of blocks within others.
 use Rattle.std.proofs.Common.{◌≡◌, ℕ, ◌<◌, true, false, List, [], ◌∷◌, length, refl, sym, ap, subst, ◌∙◌, arith}
-use Rattle.user_actions.specs.Actions.{Actions}
-use Rattle.write_set.specs.Rows.{AreRows}
-use Rattle.nest_frames.specs.Nest.{Frame, Nest, actions_closed, closed}
-use Rattle.norec_core.specs.Core.{is_inside, is_outermost}
-use Rattle.norec_core.specs.Phases.{Idle}
-use Rattle.norec_core.specs.Rows.{AllWritesWithin}
-use Rattle.norec_data.specs.declared.data.Data.{Data}
-use Rattle.norec_data.specs.View.{in_block}
-use Rattle.norec_data.proofs.KeptBounds.{bounds_kept}
-use Rattle.norec_revocable.specs.InPhases.{AreFrames, IsSound}
+use Rattle.norec_revocable.proofs.Common.{Actions, AllWritesWithin, AreFrames, AreRows, Data, Frame, Idle, IsSound, Nest, bounds_kept, closed, in_block, is_inside, is_outermost}
+use Rattle.nest_frames.specs.Nest.{actions_closed}
 use Rattle.norec_revocable.proofs.Blocks.Cancels.{come}
 use Rattle.norec_revocable.proofs.Blocks.OpenBegins.{begun_closed, begun_same}
 

@@ -1,18 +1,11 @@
 -- The begins of open blocks, as blocks begin, close, are cancelled or go back.
 use Rattle.std.proofs.Common.{◌≡◌, ℕ, ◌≤◌, true, false, List, [], ◌∷◌, length, take, drop, length-append, refl, sym, subst, arith}
+use Rattle.norec_revocable.proofs.Common.{Action, ActionKind, Actions, AreBegun, Frame, LogRow, Old, Props, Row, actions_cancelled, begun, blocks_renewed as renewed, closed, is_inside, no_actions, reads_of, registered}
 use Rattle.std.proofs.lemmas.List.{length-take-le}
-use Rattle.itm_types.specs.declared.call.Action.{Action}
-use Rattle.itm_types.specs.declared.call.ActionKind.{ActionKind}
 use Rattle.itm_types.specs.declared.call.ActionKind.TheVariants as kinds
-use Rattle.itm_types.specs.declared.call.Props.{Props}
-use Rattle.itm_types.specs.declared.row.LogRow.{LogRow}
-use Rattle.undo_log.specs.Rollback.{Old}
-use Rattle.user_actions.specs.Actions.{Actions, no_actions, registered}
-use Rattle.write_set.specs.declared.row.Row.{Row}
-use Rattle.nest_frames.specs.Nest.{Frame, actions_cancelled, begun, closed, logged, reads_of, renewed}
-use Rattle.norec_core.specs.Core.{is_inside}
+use Rattle.nest_frames.specs.Nest.{logged}
 use Rattle.norec_core.specs.Proceeds.{AreRead}
-use Rattle.norec_revocable.specs.OpenBegins.{AreBegun, HasBegun}
+use Rattle.norec_revocable.specs.OpenBegins.{HasBegun}
 
 has_more : (r c u r' c' u' : ℕ) (b : Frame) → r ≤ r' → c ≤ c' → u ≤ u' → HasBegun r c u b → HasBegun r' c' u' b
 has_more r c u r' c' u' b hr hc hu h = record { read = omega (arith, h.read); to_commit = omega (arith, h.to_commit); to_undo = omega (arith, h.to_undo); revocable = h.revocable }

@@ -1,25 +1,9 @@
 -- Outermost begins that stay revocable: the clock is asked for, and where it is even the block begins.
 use Rattle.std.proofs.Common.{◌≡◌, ℕ, ◌%◌, ◌<◌, ◌≤◌, Bool, true, false, [], ◌∷◌, length, if◌then◌else◌, arith, refl, sym, ap, subst, rules}
-use Rattle.std.proofs.lemmas.Bool.{cond-false}
-use Rattle.itm_types.specs.declared.call.Call.TheVariants.{Begin as Begins}
-use Rattle.itm_types.specs.declared.call.Props.{Props}
-use Rattle.itm_types.specs.declared.call.Reply.TheVariants.{Code}
-use Rattle.user_actions.specs.Actions.{no_actions}
-use Rattle.nest_frames.specs.Nest.{Nest, begun}
-use Rattle.norec_core.specs.declared.answer.Answer.TheVariants.{Reply}
-use Rattle.norec_core.specs.Core.{came, may_go}
-use Rattle.norec_core.specs.Phases.{Begin, Idle}
-use Rattle.norec_data.specs.declared.data.Data.{Data}
-use Rattle.norec_data.specs.declared.end.CallEnd.{CallEnd}
+use Rattle.norec_revocable.proofs.Common.{Begin as Begins, BeginTurns, CallEnd, CallTurns, Code, Data, End, Idle, IsBounded, IsSound, Nest, Props, Reply, StepTurns, Turns, Wait, answer_of, begun, came, cond-false, core, counted, in_block, may_go, no_actions}
+use Rattle.norec_core.specs.Phases.{Begin}
 use Rattle.norec_data.specs.declared.pending.Pending.TheVariants as waits
-use Rattle.norec_data.specs.declared.turn.Turn.TheVariants.{End, Wait}
-use Rattle.norec_data.specs.Bounds.{IsBounded, IsOutside}
-use Rattle.norec_data.specs.Ends.{answer_of}
-use Rattle.norec_data.specs.Turns.{counted, Turns}
-use Rattle.norec_data.specs.View.{core, in_block}
-use Rattle.norec_revocable.specs.InPhases.{IsSound}
-use Rattle.norec_revocable.specs.Moves.{CallTurns, StepTurns}
-use Rattle.norec_revocable.specs.OuterBegins.{BeginTurns}
+use Rattle.norec_data.specs.Bounds.{IsOutside}
 use Rattle.norec_revocable.proofs.Blocks.Begins.{begin_asks, begun_with}
 use Rattle.norec_revocable.proofs.Blocks.OpenBegins.{begun_first, begun_same}
 

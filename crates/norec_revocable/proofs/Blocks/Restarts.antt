@@ -1,31 +1,15 @@
 -- A block that goes back to its begin: what a round that found its row different comes to.
 use Rattle.std.proofs.Common.{◌≡◌, ℕ, ◌+◌, ◌%◌, ◌<◌, ◌≤◌, ◌==◌, true, false, List, [], ◌∷◌, ◌++◌, length, take, Option, None, Some, slice_get, refl, sym, ap, subst, ◌∙◌, arith, eq-eqb, inr}
-use Rattle.std.proofs.lemmas.Bool.{cond-true}
+use Rattle.norec_revocable.proofs.Common.{Aim, AllWritesWithin, Answer, AreBegun, AreFrames, AreRows, CallEnd, Conflict, Core, Data, End, Frame, IsEnding, IsLog, IsOpen, IsSound, IsSoundTurn, StepTurns, actions_cancelled, answer_of, back as rolled_back_to, blocks_renewed, cond-true, core, handed, in_block, is_inside, is_within, reads_of, row_at, rows_of, stands_for}
 use Rattle.std.proofs.lemmas.Option.{slice_get-get_or}
-use Rattle.write_set.specs.Rows.{AreRows}
-use Rattle.nest_frames.specs.Nest.{Frame, actions_cancelled, reads_of, renewed as blocks_renewed, rows_of}
-use Rattle.itm_model.specs.Machine.{back as rolled_back_to}
-use Rattle.norec_core.specs.declared.answer.Answer.{Answer}
-use Rattle.norec_core.specs.declared.answer.Answer.TheVariants.{Conflict, Restarted}
-use Rattle.norec_core.specs.Aims.{Aim}
+use Rattle.norec_core.specs.declared.answer.Answer.TheVariants.{Restarted}
 use Rattle.norec_core.specs.Phases as at
-use Rattle.norec_core.specs.Core.{Core, handed, is_inside, is_within, renewed}
-use Rattle.norec_core.specs.Endings.{IsEnding}
+use Rattle.norec_core.specs.Core.{renewed}
 use Rattle.norec_core.specs.Proceeds.{Ends, GoesBack}
 use Rattle.norec_core.specs.Restarts.{Restarts, begun_again}
-use Rattle.norec_core.specs.Rows.{row_at, AllWritesWithin, IsLog}
-use Rattle.norec_core.specs.Stands.{stands_for}
 use Rattle.norec_core.proofs.Accesses.Overlays.{IsLog-take}
 use Rattle.norec_core.proofs.Engines.BlocksAgain.{restart_parts, stands_renewed}
-use Rattle.norec_data.specs.declared.data.Data.{Data}
-use Rattle.norec_data.specs.declared.end.CallEnd.{CallEnd}
-use Rattle.norec_data.specs.declared.turn.Turn.TheVariants.{End}
-use Rattle.norec_data.specs.Ends.{answer_of}
-use Rattle.norec_data.specs.View.{core, found_at, in_block}
-use Rattle.norec_revocable.specs.Between.{IsSoundTurn}
-use Rattle.norec_revocable.specs.InPhases.{AreFrames, IsOpen, IsSound}
-use Rattle.norec_revocable.specs.Moves.{StepTurns}
-use Rattle.norec_revocable.specs.OpenBegins.{AreBegun}
+use Rattle.norec_data.specs.View.{found_at}
 use Rattle.norec_revocable.specs.Restarts.{IsRenewed, MayRenew}
 use Rattle.norec_revocable.proofs.Blocks.OpenBegins.{begun_renewed, begun_same}
 

@@ -1,16 +1,7 @@
 -- What is known of a copy that is not refused, and of one that writes shared memory.
 use Rattle.std.proofs.Common.{◌≡◌, ℕ, ◌+◌, ◌*◌, ◌≤◌, Bool, true, false, List, All, None, refl, arith}
-use Rattle.itm_types.specs.declared.limits.TheConstants.{MAX_ARENA, MAX_BYTES, MAX_WORDS}
-use Rattle.itm_types.specs.declared.call.Copying.{Copying}
-use Rattle.itm_types.specs.declared.copy.CopyPair.{CopyPair}
-use Rattle.itm_types.specs.declared.copy.CopyPair.TheVariants.{Out, In, Within}
-use Rattle.write_set.specs.declared.row.Row.{Row}
-use Rattle.write_set.specs.Marks.{MayPut, Written}
-use Rattle.norec_core.specs.Copies.{copy_refusal, target_refusal, source_refusal, direction_of, chunks_in, is_out, WritesShared}
-use Rattle.norec_core.specs.Rows.{range_pieces, reserved_all, put_range}
-use Rattle.norec_core.specs.Effects.{writes_copied, arena_copied}
-use Rattle.norec_revocable.specs.InPhases.{reserved_for, MayPutFor}
-use Rattle.norec_core.proofs.Replies.CopyRefusals.{arena_within, shared_within, accepted_sides}
+use Rattle.norec_revocable.proofs.Common.{CopyPair, Copying, In, MAX_WORDS, MayPut, MayPutFor, Out, Row, Within, WritesShared, Written, accepted_sides, arena_copied, arena_within, chunks_in, copy_refusal, direction_of, is_out, put_range, range_pieces, reserved_all, reserved_for, shared_within, source_refusal, target_refusal, writes_copied}
+use Rattle.itm_types.specs.declared.limits.TheConstants.{MAX_ARENA, MAX_BYTES}
 
 -- ## What it reads
 

@@ -1,36 +1,9 @@
 -- What the plain machine does with copies, of the state that an engine stands for.
 use Rattle.std.proofs.Common.{◌≡◌, ℕ, ◌+◌, ◌*◌, ◌≤◌, Bool, true, false, List, length, Option, Some, None, refl, sym, ap, ◌∙◌, arith}
-use Rattle.itm_types.specs.declared.call.Call.TheVariants.{Copy}
-use Rattle.itm_types.specs.declared.call.Copying.{Copying}
-use Rattle.itm_types.specs.declared.call.Refusal.{Refusal}
-use Rattle.itm_types.specs.declared.call.Refusal.TheVariants.{Outside, Overlap}
-use Rattle.itm_types.specs.declared.call.Reply.TheVariants.{Done, Refused}
-use Rattle.itm_types.specs.declared.copy.CopyPair.{CopyPair}
-use Rattle.itm_types.specs.declared.copy.CopyPair.TheVariants.{Out, In, Within}
-use Rattle.itm_types.specs.Memory.{bytes_of, IsMemory}
-use Rattle.itm_types.specs.Slices.{with_slice, AreBytes}
-use Rattle.itm_types.proofs.Words.{length-bytes_of}
-use Rattle.itm_model.specs.State.{State}
-use Rattle.itm_model.specs.Machine.{unless, or_else, is_clear, source_bytes, saved_in_arena, target_written, refusal, effect, after, after_unless, reply, reply_unless}
-use Rattle.word_pieces.proofs.Lists.{length-with_slice}
-use Rattle.write_set.specs.declared.row.Row.{Row}
-use Rattle.write_set.specs.Rows.{overlay, AreRows}
-use Rattle.write_set.proofs.Overlays.{length-overlay}
-use Rattle.user_actions.specs.Actions.{Actions}
-use Rattle.nest_frames.specs.Nest.{Frame}
-use Rattle.norec_data.specs.declared.data.Data.{Data}
-use Rattle.norec_core.specs.Phases.{Idle}
-use Rattle.norec_core.specs.Core.{came, is_inside}
-use Rattle.norec_core.specs.Copies.{target_refusal, copy_refusal, direction_of, source_in}
-use Rattle.norec_data.specs.View.{core, in_block}
-use Rattle.norec_revocable.specs.InPhases.{IsSound}
-use Rattle.norec_core.specs.Proceeds.{Replies}
-use Rattle.norec_core.specs.Effects.{writes_copied, arena_copied}
-use Rattle.norec_core.specs.Stands.{is_some_row, state_over}
-use Rattle.norec_core.proofs.Engines.Blocks.{blocks_over-same}
-use Rattle.norec_core.proofs.Replies.CopyRefusals.{target_is, source_is, shared_within, arena_within, accepted_sides, length-source_in}
-use Rattle.norec_core.proofs.Engines.Machines.{open_is, refuses}
-use Rattle.norec_core.proofs.Accesses.Ranges.{written_over}
+use Rattle.norec_revocable.proofs.Common.{Actions, AreBytes, AreRows, Copy, CopyPair, Copying, Data, Done, Frame, Idle, In, IsMemory, IsSound, Out, Outside, Refusal, Refused, Replies, Row, State, Within, accepted_sides, after, after_unless, arena_copied, arena_within, blocks_over-same, bytes_of, came, copy_refusal, core, direction_of, effect, in_block, is_inside, is_some_row, length-bytes_of, length-overlay, length-with_slice, open_is, or_else, overlay, refusal, refuses, reply, reply_unless, shared_within, source_in, state_over, target_refusal, unless, with_slice, writes_copied, written_over}
+use Rattle.itm_types.specs.declared.call.Refusal.TheVariants.{Overlap}
+use Rattle.itm_model.specs.Machine.{is_clear, source_bytes, saved_in_arena, target_written}
+use Rattle.norec_core.proofs.Replies.CopyRefusals.{target_is, source_is, length-source_in}
 use Rattle.norec_revocable.proofs.Replies.Refusals.{denied, stands}
 
 -- ## Refusals

@@ -1,40 +1,10 @@
 -- Fills, as replies.
 use Rattle.std.proofs.Common.{◌≡◌, ℕ, zero, suc, ◌+◌, ◌*◌, ◌%◌, ◌^◌, ◌<◌, ◌≤◌, false, List, length, replicate, Option, None, refl, sym, ap, subst, ◌∙◌, arith}
-use Rattle.std.proofs.lemmas.List.{length-replicate}
+use Rattle.norec_revocable.proofs.Common.{Actions, AllWritesWithin, AllWritesWithin-put_range, AreBytes, AreFrames, AreRows, AreRows-put_range, Call, CallTurns, Data, Done, End, Fill, Frame, Idle, IsMemory, IsSound, IsSoundTurn, KeepsAllButWrites, Nest, Refusal, Replies, Row, State, Up, WriteHint, access_refusal, after, after_unless, bounds_kept, came, chunks_of, core, effect, in_block, is_inside, length-replicate, put_chunks, put_range, range_pieces, refusal, reply, reply_unless, reserved_all, state_over, written_over}
 use Rattle.std.specs.Global.{Vec}
-use Rattle.itm_types.specs.declared.access.WriteHint.{WriteHint}
-use Rattle.itm_types.specs.declared.call.Call.{Call}
-use Rattle.itm_types.specs.declared.call.Call.TheVariants.{Fill}
-use Rattle.itm_types.specs.declared.call.Refusal.{Refusal}
-use Rattle.itm_types.specs.declared.call.Reply.TheVariants.{Done}
-use Rattle.itm_types.specs.Memory.{IsMemory}
-use Rattle.itm_types.specs.Slices.{AreBytes}
-use Rattle.itm_model.specs.State.{State}
-use Rattle.itm_model.specs.Machine.{refusal, effect, after, after_unless, reply, reply_unless}
-use Rattle.word_pieces.specs.declared.chunk.Direction.TheVariants.{Up}
-use Rattle.word_pieces.specs.Chunks.{chunks_of}
-use Rattle.write_set.specs.declared.row.Row.{Row}
-use Rattle.write_set.specs.Rows.{AreRows}
-use Rattle.user_actions.specs.Actions.{Actions}
-use Rattle.nest_frames.specs.Nest.{Frame, Nest}
-use Rattle.norec_data.proofs.KeptBounds.{bounds_kept}
-use Rattle.norec_data.specs.declared.data.Data.{Data}
-use Rattle.norec_core.specs.Phases.{Idle}
 use Rattle.norec_data.specs.declared.end.CallEnd.TheVariants as ends
-use Rattle.norec_data.specs.declared.turn.Turn.TheVariants.{End}
-use Rattle.norec_core.specs.Core.{came, is_inside}
-use Rattle.norec_core.specs.Accesses.{access_refusal}
-use Rattle.norec_data.specs.View.{core, in_block}
 use Rattle.norec_revocable.proofs.Blocks.OpenBegins.{begun_same}
-use Rattle.norec_revocable.specs.InPhases.{AreFrames, IsSound}
-use Rattle.norec_revocable.specs.KeptFrames.{KeepsAllButWrites}
-use Rattle.norec_revocable.specs.Between.{IsSoundTurn}
-use Rattle.norec_core.specs.Proceeds.{Replies}
-use Rattle.norec_core.specs.Rows.{range_pieces, reserved_all, put_chunks, put_range, AllWritesWithin}
-use Rattle.norec_core.specs.Stands.{state_over}
 use Rattle.norec_core.proofs.Engines.Machines.{access_same}
-use Rattle.norec_core.proofs.Accesses.Ranges.{written_over, AreRows-put_range, AllWritesWithin-put_range}
-use Rattle.norec_revocable.specs.Moves.{CallTurns}
 use Rattle.norec_revocable.proofs.Replies.ImmediateReplies.{answered, filled_at_once}
 use Rattle.norec_revocable.proofs.Replies.Refusals.{served}
 

@@ -1,32 +1,11 @@
 -- A copy that has come, and whose memory is taken: all that it needs before its first step.
 use Rattle.std.proofs.Common.{◌≡◌, ℕ, ◌≤◌, Bool, true, false, List, length, take, replicate, None, refl, sym, ap, subst, ◌∙◌, arith}
-use Rattle.std.proofs.lemmas.List.{take_all, length-replicate}
-use Rattle.itm_types.specs.Slices.{slice}
-use Rattle.itm_types.specs.declared.call.Copying.{Copying}
-use Rattle.itm_types.specs.declared.call.Call.TheVariants.{Copy}
-use Rattle.itm_types.specs.declared.copy.CopyPair.{CopyPair}
-use Rattle.itm_types.specs.declared.copy.CopyPair.TheVariants.{Out, In, Within}
-use Rattle.itm_types.specs.declared.row.LogRow.{LogRow}
-use Rattle.write_set.specs.declared.row.Row.{Row}
-use Rattle.write_set.specs.Rows.{AreRows}
-use Rattle.norec_data.proofs.KeptBounds.{bounds_kept}
-use Rattle.norec_data.specs.declared.data.Data.{Data}
-use Rattle.norec_core.specs.Phases.{Idle}
-use Rattle.norec_core.specs.Copies.{copy_refusal, target_refusal, chunks_in, direction_of, is_out, source_in, source_words}
-use Rattle.norec_core.specs.Core.{came, is_inside}
-use Rattle.norec_core.specs.Order.{copy_stage, load_chunks}
-use Rattle.norec_core.specs.Rows.{range_pieces, AllWritesWithin, IsLog}
-use Rattle.norec_data.specs.View.{in_block, core, rows_before}
+use Rattle.norec_revocable.proofs.Common.{AllWritesWithin, AreFrames, AreRows, AreRows-reserved_all, Copy, CopyPair, Copying, Data, Idle, In, IsBounded, IsLog, IsOpen, IsSound, KeepsAllButWrites, LogRow, MayCopy, MayPutFor, Nest, Out, Row, Within, accepted_sides, bounds_kept, came, chunks_in, copy_refusal, core, cut-reserved_all, direction_of, in_block, in_copy, is_inside, is_out, length-replicate, load_chunks, logged, range_pieces, reserved_for, rows_before, shared_within, slice, source_in, source_words, take_all, target_refusal}
+use Rattle.norec_core.specs.Order.{copy_stage}
 use Rattle.norec_revocable.proofs.Blocks.OpenBegins.{begun_same}
-use Rattle.norec_revocable.specs.InPhases.{reserved_for, AreFrames, IsOpen, IsServed, IsSound, MayPutFor}
-use Rattle.norec_data.specs.Bounds.{IsBounded}
-use Rattle.nest_frames.specs.Nest.{Nest}
-use Rattle.norec_revocable.specs.KeptFrames.{KeepsAllButWrites}
-use Rattle.norec_revocable.specs.Between.{in_copy, logged, MayCopy}
+use Rattle.norec_revocable.specs.InPhases.{IsServed}
 use Rattle.norec_revocable.proofs.Copies.AcceptedCopies.{accepted_open}
-use Rattle.norec_core.proofs.Replies.CopyRefusals.{accepted_sides, shared_within}
 use Rattle.norec_core.proofs.Accesses.Ranges.{AllWritesWithin-reserved_range}
-use Rattle.norec_core.proofs.Accesses.Writings.{AreRows-reserved_all, cut-reserved_all}
 
 -- ## Rows that a destination is given
 

@@ -1,31 +1,13 @@
 -- What a read finds under rows that a copy's destination was given, and what a longer log leaves of a copy.
-use Rattle.std.proofs.Common.{◌≡◌, ℕ, zero, suc, ◌+◌, ◌*◌, ◌≤◌, ◌||◌, Bool, true, false, List, [], ◌∷◌, length, take, Option, None, Some, refl, sym, ap, ◌∙◌, arith}
-use Rattle.std.proofs.lemmas.List.{take_all}
-use Rattle.itm_types.specs.declared.call.Copying.{Copying}
-use Rattle.itm_types.specs.declared.copy.CopyPair.{CopyPair}
-use Rattle.itm_types.specs.declared.copy.CopyPair.TheVariants.{Out, In, Within}
-use Rattle.itm_types.specs.declared.row.LogRow.{LogRow}
-use Rattle.itm_types.specs.LogRows.{value_of}
-use Rattle.itm_types.specs.Memory.{AllFit, Agrees}
-use Rattle.std.specs.Prelude.{is_some}
-use Rattle.word_pieces.specs.declared.piece.Piece.{Piece}
+use Rattle.std.proofs.Common.{◌≡◌, ℕ, zero, suc, ◌+◌, ◌*◌, ◌≤◌, ◌||◌, Bool, true, false, List, [], ◌∷◌, length, take, Option, None, Some, refl, sym, ap, ◌∙◌, arith, is_some}
+use Rattle.norec_revocable.proofs.Common.{Agrees, AllFit, AllWritesWithin, AllWritesWithin-put_range, AreBytes, AreRows, AreRows-put_range, CopyPair, Copying, Data, FitsPurpose, In, IsFor, LogRow, Out, Piece, Purpose, Row, Within, Written, accepted_sides, arena_copied, arena_within, chunks_in, copy_refusal, direction_of, is_had, length-with_slice, overlay, range_pieces, reserved_for, rows_before, shared_within, take_all, target_refusal, value_of, writes_copied}
 use Rattle.word_pieces.specs.Pieces.{IsPiece}
-use Rattle.write_set.specs.declared.row.Row.{Row}
-use Rattle.write_set.specs.Marks.{Written}
-use Rattle.write_set.specs.Rows.{overlay, AreApart, AreRows, AllRowsFit}
+use Rattle.write_set.specs.Rows.{AreApart, AllRowsFit}
 use Rattle.write_set.proofs.Overlays.{lookup-take}
-use Rattle.itm_types.specs.Slices.{AreBytes}
-use Rattle.norec_core.specs.Copies.{chunks_in, copy_refusal, direction_of, target_refusal}
-use Rattle.norec_core.specs.Effects.{arena_copied, writes_copied}
-use Rattle.word_pieces.proofs.Lists.{length-with_slice}
-use Rattle.norec_core.specs.Rows.{is_covered, is_had, is_logged, range_pieces, AllWritesWithin}
-use Rattle.norec_data.specs.View.{rows_before}
-use Rattle.norec_revocable.specs.InPhases.{reserved_for, HasCopied, FitsPurpose, IsFor}
-use Rattle.norec_data.specs.declared.data.Data.{Data}
-use Rattle.norec_core.specs.declared.call_parts.Purpose.{Purpose}
+use Rattle.norec_core.specs.Rows.{is_covered, is_logged}
+use Rattle.norec_revocable.specs.InPhases.{HasCopied}
 use Rattle.norec_core.specs.declared.call_parts.Purpose.TheVariants as for
-use Rattle.norec_core.proofs.Accesses.Ranges.{is_covered-reserved_all, AreRows-put_range, AllWritesWithin-put_range}
-use Rattle.norec_core.proofs.Replies.CopyRefusals.{accepted_sides, arena_within, shared_within}
+use Rattle.norec_core.proofs.Accesses.Ranges.{is_covered-reserved_all}
 use Rattle.norec_core.proofs.Accesses.Writings.{overlay-reserved_all}
 
 -- ## Rows of a copy's destination

@@ -1,25 +1,6 @@
 -- A whole word that was loaded is confirmed: its row joins the log, and the read is answered.
 use Rattle.std.proofs.Common.{◌≡◌, ℕ, ◌+◌, ◌-◌, ◌^◌, ◌<◌, ◌==◌, List, [], ◌∷◌, ◌++◌, Option, None, Some, slice_get, refl, sym, ap, subst, ◌∙◌, arith, eq-eqb}
-use Rattle.std.proofs.lemmas.Bool.{cond-true}
-use Rattle.std.specs.Int.{w64, to_le_bytes}
-use Rattle.itm_types.specs.LogRows.{AreSingle, value_of}
-use Rattle.itm_types.specs.declared.row.LogRow.{LogRow}
-use Rattle.value_log.specs.Log.{Log}
-use Rattle.write_set.specs.Rows.{overlay}
-use Rattle.norec_core.specs.Accesses.{count, part}
-use Rattle.norec_core.specs.OwnAccesses.{word_of}
-use Rattle.norec_core.specs.Phases.{Confirm}
-use Rattle.norec_core.specs.declared.answer.Answer.{Answer}
-use Rattle.norec_core.specs.declared.call_parts.Reading.{Reading}
-use Rattle.norec_core.proofs.Accesses.Readings.{total_left}
-use Rattle.norec_data.specs.declared.data.Data.{Data}
-use Rattle.norec_data.specs.declared.end.CallEnd.TheVariants.{Word}
-use Rattle.norec_data.specs.declared.turn.Turn.TheVariants.{End}
-use Rattle.norec_data.specs.Turns.{TurnEndsSo}
-use Rattle.norec_data.specs.View.{rows_before}
-use Rattle.norec_revocable.specs.Between.{IsWord}
-use Rattle.norec_revocable.specs.InPhases.{IsOpen, IsSound}
-use Rattle.norec_revocable.specs.Moves.{StepTurns}
+use Rattle.norec_revocable.proofs.Common.{Answer, AreSingle, Confirm, Data, End, IsOpen, IsSound, IsWord, Log, LogRow, Reading, StepTurns, TurnEndsSo, Word, cond-true, count, overlay, part, rows_before, to_le_bytes, total_left, value_of, w64, word_of}
 use Rattle.norec_revocable.proofs.Copies.Sources.{unlogged}
 use Rattle.norec_revocable.proofs.ReadCalls.ReadingFields.{among}
 use Rattle.norec_revocable.proofs.ReadCalls.JoinedRows.{has_value, joined_open, joined_for, joins, stage_joined, log_joined}

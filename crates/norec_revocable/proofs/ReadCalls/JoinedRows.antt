@@ -1,23 +1,10 @@
 -- The row of a word that was loaded, and confirmed, joins the log.
 use Rattle.std.proofs.Common.{◌≡◌, ℕ, ◌+◌, ◌^◌, ◌<◌, ◌==◌, true, List, [], ◌∷◌, ◌++◌, length, length-append, Some, slice_get, refl, sym, ap, subst, ◌∙◌, add-one, arith, eq-eqb, inl, inr}
-use Rattle.std.proofs.lemmas.Bool.{cond-true}
-use Rattle.arrayvec.specs.ArrayVec.{ArrayVec}
-use Rattle.itm_types.specs.LogRows.{AreSingle}
-use Rattle.itm_types.specs.Memory.{Agrees}
-use Rattle.itm_types.specs.declared.row.LogRow.{LogRow}
-use Rattle.value_log.specs.Log.{Log}
-use Rattle.norec_core.specs.Phases.{Confirm}
-use Rattle.norec_core.specs.OwnAccesses.{word_of}
-use Rattle.norec_core.specs.Order.{load_stage, log_after, stage_after}
+use Rattle.norec_revocable.proofs.Common.{Agrees, AreSingle, ArrayVec, Confirm, Data, IsFor, IsLog, IsOpen, IsSound, Log, LogRow, Turn, cond-true, core, core_after, in_block, load_stage, rows_before, stage_after, word_of}
+use Rattle.norec_core.specs.Order.{log_after}
 use Rattle.norec_core.specs.Proceeds.{Joins, Settles}
-use Rattle.norec_core.specs.Rows.{IsLog}
 use Rattle.norec_core.proofs.Accesses.Overlays.{IsLog-push, Agrees-last, Agrees-front}
-use Rattle.norec_data.specs.declared.data.Data.{Data}
-use Rattle.norec_data.specs.declared.turn.Turn.{Turn}
-use Rattle.norec_data.specs.Turns.{core_after}
-use Rattle.norec_data.specs.View.{core, in_block, rows_before}
 use Rattle.norec_revocable.proofs.Blocks.OpenBegins.{begun_read}
-use Rattle.norec_revocable.specs.InPhases.{IsFor, IsOpen, IsSound}
 use Rattle.norec_revocable.proofs.ReadCalls.ReadingFields.{after_log, after_open, after_snapshot}
 use Rattle.norec_revocable.proofs.Copies.Sources.{purpose_more}
 

@@ -1,34 +1,6 @@
 -- A read of one whole word that is to be had with no step.
-use Rattle.std.proofs.Common.{◌≡◌, ℕ, ◌+◌, ◌*◌, ◌<◌, ◌≤◌, ◌&&◌, nat_le, true, false, List, length, Option, None, Some, slice_get, refl, sym, ap, subst, ◌∙◌, arith}
-use Rattle.std.specs.Prelude.{slice_index}
-use Rattle.std.proofs.lemmas.Bool.{cond-true}
-use Rattle.std.specs.Int.{w64, to_le_bytes}
-use Rattle.itm_types.specs.Access.{size_of}
-use Rattle.itm_types.specs.Memory.{Agrees, AllFit}
-use Rattle.itm_types.specs.declared.access.ReadHint.{ReadHint}
-use Rattle.itm_types.specs.declared.access.Width.{Width}
-use Rattle.itm_types.specs.declared.call.Call.TheVariants.{Read}
-use Rattle.word_pieces.specs.declared.piece.Piece.{Piece}
-use Rattle.word_pieces.specs.Pieces.{part_of}
-use Rattle.write_set.specs.Rows.{overlay}
-use Rattle.write_set.proofs.Overlays.{length-overlay}
-use Rattle.norec_core.specs.Accesses.{count, part, parts}
-use Rattle.norec_core.specs.Core.{Core}
-use Rattle.norec_core.specs.Order.{load_stage, value_reading}
-use Rattle.norec_core.specs.OwnAccesses.{word_of}
-use Rattle.norec_core.specs.Phases.{Idle}
-use Rattle.norec_core.specs.Rows.{is_had}
-use Rattle.norec_core.specs.declared.call_parts.Reading.{Reading}
-use Rattle.norec_core.proofs.Accesses.Overlays.{got_at}
-use Rattle.norec_core.proofs.Accesses.Readings.{load_next, none_left, part_is}
-use Rattle.norec_data.specs.declared.data.Data.{Data}
-use Rattle.norec_data.specs.declared.end.CallEnd.TheVariants.{Word}
-use Rattle.norec_data.specs.declared.turn.Turn.TheVariants.{End}
-use Rattle.norec_data.specs.Turns.{Turns}
-use Rattle.norec_data.specs.View.{in_block}
-use Rattle.norec_revocable.specs.InPhases.{IsSound}
-use Rattle.norec_revocable.specs.Between.{IsWord}
-use Rattle.norec_revocable.specs.Moves.{CallTurns}
+use Rattle.std.proofs.Common.{◌≡◌, ℕ, ◌+◌, ◌*◌, ◌<◌, ◌≤◌, ◌&&◌, nat_le, true, false, List, length, Option, None, Some, slice_get, refl, sym, ap, subst, ◌∙◌, arith, slice_index}
+use Rattle.norec_revocable.proofs.Common.{Agrees, AllFit, CallTurns, Core, Data, End, Idle, IsSound, IsWord, Piece, Read, ReadHint, Reading, Turns, Width, Word, cond-true, count, got_at, in_block, is_had, length-overlay, load_next, load_stage, none_left, overlay, part, part_is, part_of, parts, size_of, to_le_bytes, value_reading, w64, word_of}
 use Rattle.norec_revocable.proofs.ReadCalls.ReadyReads.{ready, ready_came, ready_open, settled}
 use Rattle.norec_revocable.proofs.ReadCalls.Replies.{replies, loads_no_more, Finds}
 use Rattle.norec_revocable.proofs.ReadCalls.WholeWords.{bytes_there, one_piece}

@@ -1,36 +1,15 @@
 -- A piece that is loaded, and the chunk of a copy's source that it may be one of.
-use Rattle.std.proofs.Common.{◌≡◌, ℕ, ◌+◌, ◌*◌, ◌≤◌, ◌==◌, Bool, true, false, if◌then◌else◌, List, [], ◌++◌, length, take, replicate, Option, None, Some, slice_get, refl, sym, ap, subst, ◌∙◌, arith, append-nil}
-use Rattle.std.specs.Prelude.{option_map}
-use Rattle.std.proofs.lemmas.List.{drop_all, length-replicate}
-use Rattle.arrayvec.specs.ArrayVec.{ArrayVec}
-use Rattle.itm_types.specs.declared.call.Copying.{Copying}
-use Rattle.itm_types.specs.declared.copy.CopyPair.{CopyPair}
-use Rattle.itm_types.specs.declared.copy.CopyPair.TheVariants.{Out, In, Within}
-use Rattle.itm_types.specs.declared.row.LogRow.{LogRow}
-use Rattle.itm_types.specs.Slices.{slice, with_slice}
-use Rattle.word_pieces.specs.declared.chunk.Chunk.{Chunk}
+use Rattle.std.proofs.Common.{◌≡◌, ℕ, ◌+◌, ◌*◌, ◌≤◌, ◌==◌, Bool, true, false, if◌then◌else◌, List, [], ◌++◌, length, take, replicate, Option, None, Some, slice_get, refl, sym, ap, subst, ◌∙◌, arith, append-nil, option_map}
+use Rattle.norec_revocable.proofs.Common.{Aim, Aims, ArrayVec, Chunk, CopyPair, Copying, Data, In, IsBounded, IsMissing, IsOpen, IsReading, IsSoundTurn, Load, LogRow, MayCopy, MayRead, Out, Reading, Taking, Turns, Wait, Wants, Within, between, chunk_reading, chunk_within, chunks_in, core, direction_of, drop_all, is_out, length-replicate, logged, passed, passed_for, round_of, slice, source_in, total, with_slice}
 use Rattle.word_pieces.proofs.Covers.{word-pieces_of}
 use Rattle.word_pieces.proofs.ChunkBytes.{all-written}
 use Rattle.word_pieces.specs.Chunks.{chunks_written}
-use Rattle.norec_data.specs.declared.data.Data.{Data}
 use Rattle.norec_data.specs.declared.pending.Pending.TheVariants as waits
-use Rattle.norec_core.specs.Aims.{Aim}
 use Rattle.norec_core.specs.Aims as aims
-use Rattle.norec_core.specs.declared.call_parts.Taking.{Taking}
 use Rattle.norec_core.specs.declared.call_parts.Taking.TheVariants as takings
-use Rattle.norec_core.specs.Phases.{Load}
-use Rattle.norec_core.specs.declared.call_parts.Reading.{Reading}
-use Rattle.norec_data.specs.declared.turn.Turn.TheVariants.{Wait}
-use Rattle.norec_core.specs.Copies.{chunks_in, direction_of, is_out, source_in}
-use Rattle.norec_core.specs.Order.{chunk_reading}
-use Rattle.norec_core.specs.Accesses.{passed, passed_for, total}
-use Rattle.norec_revocable.specs.InPhases.{round_of, Aims, Wants, IsOpen, IsMissing, IsReading, MayLog, MayRead}
-use Rattle.norec_data.specs.Bounds.{IsBounded}
-use Rattle.norec_data.specs.View.{core}
-use Rattle.norec_revocable.specs.Between.{between, logged, MayCopy, IsSoundTurn}
-use Rattle.norec_data.specs.Turns.{Turns}
+use Rattle.norec_revocable.specs.InPhases.{MayLog}
 use Rattle.norec_revocable.proofs.Copies.AcceptedCopies.{source_within}
-use Rattle.norec_core.proofs.Accesses.CopyChunks.{chunk_within, no_chunk}
+use Rattle.norec_core.proofs.Accesses.CopyChunks.{no_chunk}
 use Rattle.norec_core.proofs.Accesses.Readings.{passed_on}
 
 -- an engine with other bytes gathered is as open

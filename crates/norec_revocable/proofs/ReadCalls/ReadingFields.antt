@@ -1,19 +1,8 @@
 -- The access in progress among the fields, and what a turn leaves of them, as callers see it.
 use Rattle.std.proofs.Common.{◌≡◌, ℕ, ◌+◌, List, length, refl, ap, arith}
-use Rattle.itm_types.specs.declared.row.LogRow.{LogRow}
-use Rattle.word_pieces.specs.Pieces.{count_of}
-use Rattle.write_set.specs.Marks.{Written}
-use Rattle.norec_core.specs.declared.call_parts.Purpose.{Purpose}
+use Rattle.norec_revocable.proofs.Common.{Data, End, EndIrrevocable, FitsPurpose, IsFor, LogRow, Purpose, Turn, Wait, Written, chunks_in, core_after, count_of, in_block, in_transaction}
 use Rattle.norec_core.specs.declared.call_parts.Purpose.TheVariants as for
-use Rattle.norec_core.specs.Copies.{chunks_in}
-use Rattle.norec_core.specs.Core.{in_transaction}
 use Rattle.norec_core.proofs.Accesses.Readings.{IsAmong, words_in-at}
-use Rattle.norec_data.specs.declared.turn.Turn.{Turn}
-use Rattle.norec_data.specs.declared.turn.Turn.TheVariants.{Wait, End, EndIrrevocable}
-use Rattle.norec_data.specs.declared.data.Data.{Data}
-use Rattle.norec_data.specs.View.{in_block}
-use Rattle.norec_revocable.specs.InPhases.{FitsPurpose, IsFor}
-use Rattle.norec_data.specs.Turns.{core_after}
 
 -- the words of a chunk that is read are some of its copy's
 among_for : (words bytes written : ℕ) (writes : Written) (log : List LogRow) (buffer : List ℕ) (what : Purpose) (at size : ℕ) → FitsPurpose words bytes written writes log buffer what at size → IsAmong what (count_of at size)

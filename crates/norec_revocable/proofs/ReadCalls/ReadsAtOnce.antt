@@ -1,21 +1,8 @@
 -- A read of one whole word at once: what is stored of it only while a step is waited for is of no account.
 use Rattle.std.proofs.Common.{◌≡◌, ℕ, ◌^◌, ◌<◌, false, [], ◌∷◌, ◌++◌, length, refl, sym, ap, ◌∙◌, rules}
-use Rattle.itm_types.specs.LogRows.{AreSingle}
-use Rattle.itm_types.specs.declared.access.ReadHint.{ReadHint}
-use Rattle.itm_types.specs.declared.access.Width.{Width}
-use Rattle.itm_types.specs.declared.call.Call.TheVariants.{Read}
-use Rattle.value_log.specs.Log.{Log}
-use Rattle.write_set.proofs.Overlays.{overlay-unwritten}
-use Rattle.norec_core.specs.Phases.{Confirm, Idle, Load}
-use Rattle.norec_data.specs.declared.data.Data.{Data}
-use Rattle.norec_data.specs.declared.end.CallEnd.TheVariants.{Word}
+use Rattle.norec_revocable.proofs.Common.{AreSingle, CallTurns, Confirm, Data, End, Idle, IsNewWord, IsOpen, IsSound, Load, Log, Read, ReadHint, ReadTurns, StepTurns, Wait, Width, Word, asking_word, core, counted, overlay-unwritten}
 use Rattle.norec_data.specs.declared.pending.Pending.TheVariants as waits
-use Rattle.norec_data.specs.declared.turn.Turn.TheVariants.{End, Wait}
-use Rattle.norec_data.specs.Turns.{counted}
-use Rattle.norec_data.specs.View.{core}
-use Rattle.norec_revocable.specs.InPhases.{IsOpen, IsSound}
-use Rattle.norec_revocable.specs.Moves.{CallTurns, StepGoesTo, StepTurns}
-use Rattle.norec_revocable.specs.WholeReads.{asking_word, IsNewWord, ReadTurns}
+use Rattle.norec_revocable.specs.Moves.{StepGoesTo}
 use Rattle.norec_revocable.proofs.ReadCalls.ConfirmedWords.{confirms, is_open}
 use Rattle.norec_revocable.proofs.ReadCalls.WholeReads.{asks, is_word}
 

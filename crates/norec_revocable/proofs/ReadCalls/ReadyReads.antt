@@ -1,26 +1,8 @@
 -- A read that has come, and whose memory is taken.
 use Rattle.std.proofs.Common.{◌≡◌, ℕ, ◌+◌, ◌*◌, ◌≤◌, true, false, List, [], length, refl, sym, ap, subst, ◌∙◌, arith}
-use Rattle.std.proofs.lemmas.List.{take_all}
-use Rattle.arrayvec.specs.ArrayVec.{ArrayVec}
-use Rattle.itm_types.specs.Access.{size_of}
-use Rattle.itm_types.specs.declared.access.ReadHint.{ReadHint}
-use Rattle.itm_types.specs.declared.access.Width.{Width}
-use Rattle.itm_types.specs.declared.call.Call.TheVariants.{Read}
-use Rattle.itm_types.specs.declared.row.LogRow.{LogRow}
-use Rattle.itm_types.specs.Memory.{Agrees}
-use Rattle.value_log.specs.Log.{Log}
+use Rattle.norec_revocable.proofs.Common.{Agrees, ArrayVec, Data, Idle, IsLog, IsMissing, IsOpen, IsReading, IsSound, Log, LogRow, Read, ReadHint, Reading, Width, between, came, core, in_block, is_had, logged, part, size_of, take_all, value_reading}
 use Rattle.norec_core.specs.Aims as aims
-use Rattle.norec_core.specs.Phases.{Idle}
-use Rattle.norec_core.specs.declared.call_parts.Reading.{Reading}
-use Rattle.norec_core.specs.Accesses.{part}
-use Rattle.norec_core.specs.Core.{came}
-use Rattle.norec_core.specs.Order.{value_reading}
-use Rattle.norec_core.specs.Rows.{IsLog, is_had}
-use Rattle.norec_data.specs.declared.data.Data.{Data}
-use Rattle.norec_data.specs.View.{in_block, core}
 use Rattle.norec_revocable.proofs.Blocks.OpenBegins.{begun_same}
-use Rattle.norec_revocable.specs.InPhases.{IsOpen, IsReading, IsMissing, IsSound}
-use Rattle.norec_revocable.specs.Between.{between, logged}
 use Rattle.norec_revocable.proofs.Copies.Sources.{purpose_more}
 
 -- the engine with the read's bytes so far

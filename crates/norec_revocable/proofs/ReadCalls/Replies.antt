@@ -1,32 +1,12 @@
 -- A value that is read whole, and its answer.
 use Rattle.std.proofs.Common.{◌≡◌, ℕ, ◌+◌, ◌*◌, ◌/◌, ◌≤◌, List, [], drop, refl, sym, ap, subst, ◌∙◌, arith}
-use Rattle.std.proofs.lemmas.List.{drop_all, take_all}
+use Rattle.norec_revocable.proofs.Common.{Agrees, Data, Idle, IsBounded, IsFor, IsMemory, IsOpen, IsValue, LogRow, Purpose, Read, Reading, Replies, Row, after, between, bytes_of, call_for, core, count, drop_all, load_among, load_past, load_stage, logged, overlay, parts, reply, rows_before, size_of, slice, state_over, take_all}
 use Rattle.std.proofs.lemmas.List.FromFn.{length-map-range_with_len}
-use Rattle.itm_types.specs.Access.{size_of}
-use Rattle.itm_types.specs.Memory.{bytes_of, IsMemory, Agrees}
-use Rattle.itm_types.specs.Slices.{slice}
-use Rattle.itm_types.specs.declared.call.Call.TheVariants.{Read}
 use Rattle.itm_types.specs.declared.call.Reply.TheVariants.{Bytes}
-use Rattle.itm_types.specs.declared.row.LogRow.{LogRow}
-use Rattle.itm_model.specs.Machine.{after, reply}
 use Rattle.word_pieces.specs.Pieces.{piece_of}
-use Rattle.write_set.specs.declared.row.Row.{Row}
-use Rattle.write_set.specs.Rows.{overlay}
-use Rattle.norec_data.specs.declared.data.Data.{Data}
 use Rattle.norec_core.specs.Aims as aims
-use Rattle.norec_core.specs.Phases.{Idle}
-use Rattle.norec_core.specs.declared.call_parts.Purpose.{Purpose}
 use Rattle.norec_core.specs.declared.call_parts.Purpose.TheVariants as for
-use Rattle.norec_core.specs.declared.call_parts.Reading.{Reading}
-use Rattle.norec_core.specs.Accesses.{count, parts}
-use Rattle.norec_core.specs.Order.{load_among, load_past, load_stage}
-use Rattle.norec_core.specs.Proceeds.{Replies}
-use Rattle.norec_core.specs.Stands.{state_over}
 use Rattle.norec_core.proofs.Engines.Machines.{reads}
-use Rattle.norec_data.specs.Bounds.{IsBounded}
-use Rattle.norec_data.specs.View.{call_for, core, rows_before}
-use Rattle.norec_revocable.specs.InPhases.{IsFor, IsOpen}
-use Rattle.norec_revocable.specs.Between.{between, logged, IsValue}
 
 -- a value is read behind all the rows that there are
 pub all_before : (s : Data) (what : Purpose) (at size : ℕ) → IsFor s what at size → IsValue what → rows_before s ≡ s.frames.writes.rows

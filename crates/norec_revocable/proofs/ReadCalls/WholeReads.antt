@@ -1,32 +1,9 @@
 -- A read of one whole word that is neither written nor logged has come.
 use Rattle.std.proofs.Common.{◌≡◌, ℕ, ◌+◌, ◌*◌, ◌≤◌, ◌||◌, false, [], Option, None, Some, slice_get, is_some, refl, sym, ap, subst, ◌∙◌, arith, rules}
-use Rattle.arrayvec.specs.ArrayVec.{ArrayVec}
-use Rattle.itm_types.specs.Access.{size_of}
-use Rattle.itm_types.specs.declared.access.ReadHint.{ReadHint}
-use Rattle.itm_types.specs.declared.access.Width.{Width}
-use Rattle.itm_types.specs.declared.call.Call.TheVariants.{Read}
-use Rattle.itm_types.specs.LogRows.{value_of}
-use Rattle.value_log.specs.Log.{Log}
-use Rattle.word_pieces.specs.declared.piece.Piece.{Piece}
+use Rattle.norec_revocable.proofs.Common.{ArrayVec, CallTurns, Core, Data, Idle, IsNewWord, IsSound, IsSoundTurn, IsWord, Load, Log, MayRead, Piece, Read, ReadHint, Reading, Turns, Wait, Width, core, count, is_had, load_here, load_past, load_stage, lookup, none_left, part, part_is, parts, size_of, value_of, value_reading, word_of}
 use Rattle.word_pieces.specs.Masks.{mask_of}
-use Rattle.write_set.specs.Rows.{lookup}
-use Rattle.norec_core.specs.Accesses.{count, part, parts}
-use Rattle.norec_core.specs.OwnAccesses.{word_of}
-use Rattle.norec_core.specs.Order.{load_past, load_stage, value_reading}
-use Rattle.norec_core.specs.Rows.{has_mask, is_had}
-use Rattle.norec_core.specs.Core.{Core}
-use Rattle.norec_core.specs.Phases.{Idle, Load}
-use Rattle.norec_core.specs.declared.call_parts.Reading.{Reading}
-use Rattle.norec_core.proofs.Accesses.Readings.{load_here, none_left, part_is}
-use Rattle.norec_data.specs.View.{core}
-use Rattle.norec_data.specs.declared.data.Data.{Data}
+use Rattle.norec_core.specs.Rows.{has_mask}
 use Rattle.norec_data.specs.declared.pending.Pending.TheVariants as waits
-use Rattle.norec_data.specs.declared.turn.Turn.TheVariants.{Wait}
-use Rattle.norec_data.specs.Turns.{Turns}
-use Rattle.norec_revocable.specs.InPhases.{MayRead, IsSound}
-use Rattle.norec_revocable.specs.Between.{IsSoundTurn, IsWord}
-use Rattle.norec_revocable.specs.Moves.{CallTurns}
-use Rattle.norec_revocable.specs.WholeReads.{IsNewWord}
 use Rattle.norec_revocable.proofs.ReadCalls.Loads.{load_proceeds, load_sound}
 use Rattle.norec_revocable.proofs.ReadCalls.ReadyReads.{first_reading, ready, ready_came, ready_open, ready_reading, settled}
 use Rattle.norec_revocable.proofs.ReadCalls.WholeWords.{one_piece}

@@ -1,19 +1,7 @@
 -- A read of one whole word.
 use Rattle.std.proofs.Common.{◌≡◌, ℕ, suc, ◌+◌, ◌*◌, ◌/◌, ◌%◌, ◌<◌, ◌==◌, List, [], ◌∷◌, ◌++◌, Some, slice_get, sym, ◌∙◌, eq-eqb, arith}
-use Rattle.std.proofs.lemmas.Bool.{cond-true}
-use Rattle.std.specs.Int.{w64, to_le_bytes}
-use Rattle.itm_types.specs.Memory.{bytes_of}
-use Rattle.itm_types.specs.Slices.{slice}
+use Rattle.norec_revocable.proofs.Common.{Confirm, Data, Idle, IsWord, Reading, bytes_of, cond-true, core, count, count_of, rows_before, slice, stage_after, to_le_bytes, w64, word_of}
 use Rattle.itm_types.proofs.Words.{word-bytes_of}
-use Rattle.word_pieces.specs.Pieces.{count_of}
-use Rattle.norec_core.specs.Phases.{Confirm, Idle}
-use Rattle.norec_core.specs.declared.call_parts.Reading.{Reading}
-use Rattle.norec_core.specs.Accesses.{count}
-use Rattle.norec_core.specs.Order.{stage_after}
-use Rattle.norec_core.specs.OwnAccesses.{word_of}
-use Rattle.norec_data.specs.declared.data.Data.{Data}
-use Rattle.norec_data.specs.View.{core, rows_before}
-use Rattle.norec_revocable.specs.Between.{IsWord}
 use Rattle.norec_revocable.proofs.ReadCalls.Replies.{loads_no_more}
 
 module _ (r : Reading) (word : ℕ) (is : IsWord r word) where

@@ -1,32 +1,13 @@
 -- Calls that are answered with no step.
 use Rattle.std.proofs.Common.{◌≡◌, ℕ, ◌+◌, ◌*◌, ◌<◌, ◌≤◌, ◌&&◌, nat_le, Bool, true, false, length, Option, None, Some, refl, sym, ap, subst, if◌then◌else◌}
-use Rattle.itm_types.specs.declared.access.WriteHint.{WriteHint}
-use Rattle.itm_types.specs.declared.call.Action.{Action}
-use Rattle.itm_types.specs.declared.call.ActionKind.{ActionKind}
+use Rattle.norec_revocable.proofs.Common.{Action, ActionKind, Answer, Call, CallEnd, CallTurns, CommitAction, Data, End, Fill, Idle, IsSound, IsSoundTurn, LogBytes, Refusal, Refused, Replies, TurnEndsSo, Turns, UndoAction, WriteHint, access_of, access_refusal, came, core, ending_at, in_block, logged_of, registered_by, size_of, stage_at}
 use Rattle.itm_types.specs.declared.call.ActionKind.TheVariants as kinds
-use Rattle.itm_types.specs.declared.call.Call.{Call}
-use Rattle.itm_types.specs.declared.call.Call.TheVariants.{Fill, Log, LogBytes, CommitAction, UndoAction}
-use Rattle.itm_types.specs.declared.call.Refusal.{Refusal}
-use Rattle.itm_types.specs.declared.call.Reply.TheVariants.{Refused}
-use Rattle.itm_types.specs.Access.{size_of}
-use Rattle.itm_types.specs.Calls.{access_of, logged_of, registered_by}
-use Rattle.norec_core.specs.declared.answer.Answer.{Answer}
-use Rattle.norec_core.specs.Phases.{Idle}
-use Rattle.norec_core.specs.Accesses.{access_refusal}
-use Rattle.norec_core.specs.Core.{came}
-use Rattle.norec_core.specs.Endings.{ending_at}
-use Rattle.norec_core.specs.Order.{stage_at}
-use Rattle.norec_core.specs.Proceeds.{MayStarve, Replies}
+use Rattle.itm_types.specs.declared.call.Call.TheVariants.{Log}
+use Rattle.norec_core.specs.Proceeds.{MayStarve}
 use Rattle.norec_data.proofs.RefusedAccesses.{access_ending, refused_stage}
-use Rattle.norec_data.specs.declared.data.Data.{Data}
-use Rattle.norec_data.specs.declared.end.CallEnd.{CallEnd}
 use Rattle.norec_data.specs.declared.end.CallEnd.TheVariants as ends
-use Rattle.norec_data.specs.declared.turn.Turn.TheVariants.{End}
-use Rattle.norec_data.specs.Turns.{Stays, TurnEndsSo, Turns}
-use Rattle.norec_data.specs.View.{core, in_block}
-use Rattle.norec_revocable.specs.Between.{IsSoundTurn}
-use Rattle.norec_revocable.specs.InPhases.{IsSound}
-use Rattle.norec_revocable.specs.Moves.{CallStarves, CallTurns}
+use Rattle.norec_data.specs.Turns.{Stays}
+use Rattle.norec_revocable.specs.Moves.{CallStarves}
 use Rattle.norec_revocable.proofs.Blocks.Cancels.{come}
 use Rattle.norec_revocable.proofs.Replies.LocalReplies.{come_sound}
 use Rattle.norec_revocable.proofs.Replies.Refusals.{refused_replies}

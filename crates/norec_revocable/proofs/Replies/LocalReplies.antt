@@ -1,33 +1,13 @@
 -- Replies to registrations and logs of the arena.
 use Rattle.std.proofs.Common.{◌≡◌, ℕ, ◌+◌, ◌≤◌, nat_le, Bool, true, false, List, [], ◌∷◌, length, Option, None, Some, IsTrue, ◌↔◌, inl, inr, refl, sym, ap, subst, ◌∙◌}
-use Rattle.std.proofs.lemmas.Bool.{cases_Bool, le-leb, leb-true}
-use Rattle.itm_types.specs.declared.call.Action.{Action}
-use Rattle.itm_types.specs.declared.call.ActionKind.{ActionKind}
+use Rattle.norec_revocable.proofs.Common.{Action, ActionKind, AreFrames, Call, CommitAction, Data, Done, Frame, Idle, IsSound, LogBytes, Old, OutOfArena, Outside, Refusal, Refused, Replies, UndoAction, after_unless, also_kept, begins_anew, blocks_over, bytes_of, came, cases_Bool, core, effect, found, in_block, is_inside, is_some_row, kept_of, le-leb, leb-true, log_of, logged_of, open_is, or_else, overlay, refusal, refuses, registered, registered_by, reply_unless, room_left, size_of, state_over, unless}
 use Rattle.itm_types.specs.declared.call.ActionKind.TheVariants as kinds
-use Rattle.itm_types.specs.declared.call.Call.{Call}
-use Rattle.itm_types.specs.declared.call.Call.TheVariants.{Log, LogBytes, CommitAction, UndoAction}
-use Rattle.itm_types.specs.declared.call.Refusal.{Refusal}
-use Rattle.itm_types.specs.declared.call.Refusal.TheVariants.{Outside, OutOfArena}
-use Rattle.itm_types.specs.declared.call.Reply.TheVariants.{Done, Refused}
-use Rattle.itm_types.specs.Access.{size_of}
-use Rattle.itm_types.specs.Calls.{logged_of, registered_by}
-use Rattle.itm_types.specs.KeptBytes.{also_kept}
-use Rattle.itm_types.specs.Memory.{bytes_of}
-use Rattle.undo_log.specs.Rollback.{Old, found, kept_of}
-use Rattle.write_set.specs.Rows.{overlay}
-use Rattle.user_actions.specs.Actions.{registered, room_after}
-use Rattle.nest_frames.specs.Nest.{Frame, log_of, logged}
+use Rattle.itm_types.specs.declared.call.Call.TheVariants.{Log}
+use Rattle.user_actions.specs.Actions.{room_after}
+use Rattle.nest_frames.specs.Nest.{logged}
 use Rattle.itm_model.specs.State.{Block}
-use Rattle.itm_model.specs.Machine.{after_unless, effect, logged as logs, logged_in, needs_open, or_else, refusal, reply_unless, unless}
-use Rattle.norec_core.specs.Phases.{Idle}
-use Rattle.norec_core.specs.Core.{begins_anew, came, is_inside}
-use Rattle.norec_core.specs.Proceeds.{Replies}
-use Rattle.norec_core.specs.Effects.{room_left}
-use Rattle.norec_core.specs.Stands.{block_over, blocks_over, is_some_row, state_over}
-use Rattle.norec_core.proofs.Engines.Machines.{open_is, refuses}
-use Rattle.norec_data.specs.declared.data.Data.{Data}
-use Rattle.norec_data.specs.View.{core, in_block}
-use Rattle.norec_revocable.specs.InPhases.{AreFrames, IsSound}
+use Rattle.itm_model.specs.Machine.{logged as logs, logged_in, needs_open}
+use Rattle.norec_core.specs.Stands.{block_over}
 use Rattle.norec_revocable.proofs.Blocks.Cancels.{come}
 use Rattle.norec_revocable.proofs.Blocks.OpenBegins.{begun_logged, begun_registered}
 use Rattle.norec_revocable.proofs.Replies.Refusals.{denied, stands}

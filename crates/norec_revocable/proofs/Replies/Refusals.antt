@@ -1,31 +1,12 @@
 -- Replies that leave an engine as it was but for the counts and perhaps the arena: refusals, and what the thread's own state answers.
 use Rattle.std.proofs.Common.{◌≡◌, ℕ, ◌+◌, ◌*◌, ◌≤◌, nat_le, Bool, true, false, List, length, Option, None, Some, refl, sym, ap, subst, ◌∙◌, inl, inr, if◌then◌else◌}
-use Rattle.std.proofs.lemmas.Bool.{cases_Bool, leb-true, le-leb}
-use Rattle.itm_types.specs.declared.call.Call.{Call}
-use Rattle.itm_types.specs.declared.call.Call.TheVariants.{InTransaction, Read, Write, Fill, Save}
-use Rattle.itm_types.specs.declared.call.Refusal.{Refusal}
-use Rattle.itm_types.specs.declared.call.Refusal.TheVariants.{OutOfRange, OutOfArena}
-use Rattle.itm_types.specs.declared.call.Reply.TheVariants.{Done, Code, Refused}
-use Rattle.itm_types.specs.declared.datum.Datum.{Datum}
-use Rattle.itm_types.specs.Access.{size_of}
-use Rattle.itm_types.specs.Slices.{with_slice}
-use Rattle.itm_types.specs.Calls.{access_of}
-use Rattle.itm_types.specs.Memory.{IsMemory}
+use Rattle.norec_revocable.proofs.Common.{Call, Code, Core, Data, Datum, Done, Fill, Idle, IsMemory, IsSound, OutOfArena, Read, Refusal, Refused, Replies, State, Write, access_of, access_refusal, after, after_unless, begins_anew, blocks_over-same, came, cases_Bool, core, effect, in_block, le-leb, leb-true, open_is, reply, reply_unless, room_left, size_of, state_over, unless, with_slice}
+use Rattle.itm_types.specs.declared.call.Call.TheVariants.{InTransaction, Save}
+use Rattle.itm_types.specs.declared.call.Refusal.TheVariants.{OutOfRange}
 use Rattle.itm_types.specs.declared.call.Reply.{Reply as Replied}
-use Rattle.itm_model.specs.State.{State}
-use Rattle.itm_model.specs.Machine.{unless, effect, after, after_unless, reply, reply_unless}
-use Rattle.norec_core.specs.Stands.{state_over}
-use Rattle.norec_data.specs.declared.data.Data.{Data}
-use Rattle.norec_core.specs.Phases.{Idle}
-use Rattle.norec_core.specs.Core.{Core, begins_anew, came}
-use Rattle.norec_core.specs.Accesses.{access_refusal}
-use Rattle.norec_data.specs.View.{core, in_block}
-use Rattle.norec_revocable.specs.InPhases.{IsSound}
-use Rattle.norec_core.specs.Proceeds.{Replies}
-use Rattle.norec_core.specs.Effects.{room_left, writes_after, arena_after, blocks_after, actions_after}
+use Rattle.norec_core.specs.Effects.{writes_after, arena_after, blocks_after, actions_after}
 use Rattle.norec_core.proofs.Replies.AnsweredEngines.{told_plainly}
-use Rattle.norec_core.proofs.Engines.Blocks.{blocks_over-same}
-use Rattle.norec_core.proofs.Engines.Machines.{access_refused, open_is}
+use Rattle.norec_core.proofs.Engines.Machines.{access_refused}
 use Rattle.norec_core.proofs.Replies.RefusedCalls.{writes_kept, blocks_kept, arena_kept, actions_kept}
 
 abbrev pub stands : Data → List ℕ → State

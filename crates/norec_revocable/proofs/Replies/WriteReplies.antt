@@ -1,31 +1,10 @@
 -- A write that is served, once its value stands in the write set.
 use Rattle.std.proofs.Common.{◌≡◌, ℕ, ◌+◌, ◌*◌, ◌<◌, ◌≤◌, List, length, false, None, refl, sym, ap, subst, ◌∙◌, arith, rules}
-use Rattle.itm_types.specs.Access.{size_of}
-use Rattle.itm_types.specs.declared.access.WriteHint.{WriteHint}
-use Rattle.itm_types.specs.declared.call.Call.TheVariants.{Write}
-use Rattle.itm_types.specs.declared.datum.Datum.{Datum}
-use Rattle.itm_types.specs.Memory.{bytes_of, IsMemory}
-use Rattle.itm_types.specs.Slices.{AreBytes}
-use Rattle.word_pieces.specs.Pieces.{pieces_of}
+use Rattle.norec_revocable.proofs.Common.{AllWritesWithin, AreBytes, AreFrames, AreRows, AreRows-reserved_all, CallTurns, Data, Datum, End, Idle, IsMemory, IsSound, KeepsAllButWrites, Nest, Row, Write, WriteHint, access_refusal, bounds_kept, bytes_of, core, in_block, is_inside, is_some_row, overlay, pieces_of, put_all, reserved_all, size_of, state_over}
 use Rattle.word_pieces.proofs.Covers.{words_of-pieces_of}
-use Rattle.write_set.specs.declared.row.Row.{Row}
-use Rattle.write_set.specs.Rows.{overlay, AreRows}
-use Rattle.nest_frames.specs.Nest.{Nest}
-use Rattle.norec_core.specs.Accesses.{access_refusal}
-use Rattle.norec_core.specs.Core.{is_inside}
-use Rattle.norec_core.specs.Phases.{Idle}
-use Rattle.norec_core.specs.Rows.{reserved_all, put_all, AllWritesWithin}
-use Rattle.norec_core.specs.Stands.{is_some_row, state_over}
-use Rattle.norec_core.proofs.Accesses.Writings.{AllFitIn, some_pieces, bytes_of-put_all, fit_pieces, AllWritesWithin-put_all, AllWritesWithin-reserved_all, AreRows-put_all, AreRows-reserved_all}
+use Rattle.norec_core.proofs.Accesses.Writings.{AllFitIn, some_pieces, bytes_of-put_all, fit_pieces, AllWritesWithin-put_all, AllWritesWithin-reserved_all, AreRows-put_all}
 use Rattle.norec_core.proofs.Engines.Machines.{writes, some_put, some_bytes}
 use Rattle.norec_data.specs.declared.end.CallEnd.TheVariants.{Done}
-use Rattle.norec_data.specs.declared.data.Data.{Data}
-use Rattle.norec_data.specs.declared.turn.Turn.TheVariants.{End}
-use Rattle.norec_data.specs.View.{core, in_block}
-use Rattle.norec_data.proofs.KeptBounds.{bounds_kept}
-use Rattle.norec_revocable.specs.InPhases.{AreFrames, IsSound}
-use Rattle.norec_revocable.specs.KeptFrames.{KeepsAllButWrites}
-use Rattle.norec_revocable.specs.Moves.{CallTurns}
 use Rattle.norec_revocable.proofs.Blocks.OpenBegins.{begun_same}
 use Rattle.norec_revocable.proofs.Replies.Refusals.{served}
 

@@ -1,19 +1,11 @@
 -- Lines of a section keep what is kept of the lines so far.
 use Rattle.std.proofs.Common.{◌≡◌, ℕ, ◌<◌, ◌≤◌, Bool, true, false, nat_eq, ◌||◌, leb, ltb, List, ◌∷◌, length, Option, Some, Ok, refl, sym, ap, ◌∙◌, subst, inl, inr}
-use Rattle.std.proofs.lemmas.Bool.{cases_Bool, ltb-false, leb-false}
+use Rattle.script_print.proofs.Common.{Beginning, Group, Instruction, MAX_INSTRUCTIONS, MAX_LEVELS, Sections, State, cases_Bool, chosen, counted, counted_again, expanded, fault, innermost, instruction_total, ltb-false, opened, outer, repeated, repeats, run_code, second_part, stands_never, within_never}
+use Rattle.std.proofs.lemmas.Bool.{leb-false}
 use Rattle.script_fields.specs.declared.fault.AsmKind.TheVariants as faults
-use Rattle.script_fields.proofs.FirstLines.{chosen}
-use Rattle.script_asm.specs.declared.groups.Beginning.{Beginning}
-use Rattle.script_asm.specs.declared.groups.Group.{Group}
 use Rattle.script_asm.specs.declared.groups.Group.TheVariants as groups
-use Rattle.script_program.specs.declared.instruction.Instruction.{Instruction}
 use Rattle.script_program.specs.declared.instruction.Instruction.TheVariants as code
-use Rattle.script_program.specs.declared.limits.TheConstants.{MAX_INSTRUCTIONS, MAX_LEVELS}
-use Rattle.script_asm.specs.declared.state.State.{State}
-use Rattle.script_asm.specs.Blocks.{added, counted, opened, begins, ends, ends_block, turns_group, ends_group, without_innermost, in_second_part, run_code, place_of, repeats, again, ends_repeat, repeated}
-use Rattle.script_asm.specs.Groups.{innermost, outer, second_part, stands_never, within_never}
-use Rattle.script_asm.specs.Readings.{fault}
-use Rattle.script_program.specs.Sections.{Sections, instruction_total, expanded, counted_again}
+use Rattle.script_asm.specs.Blocks.{added, begins, ends, ends_block, turns_group, ends_group, without_innermost, in_second_part, place_of, again, ends_repeat}
 use Rattle.script_print.proofs.Printable.{IsSaid, open_after}
 use Rattle.script_print.proofs.Assembly.Levels.{kinds, Starts, IsOpen, pushed_kind, starts_outer, starts_second, innermost_kind, second_kind, repeat_begun, standing, standing_all, standing_outer, standing_second, never_outer, never_second}
 use Rattle.script_print.proofs.Assembly.Sections.{IsReading, all_open, reads_more, reads_past, reads_again, reads_counted}

@@ -1,17 +1,12 @@
 -- Instructions that were read are some that a line can say.
 use Rattle.std.proofs.Common.{◌≡◌, ℕ, List, Result, Ok, subst}
-use Rattle.itm_entries.specs.declared.entry.Control.{Control}
+use Rattle.script_print.proofs.Common.{AsmKind, Control, Entry, Instruction, Mnemonic, commit_action, control_code, entry_code, instruction_of, none, one_place, place_register, register_literal, register_number, register_place, three_places, two_places, undo_action}
 use Rattle.itm_entries.specs.declared.entry.Control.TheVariants as controls
-use Rattle.itm_entries.specs.declared.entry.Entry.{Entry}
 use Rattle.itm_entries.specs.declared.entry.Entry.TheVariants as entries
-use Rattle.script_fields.specs.declared.fault.AsmKind.{AsmKind}
 use Rattle.script_fields.specs.Operands.{◌>>=◌}
-use Rattle.script_fields.specs.Shapes.{none, one_register, two_registers, three_registers, register_number, register_literal, register_props, register_place, place_register, one_place, two_places, three_places, abort_scope, only_mode, commit_action, undo_action}
-use Rattle.script_program.specs.declared.instruction.Instruction.{Instruction}
+use Rattle.script_fields.specs.Shapes.{one_register, two_registers, three_registers, register_props, abort_scope, only_mode}
 use Rattle.script_program.specs.declared.instruction.Instruction.TheVariants as code
-use Rattle.script_asm.specs.declared.words.Mnemonic.{Mnemonic}
 use Rattle.script_asm.specs.declared.words.Mnemonic.TheVariants as mnemonics
-use Rattle.script_asm.specs.Code.{control_code, entry_code, instruction_of}
 use Rattle.script_print.proofs.Printable.{IsSaid}
 use Rattle.script_print.proofs.Assembly.Operands.{bind_ok, register_number_form, register_literal_form, register_place_form, place_register_form, one_place_form, two_places_form, three_places_form, commit_action_form, undo_action_form}
 

@@ -1,17 +1,11 @@
 -- What the items of a schedule are that were read.
 use Rattle.std.proofs.Common.{◌≡◌, ℕ, ◌+◌, ◌-◌, ◌<◌, ◌≤◌, ltb, eqb, List, [], ◌∷◌, length, take, drop, get_or, replicate, Option, Some, None, Ok, arith, subst, inl, inr, position, length-append}
-use Rattle.std.specs.Bool.{⊤}
-use Rattle.std.specs.List.{AllByRecursion}
-use Rattle.std.proofs.lemmas.Bool.{ltb-true}
+use Rattle.script_print.proofs.Common.{AllByRecursion, Item, MAX_EVENTS, MAX_ITEMS, Out, Take, both, chosen, events, is_times, item_of, ltb-true, number, planned, schedule_of, stray_of, thread_number, within, ⊤}
 use Rattle.std.proofs.lemmas.List.{length-replicate}
-use Rattle.script_fields.specs.Operands.{◌>>=◌, both, number, within}
-use Rattle.script_fields.proofs.FirstLines.{chosen}
-use Rattle.script_program.specs.declared.limits.TheConstants.{MAX_ITEMS, MAX_EVENTS}
-use Rattle.script_program.specs.declared.schedule.Item.{Item}
-use Rattle.script_program.specs.declared.schedule.Item.TheVariants.{Take, Out}
-use Rattle.script_asm.specs.Items.{is_times, thread_number, events, take_of, item_of, items_of, schedule_of}
+use Rattle.script_fields.specs.Operands.{◌>>=◌}
+use Rattle.script_asm.specs.Items.{take_of, items_of}
 use Rattle.script_program.specs.Listing.{thread_of}
-use Rattle.script_program.specs.Schedules.{Schedule, planned, stray_of}
+use Rattle.script_program.specs.Schedules.{Schedule}
 use Rattle.script_print.proofs.Printable.{IsItem}
 use Rattle.script_print.proofs.Assembly.Lists.{all_append}
 use Rattle.script_print.proofs.Assembly.Operands.{bind_ok, both_ok, within_form}

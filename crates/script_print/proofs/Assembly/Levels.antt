@@ -1,16 +1,9 @@
 -- What is open after the code so far, as lines begin and end blocks, groups and repeats.
 use Rattle.std.proofs.Common.{◌≡◌, ℕ, zero, suc, ◌<◌, ◌≤◌, Bool, true, false, cond, ◌||◌, List, [], ◌∷◌, ◌++◌, length, take, drop, Option, Some, None, refl, sym, ap, ◌∙◌, arith, subst}
-use Rattle.std.specs.Bool.{⊤}
-use Rattle.std.specs.List.{repeat}
-use Rattle.std.proofs.lemmas.Bool.{lt-ltb}
-use Rattle.std.proofs.lemmas.List.{length-take, length-append, take-append-drop, take-append-le, take-take}
+use Rattle.script_print.proofs.Common.{Beginning, Group, Instruction, MAX_LEVELS, innermost, lt-ltb, outer, repeat, second_part, stands_never, take-append-drop, within_never, ⊤}
+use Rattle.std.proofs.lemmas.List.{length-take, length-append, take-append-le, take-take}
 use Rattle.std.proofs.Math.Seq.{take-length}
-use Rattle.script_asm.specs.declared.groups.Beginning.{Beginning}
-use Rattle.script_asm.specs.declared.groups.Group.{Group}
 use Rattle.script_asm.specs.declared.groups.Group.TheVariants as groups
-use Rattle.script_program.specs.declared.instruction.Instruction.{Instruction}
-use Rattle.script_program.specs.declared.limits.TheConstants.{MAX_LEVELS}
-use Rattle.script_asm.specs.Groups.{innermost, outer, second_part, stands_never, within_never}
 use Rattle.script_print.proofs.Printable.{pushed, open_after, then_after, open_after_all}
 
 -- ## What is open, but for repeats

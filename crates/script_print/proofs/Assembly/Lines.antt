@@ -1,25 +1,13 @@
 -- Each line keeps what is kept of the lines so far.
 use Rattle.std.proofs.Common.{◌≡◌, ℕ, ◌+◌, List, [], ◌∷◌, Option, Some, None, Ok, refl, subst, inl, inr}
-use Rattle.std.specs.List.{list_all}
-use Rattle.itm_types.specs.declared.limits.TheConstants.{MAX_ARENA, MAX_PATIENCE, MAX_RESTARTS, MAX_RETRIES, MAX_COMMITS, MAX_DEPTH}
+use Rattle.script_print.proofs.Common.{Bounds, MAX_ARENA, MAX_COMMITS, MAX_DEPTH, MAX_PATIENCE, MAX_RESTARTS, MAX_RETRIES, State, chosen, fault, init_of, innermost, innermost_line, instruction_of, laid_in, limit_of, lines_say, list_all, may_stand, meaning, none, obeyed, repeated, repeats, run_code, said, schedule_of, scheduled, size_of, threaded, word_of}
 use Rattle.script_fields.specs.declared.fault.AsmKind.TheVariants as faults
 use Rattle.script_fields.specs.Text.{fields, without_comment, is_allowed}
-use Rattle.script_fields.specs.Shapes.{none, size_of, limit_of, init_of, count_of}
-use Rattle.script_fields.proofs.FirstLines.{chosen}
+use Rattle.script_fields.specs.Shapes.{count_of}
 use Rattle.script_program.specs.declared.limits.TheConstants.{MAX_REPEATS}
-use Rattle.script_asm.specs.declared.state.State.{State}
 use Rattle.script_asm.specs.declared.words.Word.{Word}
 use Rattle.script_asm.specs.declared.words.Word.TheVariants as words
-use Rattle.script_asm.specs.Assembly.{obeyed, worded, said, meaning, lines_say}
-use Rattle.script_asm.specs.Blocks.{run_code, repeats, repeated}
-use Rattle.script_asm.specs.Code.{instruction_of}
-use Rattle.script_asm.specs.Directives.{laid_in, scheduled, threaded}
-use Rattle.script_asm.specs.Groups.{innermost, innermost_line}
-use Rattle.script_asm.specs.Items.{schedule_of}
-use Rattle.script_program.specs.Listing.{Bounds}
-use Rattle.script_asm.specs.Readings.{fault}
-use Rattle.script_asm.specs.Standing.{may_stand}
-use Rattle.script_asm.specs.Words.{word_of}
+use Rattle.script_asm.specs.Assembly.{worded}
 use Rattle.script_print.proofs.Assembly.Blocks.{run_sound, repeats_sound, repeated_sound}
 use Rattle.script_print.proofs.Assembly.Instructions.{instruction_said}
 use Rattle.script_print.proofs.Assembly.Operands.{size_of_form, limit_of_form}

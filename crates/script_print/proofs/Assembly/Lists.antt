@@ -1,7 +1,6 @@
 -- What holds of each element of a list, where lists are put together.
 use Rattle.std.proofs.Common.{ℕ, zero, suc, List, [], ◌∷◌, ◌++◌, take, drop, sym, subst}
-use Rattle.std.specs.List.{AllByRecursion, repeat}
-use Rattle.std.proofs.lemmas.List.{take-append-drop}
+use Rattle.script_print.proofs.Common.{AllByRecursion, repeat, take-append-drop}
 
 pub all_append : {X : Type 0} (P : X → Type 0) (xs ys : List X) → AllByRecursion P xs → AllByRecursion P ys → AllByRecursion P (xs ++ ys)
 all_append P [] ys h k = k

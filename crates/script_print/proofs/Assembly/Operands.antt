@@ -1,22 +1,16 @@
 -- What operands are that were read: their ranges.
 use Rattle.std.proofs.Common.{◌≡◌, ℕ, ◌*◌, ◌%◌, ◌^◌, ◌<◌, ◌≤◌, true, cond, leb, ltb, eqb, ◌&&◌, List, length, Result, Ok, Err, refl, arith, subst, inl, inr}
-use Rattle.std.proofs.lemmas.Bool.{and_parts, leb-true, ltb-false, eqb-true, eqb-false, not-true}
-use Rattle.hex.specs.Hex.{IsBytes}
-use Rattle.itm_types.specs.declared.limits.TheConstants.{MAX_MEMORY}
-use Rattle.script_fields.specs.declared.hex_digits.TheConstants.{MAX_INIT_DIGITS}
-use Rattle.script_fields.specs.declared.fault.AsmKind.{AsmKind}
+use Rattle.script_print.proofs.Common.{AsmKind, IsBytes, IsLiteral, IsPlace, IsSize, MAX_INIT_DIGITS, MAX_MEMORY, and_parts, both, chosen, commit_action, init_of, leb-true, limit_of, ltb-false, not-true, number, one_place, place_register, register_literal, register_number, register_place, size_of, three_places, two_places, undo_action, within}
+use Rattle.std.proofs.lemmas.Bool.{eqb-true, eqb-false}
 use Rattle.script_fields.specs.declared.fault.AsmKind.TheVariants as kinds
 use Rattle.script_fields.specs.declared.literal.Literal.{Literal}
 use Rattle.script_fields.specs.declared.place.Place.{Place}
 use Rattle.script_fields.specs.declared.register.Register.{Register}
-use Rattle.script_fields.specs.Operands.{◌>>=◌, both, number, within, function, register, place, is_hex, decoded, digits, literal, no_transaction}
-use Rattle.script_fields.specs.Shapes.{one, two, three, register_number, register_literal, register_place, place_register, one_place, two_places, three_places, commit_action, undo_action, memory_size, size_of, limit_of, init_of}
-use Rattle.script_fields.specs.Spelling.{IsPlace, IsLiteral}
-use Rattle.script_fields.proofs.FirstLines.{chosen}
+use Rattle.script_fields.specs.Operands.{◌>>=◌, function, register, place, is_hex, decoded, digits, literal, no_transaction}
+use Rattle.script_fields.specs.Shapes.{one, two, three, memory_size}
 use Rattle.script_fields.proofs.HexDigits.{decode_of-hex}
 use Rattle.script_fields.proofs.SpelledNumbers.{number_form}
 use Rattle.script_fields.proofs.SpelledOperands.{place_form, literal_form}
-use Rattle.script_program.specs.Sizes.{IsSize}
 
 -- ## Several operands
 

@@ -1,22 +1,10 @@
 -- What a text says is a program that a text can say.
 use Rattle.std.proofs.Common.{◌≡◌, ℕ, ◌<◌, ◌≤◌, ltb, List, [], ◌∷◌, length, Option, Some, None, Ok, refl, sym, arith, subst, inl, inr, length-append}
-use Rattle.std.specs.List.{AllByRecursion}
-use Rattle.std.specs.Option.{IfSome, unwrap_or}
-use Rattle.std.specs.Str.Lines.{lines}
-use Rattle.std.proofs.lemmas.Bool.{ltb-true}
-use Rattle.itm_types.specs.Limits.{AreWithin}
-use Rattle.itm_types.specs.declared.limits.TheConstants.{MAX_ARENA, MAX_PATIENCE, MAX_RESTARTS, MAX_RETRIES, MAX_COMMITS, MAX_DEPTH, USUAL_DEPTH}
+use Rattle.script_print.proofs.Common.{AllByRecursion, AreWithin, Bounds, IfSome, Listing, MAX_ARENA, MAX_COMMITS, MAX_DEPTH, MAX_PATIENCE, MAX_RESTARTS, MAX_RETRIES, MAX_TEXT, Sections, Shared, State, USUAL_DEPTH, chosen, end_of, fault, has_begun, initial, innermost_line, lines, lines_say, ltb-true, parts_of, program_of, stray_of, thread_total, ◌>>=◌}
+use Rattle.std.specs.Option.{unwrap_or}
 use Rattle.script_fields.specs.declared.fault.AsmKind.TheVariants as faults
-use Rattle.script_fields.proofs.FirstLines.{chosen}
-use Rattle.script_program.specs.declared.limits.TheConstants.{MAX_TEXT}
-use Rattle.script_asm.specs.declared.state.State.{State}
-use Rattle.script_asm.specs.Assembly.{listing_of, named, complete, closed, end_of, lines_say, initial, program_of}
-use Rattle.script_asm.specs.Groups.{innermost_line}
-use Rattle.script_program.specs.Listing.{Listing, Shared, Bounds, arena_of, limits_of}
-use Rattle.script_asm.specs.Readings.{fault, ◌>>=◌}
-use Rattle.script_program.specs.Schedules.{stray_of}
-use Rattle.script_program.specs.Sections.{Sections, parts_of, thread_total}
-use Rattle.script_asm.specs.Standing.{has_begun}
+use Rattle.script_asm.specs.Assembly.{listing_of, named, complete, closed}
+use Rattle.script_program.specs.Listing.{arena_of, limits_of}
 use Rattle.script_print.proofs.Printable.{IsPrintable, IsItem}
 use Rattle.script_print.proofs.Assembly.Items.{none_stray}
 use Rattle.script_print.proofs.Assembly.Lines.{lines_sound}

@@ -1,15 +1,8 @@
 -- What is kept of the sections as lines are read.
 use Rattle.std.proofs.Common.{◌≡◌, ℕ, ◌+◌, ◌<◌, ◌≤◌, true, false, ltb, List, [], ◌∷◌, ◌++◌, length, Some, refl, sym, ap, subst, arith, length-append, inl, inr}
-use Rattle.std.specs.List.{AllByRecursion}
-use Rattle.std.proofs.lemmas.Bool.{cases_Bool, ltb-true}
-use Rattle.itm_types.specs.declared.limits.TheConstants.{MAX_ACTORS}
-use Rattle.script_asm.specs.declared.groups.Beginning.{Beginning}
+use Rattle.script_print.proofs.Common.{AllByRecursion, Beginning, Instruction, MAX_ACTORS, MAX_INSTRUCTIONS, Sections, begun, cases_Bool, counted_again, expanded, innermost, instruction_total, ltb-true, outer, parts_of, thread_total, threads_more, within_never}
 use Rattle.script_asm.specs.declared.groups.Group.TheVariants as groups
-use Rattle.script_program.specs.declared.instruction.Instruction.{Instruction}
-use Rattle.script_program.specs.declared.limits.TheConstants.{MAX_INSTRUCTIONS}
-use Rattle.script_asm.specs.Groups.{innermost, outer, within_never}
-use Rattle.script_program.specs.Sections.{Sections, parts_of, thread_total, instruction_total, begun, expanded, counted_again}
-use Rattle.script_program.proofs.AddedSections.{threads_more, code_more}
+use Rattle.script_program.proofs.AddedSections.{code_more}
 use Rattle.script_print.proofs.Printable.{IsSaid, IsPart, open_after, threads_in, instructions_in}
 use Rattle.script_print.proofs.Assembly.Levels.{kinds, Starts, IsOpen, one_more, repeat_ended, standing, standing_all, standing_outer, never_outer}
 use Rattle.script_print.proofs.Assembly.Lists.{all_append, all_again}

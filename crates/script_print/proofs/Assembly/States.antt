@@ -1,27 +1,8 @@
 -- What is kept of what the lines so far say.
 use Rattle.std.proofs.Common.{◌≡◌, ℕ, ◌+◌, ◌≤◌, ltb, leb, List, [], ◌∷◌, ◌++◌, length, Option, Some, None, Result, Ok, Err, refl, sym, arith, subst, inl, inr}
-use Rattle.std.specs.Option.{IfSome}
-use Rattle.std.specs.List.{AllByRecursion}
-use Rattle.std.proofs.lemmas.Bool.{ltb-false, leb-true}
-use Rattle.itm_types.specs.declared.limits.TheConstants.{MAX_ARENA, MAX_PATIENCE, MAX_RESTARTS, MAX_RETRIES, MAX_COMMITS, MAX_ACTORS, MAX_DEPTH}
-use Rattle.script_fields.specs.declared.fault.AsmKind.{AsmKind}
+use Rattle.script_print.proofs.Common.{AllByRecursion, AsmFault, AsmKind, Beginning, Bounds, IfSome, IsSize, Item, MAX_ACTORS, MAX_ARENA, MAX_COMMITS, MAX_DEPTH, MAX_ITEMS, MAX_PATIENCE, MAX_RESTARTS, MAX_RETRIES, Shared, State, begun, chosen, fault, init_of, initial, innermost_line, instruction_total, laid_in, leb-true, ltb-false, planned, schedule_of, scheduled, thread_total, threaded, ◌>>=◌}
 use Rattle.script_fields.specs.declared.fault.AsmKind.TheVariants as kinds
-use Rattle.script_fields.specs.declared.fault.AsmFault.{AsmFault}
-use Rattle.script_fields.specs.Shapes.{init_of}
-use Rattle.script_fields.proofs.FirstLines.{chosen}
-use Rattle.script_asm.specs.declared.groups.Beginning.{Beginning}
-use Rattle.script_program.specs.declared.limits.TheConstants.{MAX_ITEMS}
-use Rattle.script_program.specs.declared.schedule.Item.{Item}
-use Rattle.script_asm.specs.declared.state.State.{State}
-use Rattle.script_asm.specs.Groups.{innermost_line}
-use Rattle.script_asm.specs.Items.{schedule_of}
-use Rattle.script_program.specs.Listing.{Shared, Bounds}
-use Rattle.script_program.specs.Schedules.{planned}
-use Rattle.script_program.specs.Sections.{thread_total, instruction_total, begun}
-use Rattle.script_program.specs.Sizes.{IsSize}
-use Rattle.script_asm.specs.Readings.{fault, at_line, ◌>>=◌}
-use Rattle.script_asm.specs.Directives.{laid_in, scheduled, threaded}
-use Rattle.script_asm.specs.Assembly.{initial}
+use Rattle.script_asm.specs.Readings.{at_line}
 use Rattle.script_print.proofs.Printable.{IsInit}
 use Rattle.script_print.proofs.Assembly.Items.{IsPlanned, plans_more}
 use Rattle.script_print.proofs.Assembly.Lists.{all_append}

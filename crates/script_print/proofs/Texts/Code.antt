@@ -1,22 +1,10 @@
 -- The lines of a section's code say its code.
 use Rattle.std.proofs.Common.{◌≡◌, ℕ, ◌+◌, ◌<◌, ◌≤◌, Bool, true, false, ◌||◌, ltb, List, [], ◌∷◌, ◌++◌, length, map, Option, Some, None, Ok, refl, sym, ap, ◌∙◌, arith, append_assoc, length-append, subst, inl, inr}
-use Rattle.std.specs.List.{AllByRecursion}
-use Rattle.std.proofs.lemmas.Bool.{lt-leb, ltb-true}
-use Rattle.std.proofs.lemmas.List.{length-map, append-nil}
-use Rattle.script_fields.proofs.FirstLines.{chosen}
-use Rattle.script_asm.specs.declared.groups.Beginning.{Beginning}
-use Rattle.script_asm.specs.declared.groups.Group.{Group}
+use Rattle.script_print.proofs.Common.{AllByRecursion, Beginning, Group, Instruction, MAX_INSTRUCTIONS, MAX_LEVELS, State, append-nil, chosen, code_may_stand, counted, has_begun, instruction_fields, instruction_total, ltb-true, opened, run_code, stands_never, within_never, ◌>>=◌}
+use Rattle.std.proofs.lemmas.Bool.{lt-leb}
+use Rattle.std.proofs.lemmas.List.{length-map}
 use Rattle.script_asm.specs.declared.groups.Group.TheVariants as groups
-use Rattle.script_program.specs.declared.instruction.Instruction.{Instruction}
 use Rattle.script_program.specs.declared.instruction.Instruction.TheVariants as code
-use Rattle.script_program.specs.declared.limits.TheConstants.{MAX_INSTRUCTIONS, MAX_LEVELS}
-use Rattle.script_asm.specs.declared.state.State.{State}
-use Rattle.script_program.specs.Sections.{instruction_total}
-use Rattle.script_asm.specs.Readings.{◌>>=◌}
-use Rattle.script_asm.specs.Groups.{stands_never, within_never}
-use Rattle.script_asm.specs.Standing.{has_begun, code_may_stand}
-use Rattle.script_asm.specs.Blocks.{counted, opened, run_code}
-use Rattle.script_print.specs.Printing.{instruction_fields}
 use Rattle.script_print.proofs.Printable.{IsSaid, pushed, turned, group_ended, block_ended, open_after, then_after, open_after_all}
 use Rattle.script_print.proofs.Texts.Instructions.{mnemonic_of, stands, instruction_again}
 use Rattle.script_print.proofs.Texts.Lines.{all_said, said_next}

@@ -1,21 +1,10 @@
 -- The lines of sizes, limits and bytes say them.
-use Rattle.std.proofs.Common.{◌≡◌, ℕ, ◌+◌, ◌≤◌, true, false, List, [], ◌∷◌, ◌++◌, length, map, Option, Some, None, Ok, refl, sym, ap, ◌∙◌, arith, append_assoc, inl, inr}
-use Rattle.std.specs.Prelude.{codes, unwrap_or, ◌==◌, if◌then◌else◌}
-use Rattle.std.specs.List.{AllByRecursion}
-use Rattle.std.proofs.lemmas.Bool.{cases_eq, eq-eqb, le-leb, ne_eqb}
-use Rattle.std.proofs.lemmas.List.{append-nil}
-use Rattle.itm_types.specs.Limits.{AreWithin}
-use Rattle.itm_types.specs.declared.limits.TheConstants.{MAX_MEMORY, MAX_ARENA, MAX_PATIENCE, MAX_RESTARTS, MAX_RETRIES, MAX_COMMITS, MAX_DEPTH, USUAL_DEPTH}
+use Rattle.std.proofs.Common.{◌≡◌, ℕ, ◌+◌, ◌≤◌, true, false, List, [], ◌∷◌, ◌++◌, length, map, Option, Some, None, Ok, refl, sym, ap, ◌∙◌, arith, append_assoc, inl, inr, codes, ◌==◌, if◌then◌else◌}
+use Rattle.script_print.proofs.Common.{AllByRecursion, AreWithin, IsSize, Listing, MAX_ARENA, MAX_COMMITS, MAX_DEPTH, MAX_MEMORY, MAX_PATIENCE, MAX_RESTARTS, MAX_RETRIES, Placed, Shared, State, USUAL_DEPTH, append-nil, cases_eq, depth_lines, eq-eqb, has_begun, init_fields, initial, laid_in, limit_lines, may_stand, ne_eqb, number_fields, obeyed, restart_lines, said, word_of}
+use Rattle.std.specs.Prelude.{unwrap_or}
+use Rattle.std.proofs.lemmas.Bool.{le-leb}
 use Rattle.script_fields.proofs.SpelledShapes.{size_of_again, limit_of_again, init_of_again}
-use Rattle.script_asm.specs.declared.state.State.{State}
 use Rattle.script_asm.specs.declared.words.Word.TheVariants as words
-use Rattle.script_program.specs.Listing.{Listing, Shared, Placed}
-use Rattle.script_program.specs.Sizes.{IsSize}
-use Rattle.script_asm.specs.Standing.{has_begun, may_stand}
-use Rattle.script_asm.specs.Directives.{laid_in}
-use Rattle.script_asm.specs.Words.{word_of}
-use Rattle.script_asm.specs.Assembly.{obeyed, said, initial}
-use Rattle.script_print.specs.Printing.{number_fields, depth_lines, restart_lines, limit_lines, init_fields}
 use Rattle.script_print.proofs.Printable.{IsInit}
 use Rattle.script_print.proofs.Texts.Lines.{all_said, said_next}
 

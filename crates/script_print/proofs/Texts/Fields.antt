@@ -1,25 +1,10 @@
 -- What each line holds is read as its fields.
-use Rattle.std.proofs.Common.{ℕ, ◌<◌, ◌≤◌, ◌^◌, List, [], ◌∷◌, ◌++◌, map, refl, sym, subst, arith, lit<, inl, inr}
-use Rattle.std.specs.Prelude.{codes, decimal}
-use Rattle.std.specs.List.{AllByRecursion, flat_map}
-use Rattle.std.proofs.lemmas.Bool.{cases_eq, eq-eqb, ne_eqb}
-use Rattle.std.proofs.lemmas.List.Concat.{flat_map-cons}
-use Rattle.std.proofs.lemmas.List.Sums.{sum_by-cons}
-use Rattle.itm_types.specs.Limits.{AreWithin}
-use Rattle.itm_types.specs.declared.limits.TheConstants.{MAX_MEMORY, MAX_ARENA, MAX_ACTORS, MAX_DEPTH, MAX_RESTARTS, USUAL_DEPTH}
-use Rattle.itm_entries.specs.declared.entry.Control.{Control}
+use Rattle.std.proofs.Common.{ℕ, ◌<◌, ◌≤◌, ◌^◌, List, [], ◌∷◌, ◌++◌, map, refl, sym, subst, arith, lit<, inl, inr, codes, decimal}
+use Rattle.script_print.proofs.Common.{AllByRecursion, AreWithin, Control, Instruction, IsField, IsSize, Item, Listing, MAX_ACTORS, MAX_ARENA, MAX_DEPTH, MAX_MEMORY, MAX_RESTARTS, Part, Placed, USUAL_DEPTH, cases_eq, decimal_field, depth_lines, eq-eqb, flat_map, flat_map-cons, init_fields, instruction_fields, item_fields, limit_lines, name_of, ne_eqb, number_fields, part_lines, program_lines, restart_lines, sum_by-cons, thread_fields}
 use Rattle.itm_entries.specs.declared.entry.Control.TheVariants as controls
 use Rattle.itm_entries.specs.declared.entry.Entry.TheVariants as entries
-use Rattle.itm_entries.specs.Names.{name_of}
-use Rattle.script_fields.specs.Text.{IsField}
-use Rattle.script_fields.proofs.SpelledNumbers.{decimal_field}
 use Rattle.script_fields.proofs.SpelledOperands.{register_field, place_field, hex_field, literal_field, props_field, scope_field, mode_field, no_transaction_field}
-use Rattle.script_program.specs.declared.instruction.Instruction.{Instruction}
 use Rattle.script_program.specs.declared.instruction.Instruction.TheVariants as code
-use Rattle.script_program.specs.declared.schedule.Item.{Item}
-use Rattle.script_program.specs.Listing.{Listing, Placed, Part}
-use Rattle.script_program.specs.Sizes.{IsSize}
-use Rattle.script_print.specs.Printing.{instruction_fields, number_fields, depth_lines, restart_lines, limit_lines, init_fields, item_fields, thread_fields, part_lines, program_lines}
 use Rattle.script_print.proofs.Printable.{IsSaid, IsInit, IsItem, IsPart, IsPrintable, threads_in}
 use Rattle.script_print.proofs.Texts.Words.{operation_field, load_field, save_field, entry_field}
 use Rattle.script_print.proofs.Texts.Lines.{AreFields}

@@ -1,24 +1,13 @@
 -- The line of an instruction says the instruction.
-use Rattle.std.proofs.Common.{◌≡◌, ℕ, cond, List, [], ◌∷◌, Some, None, Result, Ok, refl, sym, ◌∙◌}
-use Rattle.std.specs.Prelude.{if◌then◌else◌}
+use Rattle.std.proofs.Common.{◌≡◌, ℕ, cond, List, [], ◌∷◌, Some, None, Result, Ok, refl, sym, ◌∙◌, if◌then◌else◌}
+use Rattle.script_print.proofs.Common.{AsmFault, Instruction, Mnemonic, State, code_may_stand, control_code, entry_code, fault, instruction_fields, instruction_of, obeyed, run_code, said, word_of}
 use Rattle.itm_entries.specs.declared.entry.Control.TheVariants as controls
 use Rattle.itm_entries.specs.declared.entry.Entry.TheVariants as entries
-use Rattle.script_fields.specs.declared.fault.AsmFault.{AsmFault}
 use Rattle.script_fields.specs.declared.fault.AsmKind.TheVariants as kinds
 use Rattle.script_fields.proofs.SpelledShapes.{none_again, one_register_again, two_registers_again, three_registers_again, register_number_again, register_literal_again, register_props_again, register_place_again, place_register_again, one_place_again, two_places_again, three_places_again, abort_scope_again, only_mode_again, commit_action_again, undo_action_again}
-use Rattle.script_program.specs.declared.instruction.Instruction.{Instruction}
 use Rattle.script_program.specs.declared.instruction.Instruction.TheVariants as code
-use Rattle.script_asm.specs.declared.state.State.{State}
-use Rattle.script_asm.specs.declared.words.Mnemonic.{Mnemonic}
 use Rattle.script_asm.specs.declared.words.Mnemonic.TheVariants as mnemonics
 use Rattle.script_asm.specs.declared.words.Word.TheVariants as words
-use Rattle.script_asm.specs.Words.{word_of}
-use Rattle.script_asm.specs.Code.{instruction_of, entry_code, control_code}
-use Rattle.script_asm.specs.Readings.{fault}
-use Rattle.script_asm.specs.Standing.{code_may_stand}
-use Rattle.script_asm.specs.Blocks.{run_code}
-use Rattle.script_asm.specs.Assembly.{obeyed, said}
-use Rattle.script_print.specs.Printing.{instruction_fields}
 use Rattle.script_print.proofs.Printable.{IsSaid}
 use Rattle.script_print.proofs.Texts.Words.{no_word, set_word, bytes_word, move_word, if_word, else_word, end_word, operation_word, load_word, save_word, entry_word}
 

@@ -1,22 +1,15 @@
 -- Items that are written are read as they were.
-use Rattle.std.proofs.Common.{◌≡◌, ℕ, ◌+◌, ◌-◌, ◌^◌, ◌<◌, ◌≤◌, Bool, true, false, cond, eqb, ltb, leb, not, List, [], ◌∷◌, ◌++◌, length, drop, get_or, Some, None, Ok, refl, sym, ap, ◌∙◌, arith, append_assoc, length-append, position}
-use Rattle.std.specs.Prelude.{decimal}
-use Rattle.std.specs.List.{list_all, position_or_len}
-use Rattle.std.proofs.lemmas.Bool.{lt-ltb, ne_eqb, and_parts, and_from, not-true, not_from_false, leb-true}
+use Rattle.std.proofs.Common.{◌≡◌, ℕ, ◌+◌, ◌-◌, ◌^◌, ◌<◌, ◌≤◌, Bool, true, false, cond, eqb, ltb, leb, not, List, [], ◌∷◌, ◌++◌, length, drop, get_or, Some, None, Ok, refl, sym, ap, ◌∙◌, arith, append_assoc, length-append, position, decimal}
+use Rattle.script_print.proofs.Common.{AllPass-from_list_all, IsField, Item, MAX_ACTORS, MAX_EVENTS, Out, Take, and_parts, decimal_field, events, is_field_byte, is_times, item_of, leb-true, list_all, lt-ltb, ne_eqb, not-true, schedule_of, thread_number}
+use Rattle.std.specs.List.{position_or_len}
+use Rattle.std.proofs.lemmas.Bool.{and_from, not_from_false}
 use Rattle.std.proofs.lemmas.List.{drop_at}
 use Rattle.std.proofs.lemmas.List.Elements.{All-get_or}
 use Rattle.std.proofs.lemmas.List.Folds.{list_all-append}
-use Rattle.std.proofs.lemmas.List.Sums.{AllPass-from_list_all}
 use Rattle.std.proofs.Math.Seq.{take-append_seam, get_or-append_seam}
-use Rattle.itm_types.specs.declared.limits.TheConstants.{MAX_ACTORS}
 use Rattle.script_fields.specs.Operands.{is_digit}
-use Rattle.script_fields.specs.Text.{IsField, is_field_byte}
 use Rattle.script_fields.proofs.FirstLines.{first_place}
-use Rattle.script_fields.proofs.SpelledNumbers.{number_again, within_again, digits_again, list_all-weaker, decimal_field}
-use Rattle.script_program.specs.declared.limits.TheConstants.{MAX_EVENTS}
-use Rattle.script_program.specs.declared.schedule.Item.{Item}
-use Rattle.script_program.specs.declared.schedule.Item.TheVariants.{Take, Out}
-use Rattle.script_asm.specs.Items.{item_of, schedule_of, events, is_times, thread_number}
+use Rattle.script_fields.proofs.SpelledNumbers.{number_again, within_again, digits_again, list_all-weaker}
 use Rattle.script_print.specs.Printing.{item_text}
 use Rattle.script_print.proofs.Printable.{IsItem}
 

@@ -1,16 +1,6 @@
 -- The lines of a schedule say its items.
 use Rattle.std.proofs.Common.{◌≡◌, ℕ, ◌+◌, ◌<◌, ◌≤◌, false, List, [], ◌∷◌, ◌++◌, length, map, Ok, refl, sym, ap, ◌∙◌, arith, append_assoc, length-append}
-use Rattle.std.specs.List.{AllByRecursion}
-use Rattle.std.proofs.lemmas.Bool.{le-ltb}
-use Rattle.std.proofs.lemmas.List.{append-nil}
-use Rattle.itm_types.specs.declared.limits.TheConstants.{MAX_ACTORS}
-use Rattle.script_program.specs.declared.limits.TheConstants.{MAX_ITEMS}
-use Rattle.script_program.specs.declared.schedule.Item.{Item}
-use Rattle.script_asm.specs.declared.state.State.{State}
-use Rattle.script_asm.specs.Standing.{has_begun}
-use Rattle.script_asm.specs.Words.{word_of}
-use Rattle.script_asm.specs.Assembly.{obeyed, said}
-use Rattle.script_print.specs.Printing.{item_fields}
+use Rattle.script_print.proofs.Common.{AllByRecursion, Item, MAX_ACTORS, MAX_ITEMS, State, append-nil, has_begun, item_fields, le-ltb, obeyed, said, word_of}
 use Rattle.script_print.proofs.Printable.{IsItem}
 use Rattle.script_print.proofs.Texts.Lines.{all_said, said_next}
 use Rattle.script_print.proofs.Texts.ItemTexts.{schedule_again}

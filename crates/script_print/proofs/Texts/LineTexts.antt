@@ -1,16 +1,12 @@
 -- Lines that are put one after the other.
-use Rattle.std.proofs.Common.{◌≡◌, ℕ, ◌+◌, ◌<◌, ◌≤◌, List, [], ◌∷◌, ◌++◌, length, map, take, get_or, Some, refl, sym, ap, ◌∙◌, arith, append_assoc, append-nil}
-use Rattle.std.specs.Prelude.{slice_get}
-use Rattle.std.specs.List.{flat_map}
+use Rattle.std.proofs.Common.{◌≡◌, ℕ, ◌+◌, ◌<◌, ◌≤◌, List, [], ◌∷◌, ◌++◌, length, map, take, get_or, Some, refl, sym, ap, ◌∙◌, arith, append_assoc, append-nil, slice_get}
+use Rattle.script_print.proofs.Common.{Listing, Part, field_text, flat_map, joined, lines_text, part_lines, printed, program_lines}
 use Rattle.std.proofs.lemmas.Grind.{common_steps}
 use Rattle.std.proofs.lemmas.List.{take_more}
 use Rattle.std.proofs.lemmas.List.Concat.{flat_map-append}
 use Rattle.std.proofs.lemmas.Option.{slice_get_within, get_or_from_slice_get}
-use Rattle.script_fields.specs.Text.{joined, ended}
-use Rattle.script_program.specs.Listing.{Listing, Part}
+use Rattle.script_fields.specs.Text.{ended}
 use Rattle.script_print.specs.declared.field.Field.{Field}
-use Rattle.script_print.specs.Fields.{field_text, lines_text}
-use Rattle.script_print.specs.Printing.{part_lines, program_lines, printed}
 
 -- ## One line
 

@@ -1,12 +1,8 @@
 -- Lines of fields say what their fields say, line by line.
 use Rattle.std.proofs.Common.{◌≡◌, ℕ, ◌+◌, List, [], ◌∷◌, ◌++◌, length, map, Result, Ok, Err, refl, ap, ◌∙◌, arith}
-use Rattle.std.specs.List.{AllByRecursion}
-use Rattle.script_fields.specs.declared.fault.AsmFault.{AsmFault}
-use Rattle.script_fields.specs.Text.{IsField, IsLine, joined}
+use Rattle.script_print.proofs.Common.{AllByRecursion, AsmFault, IsField, State, joined, lines_say, meaning, said, ◌>>=◌}
+use Rattle.script_fields.specs.Text.{IsLine}
 use Rattle.script_fields.proofs.SpelledFields.{fields_again, allowed_again, code_again, joined_line}
-use Rattle.script_asm.specs.declared.state.State.{State}
-use Rattle.script_asm.specs.Readings.{◌>>=◌}
-use Rattle.script_asm.specs.Assembly.{meaning, said, lines_say}
 
 -- each line is of fields
 abbrev pub AreFields : List (List (List ℕ)) → Type 0

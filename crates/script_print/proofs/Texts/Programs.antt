@@ -1,20 +1,7 @@
 -- The text of a program says the program.
 use Rattle.std.proofs.Common.{◌≡◌, ℕ, ◌+◌, ◌<◌, ◌≤◌, List, [], ◌∷◌, ◌++◌, length, map, None, Ok, refl, sym, ap, ◌∙◌, arith, unwrap_or}
-use Rattle.std.specs.List.{AllByRecursion, flat_map}
-use Rattle.std.specs.Str.Lines.{lines}
-use Rattle.std.proofs.lemmas.Bool.{lt-ltb, le-ltb}
-use Rattle.script_fields.specs.Text.{joined}
+use Rattle.script_print.proofs.Common.{AllByRecursion, Item, Listing, MAX_TEXT, Out, Part, Sections, State, Take, end_of, flat_map, init_fields, initial, item_fields, joined, le-ltb, limit_lines, lines, lines_say, lt-ltb, part_lines, parts_of, printed, program_lines, program_of, stray_of, thread_total, threads_more}
 use Rattle.script_fields.proofs.SpelledFields.{lines_again}
-use Rattle.script_program.specs.declared.limits.TheConstants.{MAX_TEXT}
-use Rattle.script_program.specs.declared.schedule.Item.{Item}
-use Rattle.script_program.specs.declared.schedule.Item.TheVariants.{Take, Out}
-use Rattle.script_asm.specs.declared.state.State.{State}
-use Rattle.script_program.specs.Listing.{Listing, Part}
-use Rattle.script_program.specs.Sections.{Sections, parts_of, thread_total}
-use Rattle.script_program.specs.Schedules.{stray_of}
-use Rattle.script_asm.specs.Assembly.{lines_say, initial, end_of, program_of}
-use Rattle.script_program.proofs.AddedSections.{threads_more}
-use Rattle.script_print.specs.Printing.{limit_lines, init_fields, item_fields, part_lines, program_lines, printed}
 use Rattle.script_print.proofs.Printable.{IsItem, IsPrintable, threads_in}
 use Rattle.script_print.proofs.Texts.Lines.{all_said, lines_said, lines_made, said_on}
 use Rattle.script_print.proofs.Texts.Fields.{program_field}

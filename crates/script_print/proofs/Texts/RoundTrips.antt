@@ -1,6 +1,5 @@
 -- The text of a program that some text says is a text that says it.
-use Rattle.script_program.specs.Listing.{Listing}
-use Rattle.script_print.specs.Printing.{printed, SaysAgain}
+use Rattle.script_print.proofs.Common.{Listing, SaysAgain, printed}
 use Rattle.script_print.proofs.Assembly.Programs.{assembled}
 use Rattle.script_print.proofs.Texts.Programs.{printed_again}
 

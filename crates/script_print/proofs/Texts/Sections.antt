@@ -1,21 +1,8 @@
 -- The lines of sections say the sections.
-use Rattle.std.proofs.Common.{◌≡◌, ℕ, ◌+◌, ◌<◌, ◌≤◌, true, List, [], ◌∷◌, ◌++◌, length, map, Ok, refl, sym, ap, ◌∙◌, arith, append_assoc, inl, inr}
-use Rattle.std.specs.Prelude.{codes, is_some}
-use Rattle.std.specs.List.{AllByRecursion, flat_map}
-use Rattle.std.proofs.lemmas.Bool.{lt-ltb, le-ltb, cases_eq, eq-eqb, ne_eqb}
-use Rattle.std.proofs.lemmas.List.Concat.{flat_map-cons}
-use Rattle.std.proofs.lemmas.List.Sums.{sum_by-cons, sum_by-append}
-use Rattle.itm_types.specs.declared.limits.TheConstants.{MAX_ACTORS}
+use Rattle.std.proofs.Common.{◌≡◌, ℕ, ◌+◌, ◌<◌, ◌≤◌, true, List, [], ◌∷◌, ◌++◌, length, map, Ok, refl, sym, ap, ◌∙◌, arith, append_assoc, inl, inr, codes, is_some}
+use Rattle.script_print.proofs.Common.{AllByRecursion, Beginning, MAX_ACTORS, MAX_INSTRUCTIONS, Part, Sections, State, begun, cases_eq, eq-eqb, flat_map, flat_map-cons, instruction_fields, instruction_total, le-ltb, lt-ltb, ne_eqb, number_fields, obeyed, part_lines, parts_of, said, sum_by-cons, thread_fields, thread_total, threaded, word_of}
+use Rattle.std.proofs.lemmas.List.Sums.{sum_by-append}
 use Rattle.script_fields.proofs.SpelledShapes.{count_of_none, count_of_again}
-use Rattle.script_asm.specs.declared.groups.Beginning.{Beginning}
-use Rattle.script_program.specs.declared.limits.TheConstants.{MAX_INSTRUCTIONS}
-use Rattle.script_asm.specs.declared.state.State.{State}
-use Rattle.script_program.specs.Listing.{Part}
-use Rattle.script_program.specs.Sections.{Sections, parts_of, thread_total, instruction_total, begun}
-use Rattle.script_asm.specs.Directives.{threaded}
-use Rattle.script_asm.specs.Words.{word_of}
-use Rattle.script_asm.specs.Assembly.{obeyed, said}
-use Rattle.script_print.specs.Printing.{instruction_fields, number_fields, thread_fields, part_lines}
 use Rattle.script_print.proofs.Printable.{IsPart, threads_in, instructions_in}
 use Rattle.script_print.proofs.Texts.Lines.{all_said, said_next, said_on}
 use Rattle.script_print.proofs.Texts.Code.{groups_of, with_code, code_said}

@@ -1,22 +1,16 @@
 -- The first field of an instruction's line is the word of its code.
-use Rattle.std.proofs.Common.{◌≡◌, true, [], Some, None, refl, arith, lit<}
-use Rattle.std.specs.Prelude.{codes}
-use Rattle.std.specs.List.{list_all}
+use Rattle.std.proofs.Common.{◌≡◌, true, [], Some, None, refl, arith, lit<, codes}
+use Rattle.script_print.proofs.Common.{AllPass-from_list_all, Entry, IsField, is_field_byte, list_all, name_of, word_of}
 use Rattle.std.proofs.lemmas.List.Elements.{All-contains}
-use Rattle.std.proofs.lemmas.List.Sums.{AllPass-from_list_all}
-use Rattle.itm_entries.specs.declared.entry.Entry.{Entry}
-use Rattle.itm_entries.specs.Names.{name_of}
 use Rattle.itm_entries.specs.Entries.{entries, entry_of}
 use Rattle.itm_entries.proofs.AllEntries.{listed}
 use Rattle.itm_entries.proofs.UniqueNames.{entry_of-exact}
-use Rattle.script_fields.specs.Text.{IsField, is_field_byte}
 use Rattle.script_program.specs.declared.instruction.Operation.{Operation}
 use Rattle.script_program.specs.declared.instruction.Operation.TheVariants as operations
 use Rattle.script_program.specs.declared.instruction.ArenaWidth.{ArenaWidth}
 use Rattle.script_program.specs.declared.instruction.ArenaWidth.TheVariants as widths
 use Rattle.script_asm.specs.declared.words.Word.TheVariants as words
 use Rattle.script_asm.specs.declared.words.Mnemonic.TheVariants as mnemonics
-use Rattle.script_asm.specs.Words.{word_of}
 use Rattle.script_print.specs.Printing.{operation_name, load_name, save_name}
 
 -- ## Words of the table

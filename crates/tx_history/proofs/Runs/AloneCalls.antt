@@ -1,19 +1,9 @@
 -- An opaque attempt is one alone on the memory of its position.
 use Rattle.std.proofs.Common.{◌≡◌, ℕ, zero, suc, Bool, true, false, true≢false, if◌then◌else◌, List, [], ◌∷◌, ◌++◌, map, Option, None, Some, refl, sym, ap, subst, ◌∙◌}
-use Rattle.itm_types.specs.declared.call.Call.{Call}
-use Rattle.itm_types.specs.declared.call.Reply.{Reply}
-use Rattle.itm_model.specs.State.{State}
-use Rattle.itm_model.specs.Machine.{after, is_open, opened, reply}
-use Rattle.itm_model.specs.Runs.{Breaks, gets_through, later, replies_through, state_through, turn}
-use Rattle.tx_attempts.specs.declared.attempt.Attempt.{Attempt}
-use Rattle.tx_attempts.specs.declared.attempt.CallRecord.{CallRecord}
-use Rattle.tx_attempts.specs.declared.attempt.Outcome.{Outcome}
-use Rattle.tx_attempts.specs.declared.attempt.Outcome.TheVariants.{Committed, ReadOnly, Cancelled, Conflict, Full, NoMemory, Unfinished}
-use Rattle.tx_attempts.specs.Attempts.{alone, pair_of}
-use Rattle.tx_history.specs.Legal.{EndsIn, IsAlone, may_begin, ran_alone}
-use Rattle.tx_player.specs.Rules.{Rules}
+use Rattle.tx_history.proofs.Common.{Attempt, Breaks, Call, CallRecord, Cancelled, Committed, Conflict, Full, IsAlone, NoMemory, Outcome, ReadOnly, Reply, Rules, State, Unfinished, after, alone, breaks_of, gets_through, is_open, later, may_begin, opened, pair_of, reply, state_through, turn}
+use Rattle.itm_model.specs.Runs.{replies_through}
+use Rattle.tx_history.specs.Legal.{EndsIn, ran_alone}
 use Rattle.tx_attempts.specs.Opacity.{EndsAs, IsOpaque, ran_of}
-use Rattle.tx_attempts.specs.Restarts.{breaks_of}
 use Rattle.tx_history.proofs.Runs.UnwrittenTransactions.{AllInside, IsFixed, Keeps, StandsOn, fixed_after, fixed_again, fixed_from, stands_after, stands_again, stands_opened}
 
 -- the calls of entries

@@ -1,15 +1,7 @@
 -- Every attempt of a player's run is one alone on the memory of its position.
 use Rattle.std.proofs.Common.{◌≡◌, ℕ, zero, suc, ◌≤◌, Bool, true, false, not, ◌&&◌, ◌||◌, is_none, if◌then◌else◌, All, List, [], ◌∷◌, Option, None, Some, refl, sym, ap, ◌∙◌}
-use Rattle.std.proofs.lemmas.List.Elements.{All-nil, All-cons}
-use Rattle.itm_types.specs.declared.call.Call.{Call}
-use Rattle.itm_types.specs.declared.call.Call.TheVariants.{Begin}
-use Rattle.itm_types.specs.declared.call.Refusal.{Refusal}
+use Rattle.tx_history.proofs.Common.{All-cons, All-nil, Attempt, Begin, Beginning, Between, Call, IsAlone, IsRunOf, IsTryAt, Refusal, Rules, after, after_try, begin_of, begin_within, may_begin, or_else, outside, refusal, reply, unless}
 use Rattle.itm_types.specs.declared.call.Refusal.TheVariants.{NoIrrevocable}
-use Rattle.itm_model.specs.Machine.{after, or_else, outside, refusal, reply, unless}
-use Rattle.tx_attempts.specs.declared.attempt.Attempt.{Attempt}
-use Rattle.tx_history.specs.Legal.{IsAlone, may_begin}
-use Rattle.tx_player.specs.Rules.{Rules}
-use Rattle.tx_attempts.specs.Opacity.{Beginning, Between, IsRunOf, IsTryAt, after_try, begin_of, begin_within}
 use Rattle.tx_history.proofs.Runs.AloneCalls.{is_alone}
 
 -- ## Begins

@@ -1,22 +1,8 @@
 -- What a player's run has in common: its attempts have the player's arena, are numbered from 1, and make the calls that the player makes.
-use Rattle.std.proofs.Common.{◌≡◌, ℕ, zero, suc, ◌≤◌, Bool, true, false, is_none, if◌then◌else◌, All, List, [], ◌∷◌, ◌++◌, length, map, Option, None, Some, refl, sym, ap, subst, ◌∙◌, arith}
-use Rattle.std.specs.Prelude.{IfSome}
-use Rattle.std.proofs.lemmas.List.Elements.{All-nil, All-cons}
-use Rattle.itm_types.specs.declared.call.Call.{Call}
-use Rattle.itm_types.specs.declared.call.Call.TheVariants.{Begin}
-use Rattle.itm_types.specs.declared.call.Reply.{Reply}
-use Rattle.itm_model.specs.State.{State}
-use Rattle.itm_model.specs.Machine.{after, is_open, opened, outside, refusal, reply}
-use Rattle.itm_model.specs.Runs.{Breaks, gets_through, later, turn}
-use Rattle.tx_attempts.specs.declared.attempt.Attempt.{Attempt}
-use Rattle.tx_attempts.specs.declared.attempt.CallRecord.{CallRecord}
-use Rattle.tx_attempts.specs.declared.attempt.Outcome.{Outcome}
-use Rattle.tx_attempts.specs.declared.attempt.Outcome.TheVariants.{Committed, ReadOnly, Cancelled, Conflict, Full, NoMemory, Unfinished}
-use Rattle.tx_attempts.specs.Attempts.{alone, pair_of}
-use Rattle.tx_attempts.specs.Opacity.{Beginning, Between, IsRunOf, IsTryAt, after_try, begin_code, begin_of, begin_within, follows}
+use Rattle.std.proofs.Common.{◌≡◌, ℕ, zero, suc, ◌≤◌, Bool, true, false, is_none, if◌then◌else◌, All, List, [], ◌∷◌, ◌++◌, length, map, Option, None, Some, refl, sym, ap, subst, ◌∙◌, arith, IfSome}
+use Rattle.tx_history.proofs.Common.{All-cons, All-nil, AreAgain, Attempt, Begin, Beginning, Between, Breaks, Call, CallRecord, Cancelled, Committed, Conflict, Full, IsRunOf, IsTryAt, NoMemory, Outcome, ReadOnly, Reply, Rules, State, Unfinished, after, after_try, alone, begin_of, begin_within, breaks_of, gets_through, is_open, later, opened, outside, pair_of, refusal, reply, turn}
+use Rattle.tx_attempts.specs.Opacity.{begin_code, follows}
 use Rattle.tx_history.proofs.PlainSizes.{IsSized, from_whole, sized_after, sized_alone, sized_undone}
-use Rattle.tx_attempts.specs.Restarts.{AreAgain, breaks_of}
-use Rattle.tx_player.specs.Rules.{Rules}
 use Rattle.tx_history.proofs.Runs.AloneCalls.{same_head, same_tail}
 
 -- the attempt has an arena of so many bytes, and each of its calls is one of these

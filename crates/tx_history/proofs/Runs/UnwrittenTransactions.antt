@@ -1,23 +1,10 @@
 -- A transaction on the plain machine that has written nothing stands on the memory that it was opened on, and was never irrevocable.
 use Rattle.std.proofs.Common.{◌≡◌, ℕ, suc, ◌+◌, ◌%◌, Bool, true, false, true≢false, ◌||◌, nat_lt, if◌then◌else◌, length, replicate, take, drop, List, [], ◌∷◌, ◌++◌, Option, None, Some, refl, sym, ap, subst, ◌∙◌, arith, map, append-nil, lt-ltb}
-use Rattle.std.specs.Option.{option_map}
-use Rattle.std.proofs.lemmas.List.{take-append-drop}
-use Rattle.itm_types.specs.Slices.{with_slice}
-use Rattle.itm_types.specs.KeptBytes.{also_kept, nothing}
-use Rattle.itm_types.specs.Access.{size_of}
+use Rattle.tx_history.proofs.Common.{Abort, Again, Begin, Block, Breaks, Call, Commit, CommitAction, Copy, CopyPair, Fill, In, InTransaction, Load, Log, LogBytes, Mode, Out, Props, Read, Refusal, Save, Saved, State, UndoAction, Within, Write, after, after_unless, again_at, also_kept, arena_set, back, back_from, breaks_of, closed_in, effect, entered, handed, irrevocable_from, is_open, later, logged_in, made_irrevocable, opened, option_map, outside, pushed, refusal, rolled_back, size_of, source_bytes, state_through, take-append-drop, target_written, undone, undone_from, with_action, with_slice, written}
+use Rattle.itm_types.specs.KeptBytes.{nothing}
 use Rattle.itm_types.specs.declared.call.Action.{Action}
 use Rattle.itm_types.specs.declared.call.ActionKind.TheVariants as kinds
-use Rattle.itm_types.specs.declared.call.Call.{Call}
-use Rattle.itm_types.specs.declared.call.Call.TheVariants.{Begin, Commit, Abort, Mode, InTransaction, Read, Write, Log, LogBytes, Copy, Fill, CommitAction, UndoAction, Load, Save}
-use Rattle.itm_types.specs.declared.copy.CopyPair.{CopyPair}
-use Rattle.itm_types.specs.declared.copy.CopyPair.TheVariants.{Out, In, Within}
-use Rattle.itm_types.specs.declared.call.Props.{Props}
-use Rattle.itm_types.specs.declared.call.Refusal.{Refusal}
-use Rattle.itm_model.specs.State.{Block, Saved, State}
-use Rattle.itm_model.specs.Machine.{after, after_unless, back, back_from, closed, closed_in, closed_irrevocable, effect, entered, handed, irrevocable_from, is_open, logged, logged_in, made_irrevocable, opened, outside, pushed, refusal, rolled_back, source_bytes, target_written, undone, undone_from, with_action, with_undo, written}
-use Rattle.itm_model.specs.Runs.{Breaks, later, state_through}
-use Rattle.tx_attempts.specs.declared.attempt.Again.{Again}
-use Rattle.tx_attempts.specs.Restarts.{again_at, arena_set, breaks_of}
+use Rattle.itm_model.specs.Machine.{closed, closed_irrevocable, logged, with_undo}
 
 -- what a block goes back to, if nothing was written before it, is this memory
 abbrev pub GoesBackTo : List ℕ → Option Saved → Type 0

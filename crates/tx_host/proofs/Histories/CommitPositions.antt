@@ -1,15 +1,9 @@
 -- The attempts that committed, by their positions, and the bytes that they left.
 use Rattle.std.proofs.Common.{inl, inr, ◌≡◌, ℕ, zero, suc, ◌+◌, ◌<◌, ◌≤◌, ◌==◌, ◌&&◌, Bool, true, false, cond, if◌then◌else◌, List, [], ◌∷◌, ◌++◌, length, sym, refl, ap, ◌∙◌, subst, arith, eqb-true}
+use Rattle.tx_host.proofs.Common.{AreFew, AreLeft, Attempt, View, alone, both_true, bytes_at, bytes_of, count_at, count_committed, is_committed, memory_after, one_where, positions, times}
 use Rattle.std.proofs.lemmas.Bool.{cases_Bool}
 use Rattle.std.proofs.lemmas.List.Sums.{sum_by-cons}
-use Rattle.itm_types.specs.Memory.{bytes_of}
-use Rattle.shared_words.specs.declared.view.View.{View}
-use Rattle.shared_words.specs.Views.{times}
-use Rattle.tx_attempts.specs.declared.attempt.Attempt.{Attempt}
-use Rattle.tx_attempts.specs.Attempts.{alone, committed_at, is_at, is_committed, memory_after, memory_left}
-use Rattle.tx_attempts.specs.Counts.{count_at, count_committed, one_where}
-use Rattle.tx_runs.proofs.ClockCalls.{both_true}
-use Rattle.worker_rules.specs.Positions.{AreFew, AreLeft, bytes_at, positions}
+use Rattle.tx_attempts.specs.Attempts.{committed_at, is_at, memory_left}
 
 -- ## How many
 

@@ -1,29 +1,11 @@
 -- What makes the history of a run legal.
 use Rattle.std.proofs.Common.{◌≡◌, ℕ, ◌+◌, ◌≤◌, Bool, false, ◌&&◌, All, List, [], ◌∷◌, ◌++◌, length, Option, None, Some, refl, ap, ◌∙◌, arith}
-use Rattle.std.proofs.lemmas.List.Elements.{All-append, All-nil}
-use Rattle.shared_words.specs.declared.view.View.{View}
-use Rattle.shared_words.specs.InGlobal.{Words}
-use Rattle.script_program.specs.Listing.{Listing}
-use Rattle.script_vm.specs.Threads.{Thread, thread_rules}
-use Rattle.tx_attempts.specs.declared.attempt.Attempt.{Attempt}
+use Rattle.tx_host.proofs.Common.{All-append, All-nil, AreHeld, Attempt, Between, Conflict, Did, Done, Gating, IsPlaced, IsRunOf, Listing, Numbered, ReadOnly, Thread, View, Words, after_try, alone, attempts_in, begins_at, bytes_at, code_of, count_holding, depth_of, first_of, memory_at, one_where, thread_rules}
 use Rattle.tx_attempts.specs.declared.attempt.Outcome.{Outcome}
-use Rattle.tx_attempts.specs.declared.attempt.Outcome.TheVariants.{Committed, ReadOnly, Cancelled, Conflict, Full, NoMemory, Unfinished}
-use Rattle.tx_attempts.specs.Attempts.{alone}
-use Rattle.tx_attempts.specs.Counts.{one_where}
-use Rattle.tx_attempts.specs.Opacity.{Between, IsRunOf, after_try}
+use Rattle.tx_attempts.specs.declared.attempt.Outcome.TheVariants.{Committed, Cancelled, Full, NoMemory, Unfinished}
 use Rattle.tx_history.specs.declared.history.History.{History}
-use Rattle.tx_history.specs.Versions.{depth_of}
-use Rattle.tx_history.specs.Legal.{count_holding, is_holding, is_unfinished, memory_at}
-use Rattle.tx_runs.specs.Runs.{begins_at}
-use Rattle.tx_history.proofs.Runs.AloneRuns.{IsPlaced, of_run}
-use Rattle.worker_rules.specs.Gates.{Gating}
-use Rattle.worker_rules.specs.Positions.{bytes_at}
-use Rattle.worker_rules.specs.Works.{AreHeld}
-use Rattle.tx_host.specs.declared.join.Done.{Done}
-use Rattle.tx_host.specs.Courses.{first_of}
-use Rattle.tx_host.specs.Joins.{Did, attempts_in}
-use Rattle.tx_host.specs.Numbers.{Numbered}
-use Rattle.tx_host.specs.Starts.{code_of}
+use Rattle.tx_history.specs.Legal.{is_holding, is_unfinished}
+use Rattle.tx_history.proofs.Runs.AloneRuns.{of_run}
 use Rattle.tx_host.proofs.Passes.Courses.{at_most}
 
 holding_both : (h : History) (xs ys : List Attempt) → count_holding h (xs ++ ys) ≡ count_holding h xs + count_holding h ys

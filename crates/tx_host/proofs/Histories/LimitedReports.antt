@@ -1,27 +1,14 @@
 -- The history of a run on threads is within the limits of a run, where its program is.
-use Rattle.std.proofs.Common.{ℕ, zero, suc, ◌+◌, ◌<◌, ◌≤◌, Bool, All, List, [], ◌∷◌, length, Some, sym, subst, arith}
+use Rattle.std.proofs.Common.{ℕ, zero, suc, ◌+◌, ◌<◌, ◌≤◌, All, List, [], ◌∷◌, length, Some, sym, subst, arith}
+use Rattle.tx_host.proofs.Common.{All-append, All-nil, AreOwn, Attempt, Gating, HasArenaWidth, IsCourse, IsLimitedListing, IsMemorySize, Listing, MAX_ARENA, MayRestart, Ran, Report, RestartAtMost, Version, by_number, first_of, memory_at, of_thread, thread_limit, thread_rules, threads_of, version_of}
 use Rattle.std.proofs.lemmas.List.{length-replicate}
-use Rattle.std.proofs.lemmas.List.Elements.{All-nil, All-cons, All-head, All-tail, All-append}
-use Rattle.itm_types.specs.declared.limits.TheConstants.{MAX_ARENA, MAX_RETRIES}
-use Rattle.script_program.specs.Listing.{Listing, threads_of}
-use Rattle.script_vm.specs.Threads.{thread_rules}
-use Rattle.tx_attempts.specs.declared.attempt.Attempt.{Attempt}
-use Rattle.tx_attempts.specs.Attempts.{of_thread}
-use Rattle.tx_history.specs.declared.history.Version.{Version}
-use Rattle.tx_runs.specs.Restarts.{RestartAtMost}
+use Rattle.std.proofs.lemmas.List.Elements.{All-cons, All-head, All-tail}
+use Rattle.itm_types.specs.declared.limits.TheConstants.{MAX_RETRIES}
 use Rattle.tx_runs.proofs.RunLists.{there_is}
-use Rattle.tx_history.specs.Bounds.{AreLimited, HasArenaWidth, IsLimited, IsMemorySize}
-use Rattle.tx_history.specs.Legal.{memory_at}
+use Rattle.tx_history.specs.Bounds.{AreLimited, IsLimited}
 use Rattle.tx_history.proofs.ToldRestarts.{may_tell}
-use Rattle.tx_history.specs.Versions.{MayRestart, thread_limit}
-use Rattle.worker_rules.specs.Gates.{Gating}
-use Rattle.worker_rules.specs.Positions.{AreOwn}
 use Rattle.tx_history.proofs.Runs.LimitedRuns.{IsOwn, own_run}
-use Rattle.tx_host.specs.declared.report.Report.{Report}
-use Rattle.tx_host.specs.Courses.{IsCourse, first_of}
-use Rattle.tx_host.specs.Limits.{IsLimitedListing}
-use Rattle.tx_host.specs.Reports.{Ran, by_number, commits_of}
-use Rattle.tx_host.specs.Versions.{version_of}
+use Rattle.tx_host.specs.Reports.{commits_of}
 use Rattle.tx_host.proofs.Histories.ScriptWidths.{script_widths}
 
 -- what is so of each thread's attempts is so of all

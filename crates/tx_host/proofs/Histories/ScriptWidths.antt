@@ -1,14 +1,13 @@
 -- A script's thread accesses its arena in 1, 2, 4 or 8 bytes.
 use Rattle.std.proofs.Common.{◌≡◌, inl, inr, ℕ, List, [], ◌∷◌, Some, None, refl, subst}
-use Rattle.itm_types.specs.declared.call.Call.{Call}
+use Rattle.tx_host.proofs.Common.{Call, HasArenaWidth, Instruction, Thread}
 use Rattle.script_program.specs.declared.instruction.ArenaWidth.{ArenaWidth}
 use Rattle.script_program.specs.declared.instruction.ArenaWidth.TheVariants.{One, Two, Four, Eight}
-use Rattle.script_program.specs.declared.instruction.Instruction.{Instruction}
 use Rattle.script_program.specs.declared.instruction.Instruction.TheVariants as code
 use Rattle.script_program.specs.Instructions.{width_of}
 use Rattle.script_vm.specs.Registers.{datum}
-use Rattle.script_vm.specs.Threads.{Thread, call_at, depth_of, next_call}
-use Rattle.tx_history.specs.Bounds.{HasArenaWidth, IsArenaWidth}
+use Rattle.script_vm.specs.Threads.{call_at, depth_of, next_call}
+use Rattle.tx_history.specs.Bounds.{IsArenaWidth}
 
 none_is_no_call : (c : Call) → None ≡ Some c → ⊥
 none_is_no_call c e = cc

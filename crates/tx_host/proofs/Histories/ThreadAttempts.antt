@@ -1,25 +1,9 @@
 -- The attempts of all workers, by thread.
 use Rattle.std.proofs.Common.{◌≡◌, ◌≢◌, ℕ, zero, suc, ◌+◌, ◌<◌, ◌≤◌, Bool, if◌then◌else◌, List, [], ◌∷◌, ◌++◌, length, Some, slice_get, sym, refl, ap, ◌∙◌, subst, arith, append-nil, eq-eqb}
-use Rattle.std.proofs.lemmas.Bool.{ne_eqb}
-use Rattle.shared_words.specs.declared.view.View.{View}
-use Rattle.shared_words.specs.InGlobal.{Words}
-use Rattle.script_program.specs.Listing.{Listing}
-use Rattle.script_vm.specs.Threads.{thread_rules}
-use Rattle.tx_attempts.specs.declared.attempt.Attempt.{Attempt}
-use Rattle.tx_attempts.specs.Attempts.{of_thread}
-use Rattle.tx_attempts.specs.Outrun.{AreDisturbed, AreOutrun}
+use Rattle.tx_host.proofs.Common.{AreDisturbed, AreFew, AreLeft, AreOutrun, AreOwn, Attempt, Did, Done, End, Gating, Listing, Numbered, View, Words, attempts_in, by_number, bytes_at, code_of, ends_in, first_of, ne_eqb, of_thread, thread_rules}
 use Rattle.tx_attempts.proofs.DisturbedRuns.{disturbed_both, disturbed_none, disturbed_run}
 use Rattle.tx_attempts.proofs.LaterClocks.{outrun_both, outrun_none}
-use Rattle.tx_runs.specs.declared.ending.End.{End}
 use Rattle.tx_runs.proofs.RunLists.{of_thread_more}
-use Rattle.worker_rules.specs.Gates.{Gating}
-use Rattle.worker_rules.specs.Positions.{AreFew, AreLeft, AreOwn, bytes_at}
-use Rattle.tx_host.specs.declared.join.Done.{Done}
-use Rattle.tx_host.specs.Courses.{first_of}
-use Rattle.tx_host.specs.Joins.{Did, attempts_in, ends_in}
-use Rattle.tx_host.specs.Numbers.{Numbered}
-use Rattle.tx_host.specs.Reports.{by_number}
-use Rattle.tx_host.specs.Starts.{code_of}
 use Rattle.tx_host.proofs.Histories.CommitPositions.{few_both, left_both}
 
 -- ## A worker's own

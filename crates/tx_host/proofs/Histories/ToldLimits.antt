@@ -1,21 +1,12 @@
 -- Programs are within the limits of the version that tells of them.
 use Rattle.std.proofs.Common.{◌≡◌, ◌≢◌, ◌⊎◌, ◌==◌, inl, inr, nat_le, ◌&&◌, ◌∙◌, ℕ, suc, ◌<◌, ◌≤◌, Bool, true, false, if◌then◌else◌, length, refl, sym, true≢false, ap, subst, arith, eqb-true, leb-true}
-use Rattle.std.proofs.lemmas.Bool.{lt-leb, ne_eqb}
-use Rattle.itm_types.specs.Limits.{AreWithin}
+use Rattle.tx_host.proofs.Common.{AreWithin, IsLimitedListing, IsMemorySize, IsSize, Listing, MAX_ACTORS, MAX_ARENA, MayRestart, One, Three, Two, Version, both_true, depth_from, depth_of, ne_eqb, opening_of, thread_limit, threads_of, version_of}
+use Rattle.std.proofs.lemmas.Bool.{lt-leb}
 use Rattle.itm_types.specs.declared.limits.Depth.{Depth}
-use Rattle.itm_types.specs.declared.limits.TheConstants.{MAX_ACTORS, MAX_ARENA, MAX_DEPTH, USUAL_DEPTH}
-use Rattle.script_program.specs.Listing.{Listing, opening_of, threads_of}
-use Rattle.script_program.specs.Sizes.{IsSize}
-use Rattle.tx_history.specs.Bounds.{IsMemorySize}
+use Rattle.itm_types.specs.declared.limits.TheConstants.{MAX_DEPTH, USUAL_DEPTH}
 use Rattle.tx_history.specs.declared.history.TheConstants.{EARLY_ACTORS, EARLY_MEMORY}
-use Rattle.tx_history.specs.declared.history.Version.{Version}
-use Rattle.tx_history.specs.declared.history.Version.TheVariants.{One, Two, Three}
-use Rattle.tx_history.specs.Depths.{depth_from}
-use Rattle.tx_history.specs.Versions.{MayRestart, depth_of, thread_limit}
 use Rattle.tx_history.proofs.SameDepths.{near_is, same_depth}
-use Rattle.tx_runs.proofs.ClockCalls.{both_true}
-use Rattle.tx_host.specs.Limits.{IsLimitedListing}
-use Rattle.tx_host.specs.Versions.{is_early, version_of}
+use Rattle.tx_host.specs.Versions.{is_early}
 
 none_of : (x y z : Bool) → (x ≡ false) ⊎ (y ≡ false) ⊎ (z ≡ false) → (x && y && z) ≡ false
 none_of false y z e = refl

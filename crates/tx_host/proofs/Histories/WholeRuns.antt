@@ -1,36 +1,12 @@
 -- A whole run, once all passes are joined and the words are closed.
-use Rattle.std.proofs.Common.{inl, inr, ◌≡◌, ℕ, zero, suc, Bool, ◌*◌, ◌<◌, ◌≤◌, nat_lt, All, List, [], ◌++◌, get_or, length, Some, slice_get, sym, ap, subst, ◌∙◌, arith, lt-ltb, le-ltb}
+use Rattle.std.proofs.Common.{inl, inr, ◌≡◌, ℕ, zero, suc, ◌*◌, ◌<◌, ◌≤◌, nat_lt, All, List, [], ◌++◌, get_or, length, Some, slice_get, sym, ap, subst, ◌∙◌, arith, lt-ltb, le-ltb}
+use Rattle.tx_host.proofs.Common.{AreDisturbed, AreFew, AreLeft, AreOutrun, Attempt, Done, End, Gathers, Gating, Instruction, IsCourse, IsPlaced, Listing, Ran, Report, View, WasRun, Words, attempts_in, by_number, bytes_at, bytes_of, code_of, count_at, count_committed, count_holding, depth_of, ends_in, memory_after, memory_at, of_thread, one_where, opening_of, outrun_later, positions, thread_rules, threads_of, times, unwritten as opening, version_of}
 use Rattle.std.proofs.lemmas.Bool.{cases_lt}
 use Rattle.std.proofs.Math.Seq.{take-length}
 use Rattle.std.proofs.lemmas.Option.{get_or_from_slice_get}
-use Rattle.itm_types.specs.Memory.{bytes_of}
-use Rattle.shared_words.specs.declared.view.View.{View}
-use Rattle.shared_words.specs.InGlobal.{Words}
 use Rattle.shared_words.specs.Commits.{after}
 use Rattle.shared_words.specs.Good.{EndsWith}
-use Rattle.shared_words.specs.Views.{opening, times}
-use Rattle.script_program.specs.declared.instruction.Instruction.{Instruction}
-use Rattle.script_program.specs.Listing.{Listing, opening_of, threads_of}
-use Rattle.script_vm.specs.Threads.{thread_rules}
-use Rattle.tx_attempts.specs.declared.attempt.Attempt.{Attempt}
-use Rattle.tx_attempts.specs.Attempts.{memory_after, of_thread}
-use Rattle.tx_attempts.specs.Counts.{count_at, count_committed, one_where}
-use Rattle.tx_attempts.specs.Outrun.{AreDisturbed, AreOutrun}
-use Rattle.tx_attempts.proofs.LaterClocks.{outrun_later}
-use Rattle.tx_history.specs.Versions.{depth_of}
-use Rattle.tx_history.specs.Legal.{IsAlone, IsLegal, count_holding, memory_at}
-use Rattle.tx_history.proofs.Runs.AloneRuns.{IsPlaced}
-use Rattle.tx_runs.specs.declared.ending.End.{End}
-use Rattle.worker_rules.specs.Gates.{Gating}
-use Rattle.worker_rules.specs.Positions.{AreFew, AreLeft, bytes_at, positions}
-use Rattle.tx_host.specs.declared.join.Done.{Done}
-use Rattle.tx_host.specs.declared.report.Report.{Report}
-use Rattle.tx_host.specs.Courses.{IsCourse}
-use Rattle.tx_host.specs.Joins.{Gathers, attempts_in, ends_in}
-use Rattle.tx_host.specs.Reports.{Ran, by_number}
-use Rattle.tx_host.specs.Rows.{WasRun}
-use Rattle.tx_host.specs.Starts.{code_of}
-use Rattle.tx_host.specs.Versions.{version_of}
+use Rattle.tx_history.specs.Legal.{IsAlone, IsLegal}
 use Rattle.tx_host.proofs.Histories.CommitPositions.{below_limit, committed_count, count_times, memory_is}
 use Rattle.tx_host.proofs.Passes.Courses.{course_still}
 use Rattle.tx_host.proofs.Histories.LegalRuns.{all_free, all_placed}

@@ -1,16 +1,9 @@
 -- A thread's course over more commits.
 use Rattle.std.proofs.Common.{◌≡◌, inl, inr, ⊎_elim, ℕ, ◌≤◌, List, [], ◌∷◌, ◌++◌, Option, None, Some, subst, ◌∙◌}
-use Rattle.script_program.specs.declared.instruction.Instruction.{Instruction}
-use Rattle.script_program.specs.Listing.{Listing}
-use Rattle.script_vm.specs.Threads.{Thread, thread_rules}
-use Rattle.tx_attempts.specs.declared.attempt.Attempt.{Attempt}
-use Rattle.tx_attempts.specs.Opacity.{Beginning, Between, IsRunOf, IsTryAt, after_try}
-use Rattle.tx_player.specs.Rules.{Rules}
-use Rattle.tx_runs.specs.declared.ending.End.{End}
-use Rattle.tx_runs.specs.declared.ending.End.TheVariants.{Finished, GaveUp, NoMemory}
-use Rattle.tx_runs.specs.Runs.{begins_at}
+use Rattle.tx_host.proofs.Common.{Attempt, Between, End, EndsBy, Finished, GaveUp, Instruction, IsCourse, IsRunOf, Listing, NoMemory, Rules, Thread, after_try, begins_at, first_of, thread_rules}
+use Rattle.tx_attempts.specs.Opacity.{Beginning, IsTryAt}
 use Rattle.tx_runs.proofs.RunLists.{run_still}
-use Rattle.tx_host.specs.Courses.{EndsBy, IsCourse, IsOver, IsOverWithin, first_of}
+use Rattle.tx_host.specs.Courses.{IsOver, IsOverWithin}
 
 -- the first attempts of a run are one
 pub run_before : {P : Type 0} (rules : Rules P) (deepest n : ℕ) (memory : ℕ → List ℕ) (b : Option (Between P)) (xs ys : List Attempt) → IsRunOf rules deepest n memory b (xs ++ ys) → IsRunOf rules deepest n memory b xs

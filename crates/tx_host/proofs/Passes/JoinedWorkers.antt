@@ -1,22 +1,7 @@
 -- One more worker's pass is joined.
-use Rattle.std.proofs.Common.{◌≡◌, ℕ, ◌+◌, ◌<◌, ◌≤◌, false, List, [], ◌∷◌, ◌++◌, length, if◌then◌else◌, Bool, true, Vec, Global, sym, refl, ap, ◌∙◌, subst, append_assoc, append-nil, arith}
-use Rattle.shared_words.specs.declared.view.View.{View}
-use Rattle.shared_words.specs.InGlobal.{Words}
-use Rattle.shared_words.specs.Steps.{Joined}
-use Rattle.script_program.specs.Listing.{Listing, threads_of}
-use Rattle.script_vm.specs.Threads.{thread_rules}
-use Rattle.tx_attempts.specs.declared.attempt.Attempt.{Attempt}
-use Rattle.tx_attempts.specs.Attempts.{is_committed}
-use Rattle.worker_rules.specs.Worked.{Worked}
-use Rattle.worker_rules.specs.Gates.{Gating}
-use Rattle.worker_rules.specs.Positions.{positions}
-use Rattle.worker_rules.specs.Works.{Works, is_held, view_left}
-use Rattle.tx_host.specs.declared.join.Done.{Done}
-use Rattle.tx_host.specs.declared.start.WorksOn.{WorksOn}
-use Rattle.tx_host.specs.declared.start.Ready.{Ready}
-use Rattle.tx_host.specs.Joins.{Did, Gathers, Joins, attempts_in}
-use Rattle.tx_host.specs.Rows.{HeldAmong}
-use Rattle.tx_host.specs.Starts.{IsFor, Prepares}
+use Rattle.std.proofs.Common.{◌≡◌, ℕ, ◌+◌, ◌≤◌, false, List, [], ◌∷◌, ◌++◌, length, if◌then◌else◌, Bool, true, Vec, Global, sym, refl, ap, ◌∙◌, subst, append_assoc, append-nil, arith}
+use Rattle.tx_host.proofs.Common.{Attempt, Did, Done, Gathers, Gating, HeldAmong, IsFor, Joined, Joins, Listing, Ready, View, Words, Worked, Works, WorksOn, attempts_in, is_committed, is_held, positions, thread_rules, threads_of, view_left}
+use Rattle.tx_host.specs.Starts.{Prepares}
 use Rattle.tx_host.proofs.Numbers.{numbered_map, numbered_push}
 use Rattle.tx_host.proofs.Passes.WorkerViews.{did_its, did_later, its_base, its_mine, its_share, joined_both}
 

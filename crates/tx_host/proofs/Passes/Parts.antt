@@ -1,20 +1,10 @@
 -- A pass that gives a part to each worker.
 use Rattle.std.proofs.Common.{◌≡◌, ℕ, ◌+◌, ◌-◌, ◌<◌, false, List, replicate, sym, ap, subst, ◌∙◌, arith}
-use Rattle.itm_types.specs.declared.limits.Limits.{Limits}
-use Rattle.itm_types.specs.declared.limits.TheConstants.{MAX_ACTORS}
-use Rattle.norec_core.specs.Core.{Core, in_transaction, opening}
-use Rattle.shared_words.specs.declared.view.View.{View}
-use Rattle.shared_words.specs.InGlobal.{Words}
-use Rattle.shared_words.specs.declared.pass.Pass.{Pass}
-use Rattle.shared_words.specs.Passes.{Owns, view_of}
-use Rattle.shared_words.specs.Views.{cut_left, cut_right, opening as unwritten}
-use Rattle.script_program.specs.Listing.{Listing}
-use Rattle.script_vm.specs.Threads.{Thread, depth_of, opening as script_opening}
-use Rattle.call_rules.specs.Standing.{Standing}
-use Rattle.call_rules.specs.Ties.{Stands}
-use Rattle.tx_host.specs.declared.start.Ready.{Ready}
-use Rattle.tx_host.specs.declared.start.WorksOn.{WorksOn}
-use Rattle.tx_host.specs.Starts.{IsFor, IsFresh, IsReady, IsUnused, code_of}
+use Rattle.tx_host.proofs.Common.{Core, IsFor, IsFresh, IsReady, Limits, Listing, MAX_ACTORS, Owns, Pass, Ready, Standing, Stands, Thread, View, Words, WorksOn, code_of, opening as script_opening, unwritten, view_of}
+use Rattle.norec_core.specs.Core.{in_transaction, opening}
+use Rattle.shared_words.specs.Views.{cut_left, cut_right}
+use Rattle.script_vm.specs.Threads.{depth_of}
+use Rattle.tx_host.specs.Starts.{IsUnused}
 
 module _ (s v w : View) (same : v ≡ record s { share = v.share }) (cut : w ≡ cut_left v) where
   pub cut_same : w ≡ record s { share = w.share }

@@ -1,36 +1,15 @@
 -- What a worker did, as a later view has it.
-use Rattle.std.proofs.Common.{◌≡◌, ⊎_elim, inl, inr, ℕ, ◌+◌, ◌/◌, ◌≤◌, Bool, false, true≢false, List, [], ◌∷◌, ◌++◌, length, arith, Option, None, Some, Result, Ok, Err, IfOk, refl, sym, ap, subst, ◌∙◌, append_assoc, append-nil}
-use Rattle.norec_core.specs.Core.{Core}
-use Rattle.shared_words.specs.declared.pass.Pass.{Pass}
-use Rattle.shared_words.specs.declared.view.View.{View}
-use Rattle.shared_words.specs.InGlobal.{Words}
-use Rattle.shared_words.specs.Passes.{commits_known, view_of}
+use Rattle.std.proofs.Common.{◌≡◌, ⊎_elim, inl, inr, ℕ, ◌+◌, Bool, false, true≢false, List, [], ◌∷◌, ◌++◌, length, arith, Option, None, Some, Result, Ok, Err, IfOk, refl, sym, ap, subst, ◌∙◌, append_assoc, append-nil}
+use Rattle.tx_host.proofs.Common.{AreFew, AreHeld, AreLeft, AreOwn, Attempt, Between, Core, Did, Done, End, EndsBy, Finished, Gating, GaveUp, IsCourse, IsFor, IsFresh, IsRunOf, Joined, Listing, NoMemory, Pass, RestartAtMost, Standing, Thread, View, WasRun, Words, Worked, Works, WorksOn, after_try, alone, begins_at, bytes_at, code_of, first_of, is_held, outrun_later, positions, thread_rules, view_left, view_of}
+use Rattle.shared_words.specs.Passes.{commits_known}
 use Rattle.shared_words.specs.Commits.{StartsWith}
-use Rattle.shared_words.specs.Steps.{Joined}
 use Rattle.shared_words.proofs.ListPlaces.{starts_self}
-use Rattle.script_program.specs.Listing.{Listing}
-use Rattle.script_vm.specs.Threads.{Thread, thread_rules}
-use Rattle.call_rules.specs.Standing.{Standing}
-use Rattle.tx_attempts.specs.declared.attempt.Attempt.{Attempt}
-use Rattle.tx_attempts.specs.Attempts.{alone}
-use Rattle.tx_attempts.specs.Opacity.{Between, IsRunOf, after_try}
-use Rattle.tx_attempts.proofs.LaterClocks.{outrun_later}
-use Rattle.tx_runs.specs.declared.ending.End.{End}
-use Rattle.tx_runs.specs.declared.ending.End.TheVariants.{Finished, GaveUp, NoMemory}
-use Rattle.tx_runs.specs.Restarts.{RestartAtMost}
-use Rattle.tx_runs.specs.Runs.{begins_at}
-use Rattle.worker_rules.specs.Worked.{Worked}
-use Rattle.worker_rules.specs.Gates.{Gating, call_number}
-use Rattle.worker_rules.specs.Positions.{AreFew, AreLeft, AreOwn, AreSince, bytes_at, positions}
+use Rattle.worker_rules.specs.Gates.{call_number}
+use Rattle.worker_rules.specs.Positions.{AreSince}
 use Rattle.worker_rules.specs.Progress.{Course}
-use Rattle.worker_rules.specs.Works.{AreHeld, EndsAs, IsBack, IsFinished, IsRow, Works, course_of, is_held, view_left}
+use Rattle.worker_rules.specs.Works.{EndsAs, IsBack, IsFinished, IsRow, course_of}
 use Rattle.worker_rules.proofs.Runs.LaterCommits.{IsLater, all_left_in, bytes_in, seen_in}
-use Rattle.tx_host.specs.declared.join.Done.{Done}
-use Rattle.tx_host.specs.declared.start.WorksOn.{WorksOn}
-use Rattle.tx_host.specs.Courses.{EndsBy, IsCourse, first_of}
-use Rattle.tx_host.specs.Joins.{Did}
-use Rattle.tx_host.specs.Rows.{HasJoined, LiesIn, MadeCalls, WasRun}
-use Rattle.tx_host.specs.Starts.{IsFor, IsFresh, code_of}
+use Rattle.tx_host.specs.Rows.{HasJoined, LiesIn, MadeCalls}
 use Rattle.tx_host.proofs.Rows.{ends_where}
 use Rattle.tx_host.proofs.Passes.Courses.{at_most, course_still}
 

@@ -1,46 +1,16 @@
 -- An outermost begin.
 use Rattle.std.proofs.Common.{inl, inr, ◌≡◌, ℕ, ◌/◌, ◌<◌, ◌≤◌, ◌&&◌, not, Bool, true, false, true≢false, if◌then◌else◌, List, [], ◌++◌, length, Option, None, Some, refl, sym, ap, subst, ◌∙◌, arith}
-use Rattle.itm_types.specs.Memory.{Agrees, IsMemory, bytes_of}
-use Rattle.itm_types.specs.declared.call.Call.{Call}
-use Rattle.itm_types.specs.declared.call.Call.TheVariants.{Begin}
-use Rattle.itm_types.specs.declared.call.Props.{Props}
-use Rattle.itm_types.specs.declared.call.Refusal.{Refusal}
-use Rattle.itm_types.specs.declared.call.Reply.{Reply as Replied}
-use Rattle.itm_types.specs.declared.call.Reply.TheVariants.{Code}
-use Rattle.user_actions.specs.Actions.{Actions, no_actions}
-use Rattle.itm_model.specs.Machine.{after, after_unless, irrevocable_from, is_open, opened, outside, pushed, refusal, reply, reply_unless, undone}
-use Rattle.itm_model.specs.State.{State}
-use Rattle.norec_core.proofs.Engines.Blocks.{none_inside}
-use Rattle.norec_core.proofs.Replies.AnsweredEngines.{rests}
-use Rattle.norec_core.proofs.Replies.ReplyCases.{Ways, reply_cases}
-use Rattle.norec_core.specs.Core.{Core, in_transaction, is_inside}
-use Rattle.norec_core.specs.Effects.{recoded}
-use Rattle.norec_core.specs.Stands.{stands_for}
-use Rattle.norec_core.specs.declared.answer.Answer.{Answer}
-use Rattle.norec_core.specs.declared.answer.Answer.TheVariants.{Busy, Committed, Conflict, Full, Reply}
-use Rattle.shared_words.specs.declared.view.View.{View}
-use Rattle.shared_words.specs.Passes.{commits_known}
+use Rattle.worker_rules.proofs.Common.{Account, Actions, Agrees, Answer, Attempt, Begin, Busy, Call, Code, Committed, Conflict, Core, Course, Full, HasRun, IsMemory, IsNested, IsOpenTry, IsRunning, IsTry, IsUndone, Meets, Obeys, Props, Refusal, Replied, Reply, Rules, Served, Stands, Start, State, View, Ways, Went, after, after_unless, before_led, begin_code, begins_at, begun, bytes_of, came_over, commits_known, depth_after, in_transaction, irrevocable_from, is_inside, is_open, left_over, memory_in, memory_of, mine_after, none_inside, opened, plays, positions, pushed, recoded, refusal, reply, reply_cases, reply_unless, rests, stands_for, undone, within}
+use Rattle.user_actions.specs.Actions.{no_actions}
+use Rattle.itm_model.specs.Machine.{outside}
 use Rattle.shared_words.specs.Views.{held}
-use Rattle.call_rules.specs.Served.{IsUndone, Meets, Served, Start, Went, came_over, left_over, memory_in, mine_after}
-use Rattle.call_rules.specs.Ties.{Stands, memory_of}
-use Rattle.tx_attempts.specs.Opacity.{begin_code}
-use Rattle.tx_attempts.specs.declared.attempt.Attempt.{Attempt}
-use Rattle.tx_player.specs.Depth.{depth_after}
-use Rattle.tx_player.specs.Rules.{Obeys, Rules}
-use Rattle.tx_runs.proofs.Begins.{before_led, before_same, begin_here}
-use Rattle.tx_runs.proofs.Players.{plays}
-use Rattle.tx_runs.specs.Nesting.{IsNested}
+use Rattle.tx_runs.proofs.Begins.{before_same, begin_here}
 use Rattle.tx_runs.proofs.TriesBegin.{IsToOpen, begins_held, begins_on}
-use Rattle.tx_runs.specs.OpenTries.{IsOpenTry}
-use Rattle.tx_runs.specs.Runs.{begins_at}
 use Rattle.worker_rules.proofs.Machines.LastEvents.{IsLast}
 use Rattle.worker_rules.proofs.Runs.LaterCommits.{run_later}
 use Rattle.worker_rules.proofs.Begins.OutsideCalls.{answered_outside, left_outside, nested_outside, opened_one, revocable_outside, shut_state, stands_outside}
 use Rattle.worker_rules.proofs.Machines.PlainStates.{stands_actions, stands_arena, stands_blocks, stands_open}
-use Rattle.worker_rules.specs.Positions.{positions}
-use Rattle.worker_rules.specs.Progress.{Course, HasRun, IsOutside, IsRunning, IsTry}
-use Rattle.tx_runs.specs.Tallies.{begun, within}
-use Rattle.worker_rules.specs.Accounts.{Account}
+use Rattle.worker_rules.specs.Progress.{IsOutside}
 use Rattle.worker_rules.proofs.Shapes.{tried}
 
 -- ## The plain machine

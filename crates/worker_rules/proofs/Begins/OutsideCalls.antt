@@ -1,38 +1,18 @@
 -- A call outside a transaction that leaves none open.
 use Rattle.std.proofs.Common.{◌≡◌, ℕ, ◌&&◌, not, nat_lt, Bool, true, false, true≢false, if◌then◌else◌, List, [], length, is_some, Option, None, Some, refl, sym, ap, subst, ◌∙◌, arith}
+use Rattle.worker_rules.proofs.Common.{Account, Actions, Answer, Begin, Busy, Call, Code, Commit, CommitAction, Committed, Conflict, Copy, Core, Course, Full, IsNested, IsRunning, MayStarve, MayStarveIn, Mode, Obeys, Props, Refusal, Replied, Reply, Restarted, Rules, Served, Stands, Start, State, UndoAction, View, WantsClock, after, after_unless, came_over, depth_after, in_transaction, irrevocable_from, irrevocable_room, is_begin, is_open, left_over, none_inside, opened, plays, pushed, recoded, refusal, reply, reply_unless, stands_for, state_in, stays_revocable}
 use Rattle.itm_types.specs.Access.{size_of}
-use Rattle.itm_types.specs.Calls.{is_begin}
-use Rattle.itm_types.specs.declared.call.Call.{Call}
-use Rattle.itm_types.specs.declared.call.Call.TheVariants.{Begin, Commit, Copy, Fill, Load, Log, LogBytes, Mode, Read, Save, Write, CommitAction, UndoAction}
-use Rattle.itm_types.specs.declared.call.Props.{Props}
-use Rattle.itm_types.specs.declared.call.Refusal.{Refusal}
-use Rattle.itm_types.specs.declared.call.Reply.{Reply as Replied}
-use Rattle.itm_types.specs.declared.call.Reply.TheVariants.{Code, Refused}
-use Rattle.user_actions.specs.Actions.{Actions}
-use Rattle.nest_frames.specs.Nest.{stays_revocable}
-use Rattle.itm_model.specs.Machine.{after, after_unless, in_arena, irrevocable_from, is_open, opened, outside, pushed, refusal, reply, reply_unless}
-use Rattle.itm_model.specs.State.{State}
-use Rattle.norec_core.proofs.Engines.Blocks.{none_inside}
+use Rattle.itm_types.specs.declared.call.Call.TheVariants.{Fill, Load, Log, LogBytes, Read, Save, Write}
+use Rattle.itm_types.specs.declared.call.Reply.TheVariants.{Refused}
+use Rattle.itm_model.specs.Machine.{in_arena, outside}
 use Rattle.norec_core.specs.Copies.{copy_refusal}
-use Rattle.norec_core.specs.Core.{Core, irrevocable_room, in_transaction}
-use Rattle.norec_core.specs.Proceeds.{IsBegin, MayStarve, MayStarveIn, MayStarveOpen, WantsClock}
-use Rattle.norec_core.specs.Effects.{recoded}
-use Rattle.norec_core.specs.Stands.{stands_for, state_in, state_over}
-use Rattle.norec_core.specs.declared.answer.Answer.{Answer}
-use Rattle.norec_core.specs.declared.answer.Answer.TheVariants.{Busy, Committed, Conflict, Full, Reply, Restarted}
-use Rattle.shared_words.specs.declared.view.View.{View}
-use Rattle.call_rules.specs.Served.{GoesBegin, Served, Start, came_over, left_over}
-use Rattle.call_rules.specs.Ties.{Stands}
+use Rattle.norec_core.specs.Proceeds.{IsBegin, MayStarveOpen}
+use Rattle.norec_core.specs.Stands.{state_over}
+use Rattle.call_rules.specs.Served.{GoesBegin}
 use Rattle.tx_attempts.specs.Opacity.{stays_outside}
-use Rattle.tx_player.specs.Depth.{depth_after}
-use Rattle.tx_player.specs.Rules.{Obeys, Rules}
 use Rattle.tx_runs.proofs.Begins.{before_past, opened_arena, same_arena}
-use Rattle.tx_runs.proofs.Players.{plays}
-use Rattle.tx_runs.specs.Nesting.{IsNested}
 use Rattle.worker_rules.proofs.Runs.LaterCommits.{run_later}
 use Rattle.worker_rules.proofs.Machines.PlainStates.{stands_arena, stands_open, stands_shut}
-use Rattle.worker_rules.specs.Progress.{Course, IsRunning}
-use Rattle.worker_rules.specs.Accounts.{Account}
 
 -- ## The plain machine
 

@@ -1,22 +1,6 @@
 -- What a player's next call makes of its run, wherever it stands.
 use Rattle.std.proofs.Common.{◌≡◌, ℕ, Bool, true, false, None, Some, refl, sym, subst, unwrap_or}
-use Rattle.itm_types.specs.declared.call.Call.{Call}
-use Rattle.norec_core.specs.declared.answer.Answer.{Answer}
-use Rattle.norec_core.specs.Core.{Core, in_transaction, irrevocable_room}
-use Rattle.shared_words.specs.declared.view.View.{View}
-use Rattle.shared_words.specs.InGlobal.{Words}
-use Rattle.shared_words.specs.Passes.{Owns, cells_of, commits_known, view_of}
-use Rattle.call_rules.specs.CallResults.{IsAnswered}
-use Rattle.call_rules.specs.Served.{Served, Start}
-use Rattle.call_rules.specs.Standing.{Standing, start_of}
-use Rattle.call_rules.specs.Ties.{Stands}
-use Rattle.tx_player.specs.Rules.{Obeys, Rules}
-use Rattle.tx_runs.specs.declared.ending.End.{End}
-use Rattle.tx_runs.specs.Tallies.{Stage, outside, within, Taken, begins_again, begun, stage_at, took_in, stand_of}
-use Rattle.worker_rules.specs.Accounts.{Account, account_after, tally_in}
-use Rattle.worker_rules.specs.Calls.{asked}
-use Rattle.tx_runs.specs.Ranks.{Falls, restarts_left}
-use Rattle.worker_rules.specs.Progress.{Course, IsRunning}
+use Rattle.worker_rules.proofs.Common.{Account, Answer, Call, Core, Course, End, Falls, IsAnswered, IsRunning, Obeys, Owns, Rules, Served, Stage, Standing, Stands, Start, Taken, View, Words, account_after, asked, begins_again, begun, cells_of, commits_known, in_transaction, irrevocable_room, outside, restarts_left, stage_at, stand_of, start_of, tally_in, took_in, view_of, within}
 use Rattle.worker_rules.proofs.Machines.LastEvents.{IsLast, last_event}
 use Rattle.worker_rules.proofs.Laws.CallsOutside.{outside_falls, outside_on, outside_over}
 use Rattle.worker_rules.proofs.Laws.CallsWithin.{IsOverSo, inside_falls, inside_on, inside_over}

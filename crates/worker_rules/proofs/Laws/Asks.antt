@@ -1,27 +1,9 @@
 -- A worker between its player's next call and what comes of it.
 use Rattle.std.proofs.Common.{◌≡◌, ℕ, Bool, true, false, List, refl, sym, ap, subst, ◌∙◌, inl, inr, Some, unwrap_or}
-use Rattle.itm_types.specs.Calls.{is_begin}
-use Rattle.itm_types.specs.declared.call.Call.{Call}
-use Rattle.itm_types.specs.declared.call.Call.TheVariants.{Begin}
-use Rattle.itm_types.specs.declared.call.Props.{Props}
-use Rattle.norec_core.specs.declared.answer.Answer.{Answer}
-use Rattle.norec_core.specs.Core.{in_transaction, irrevocable_room}
-use Rattle.norec_core.specs.Proceeds.{MayStarve}
-use Rattle.shared_words.specs.InGlobal.{Words}
-use Rattle.shared_words.specs.Passes.{commits_known, view_of}
-use Rattle.call_rules.specs.CallResults.{IsAnswered, IsThreadStarved}
-use Rattle.call_rules.specs.Standing.{Standing, start_of}
-use Rattle.tx_attempts.specs.declared.attempt.Attempt.{Attempt}
-use Rattle.tx_player.specs.Rules.{Rules}
-use Rattle.tx_runs.specs.declared.player_run.Current.{Current}
-use Rattle.tx_runs.specs.declared.player_run.Current.TheVariants.{Outside, Begins, Within}
+use Rattle.worker_rules.proofs.Common.{Answer, Attempt, Begin, Begins, Bounds, Call, Course, Current, HasPlaces, IsAnswered, IsAsked, IsHungry, IsReadyFor, IsRoomier, IsUnprepared, IsWorking, LacksFor, MayStarve, Outside, Props, Rules, Savepoint, Standing, Tally, Within, Words, Worker, again_for, begins, begins_again, begun, commits_known, in_transaction, irrevocable_room, is_begin, outside, stage_at, stage_of, start_of, view_of, within}
+use Rattle.call_rules.specs.CallResults.{IsThreadStarved}
 use Rattle.tx_runs.specs.declared.player_run.PlayerRun.{PlayerRun}
-use Rattle.tx_runs.specs.declared.savepoint.Savepoint.{Savepoint}
-use Rattle.tx_runs.specs.PlayerRuns.{stage_of}
-use Rattle.tx_runs.specs.Tallies.{outside, begins, within, Tally, begins_again, begun, stage_at}
-use Rattle.worker_rules.specs.Worker.{Worker}
-use Rattle.worker_rules.specs.Progress.{Course}
-use Rattle.worker_rules.specs.Workers.{Bounds, HasPlaces, IsAsked, IsHungry, IsPrepared, IsReadyFor, IsRoomier, IsUnprepared, IsWorking, LacksFor, again_for}
+use Rattle.worker_rules.specs.Workers.{IsPrepared}
 use Rattle.worker_rules.proofs.Begins.OutsideCalls.{never_starves}
 use Rattle.worker_rules.proofs.Laws.Rooms.{again_prepared, never_begins}
 

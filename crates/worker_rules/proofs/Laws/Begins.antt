@@ -1,25 +1,11 @@
 -- A worker before its first call.
 use Rattle.std.proofs.Common.{◌≡◌, ℕ, ◌^◌, ◌<◌, ◌≤◌, Bool, false, true≢false, List, [], ◌∷◌, length, Vec, Global, refl, sym, ap, subst, ◌∙◌, arith, append-nil}
+use Rattle.worker_rules.proofs.Common.{AreFew, AreOver, Attempt, Frame, HasRun, IsNested, IsRunning, IsWorking, Outside, Owns, Rules, Standing, Stands, Words, Worker, account_of, bounds_of, commits_known, in_transaction, is_inside, nested_outside, view_of, went_self}
 use Rattle.itm_types.specs.declared.limits.TheConstants.{MAX_RETRIES}
-use Rattle.nest_frames.specs.Nest.{Frame}
-use Rattle.norec_core.specs.Core.{in_transaction, is_inside}
-use Rattle.shared_words.specs.InGlobal.{Words}
-use Rattle.shared_words.specs.Passes.{Owns, commits_known, view_of}
-use Rattle.call_rules.specs.Standing.{Standing}
-use Rattle.call_rules.specs.Ties.{Stands}
-use Rattle.tx_attempts.specs.declared.attempt.Attempt.{Attempt}
 use Rattle.tx_attempts.proofs.LaterClocks.{outrun_none}
-use Rattle.tx_player.specs.Rules.{Rules}
-use Rattle.tx_runs.specs.declared.player_run.Current.TheVariants.{Outside}
-use Rattle.tx_runs.specs.Nesting.{IsNested, whole}
-use Rattle.tx_runs.proofs.Players.{nested_outside}
-use Rattle.worker_rules.specs.Worker.{Worker}
-use Rattle.worker_rules.specs.Accounts.{account_of, first_account}
-use Rattle.worker_rules.specs.Positions.{AreFew, AreOver}
-use Rattle.worker_rules.specs.Progress.{HasRun, IsRunning}
-use Rattle.worker_rules.specs.Workers.{IsWorking, bounds_of}
+use Rattle.tx_runs.specs.Nesting.{whole}
+use Rattle.worker_rules.specs.Accounts.{first_account}
 use Rattle.worker_rules.specs.Works.{course_of}
-use Rattle.call_rules.proofs.LaterViews.{went_self}
 
 none_open : (bs : List Frame) → is_inside bs ≡ false → length bs ≡ 0
 none_open [] e = refl

@@ -1,29 +1,8 @@
 -- A call that comes outside a transaction, by its answer.
 use Rattle.std.proofs.Common.{◌≡◌, ◌⊎◌, ℕ, ◌+◌, ◌<◌, ◌≤◌, Bool, true, false, true≢false, nat_lt, if◌then◌else◌, List, [], ◌++◌, length, None, Some, refl, sym, ap, subst, ◌∙◌, arith, inl, inr, append-nil, ltb-false}
-use Rattle.std.proofs.lemmas.Bool.{ltb-true}
-use Rattle.itm_types.specs.Calls.{is_begin}
-use Rattle.itm_types.specs.declared.call.Call.{Call}
-use Rattle.itm_types.specs.declared.call.Call.TheVariants.{Begin}
-use Rattle.itm_types.specs.declared.call.Props.{Props}
-use Rattle.itm_types.specs.declared.call.Reply.{Reply as Replied}
-use Rattle.norec_core.specs.declared.answer.Answer.{Answer}
-use Rattle.norec_core.specs.declared.answer.Answer.TheVariants.{Busy, Committed, Conflict, Full, Reply, Restarted}
-use Rattle.norec_core.specs.Core.{Core, in_transaction}
-use Rattle.shared_words.specs.declared.view.View.{View}
-use Rattle.shared_words.specs.Passes.{commits_known}
-use Rattle.call_rules.specs.Served.{Served, Start, mine_after}
-use Rattle.call_rules.specs.Ties.{Stands}
-use Rattle.tx_attempts.specs.declared.attempt.Attempt.{Attempt}
-use Rattle.tx_player.specs.Rules.{Obeys, Rules}
-use Rattle.tx_runs.specs.declared.ending.End.{End}
+use Rattle.worker_rules.proofs.Common.{Account, Answer, Attempt, Begin, Busy, Call, Committed, Conflict, Core, Course, End, Falls, Full, HasRun, IsNested, IsRunning, Obeys, Props, Replied, Reply, Restarted, Rules, Served, Stage, Stands, Start, Taken, Tally, View, account_after, begins, begins_again, begun, commits_known, falls_reply, falls_try, in_transaction, is_begin, ltb-true, mine_after, outside, positions, restarts_left, stage_at, stand_of, tally_in, took_in}
 use Rattle.tx_runs.specs.declared.ending.End.TheVariants as ends
-use Rattle.tx_runs.specs.Nesting.{IsNested}
-use Rattle.tx_runs.specs.Tallies.{Stage, outside, begins, Taken, Tally, begins_again, begun, entered, stage_at, took_in, stand_of}
-use Rattle.worker_rules.specs.Accounts.{Account, account_after, tally_in}
-use Rattle.tx_runs.specs.Ranks.{Falls, restarts_left}
-use Rattle.tx_runs.proofs.Ranks.{falls_reply, falls_try}
-use Rattle.worker_rules.specs.Positions.{positions}
-use Rattle.worker_rules.specs.Progress.{Course, HasRun, IsRunning}
+use Rattle.tx_runs.specs.Tallies.{entered}
 use Rattle.worker_rules.proofs.Begins.OutermostBegins.{begin_over, busy, full_begin, lost, no_commit, opens}
 use Rattle.worker_rules.proofs.Begins.OutsideCalls.{only_replies, passes, stays_shut}
 use Rattle.worker_rules.proofs.Laws.CallsWithin.{IsOverSo, gave_up, played}

@@ -1,30 +1,10 @@
 -- A call of the open transaction, by its answer.
 use Rattle.std.proofs.Common.{◌≡◌, ◌⊎◌, ℕ, ◌+◌, ◌≤◌, Bool, true, false, true≢false, nat_lt, if◌then◌else◌, List, [], ◌++◌, length, Option, None, Some, refl, sym, subst, ◌∙◌, arith, inl, inr, append-nil, ltb-false}
-use Rattle.std.proofs.lemmas.Bool.{ltb-true}
-use Rattle.itm_types.specs.declared.call.Call.{Call}
-use Rattle.itm_types.specs.declared.call.Reply.{Reply as Replied}
-use Rattle.itm_types.specs.declared.call.Reply.TheVariants.{Done}
-use Rattle.norec_core.specs.declared.answer.Answer.{Answer}
-use Rattle.norec_core.specs.declared.answer.Answer.TheVariants.{Busy, Committed, Conflict, Full, Reply, Restarted}
-use Rattle.norec_core.specs.Core.{Core, in_transaction}
-use Rattle.shared_words.specs.declared.view.View.{View}
-use Rattle.call_rules.specs.Served.{Served, Start}
-use Rattle.call_rules.specs.Ties.{Stands}
-use Rattle.tx_attempts.specs.declared.attempt.Attempt.{Attempt}
+use Rattle.worker_rules.proofs.Common.{Account, Answer, Attempt, Busy, Call, Committed, Conflict, Core, Course, Done, End, Falls, Full, HasRun, IsDeep, IsNested, IsRunning, Obeys, Replied, Reply, Restarted, Rules, Savepoint, Served, Stands, Start, Taken, Tally, View, account_after, falls_reply, falls_try, in_transaction, ltb-true, outside, over_as, plays, positions, restarts_left, savepoints_after, stand_of, tally_in, took_in, went_on, with_call, within}
 use Rattle.tx_attempts.specs.declared.attempt.Outcome.TheVariants as outcomes
-use Rattle.tx_player.specs.Rules.{Obeys, Rules}
-use Rattle.tx_runs.proofs.Players.{Played, plays}
-use Rattle.tx_runs.specs.declared.ending.End.{End}
+use Rattle.tx_runs.proofs.Players.{Played}
 use Rattle.tx_runs.specs.declared.ending.End.TheVariants as ends
-use Rattle.tx_runs.specs.Nesting.{IsDeep, IsNested}
-use Rattle.tx_runs.specs.declared.savepoint.Savepoint.{Savepoint}
-use Rattle.tx_runs.specs.Savepoints.{savepoints_after}
-use Rattle.tx_runs.specs.Tallies.{outside, within, Taken, Tally, over_as, took_in, went_on, with_call, stand_of}
-use Rattle.worker_rules.specs.Accounts.{Account, account_after, tally_in}
-use Rattle.tx_runs.specs.Ranks.{Falls, restarts_left}
-use Rattle.tx_runs.proofs.Ranks.{falls_back, falls_close, falls_reply, falls_try}
-use Rattle.worker_rules.specs.Positions.{positions}
-use Rattle.worker_rules.specs.Progress.{Course, HasRun, IsRunning}
+use Rattle.tx_runs.proofs.Ranks.{falls_back, falls_close}
 use Rattle.worker_rules.proofs.Machines.LastEvents.{IsLast}
 use Rattle.worker_rules.proofs.Machines.RestartsLeft.{left_back, left_still, left_within}
 use Rattle.worker_rules.proofs.Shapes.{with_room}

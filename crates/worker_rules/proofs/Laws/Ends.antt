@@ -1,29 +1,13 @@
 -- What a run leaves, however it ended.
 use Rattle.std.proofs.Common.{true≢false, ◌≡◌, ◌⊎◌, ℕ, zero, suc, ◌+◌, ◌/◌, ◌≤◌, Bool, true, false, if◌then◌else◌, List, [], ◌∷◌, ◌++◌, length, None, Some, Result, Ok, Err, refl, sym, ap, subst, ◌∙◌, inl, inr, append-nil}
-use Rattle.itm_types.specs.declared.call.Call.TheVariants.{Commit}
-use Rattle.norec_core.specs.Core.{Core, in_transaction, rolled_back}
-use Rattle.norec_core.specs.Phases.{Idle}
-use Rattle.norec_core.proofs.Engines.HeldStores.{shut_revocable}
+use Rattle.worker_rules.proofs.Common.{Account, AreFew, AreOver, Attempt, Commit, Core, Course, End, HasRun, Idle, IsMade, IsRunning, Obeys, Owns, Rules, Stage, Standing, Stands, StopsAs, View, Words, alone, before_led, begins, bytes_at, in_transaction, outside, over_as, positions, rolled_back, shut_revocable, stand_of, start_of, view_of, within}
 use Rattle.shared_words.specs.declared.pass.Pass.{Pass}
-use Rattle.shared_words.specs.declared.view.View.{View}
-use Rattle.shared_words.specs.InGlobal.{Words}
-use Rattle.shared_words.specs.Passes.{Owns, view_of}
-use Rattle.call_rules.specs.Standing.{Standing, start_of}
-use Rattle.call_rules.specs.Ties.{Stands}
-use Rattle.tx_attempts.specs.declared.attempt.Attempt.{Attempt}
 use Rattle.tx_attempts.specs.declared.attempt.Outcome.TheVariants as outcomes
-use Rattle.tx_attempts.specs.Attempts.{alone}
 use Rattle.tx_attempts.specs.Opacity.{begin_within}
-use Rattle.tx_player.specs.Rules.{Obeys, Rules}
-use Rattle.tx_runs.proofs.Begins.{before_led}
-use Rattle.tx_runs.specs.declared.ending.End.{End}
 use Rattle.tx_runs.specs.declared.ending.End.TheVariants as ends
-use Rattle.tx_runs.specs.Tallies.{Stage, outside, begins, within, over_as, stand_of}
 use Rattle.worker_rules.specs.Worked.{Worked}
-use Rattle.worker_rules.specs.Accounts.{Account, told}
-use Rattle.worker_rules.specs.Calls.{IsMade, IsStarved, StopsAs}
-use Rattle.worker_rules.specs.Positions.{AreFew, AreOver, bytes_at, positions}
-use Rattle.worker_rules.specs.Progress.{Course, HasRun, IsRunning}
+use Rattle.worker_rules.specs.Accounts.{told}
+use Rattle.worker_rules.specs.Calls.{IsStarved}
 use Rattle.worker_rules.specs.Works.{AreHeld, EndsAs, EndsOpen, IsBack, IsFinished, Parts, is_held, view_left}
 use Rattle.worker_rules.proofs.Laws.Answers.{both}
 use Rattle.worker_rules.proofs.Laws.Rows.{few_more}

@@ -1,30 +1,13 @@
 -- Places in the open attempt for what comes of a call.
 use Rattle.std.proofs.Common.{◌≡◌, inl, inr, ℕ, suc, ◌+◌, ◌<◌, ◌≤◌, Bool, true, false, nat_lt, if◌then◌else◌, List, [], ◌∷◌, length, is_some, refl, ap, arith, ltb-false}
-use Rattle.itm_types.specs.Calls.{is_begin, registered_by}
-use Rattle.itm_types.specs.declared.call.Call.{Call}
-use Rattle.itm_types.specs.declared.call.Call.TheVariants.{CommitAction, UndoAction}
-use Rattle.itm_types.specs.declared.call.Ran.{Ran}
-use Rattle.nest_frames.specs.Nest.{Frame}
-use Rattle.norec_core.proofs.Replies.ActionCounts.{registers}
-use Rattle.norec_core.specs.declared.answer.Answer.{Answer}
-use Rattle.norec_core.specs.declared.answer.Answer.TheVariants.{Busy, Committed, Conflict, Full, Reply, Restarted}
-use Rattle.norec_core.specs.Core.{Core, is_within}
-use Rattle.norec_core.specs.Restarts.{IsRestart}
-use Rattle.tx_attempts.specs.declared.attempt.Attempt.{Attempt}
-use Rattle.tx_attempts.specs.Kept.{Kept, reserved}
-use Rattle.tx_attempts.specs.Opacity.{Between}
-use Rattle.tx_player.specs.Rules.{Rules}
+use Rattle.worker_rules.proofs.Common.{Answer, Attempt, BeganBy, Begins, Between, Busy, Call, CommitAction, Committed, Conflict, Core, Current, Frame, Full, HasBlockPlaces, IsOpenTry, IsPromised, IsRestart, KeepsPlaces, Open, OpensBy, Outside, Ran, Reply, Restarted, Rules, Savepoint, Stand, UndoAction, Within, cut_back, is_begin, promised, registers, reserved, stage_of, within}
+use Rattle.itm_types.specs.Calls.{registered_by}
+use Rattle.norec_core.specs.Core.{is_within}
+use Rattle.tx_attempts.specs.Kept.{Kept}
 use Rattle.tx_runs.proofs.OpenRooms.{opens_most}
-use Rattle.tx_runs.proofs.TookIn.{OpensBy}
-use Rattle.tx_runs.specs.declared.player_run.Current.{Current}
-use Rattle.tx_runs.specs.declared.player_run.Current.TheVariants.{Outside, Begins, Within}
-use Rattle.tx_runs.specs.OpenAttempts.{BeganBy, Open, promised}
-use Rattle.tx_runs.specs.OpenTries.{Bounds as Most, HaveBegun, IsOpenTry, bounds_now, entered_by}
-use Rattle.tx_runs.specs.PlayerRuns.{KeepsPlaces, stage_of}
-use Rattle.tx_runs.specs.Savepoints.{cut_back, due_at}
-use Rattle.tx_runs.specs.declared.savepoint.Savepoint.{Savepoint}
-use Rattle.tx_runs.specs.Tallies.{within, Stand}
-use Rattle.worker_rules.specs.Workers.{HasBlockPlaces, IsPromised, KeepsBlockPlaces}
+use Rattle.tx_runs.specs.OpenTries.{Bounds as Most, HaveBegun, bounds_now, entered_by}
+use Rattle.tx_runs.specs.Savepoints.{due_at}
+use Rattle.worker_rules.specs.Workers.{KeepsBlockPlaces}
 
 -- ## Places
 

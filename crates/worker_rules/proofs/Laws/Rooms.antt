@@ -1,40 +1,11 @@
 -- The room that is made before a call serves whatever comes of its answer.
 use Rattle.std.proofs.Common.{◌≡◌, inl, inr, ℕ, ◌+◌, ◌<◌, ◌≤◌, Bool, true, false, true≢false, if◌then◌else◌, List, [], ◌++◌, length, length-append, None, Some, refl, sym, ap, subst, ◌∙◌, arith, unwrap_or}
-use Rattle.itm_types.specs.Calls.{is_abort}
-use Rattle.itm_types.specs.declared.call.Call.{Call}
-use Rattle.itm_types.specs.declared.call.Call.TheVariants.{Begin}
-use Rattle.itm_types.specs.declared.call.Props.{Props}
-use Rattle.itm_types.specs.declared.call.Ran.{Ran}
-use Rattle.norec_core.proofs.Replies.ActionCounts.{registers}
-use Rattle.norec_core.specs.declared.answer.Answer.{Answer}
-use Rattle.norec_core.specs.declared.answer.Answer.TheVariants.{Busy, Committed, Conflict, Full, Reply, Restarted}
-use Rattle.norec_core.specs.Core.{Core, in_transaction, irrevocable_room}
-use Rattle.norec_core.specs.Restarts.{IsRestart}
-use Rattle.norec_core.specs.RestartingCalls.{arena_ahead}
-use Rattle.user_actions.specs.Actions.{total}
-use Rattle.shared_words.specs.InGlobal.{Words}
-use Rattle.shared_words.specs.Passes.{cells_of, commits_known, view_of}
-use Rattle.call_rules.specs.Served.{Served, Start}
-use Rattle.call_rules.specs.Standing.{start_of}
-use Rattle.tx_attempts.specs.declared.attempt.Attempt.{Attempt}
-use Rattle.tx_attempts.specs.declared.attempt.Outcome.{Outcome}
-use Rattle.tx_attempts.specs.Kept.{reserved}
-use Rattle.tx_player.specs.Rules.{Rules}
+use Rattle.worker_rules.proofs.Common.{Answer, Attempt, BeganBy, Begin, Begins, Bounds, Busy, Call, Committed, Conflict, Core, Course, Current, Full, HasActionPlaces, IsAsked, IsDeep, IsPromised, IsReadyFor, IsRestart, IsRoomier, IsRunning, IsToldBy, MayTell, Open, OpensBy, Outcome, Outside, Props, Ran, Reply, Restarted, Rules, Savepoint, Served, Stage, Stand, Start, Within, Words, Worker, account_of, again_for, arena_ahead, begins, begins_again, begun, cells_of, commits_known, in_transaction, irrevocable_room, is_abort, outside, over_as, promised, registers, reserved, stage_at, stage_of, stand_of, start_of, told_in, total, view_in, view_of, within}
 use Rattle.tx_runs.proofs.OpenRooms.{reserved_most}
 use Rattle.tx_runs.proofs.StepCalls.{cancels_register_none}
-use Rattle.tx_runs.proofs.TookIn.{OpensBy}
 use Rattle.tx_runs.proofs.TriesBack.{began_now}
-use Rattle.tx_runs.specs.declared.player_run.Current.{Current}
-use Rattle.tx_runs.specs.declared.player_run.Current.TheVariants.{Outside, Begins, Within}
-use Rattle.tx_runs.specs.Nesting.{IsDeep}
-use Rattle.tx_runs.specs.OpenAttempts.{BeganBy, HasRoom, MayRenew, Open, told_in, promised}
-use Rattle.tx_runs.specs.PlayerRuns.{MayGoBack, MayTakeIn, MayTell, stage_of}
-use Rattle.tx_runs.specs.declared.savepoint.Savepoint.{Savepoint}
-use Rattle.tx_runs.specs.Tallies.{Stage, outside, begins, within, Stand, begins_again, begun, over_as, stage_at, stand_of}
-use Rattle.worker_rules.specs.Worker.{Worker}
-use Rattle.worker_rules.specs.Accounts.{account_of}
-use Rattle.worker_rules.specs.Progress.{Course, IsRunning}
-use Rattle.worker_rules.specs.Workers.{Bounds, HasActionPlaces, IsAsked, IsPromised, IsReadyFor, IsRoomier, IsToldBy, again_for, view_in}
+use Rattle.tx_runs.specs.OpenAttempts.{HasRoom, MayRenew}
+use Rattle.tx_runs.specs.PlayerRuns.{MayGoBack, MayTakeIn}
 use Rattle.worker_rules.proofs.Laws.Places.{some_room, room_after, has_points, began_later, promised_in, cut_room}
 use Rattle.worker_rules.proofs.Machines.ActionRooms.{goes_plainly, leaves_promised, ran_held, room_asked, room_on}
 use Rattle.worker_rules.proofs.Machines.LastEvents.{IsLast, last_event}

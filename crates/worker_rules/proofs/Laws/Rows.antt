@@ -1,48 +1,16 @@
 -- What a worker's next call makes of it.
 use Rattle.std.proofs.Common.{◌≡◌, ℕ, ◌+◌, ◌/◌, ◌<◌, ◌≤◌, Bool, true, false, true≢false, nat_lt, if◌then◌else◌, List, [], ◌∷◌, ◌++◌, length, Option, None, Some, refl, sym, ap, subst, ◌∙◌, arith, inr, unwrap_or, vec_len, vec_capacity}
-use Rattle.itm_types.specs.declared.call.Call.{Call}
-use Rattle.itm_types.specs.declared.call.Call.TheVariants.{Begin}
-use Rattle.itm_types.specs.declared.call.Props.{Props}
-use Rattle.norec_core.specs.declared.answer.Answer.{Answer}
-use Rattle.norec_core.specs.declared.answer.Answer.TheVariants.{Busy, Committed, Conflict, Full, Reply, Restarted}
-use Rattle.norec_core.specs.Core.{Core, in_transaction, irrevocable_room}
-use Rattle.user_actions.specs.Actions.{total}
-use Rattle.shared_words.specs.declared.view.View.{View}
-use Rattle.shared_words.specs.InGlobal.{Words}
-use Rattle.shared_words.specs.Passes.{Owns, view_of}
-use Rattle.call_rules.specs.Served.{Served, Start}
-use Rattle.call_rules.specs.Standing.{Standing, start_of}
-use Rattle.call_rules.specs.Ties.{Stands}
-use Rattle.itm_types.specs.declared.call.Reply.{Reply as Replied}
-use Rattle.itm_types.specs.declared.call.Reply.TheVariants.{Done}
-use Rattle.tx_attempts.specs.declared.attempt.Attempt.{Attempt}
-use Rattle.tx_attempts.specs.Attempts.{is_committed}
-use Rattle.tx_attempts.specs.declared.attempt.Outcome.{Outcome}
+use Rattle.worker_rules.proofs.Common.{Account, Answer, AreFew, AreOver, Attempt, Begin, Begins, Bounds, Busy, Call, Committed, Conflict, Core, Course, Current, Done, End, Falls, Full, GoesOnOrStops, HasActionPlaces, HasBlockPlaces, HasPlaces, IsAsked, IsMade, IsPromised, IsReadyFor, IsRunning, IsSame, IsStopped, IsWorking, KeepsPlaces, MayStop, MayTell, Obeys, Open, OpensBy, Outcome, Outside, Owns, Props, Replied, Reply, Restarted, Rules, Savepoint, Served, Stage, Stand, Standing, Stands, Start, StopsAs, Taken, Tally, View, Within, Words, Worker, account_after, account_of, asked, begins, begins_again, bounds_of, in_transaction, irrevocable_room, is_committed, outside, over_as, restarts_left, savepoints_after, shut_revocable, stage_of, stand_of, start_of, took_in, total, view_in, view_of, went_on, with_call, within}
 use Rattle.tx_attempts.specs.declared.attempt.Outcome.TheVariants as outcomes
-use Rattle.tx_player.specs.Rules.{Obeys, Rules}
-use Rattle.tx_runs.proofs.TookIn.{OpensBy, is_taken, within_untold}
-use Rattle.tx_runs.specs.declared.ending.End.{End}
+use Rattle.tx_runs.proofs.TookIn.{is_taken, within_untold}
 use Rattle.tx_runs.specs.declared.ending.End.TheVariants as ends
-use Rattle.tx_runs.specs.declared.player_run.Current.{Current}
-use Rattle.tx_runs.specs.declared.player_run.Current.TheVariants.{Outside, Begins, Within}
-use Rattle.tx_runs.specs.OpenAttempts.{Open}
-use Rattle.tx_runs.specs.PlayerRuns.{KeepsPlaces, MayStop, MayTell, stage_of, tally_of}
-use Rattle.tx_runs.specs.declared.savepoint.Savepoint.{Savepoint}
-use Rattle.tx_runs.specs.Savepoints.{savepoints_after}
-use Rattle.tx_runs.specs.Tallies.{Stage, outside, begins, within, Stand, Taken, Tally, begins_again, over_as, replied, sent_back, stage_with, took_in, went_on, with_call, stand_of}
-use Rattle.worker_rules.specs.Worker.{Worker}
-use Rattle.worker_rules.specs.Accounts.{Account, account_after, account_of}
-use Rattle.worker_rules.specs.Calls.{IsMade, StopsAs, asked}
-use Rattle.tx_runs.specs.Ranks.{Falls, restarts_left}
-use Rattle.worker_rules.specs.Positions.{AreFew, AreOver}
-use Rattle.worker_rules.specs.Progress.{Course, IsRunning}
-use Rattle.worker_rules.specs.Workers.{Bounds, GoesOnOrStops, HasActionPlaces, HasBlockPlaces, HasPlaces, IsAsked, IsPromised, IsReadyFor, IsSame, IsStopped, IsWorking, bounds_of, view_in}
+use Rattle.tx_runs.specs.PlayerRuns.{tally_of}
+use Rattle.tx_runs.specs.Tallies.{replied, sent_back, stage_with}
 use Rattle.worker_rules.proofs.Begins.OutermostBegins.{begins_actions, no_commit}
 use Rattle.worker_rules.proofs.Laws.Places.{blocks_opened}
 use Rattle.worker_rules.proofs.Laws.Rooms.{begins_call, held_inside, last, open_places, promises_opened, room_back, still_within}
 use Rattle.worker_rules.proofs.Machines.ActionRooms.{room_asked}
 use Rattle.worker_rules.proofs.Machines.LastEvents.{IsLast}
-use Rattle.norec_core.proofs.Engines.HeldStores.{shut_revocable}
 use Rattle.worker_rules.proofs.Laws.Answers.{Both, both}
 
 -- what is over has ended

@@ -1,26 +1,10 @@
 -- Where memory is refused to a player's next call, or to the room for it.
 use Rattle.std.proofs.Common.{inl, inr, ◌≡◌, ℕ, zero, suc, ◌<◌, ◌≤◌, Bool, true, true≢false, List, Option, unwrap_or, Result, Ok, Err, OnErr, refl, sym, ap, subst, ◌∙◌, arith}
+use Rattle.worker_rules.proofs.Common.{Attempt, Begins, Bounds, Call, Core, Course, Current, HasActionPlaces, HasBlockPlaces, HasPlaces, IsHungry, IsPromised, IsRoomier, IsUnprepared, IsWorking, LacksFor, MayStarve, MayStarveIn, Open, Outside, Rules, Savepoint, Within, Words, Worker, arena_ahead, asks_no_room, begins, irrevocable_room, outside, promised_held, stage_of, total, within}
 use Rattle.std.specs.declared.alloc.AllocError.{AllocError}
-use Rattle.itm_types.specs.declared.call.Call.{Call}
-use Rattle.user_actions.specs.Actions.{total}
-use Rattle.norec_core.specs.Core.{Core, irrevocable_room}
-use Rattle.norec_core.specs.Proceeds.{MayStarve, MayStarveIn}
-use Rattle.norec_core.specs.RestartingCalls.{arena_ahead}
 use Rattle.norec_core.proofs.Engines.RestartingCalls.{ahead_revocable}
-use Rattle.shared_words.specs.InGlobal.{Words}
-use Rattle.tx_attempts.specs.declared.attempt.Attempt.{Attempt}
-use Rattle.tx_player.specs.Rules.{Rules}
-use Rattle.tx_runs.specs.declared.player_run.Current.{Current}
-use Rattle.tx_runs.specs.declared.player_run.Current.TheVariants.{Outside, Begins, Within}
-use Rattle.tx_runs.specs.declared.savepoint.Savepoint.{Savepoint}
-use Rattle.tx_runs.specs.OpenAttempts.{LacksPlaces, Open}
-use Rattle.tx_runs.specs.PlayerRuns.{stage_of}
-use Rattle.tx_runs.specs.Tallies.{outside, begins, within}
-use Rattle.tx_runs.proofs.IrrevocableCalls.{asks_no_room, starves_used}
-use Rattle.tx_runs.proofs.OpenRooms.{promised_held}
-use Rattle.worker_rules.specs.Worker.{Worker}
-use Rattle.worker_rules.specs.Progress.{Course}
-use Rattle.worker_rules.specs.Workers.{Bounds, HasActionPlaces, HasBlockPlaces, HasPlaces, IsHungry, IsPromised, IsRoomier, IsUnprepared, IsWorking, LacksFor}
+use Rattle.tx_runs.specs.OpenAttempts.{LacksPlaces}
+use Rattle.tx_runs.proofs.IrrevocableCalls.{starves_used}
 
 -- ## An irrevocable transaction has used up the room that it asked for
 

@@ -1,32 +1,10 @@
 -- A worker to whose player's next call memory was refused.
 use Rattle.std.proofs.Common.{◌≡◌, ◌/◌, Bool, true, false, true≢false, if◌then◌else◌, List, ◌++◌, ◌≤◌, length, length-append, refl, sym, ap, subst, ◌∙◌, arith}
-use Rattle.itm_types.specs.declared.call.Call.{Call}
-use Rattle.itm_types.specs.declared.call.Call.TheVariants.{Commit}
-use Rattle.itm_types.specs.declared.call.Ran.{Ran}
-use Rattle.norec_core.proofs.Replies.ActionCounts.{RunsOn}
+use Rattle.worker_rules.proofs.Common.{Account, AreFew, AreOver, Attempt, Begins, Bounds, Call, Commit, Core, Course, Current, HasPlaces, Idle, IsHungry, IsRoomier, IsSame, IsStopped, IsToldBy, MayStop, MayTell, Open, Outside, Owns, Ran, Rules, RunsOn, Stage, Standing, Stands, Within, Words, Worker, account_of, after_undoing, begins, bounds_of, in_transaction, outside, over_as, rolled_back, stage_of, stand_of, start_of, told_in, total, view_of, within}
 use Rattle.norec_core.specs.declared.answer.Undone.TheVariants.{Done, Held, Nothing}
-use Rattle.norec_core.specs.Core.{Core, in_transaction, rolled_back}
-use Rattle.norec_core.specs.Phases.{Idle}
-use Rattle.norec_core.specs.Undoing.{after_undoing, undone_of}
-use Rattle.user_actions.specs.Actions.{total}
-use Rattle.shared_words.specs.InGlobal.{Words}
-use Rattle.shared_words.specs.Passes.{Owns, view_of}
-use Rattle.call_rules.specs.Standing.{Standing, start_of}
-use Rattle.call_rules.specs.Ties.{Stands}
-use Rattle.tx_attempts.specs.declared.attempt.Attempt.{Attempt}
+use Rattle.norec_core.specs.Undoing.{undone_of}
 use Rattle.tx_attempts.specs.declared.attempt.Outcome.TheVariants as outcomes
-use Rattle.tx_player.specs.Rules.{Rules}
 use Rattle.tx_runs.specs.declared.ending.End.TheVariants as ends
-use Rattle.tx_runs.specs.declared.player_run.Current.{Current}
-use Rattle.tx_runs.specs.declared.player_run.Current.TheVariants.{Outside, Begins, Within}
-use Rattle.tx_runs.specs.OpenAttempts.{Open, told_in}
-use Rattle.tx_runs.specs.PlayerRuns.{MayStop, MayTell, stage_of}
-use Rattle.tx_runs.specs.Tallies.{Stage, outside, begins, within, over_as, stand_of}
-use Rattle.worker_rules.specs.Worker.{Worker}
-use Rattle.worker_rules.specs.Accounts.{Account, account_of}
-use Rattle.worker_rules.specs.Positions.{AreFew, AreOver}
-use Rattle.worker_rules.specs.Progress.{Course}
-use Rattle.worker_rules.specs.Workers.{Bounds, HasPlaces, IsHungry, IsRoomier, IsSame, IsStopped, IsToldBy, bounds_of}
 use Rattle.worker_rules.proofs.Laws.Rooms.{same_over, within_inside}
 use Rattle.worker_rules.proofs.Laws.Rows.{few_more, over_more}
 use Rattle.worker_rules.proofs.Laws.Shortages.{used_here}

@@ -1,20 +1,10 @@
 -- A worker that stops where it stands, and one whose calls are counted.
 use Rattle.std.proofs.Common.{◌≡◌, inl, inr, ℕ, ◌+◌, ◌/◌, Bool, false, true≢false, length, Option, None, Some, refl, sym, ap, subst, ◌∙◌, arith}
-use Rattle.shared_words.specs.InGlobal.{Words}
-use Rattle.tx_player.specs.Rules.{Rules}
-use Rattle.tx_runs.specs.declared.ending.End.{End}
-use Rattle.tx_runs.specs.declared.player_run.Current.{Current}
-use Rattle.tx_runs.specs.declared.player_run.Current.TheVariants.{Outside, Begins, Within}
-use Rattle.tx_runs.specs.OpenAttempts.{told_in}
-use Rattle.tx_runs.specs.PlayerRuns.{MayStop, MayTell, stage_of}
-use Rattle.worker_rules.specs.Worker.{Worker}
-use Rattle.call_rules.specs.Standing.{Standing}
+use Rattle.worker_rules.proofs.Common.{Account, Begins, Bounds, Course, Current, End, GoesOnOrStops, HasPlaces, IsSame, IsStopped, IsWorking, MayStop, MayTell, Outside, Rules, Standing, StopsAs, Within, Words, Worker, account_of, stage_of, told_in}
 use Rattle.tx_runs.specs.declared.ending.End.TheVariants.{Finished, GaveUp, NoMemory}
-use Rattle.worker_rules.specs.Accounts.{Account, account_of}
-use Rattle.worker_rules.specs.Calls.{StopsAs, StopsAt}
+use Rattle.worker_rules.specs.Calls.{StopsAt}
 use Rattle.worker_rules.specs.Gates.{Gating, IsLet, call_number}
-use Rattle.worker_rules.specs.Progress.{Course}
-use Rattle.worker_rules.specs.Workers.{Bounds, GoesOnOrStops, GoesOnOrStopsAt, HasPlaces, IsSame, IsStopped, IsWorking}
+use Rattle.worker_rules.specs.Workers.{GoesOnOrStopsAt}
 use Rattle.worker_rules.proofs.Laws.Rooms.{within_inside}
 
 module _ {P : Type 0} {rules : Rules P} {words : Words} {c : Course P} {b : Bounds} {w : Worker P} (k : IsWorking rules words c b w) where

@@ -1,23 +1,11 @@
 -- The room of an irrevocable transaction for commit actions, over a reply, and with it the room for its calls.
 use Rattle.std.proofs.Common.{inl, inr, ◌≡◌, ℕ, ◌+◌, ◌-◌, ◌<◌, ◌≤◌, max, true, false, true≢false, Option, None, Some, IsSome, is_some, unwrap_or, refl, sym, ap, subst, ◌∙◌, arith}
-use Rattle.itm_types.specs.Calls.{is_abort}
-use Rattle.itm_types.specs.declared.call.Call.{Call}
-use Rattle.itm_types.specs.declared.call.Call.TheVariants.{Abort}
-use Rattle.itm_types.specs.declared.call.Reply.{Reply as Replied}
-use Rattle.user_actions.specs.Actions.{Actions, total}
-use Rattle.norec_core.proofs.Replies.ActionCounts.{registers}
-use Rattle.norec_core.proofs.Replies.ReplyCases.{Ways, reply_cases}
-use Rattle.norec_core.specs.Core.{Core, came, in_transaction, irrevocable_room}
+use Rattle.worker_rules.proofs.Common.{Abort, Actions, Call, Core, Replied, Reply, Served, Stands, Start, View, Ways, asks_no_room, came, in_transaction, irrevocable_room, is_abort, promised, promised_held, registers, reply_cases, total}
 use Rattle.norec_core.specs.Effects.{room_left}
 use Rattle.norec_core.specs.Proceeds.{Replies, RepliesHeld}
-use Rattle.norec_core.specs.declared.answer.Answer.TheVariants.{Reply}
-use Rattle.shared_words.specs.declared.view.View.{View}
 use Rattle.call_rules.proofs.Calls.ActionRoom.{room_entered}
-use Rattle.call_rules.specs.Served.{Served, Start}
-use Rattle.call_rules.specs.Ties.{Stands}
-use Rattle.tx_runs.proofs.IrrevocableCalls.{abort_runs, asks_no_room, goes_no_action, goes_no_cancel, goes_same, left_least, plain_goes, room_by_call}
-use Rattle.tx_runs.specs.OpenAttempts.{promised}
-use Rattle.tx_runs.proofs.OpenRooms.{none_asked, promised_held, promised_none}
+use Rattle.tx_runs.proofs.IrrevocableCalls.{abort_runs, goes_no_action, goes_no_cancel, goes_same, left_least, plain_goes, room_by_call}
+use Rattle.tx_runs.proofs.OpenRooms.{none_asked, promised_none}
 use Rattle.worker_rules.proofs.Machines.LastEvents.{IsLast}
 use Rattle.worker_rules.proofs.Machines.PlainActions.{served_ran, served_runs}
 

@@ -1,10 +1,8 @@
 -- A call that wants the clock.
 use Rattle.std.proofs.Common.{◌≡◌, ◌&&◌, Bool, true, false, not, nat_lt, length, Some, refl, sym, true≢false}
-use Rattle.itm_types.specs.declared.call.Call.{Call}
-use Rattle.itm_types.specs.declared.call.Call.TheVariants.{Begin, Commit, Mode}
-use Rattle.nest_frames.specs.Nest.{stays_revocable}
-use Rattle.norec_core.specs.Core.{Core, in_transaction, may_go}
-use Rattle.norec_core.specs.Proceeds.{IsSettled, WantsClock}
+use Rattle.worker_rules.proofs.Common.{Begin, Call, Commit, Core, Mode, WantsClock, in_transaction, stays_revocable}
+use Rattle.norec_core.specs.Core.{may_go}
+use Rattle.norec_core.specs.Proceeds.{IsSettled}
 use Rattle.tx_runs.proofs.ClockCalls.{both_true, no_true, told_under}
 pub use Rattle.tx_runs.proofs.ClockCalls.{wants_taking}
 

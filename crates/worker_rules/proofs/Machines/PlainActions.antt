@@ -1,34 +1,17 @@
 -- Over a call of an open transaction no action that has run is lost, and there are no more actions in all than before, but for one that is registered.
 use Rattle.std.proofs.Common.{◌≡◌, ℕ, Bool, true, false, if◌then◌else◌, nat_lt, List, [], ◌∷◌, ◌++◌, length, drop, take, Option, None, Some, refl, sym, ap, subst, ◌∙◌, arith, append-nil, append_assoc, length-append}
+use Rattle.worker_rules.proofs.Common.{Abort, Actions, Agrees, Answer, Begin, Block, Busy, Call, Commit, CommitAction, Committed, Conflict, Copy, Core, Frame, Full, IsUndone, LogRow, Mode, Props, Ran, Refusal, Replied, Reply, Restarted, RunsOn, Served, Stands, Start, State, UndoAction, View, after, after_undoing, after_unless, came_over, in_transaction, irrevocable_from, is_abort, is_open, left_over, opened, pushed, reads_of, refusal, registers, stands_for, undone}
 use Rattle.std.proofs.lemmas.List.{take-append-drop}
 use Rattle.itm_types.specs.declared.call.Action.{Action}
-use Rattle.itm_types.specs.declared.call.Call.{Call}
-use Rattle.itm_types.specs.declared.call.Call.TheVariants.{Abort, Begin, Commit, CommitAction, Copy, Mode, UndoAction}
 use Rattle.itm_types.specs.declared.call.ActionKind.TheVariants as kinds
-use Rattle.itm_types.specs.declared.call.Props.{Props}
-use Rattle.itm_types.specs.declared.call.Ran.{Ran}
-use Rattle.itm_types.specs.declared.call.Refusal.{Refusal}
-use Rattle.itm_types.specs.declared.call.Reply.{Reply as Replied}
-use Rattle.itm_types.specs.Calls.{is_abort}
-use Rattle.itm_types.specs.declared.row.LogRow.{LogRow}
-use Rattle.itm_types.specs.Memory.{Agrees}
 use Rattle.itm_types.specs.declared.copy.CopyPair.{CopyPair}
 use Rattle.itm_types.specs.declared.copy.CopyPair.TheVariants.{In, Out, Within}
-use Rattle.user_actions.specs.Actions.{Actions, registered}
-use Rattle.itm_model.specs.Machine.{after, after_unless, back, back_from, closed_actions, closed_in, effect, entered, irrevocable_from, is_open, made_irrevocable, opened, pushed, refusal, rolled_back, source_bytes, target_written, undone, undone_from, with_undo}
-use Rattle.itm_model.specs.State.{Block, Saved, State}
-use Rattle.nest_frames.specs.Nest.{Frame, reads_of}
+use Rattle.user_actions.specs.Actions.{registered}
+use Rattle.itm_model.specs.Machine.{back, back_from, closed_actions, closed_in, effect, entered, made_irrevocable, rolled_back, source_bytes, target_written, undone_from, with_undo}
+use Rattle.itm_model.specs.State.{Saved}
 use Rattle.norec_core.proofs.Accesses.Logs.{agrees_less}
-use Rattle.norec_core.proofs.Replies.ActionCounts.{RunsOn, all_run, commits_run, given_up_actions, registers, still}
-use Rattle.norec_core.specs.Core.{Core, in_transaction}
+use Rattle.norec_core.proofs.Replies.ActionCounts.{all_run, commits_run, given_up_actions, still}
 use Rattle.norec_core.specs.Restarts.{begun_again}
-use Rattle.norec_core.specs.Stands.{stands_for}
-use Rattle.norec_core.specs.Undoing.{after_undoing}
-use Rattle.norec_core.specs.declared.answer.Answer.{Answer}
-use Rattle.norec_core.specs.declared.answer.Answer.TheVariants.{Busy, Committed, Conflict, Full, Reply, Restarted}
-use Rattle.shared_words.specs.declared.view.View.{View}
-use Rattle.call_rules.specs.Served.{IsUndone, Served, Start, came_over, left_over}
-use Rattle.call_rules.specs.Ties.{Stands}
 use Rattle.worker_rules.proofs.Machines.PlainStates.{stands_actions, stands_open}
 
 -- where there are no more, there are at most so many more

@@ -1,14 +1,6 @@
 -- The plain state that an engine stands for.
 use Rattle.std.proofs.Common.{◌≡◌, ℕ, ◌/◌, Bool, true, false, List, [], ◌∷◌, length, refl, ap, arith, nat_lt}
-use Rattle.itm_model.specs.Machine.{is_open}
-use Rattle.nest_frames.specs.Nest.{Frame}
-use Rattle.norec_core.specs.Core.{Core, in_transaction, is_inside}
-use Rattle.norec_core.specs.Stands.{stands_for}
-use Rattle.shared_words.specs.declared.view.View.{View}
-use Rattle.call_rules.proofs.Steps.CallsInHand.{is_memory}
-use Rattle.call_rules.specs.Ties.{Stands, memory_of}
-use Rattle.tx_runs.specs.OpenTries.{ReadsFrom}
-use Rattle.worker_rules.specs.Progress.{MayRead}
+use Rattle.worker_rules.proofs.Common.{Core, Frame, MayRead, ReadsFrom, Stands, View, in_transaction, is_inside, is_memory, is_open, memory_of, stands_for}
 pub use Rattle.tx_runs.proofs.EngineStates.{stands_actions, stands_arena, stands_blocks, stands_mode, stands_open}
 
 none_inside : (bs : List Frame) → is_inside bs ≡ false → length bs ≡ 0

@@ -1,21 +1,11 @@
 -- A call by which the innermost block has gone back to its begin.
 use Rattle.std.proofs.Common.{◌≡◌, ℕ, ◌&&◌, not, Bool, true, false, length, refl, sym, ap, subst, ◌∙◌, arith}
+use Rattle.worker_rules.proofs.Common.{Agrees, Core, Idle, Restarted, Served, Stands, Start, State, View, reads_of, registers, stands_for}
 use Rattle.std.proofs.lemmas.Bool.{lt-ltb}
-use Rattle.itm_types.specs.Memory.{Agrees}
-use Rattle.itm_model.specs.State.{State}
-use Rattle.nest_frames.specs.Nest.{reads_of}
-use Rattle.norec_core.specs.declared.answer.Answer.TheVariants.{Restarted}
-use Rattle.norec_core.specs.Core.{Core}
 use Rattle.norec_core.specs.Order.{stage_at}
-use Rattle.norec_core.specs.Phases.{Idle}
-use Rattle.norec_core.specs.Stands.{stands_for}
-use Rattle.norec_core.proofs.Replies.ActionCounts.{registers}
 use Rattle.norec_core.specs.RestartingCalls.{can_restart, may_validate}
 use Rattle.tx_runs.proofs.RestartedLengths.{again_long}
 use Rattle.norec_core.proofs.Engines.RestartingCalls.{idle_so, validates_none}
-use Rattle.shared_words.specs.declared.view.View.{View}
-use Rattle.call_rules.specs.Served.{Served, Start}
-use Rattle.call_rules.specs.Ties.{Stands}
 use Rattle.worker_rules.proofs.Machines.PlainActions.{agrees_cut}
 use Rattle.worker_rules.proofs.Machines.PlainStates.{stands_arena}
 

@@ -1,13 +1,6 @@
 -- How often inner blocks may still go back to their begins, over a call.
 use Rattle.std.proofs.Common.{◌≡◌, ℕ, ◌<◌, ◌≤◌, true, false, ◌∙◌, arith}
-use Rattle.itm_types.specs.declared.call.Reply.{Reply as Replied}
-use Rattle.norec_core.proofs.Engines.KeptFields.{came_restarted}
-use Rattle.norec_core.specs.declared.answer.Answer.{Answer}
-use Rattle.norec_core.specs.declared.answer.Answer.TheVariants.{Reply, Restarted}
-use Rattle.norec_core.specs.Core.{Core, in_transaction}
-use Rattle.shared_words.specs.declared.view.View.{View}
-use Rattle.call_rules.specs.Served.{Served, Start}
-use Rattle.tx_runs.specs.Ranks.{restarts_left}
+use Rattle.worker_rules.proofs.Common.{Answer, Core, Replied, Reply, Restarted, Served, Start, View, came_restarted, in_transaction, restarts_left}
 use Rattle.tx_runs.proofs.RestartsLeft.{left_inside, left_most, left_outside}
 
 module _ (s : Start) (v : View) (e : Core) where

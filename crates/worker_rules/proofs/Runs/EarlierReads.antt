@@ -1,26 +1,12 @@
 -- What a call of an open transaction found, over the memory of the position that it comes to.
 use Rattle.std.proofs.Common.{◌≡◌, ℕ, ◌/◌, ◌&&◌, Bool, true, false, not, List, [], ◌∷◌, length, refl, sym, true≢false, ap, subst, ◌∙◌, arith}
-use Rattle.itm_types.specs.declared.call.Reply.{Reply as Replied}
-use Rattle.itm_types.specs.Memory.{Agrees, IsMemory}
-use Rattle.itm_model.specs.Machine.{reply}
-use Rattle.itm_model.specs.State.{State}
-use Rattle.nest_frames.specs.Nest.{Frame}
-use Rattle.norec_core.specs.declared.answer.Answer.{Answer}
-use Rattle.norec_core.specs.declared.answer.Answer.TheVariants.{Reply}
-use Rattle.norec_core.specs.Core.{Core, in_transaction}
-use Rattle.norec_core.specs.Effects.{recoded}
-use Rattle.norec_core.specs.Stands.{blocks_over, stands_for, state_in}
+use Rattle.worker_rules.proofs.Common.{Agrees, Answer, Core, Frame, IsMemory, MayRead, Meets, ReadsFrom, Replied, Reply, Served, Stands, Start, State, View, came_over, depth_after, in_transaction, is_memory, left_over, memory_in, memory_of, recoded, reply, stands_for, state_in, stood}
+use Rattle.norec_core.specs.Stands.{blocks_over}
 use Rattle.norec_core.proofs.Replies.AnsweredEngines.{told_plainly}
-use Rattle.shared_words.specs.declared.view.View.{View}
-use Rattle.call_rules.proofs.Steps.CallsInHand.{is_memory}
-use Rattle.call_rules.specs.Served.{Meets, Served, Start, came_over, left_over, memory_in}
-use Rattle.call_rules.specs.Ties.{Stands, memory_of}
-use Rattle.tx_player.specs.Depth.{depth_after, is_code}
+use Rattle.tx_player.specs.Depth.{is_code}
 use Rattle.tx_runs.proofs.PlainCalls.{AllSaved, CanGoBack, depth_then}
 use Rattle.worker_rules.proofs.Runs.LaterCommits.{memory_later}
 use Rattle.worker_rules.proofs.Machines.PlainStates.{stands_blocks}
-use Rattle.tx_runs.specs.OpenTries.{ReadsFrom}
-use Rattle.worker_rules.specs.Progress.{MayRead, stood}
 
 -- the call came over the words that the engine stood over, and left those that it stands over
 pub came_stood : (s : Start) (v : View) (e : Core) → came_over s v e ≡ stood s.engine.irrevocable s.view (memory_of v (e.snapshot / 2))

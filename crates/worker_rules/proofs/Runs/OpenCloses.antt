@@ -1,35 +1,14 @@
 -- The open attempt's block ends with its last call.
 use Rattle.std.proofs.Common.{◌≡◌, ℕ, suc, ◌/◌, ◌<◌, ◌≤◌, Bool, true, false, if◌then◌else◌, List, [], ◌∷◌, ◌++◌, length, map, Some, refl, sym, true≢false, ap, subst, ◌∙◌, arith, append_assoc}
-use Rattle.itm_types.specs.declared.call.Reply.{Reply as Replied}
-use Rattle.itm_types.specs.declared.call.Ran.{Ran}
-use Rattle.itm_model.specs.Machine.{after, is_open, reply}
-use Rattle.itm_model.specs.State.{State}
-use Rattle.norec_core.specs.Core.{Core, in_transaction}
-use Rattle.norec_core.specs.Stands.{stands_for}
-use Rattle.user_actions.specs.Actions.{Actions}
-use Rattle.shared_words.specs.declared.view.View.{View}
-use Rattle.shared_words.specs.Passes.{commits_known}
-use Rattle.call_rules.specs.Served.{Start, Went}
-use Rattle.call_rules.specs.Ties.{Stands, memory_of}
+use Rattle.worker_rules.proofs.Common.{Account, Actions, Attempt, CallRecord, Core, Course, EndsAs, HasRun, IsMadeAlone, IsRunning, IsTryAt, MayRead, Obeys, Outcome, Ran, Replied, Rules, Stands, Start, State, View, Went, after, after_try, alone, answered_all, begin_code, bytes_at, closes_as, commits_known, depth_after, in_transaction, is_committed, is_done, is_open, memory_of, now_at, positions, ran_on, reply, stands_for, stood, telling}
 use Rattle.tx_attempts.proofs.AloneCalls.{player_snoc}
-use Rattle.tx_attempts.proofs.ToldRuns.{telling}
-use Rattle.tx_attempts.specs.Restarts.{ran_on}
-use Rattle.tx_attempts.specs.Attempts.{ClosedBy, alone, is_committed}
-use Rattle.tx_attempts.specs.Opacity.{EndsAs, IsTryAt, after_try, answered_all, begin_code, follows}
-use Rattle.tx_attempts.specs.declared.attempt.Attempt.{Attempt}
-use Rattle.tx_attempts.specs.declared.attempt.CallRecord.{CallRecord}
-use Rattle.tx_attempts.specs.declared.attempt.Outcome.{Outcome}
+use Rattle.tx_attempts.specs.Attempts.{ClosedBy}
+use Rattle.tx_attempts.specs.Opacity.{follows}
 use Rattle.tx_attempts.specs.declared.attempt.Outcome.TheVariants as outcomes
-use Rattle.tx_player.specs.Depth.{depth_after}
-use Rattle.tx_player.specs.Rules.{Obeys, Rules}
-use Rattle.tx_runs.proofs.Tries.{IsMadeAlone, closing_left, try_closes}
-use Rattle.tx_runs.proofs.TriesTold.{closes_as, ran_closes, reply_as}
-use Rattle.tx_runs.specs.Outcomes.{is_done}
+use Rattle.tx_runs.proofs.Tries.{closing_left, try_closes}
+use Rattle.tx_runs.proofs.TriesTold.{ran_closes, reply_as}
 use Rattle.worker_rules.proofs.Runs.LaterCommits.{known_more, positions_more}
 use Rattle.worker_rules.proofs.Runs.OpenRuns.{depth_now, ends_told, led, made_open, nested_now, open_whole, run_ended, stood_whole, whole}
-use Rattle.worker_rules.specs.Positions.{bytes_at, positions}
-use Rattle.worker_rules.specs.Progress.{Course, HasRun, IsRunning, MayRead, now_at, stood}
-use Rattle.worker_rules.specs.Accounts.{Account}
 use Rattle.worker_rules.proofs.Shapes.{closed, ended_at, row_with}
 
 -- ## An outcome with which a block is over

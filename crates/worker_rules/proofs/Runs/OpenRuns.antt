@@ -1,39 +1,14 @@
 -- A run whose open attempt is over, or is told as it stands.
 use Rattle.std.proofs.Common.{◌≡◌, ℕ, suc, ◌+◌, ◌*◌, ◌/◌, ◌<◌, ◌≤◌, Bool, true, false, if◌then◌else◌, List, [], ◌∷◌, ◌++◌, length, Some, refl, sym, true≢false, ap, subst, ◌∙◌, arith, append-nil}
-use Rattle.itm_types.specs.declared.call.Call.{Call}
-use Rattle.itm_types.specs.declared.call.Ran.{Ran}
-use Rattle.itm_types.specs.declared.call.Reply.{Reply as Replied}
-use Rattle.itm_types.specs.Memory.{bytes_of}
-use Rattle.itm_model.specs.Machine.{is_open, opened, undone}
-use Rattle.itm_model.specs.State.{State}
-use Rattle.nest_frames.specs.Nest.{Frame}
-use Rattle.norec_core.specs.Core.{Core, in_transaction, is_inside}
-use Rattle.norec_core.specs.Stands.{stands_for}
-use Rattle.shared_words.specs.declared.view.View.{View}
-use Rattle.call_rules.specs.Served.{Went}
-use Rattle.call_rules.specs.Ties.{Stands, memory_of}
+use Rattle.worker_rules.proofs.Common.{Account, Attempt, Call, Core, Course, EndsAs, Frame, HasRun, IsDeep, IsLeft, IsMadeAlone, IsNested, IsRunning, IsTryAt, LacksClock, MayRead, Obeys, Outcome, Ran, ReadsFrom, Replied, Rules, Stands, State, View, Went, after_try, alone, begin_code, begins_at, bytes_at, bytes_of, depth_after, in_transaction, is_committed, is_done, is_inside, is_open, known_by, memory_of, now_at, opened, plays, positions, ran_on, stands_for, stood, telling, undone, whole_then}
 use Rattle.tx_attempts.specs.Alone.{state_then}
-use Rattle.tx_attempts.specs.Attempts.{alone, is_committed}
-use Rattle.tx_attempts.specs.Opacity.{EndsAs, IsTryAt, LacksClock, after_try, begin_code, ran_of}
-use Rattle.tx_attempts.specs.declared.attempt.Attempt.{Attempt}
-use Rattle.tx_attempts.specs.declared.attempt.Outcome.{Outcome}
+use Rattle.tx_attempts.specs.Opacity.{ran_of}
 use Rattle.tx_attempts.specs.declared.attempt.Outcome.TheVariants as outcomes
-use Rattle.tx_player.specs.Depth.{depth_after}
-use Rattle.tx_player.specs.Rules.{Obeys, Rules}
-use Rattle.tx_runs.proofs.Players.{plays}
-use Rattle.tx_attempts.specs.Restarts.{breaks_of, ran_on}
-use Rattle.tx_attempts.proofs.ToldRuns.{telling}
-use Rattle.tx_runs.proofs.Tries.{IsMadeAlone, alone_led, try_of_room, try_stops}
+use Rattle.tx_attempts.specs.Restarts.{breaks_of}
+use Rattle.tx_runs.proofs.Tries.{alone_led, try_of_room, try_stops}
 use Rattle.tx_runs.proofs.TriesTold.{made_alone, ran_stays, ran_stops, stops_as, told_so}
-use Rattle.tx_runs.specs.OpenTries.{ReadsFrom, whole_then}
-use Rattle.tx_runs.specs.Nesting.{IsDeep, IsNested}
-use Rattle.tx_runs.specs.Outcomes.{is_done}
-use Rattle.tx_runs.specs.Runs.{begins_at}
 use Rattle.worker_rules.proofs.Runs.LaterCommits.{positions_more, run_later, run_with}
 use Rattle.worker_rules.proofs.Machines.PlainStates.{stands_open}
-use Rattle.worker_rules.specs.Positions.{IsLeft, bytes_at, known_by, positions}
-use Rattle.worker_rules.specs.Progress.{Course, HasRun, IsRunning, MayRead, now_at, stood}
-use Rattle.worker_rules.specs.Accounts.{Account}
 use Rattle.worker_rules.proofs.Shapes.{ended_at}
 
 -- ## The player after a reply

@@ -1,30 +1,8 @@
 -- The open attempt over a call of its transaction, by its answer: it is the engine's still, with the call, or cut to the begin of its innermost block.
 use Rattle.std.proofs.Common.{inl, inr, ◌≡◌, ℕ, ◌/◌, ◌&&◌, ◌≤◌, Bool, true, false, not, List, [], ◌∷◌, ◌++◌, length, Some, refl, sym, true≢false, ap, subst, ◌∙◌, arith, length-append}
-use Rattle.itm_types.specs.Memory.{Agrees, IsMemory}
-use Rattle.itm_types.specs.declared.call.Reply.{Reply as Replied}
-use Rattle.itm_types.specs.declared.row.LogRow.{LogRow}
-use Rattle.itm_model.specs.Machine.{after, is_open, reply}
-use Rattle.itm_model.specs.State.{State}
-use Rattle.user_actions.specs.Actions.{Actions}
-use Rattle.nest_frames.specs.Nest.{Frame}
-use Rattle.norec_core.specs.declared.answer.Answer.{Answer}
-use Rattle.norec_core.specs.declared.answer.Answer.TheVariants.{Reply, Restarted}
-use Rattle.norec_core.specs.Core.{Core, in_transaction, is_inside}
+use Rattle.worker_rules.proofs.Common.{Account, Actions, Agrees, Answer, Attempt, Core, Course, Frame, IsMemory, IsOpenTry, IsRunning, IsTry, LogRow, MayRead, Meets, Obeys, ReadsFrom, Replied, Reply, Restarted, Rules, Savepoint, Served, Stands, Start, State, View, Ways, after, came_restarted, cut_back, in_transaction, is_inside, is_memory, is_open, memory_of, reply, reply_cases, rests, savepoints_after, stands_for, stood, went_self, whole_then}
 use Rattle.norec_core.specs.Proceeds.{AreRead}
-use Rattle.norec_core.specs.Stands.{stands_for}
-use Rattle.norec_core.proofs.Engines.KeptFields.{came_restarted}
-use Rattle.norec_core.proofs.Replies.AnsweredEngines.{rests}
-use Rattle.norec_core.proofs.Replies.ReplyCases.{Ways, reply_cases}
-use Rattle.shared_words.specs.declared.view.View.{View}
 use Rattle.call_rules.proofs.Calls.Closes.{read_so_far}
-use Rattle.call_rules.proofs.Steps.CallsInHand.{is_memory}
-use Rattle.call_rules.specs.Served.{Meets, Served, Start}
-use Rattle.call_rules.specs.Ties.{Stands, memory_of}
-use Rattle.tx_attempts.specs.declared.attempt.Attempt.{Attempt}
-use Rattle.tx_player.specs.Rules.{Obeys, Rules}
-use Rattle.tx_runs.specs.declared.savepoint.Savepoint.{Savepoint}
-use Rattle.tx_runs.specs.OpenTries.{IsOpenTry, ReadsFrom, whole_then}
-use Rattle.tx_runs.specs.Savepoints.{cut_back, savepoints_after}
 use Rattle.tx_runs.proofs.CallsAlone.{whole_so}
 use Rattle.tx_runs.proofs.TriesBack.{back_on}
 use Rattle.tx_runs.proofs.TriesHeld.{enters_on, held_on}
@@ -33,11 +11,8 @@ use Rattle.tx_runs.proofs.TriesStep.{moves_on, told_on}
 use Rattle.worker_rules.proofs.Machines.LastEvents.{IsLast}
 use Rattle.worker_rules.proofs.Machines.PlainStates.{stands_actions}
 use Rattle.worker_rules.proofs.Runs.EarlierReads.{met_here, position_read, told_plain}
-use Rattle.call_rules.proofs.LaterViews.{went_self}
 use Rattle.worker_rules.proofs.Runs.OpenRuns.{open_whole, stood_whole}
 use Rattle.worker_rules.proofs.Shapes.{replied_row, with_room}
-use Rattle.worker_rules.specs.Accounts.{Account}
-use Rattle.worker_rules.specs.Progress.{Course, IsRunning, IsTry, MayRead, stood}
 
 -- what had been read at each begin has been, where more was read since
 read_more : (n m : ℕ) (bs : List Frame) → n ≤ m → AreRead n bs → AreRead m bs

@@ -1,28 +1,9 @@
 -- A call of the open transaction is answered: it goes on, or is over.
 use Rattle.std.proofs.Common.{inl, inr, ◌≡◌, ℕ, suc, ◌/◌, Bool, true, false, if◌then◌else◌, List, [], ◌∷◌, ◌++◌, length, Some, refl, sym, true≢false, ap, subst, ◌∙◌, arith, append-nil}
-use Rattle.itm_types.specs.declared.call.Call.{Call}
-use Rattle.itm_types.specs.declared.call.Call.TheVariants.{Abort, Commit}
-use Rattle.itm_types.specs.declared.call.Reply.{Reply as Replied}
-use Rattle.itm_types.specs.declared.call.Reply.TheVariants.{Code, Done}
-use Rattle.itm_types.specs.Calls.{is_abort}
-use Rattle.itm_types.specs.Memory.{Agrees}
-use Rattle.itm_model.specs.Machine.{after, is_open, reply}
-use Rattle.itm_model.specs.State.{Block, State}
-use Rattle.nest_frames.specs.Nest.{Frame}
-use Rattle.norec_core.specs.declared.answer.Answer.TheVariants.{Committed, Reply, Restarted}
-use Rattle.norec_core.specs.Core.{Core, in_transaction}
+use Rattle.worker_rules.proofs.Common.{Abort, Account, Agrees, Block, Call, Code, Commit, Committed, Core, Course, Done, Frame, IsNested, IsRunning, MayRead, Meets, Obeys, Replied, Reply, Restarted, Rules, Served, Stands, Start, State, View, after, bytes_at, came_over, cut_back, depth_after, in_transaction, is_abort, is_open, memory_of, none_inside, reply, savepoints_after, shut_revocable, stands_for, state_in, stood}
 use Rattle.norec_core.specs.Order.{stage_at}
-use Rattle.norec_core.specs.Stands.{stands_for, state_in}
-use Rattle.norec_core.proofs.Engines.Blocks.{none_inside}
-use Rattle.norec_core.proofs.Engines.HeldStores.{shut_revocable}
-use Rattle.shared_words.specs.declared.view.View.{View}
-use Rattle.call_rules.specs.Served.{Meets, Served, Start, came_over, mine_if}
-use Rattle.call_rules.specs.Ties.{Stands, memory_of}
+use Rattle.call_rules.specs.Served.{mine_if}
 use Rattle.tx_attempts.specs.declared.attempt.Outcome.TheVariants as outcomes
-use Rattle.tx_player.specs.Depth.{depth_after}
-use Rattle.tx_player.specs.Rules.{Obeys, Rules}
-use Rattle.tx_runs.specs.Nesting.{IsNested}
-use Rattle.tx_runs.specs.Savepoints.{cut_back, savepoints_after}
 use Rattle.tx_runs.proofs.PlainCalls.{aborts_close, commit_reply}
 use Rattle.tx_runs.proofs.Players.{nested_again}
 use Rattle.tx_runs.proofs.TriesBack.{is_cut}
@@ -31,9 +12,6 @@ use Rattle.worker_rules.proofs.Runs.OpenCloses.{Closes, closes_running}
 use Rattle.worker_rules.proofs.Runs.OpenRuns.{depth_now, nested_now}
 use Rattle.worker_rules.proofs.Runs.EarlierReads.{came_stood, depth_told, met_here, position_read, told_plain}
 use Rattle.worker_rules.proofs.Machines.PlainStates.{stands_actions, stands_arena, stands_blocks, stands_open, stands_shut}
-use Rattle.worker_rules.specs.Positions.{bytes_at}
-use Rattle.worker_rules.specs.Progress.{Course, IsRunning, MayRead, stood}
-use Rattle.worker_rules.specs.Accounts.{Account}
 use Rattle.worker_rules.proofs.Machines.LastEvents.{IsLast}
 use Rattle.tx_runs.proofs.RestartedLengths.{renewed_long}
 use Rattle.worker_rules.proofs.Shapes.{closed, ended_at, goes_on, replied_row, row_with, with_room}

@@ -1,41 +1,15 @@
 -- The open attempt ends without its block, or is told as it stands.
 use Rattle.std.proofs.Common.{◌≡◌, ℕ, ◌/◌, ◌≤◌, Bool, true, false, List, [], ◌∷◌, ◌++◌, length, map, Option, Some, refl, sym, true≢false, ap, subst, ◌∙◌, arith, if◌then◌else◌}
-use Rattle.itm_types.specs.Memory.{Agrees, IsMemory}
-use Rattle.itm_model.specs.Machine.{after, reply, undone}
-use Rattle.itm_model.specs.State.{State}
-use Rattle.user_actions.specs.Actions.{Actions}
-use Rattle.norec_core.proofs.Engines.Blocks.{none_inside}
-use Rattle.norec_core.specs.declared.answer.Answer.{Answer}
-use Rattle.norec_core.specs.declared.answer.Answer.TheVariants.{Conflict, Full}
-use Rattle.norec_core.specs.Phases.{Idle}
-use Rattle.norec_core.specs.Core.{Core, in_transaction, rolled_back}
-use Rattle.norec_core.specs.Stands.{stands_for}
-use Rattle.norec_core.specs.Undoing.{after_undoing}
-use Rattle.shared_words.specs.declared.view.View.{View}
-use Rattle.call_rules.proofs.Steps.CallsInHand.{is_memory}
-use Rattle.call_rules.specs.Served.{IsUndone, Served, Start, Went}
-use Rattle.call_rules.specs.Ties.{Stands, memory_of}
-use Rattle.itm_types.specs.declared.call.Ran.{Ran}
-use Rattle.tx_attempts.specs.Attempts.{alone}
-use Rattle.tx_attempts.proofs.ToldRuns.{telling}
-use Rattle.tx_attempts.specs.Opacity.{LacksClock, after_try, answered_all, begin_code, takes_clock}
-use Rattle.tx_attempts.specs.declared.attempt.CallRecord.{CallRecord}
+use Rattle.worker_rules.proofs.Common.{Account, Actions, Agrees, Answer, CallRecord, Conflict, Core, Course, Full, HasRun, Idle, IsMemory, IsNested, IsRunning, IsUndone, LacksClock, MayRead, Obeys, Ran, Rules, Served, Stands, Start, State, View, Went, after, after_try, after_undoing, alone, answered_all, begin_code, bytes_at, closes_as, in_transaction, is_memory, memory_of, nested_outside, none_inside, now_at, positions, reply, rolled_back, stands_for, stood, telling, undone, went_self}
+use Rattle.tx_attempts.specs.Opacity.{takes_clock}
 use Rattle.tx_attempts.specs.declared.attempt.Outcome.TheVariants as outcomes
-use Rattle.tx_player.specs.Rules.{Obeys, Rules}
 use Rattle.tx_runs.proofs.GivenUp.{given_up_as}
-use Rattle.tx_runs.proofs.Players.{nested_outside}
 use Rattle.tx_runs.proofs.Tries.{lacks_clock}
-use Rattle.tx_runs.proofs.TriesTold.{closes_as}
-use Rattle.tx_runs.specs.Nesting.{IsNested}
 use Rattle.worker_rules.proofs.Machines.ClockCalls.{wants_revocable, wants_taking}
 use Rattle.worker_rules.proofs.Runs.OpenRuns.{alone_told, arena_given_up, led, led_told, made_open, open_whole, ran_given_up, ran_standing, stood_whole, stop_ended, stop_mine, whole}
 use Rattle.worker_rules.proofs.Runs.EarlierReads.{position_read}
-use Rattle.call_rules.proofs.LaterViews.{went_self}
 use Rattle.worker_rules.proofs.Runs.LaterCommits.{known_more}
 use Rattle.worker_rules.proofs.Machines.PlainStates.{may_here, stands_actions, stands_arena, stands_mode, stands_open}
-use Rattle.worker_rules.specs.Positions.{bytes_at, positions}
-use Rattle.worker_rules.specs.Progress.{Course, HasRun, IsRunning, MayRead, now_at, stood}
-use Rattle.worker_rules.specs.Accounts.{Account}
 use Rattle.worker_rules.proofs.Shapes.{ended_at, tried}
 
 -- ## By an answer

@@ -1,9 +1,6 @@
 -- What is so of each thread's attempts is so of all.
 use Rattle.std.proofs.Common.{ℕ, ◌<◌, ◌==◌, Bool, true, false, if◌then◌else◌, All, List, [], ◌∷◌, refl, subst, eq-eqb}
-use Rattle.std.proofs.lemmas.List.Elements.{All-nil, All-cons, All-head, All-tail}
-use Rattle.tx_attempts.specs.declared.attempt.Attempt.{Attempt}
-use Rattle.tx_attempts.specs.Attempts.{of_thread}
-use Rattle.world_rules.specs.Headline.{AreOfActors}
+use Rattle.world_laws.proofs.Common.{All-cons, All-head, All-nil, All-tail, AreOfActors, Attempt, of_thread}
 
 pub of_threads : (Q : Attempt → Type 0) (n : ℕ) (xs : List Attempt) → AreOfActors n xs → ((thread : ℕ) → thread < n → All Q (of_thread thread xs)) → All Q xs
 of_threads Q n [] of each = All-nil Q

@@ -1,17 +1,11 @@
 -- Worlds whose one actor found no memory: its attempt has ended, or stays open.
-use Rattle.std.proofs.Common.{◌≡◌, [], ◌∷◌, refl}
-use Rattle.std.proofs.lemmas.List.Elements.{All-cons, All-head, All-nil}
-use Rattle.world_rules.specs.Actor.{Actor}
-use Rattle.world_rules.specs.declared.actor.Status.TheVariants.{Ended}
+use Rattle.std.proofs.Common.{◌≡◌, [], ◌∷◌, refl, Some, true}
+use Rattle.world_laws.proofs.Common.{Actor, All-cons, All-head, All-nil, Attempt, Current, Ended, IsFed, Outside, Unfinished, World, ending_at}
 use Rattle.tx_runs.specs.OpenAttempts.{Open}
-use Rattle.tx_runs.specs.declared.player_run.Current.{Current}
-use Rattle.tx_runs.specs.declared.player_run.Current.TheVariants.{Outside, Within}
-use Rattle.world_rules.specs.World.{World, ending_at}
-use Rattle.std.specs.Prelude.{Some, true}
-use Rattle.tx_attempts.specs.declared.attempt.Attempt.{Attempt}
-use Rattle.tx_attempts.specs.declared.attempt.Outcome.TheVariants.{NoMemory, Unfinished}
+use Rattle.tx_runs.specs.declared.player_run.Current.TheVariants.{Within}
+use Rattle.tx_attempts.specs.declared.attempt.Outcome.TheVariants.{NoMemory}
 use Rattle.tx_runs.specs.declared.ending.End.TheVariants as ends
-use Rattle.world_laws.specs.Starved.{IsFed, LeavesNoneOpen}
+use Rattle.world_laws.specs.Starved.{LeavesNoneOpen}
 
 module _ {P : Type 0} (w : World P) (a : Actor P) (o : Open) (row : Attempt) where
   abbrev starved : Current → Actor P

@@ -1,24 +1,11 @@
 -- Who holds the clock, as a history counts it.
 use Rattle.std.proofs.Common.{inl, inr, ◌≡◌, ℕ, zero, suc, ◌+◌, ◌<◌, ◌≤◌, Bool, true, false, true≢false, ◌&&◌, All, List, [], ◌∷◌, ◌++◌, Option, None, Some, slice_get, refl, sym, ap, ◌∙◌, arith}
-use Rattle.std.proofs.lemmas.Bool.{cases_Bool}
-use Rattle.std.proofs.lemmas.Option.{same_Some}
-use Rattle.std.proofs.lemmas.List.Elements.{All-nil, All-cons, All-head, All-tail}
-use Rattle.tx_attempts.specs.declared.attempt.Attempt.{Attempt}
-use Rattle.tx_attempts.specs.declared.attempt.Outcome.{Outcome}
-use Rattle.tx_attempts.specs.declared.attempt.Outcome.TheVariants.{Committed, ReadOnly, Cancelled, Conflict, Full, NoMemory, Unfinished}
-use Rattle.tx_attempts.specs.Attempts.{alone}
-use Rattle.tx_attempts.specs.Counts.{one_where}
+use Rattle.world_laws.proofs.Common.{Actor, All-cons, All-head, All-nil, All-tail, AreEnded, AreTied, Attempt, Committed, Full, Outcome, Rules, Unfinished, World, active_of, alone, cases_Bool, count_holding, depth_of, in_transaction, is_holding, one_where, opens, same_Some, with_open}
+use Rattle.tx_attempts.specs.declared.attempt.Outcome.TheVariants.{ReadOnly, Cancelled, Conflict, NoMemory}
 use Rattle.tx_history.specs.declared.history.History.{History}
-use Rattle.tx_history.specs.Versions.{depth_of}
-use Rattle.tx_history.specs.Legal.{count_holding, is_holding, is_unfinished, memory_at}
-use Rattle.world_rules.specs.Actor.{Actor}
-use Rattle.world_rules.specs.Rows.{AreEnded, AreFrom}
-use Rattle.world_rules.specs.Stages.{active_of, opens, with_open}
-use Rattle.world_rules.specs.Tied.{AreTied}
-use Rattle.world_rules.specs.World.{World}
+use Rattle.tx_history.specs.Legal.{is_unfinished, memory_at}
+use Rattle.world_rules.specs.Rows.{AreFrom}
 use Rattle.world_rules.proofs.Tries.Stages.{row_is_of}
-use Rattle.norec_core.specs.Core.{in_transaction}
-use Rattle.tx_player.specs.Rules.{Rules}
 
 -- ## Counts of two lists
 

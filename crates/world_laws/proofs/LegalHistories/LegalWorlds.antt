@@ -1,25 +1,8 @@
 -- The history of a world is legal.
 use Rattle.std.proofs.Common.{◌≡◌, inl, inr, get_or, ℕ, ◌/◌, ◌%◌, ◌≤◌, true, true≢false, All, List, ◌∷◌, ◌++◌, length, Some, slice_get, nat_lt, sym, ap, subst, ◌∙◌, arith, append_assoc}
-use Rattle.std.proofs.lemmas.List.Elements.{All-append}
-use Rattle.std.proofs.lemmas.Option.{same_Some}
-use Rattle.tx_attempts.specs.declared.attempt.Attempt.{Attempt}
-use Rattle.tx_attempts.specs.Attempts.{alone, of_thread}
-use Rattle.tx_attempts.specs.Counts.{count_at, count_committed, one_where}
-use Rattle.tx_history.specs.declared.history.Version.{Version}
-use Rattle.tx_history.specs.Legal.{EndsFree, EndsHeld, IsAlone, IsLegal, count_holding, is_holding}
-use Rattle.tx_history.specs.Versions.{depth_of}
-use Rattle.tx_player.specs.Rules.{Rules}
-use Rattle.world_rules.specs.Actor.{Actor}
-use Rattle.world_rules.specs.Commits.{CommitsInOrder}
-use Rattle.world_rules.specs.Headline.{AreOpaque, bytes_at, first_of}
-use Rattle.world_rules.specs.Tied.{AreTied}
-use Rattle.world_rules.specs.Stages.{active_of, opens}
-use Rattle.world_rules.proofs.Tries.Stages.{row_unfinished}
-use Rattle.norec_core.specs.Core.{in_transaction}
-use Rattle.world_rules.specs.World.{World, attempts_of, observed}
-use Rattle.world_rules.proofs.Events.Worlds.{odd_or_even}
-use Rattle.tx_runs.proofs.RunLists.{there_is}
-use Rattle.world_laws.specs.Told.{told_of}
+use Rattle.world_laws.proofs.Common.{Actor, All-append, AreOpaque, AreTied, Attempt, CommitsInOrder, Rules, Version, World, active_of, alone, attempts_of, bytes_at, count_holding, depth_of, first_of, in_transaction, is_holding, observed, odd_or_even, of_thread, one_where, opens, row_unfinished, same_Some, there_is, told_of}
+use Rattle.tx_attempts.specs.Counts.{count_at, count_committed}
+use Rattle.tx_history.specs.Legal.{EndsFree, EndsHeld, IsAlone, IsLegal}
 use Rattle.tx_history.proofs.Runs.AloneRuns.{IsPlaced, of_run}
 use Rattle.world_laws.proofs.LegalHistories.EachThread.{of_threads}
 use Rattle.world_laws.proofs.LegalHistories.Holders.{HeldBy, count_holding_both, each_open, ended_free, ended_there, irrevocable_of, none_held, one_held, placed_there, stands_among}

@@ -1,21 +1,13 @@
 -- The history of a world is within the limits of a run.
 use Rattle.std.proofs.Common.{ℕ, ◌+◌, ◌/◌, ◌<◌, ◌≤◌, All, List, [], ◌∷◌, ◌++◌, length, get_or, Some, arith}
+use Rattle.world_laws.proofs.Common.{All-cons, All-nil, AreOfActors, AreOpaque, Attempt, Rules, Version, World, attempts_of, bytes_at, first_of, observed, of_thread, there_is, told_of}
 use Rattle.std.proofs.lemmas.List.{length-replicate}
-use Rattle.std.proofs.lemmas.List.Elements.{All-nil, All-cons}
-use Rattle.tx_attempts.specs.declared.attempt.Attempt.{Attempt}
-use Rattle.tx_attempts.specs.Attempts.{of_thread}
 use Rattle.tx_history.specs.Bounds.{AreLimited, HasArenaWidth, IsLimited}
-use Rattle.tx_history.specs.declared.history.Version.{Version}
 use Rattle.tx_history.proofs.ToldRestarts.{may_tell}
 use Rattle.tx_runs.specs.Restarts.{RestartAtMost}
-use Rattle.tx_player.specs.Rules.{Rules}
 use Rattle.world_rules.specs.Dates.{AreDated}
-use Rattle.world_rules.specs.Headline.{AreOfActors, AreOpaque, bytes_at, first_of}
-use Rattle.world_rules.specs.World.{World, attempts_of, observed}
-use Rattle.tx_runs.proofs.RunLists.{there_is}
 use Rattle.tx_history.proofs.Runs.LimitedRuns.{IsOwn, own_run}
 use Rattle.world_laws.specs.Limits.{HasArenaWidths, IsLimitedWorld}
-use Rattle.world_laws.specs.Told.{told_of}
 use Rattle.world_laws.proofs.LegalHistories.EachThread.{of_threads}
 
 -- each is of an actor that there is

@@ -1,21 +1,9 @@
 -- The open attempt of an actor that found no memory is irrevocable; so there is none where no such attempt is.
 use Rattle.std.proofs.Common.{inl, inr, ◌≡◌, ℕ, Bool, true, false, All, List, [], ◌∷◌, nat_lt, None, Some, slice_get, slice_set, Result, sym, ap, subst, ◌∙◌}
-use Rattle.std.proofs.lemmas.List.Elements.{All-append, All-cons, All-nil}
-use Rattle.tx_attempts.specs.declared.attempt.Attempt.{Attempt}
-use Rattle.tx_attempts.specs.declared.attempt.Outcome.{Outcome}
+use Rattle.world_laws.proofs.Common.{Actor, All-append, All-cons, All-nil, AreEnded, Attempt, Goes, GoesOnAfter, IsEvent, IsFed, IsNew, Leads, NoMemory, Outcome, Rows, Rules, Tries, World, WorldFault, active_of, begins, between, both_ways, cases_Bool, ending_at, ending_of, is_event, none-some, opens, option_and_then, outrun, over, runs, set_place, shut_out, turned_away, waits_there}
 use Rattle.tx_attempts.specs.declared.attempt.Outcome.TheVariants as outcomes
-use Rattle.tx_player.specs.Rules.{Rules}
-use Rattle.tx_runs.specs.declared.ending.End.TheVariants.{NoMemory}
-use Rattle.world_rules.specs.Actor.{Actor}
-use Rattle.world_rules.specs.declared.fault.WorldFault.{WorldFault}
-use Rattle.world_rules.specs.Rows.{AreEnded}
-use Rattle.world_rules.specs.Starts.{IsNew}
-use Rattle.world_rules.specs.World.{is_event}
-use Rattle.world_rules.proofs.Common.{Goes, GoesOnAfter, IsEvent, Leads, Prior, Rows, Tries, TriesAgain, World, active_of, begins, between, both_ways, cases_Bool, ending_at, ending_of, none-some, option_and_then, outrun, over, runs, shut_out, turned_away}
-use Rattle.world_rules.proofs.Events.Worlds.{set_place}
-use Rattle.world_rules.proofs.Events.Worlds.{waits_there}
-use Rattle.world_rules.specs.Stages.{opens}
-use Rattle.world_laws.specs.Starved.{FedLeaveNoneOpen, IsFed}
+use Rattle.world_rules.proofs.Common.{Prior, TriesAgain}
+use Rattle.world_laws.specs.Starved.{FedLeaveNoneOpen}
 use Rattle.world_laws.proofs.LegalHistories.Holders.{each_open, placed_there}
 
 -- ## One actor

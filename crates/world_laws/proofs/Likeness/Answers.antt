@@ -1,15 +1,11 @@
 -- What comes of a call is recorded alike of two actors that are alike.
 use Rattle.std.proofs.Common.{◌≡◌, ℕ, ◌/◌, ◌++◌, refl, sym, ap, subst, ◌∙◌}
-use Rattle.world_rules.proofs.Common.{Answer, Answers, Call, Next, Records, Rows, Rules, Stage, Taken, Tells, stage_of, stand_of, tally_of, told, took_in}
-use Rattle.world_rules.specs.Actor.{Actor}
-use Rattle.world_rules.specs.declared.actor.Status.TheVariants.{Waits}
-use Rattle.norec_core.specs.declared.answer.Next.TheVariants.{Step as Steps}
+use Rattle.world_laws.proofs.Common.{Actor, Answer, Answers, AreAlike, Asks as Steps, Call, Current, Next, Outside, Rows, Rules, Tells, Waits, stage_of, tally_of, told}
+use Rattle.world_rules.proofs.Common.{Records, Stage, Taken, stand_of, took_in}
 use Rattle.world_rules.specs.Records.{status_after}
 use Rattle.world_rules.specs.Stages.{moved_to}
-use Rattle.tx_runs.specs.declared.player_run.Current.{Current}
-use Rattle.tx_runs.specs.declared.player_run.Current.TheVariants.{Outside, Begins, Within}
+use Rattle.tx_runs.specs.declared.player_run.Current.TheVariants.{Begins, Within}
 use Rattle.tx_runs.specs.Tallies.{outside, begins, within}
-use Rattle.world_laws.specs.Alike.{AreAlike}
 
 -- two actors are alike, and where the same attempts had ended the same ones have
 pub record GoAlike {P : Type 0} (r s r' s' : Rows) (a' b' : Actor P) : Type 0 where

@@ -1,18 +1,11 @@
 -- Two worlds that are the same still are after equal schedules, and after one actor has run to its end.
 use Rattle.std.proofs.Common.{◌≡◌, ℕ, zero, suc, ◌+◌, ◌<◌, cond, IsTrue, List, [], ◌∷◌, ◌++◌, count_by, length, slice_get, Option, None, Some, Result, Err, IsSome, inl, inr, refl, sym, ap, subst, ◌∙◌, arith}
-use Rattle.std.proofs.lemmas.Bool.{cases_lt}
+use Rattle.world_laws.proofs.Common.{Actor, AreAlike, Cells, End, Finished, GaveUp, Goes, Leads, NoMemory, Rules, SameWorld, Takes, World, WorldFault, cases_lt, ending_at, event_result, is_event, open_in, opens, waits_at, with_open}
 use Rattle.std.proofs.lemmas.List.Sums.{sum_by-append}
-use Rattle.world_rules.proofs.Common.{Cells, Goes, Rules, World, bytes_of, ending_at, event_result, open_in, waits_at}
-use Rattle.world_rules.specs.Actor.{Actor}
-use Rattle.world_rules.specs.Stages.{opens, with_open}
-use Rattle.world_laws.specs.Alike.{AreAlike}
-use Rattle.tx_runs.specs.declared.ending.End.{End}
-use Rattle.tx_runs.specs.declared.ending.End.TheVariants.{Finished, GaveUp, NoMemory}
-use Rattle.world_rules.specs.declared.fault.WorldFault.{WorldFault}
+use Rattle.world_rules.proofs.Common.{bytes_of}
 use Rattle.world_rules.specs.declared.fault.WorldFault.TheVariants as faults
-use Rattle.world_rules.specs.World.{is_event}
-use Rattle.world_rules.specs.WorldEvents.{Leads, Takes, is_starved}
-use Rattle.world_laws.specs.SameWorlds.{SameWorld, ShowSame}
+use Rattle.world_rules.specs.WorldEvents.{is_starved}
+use Rattle.world_laws.specs.SameWorlds.{ShowSame}
 use Rattle.world_rules.proofs.Events.WorldEvents.{waits_not_ended}
 use Rattle.world_laws.proofs.Likeness.Worlds.{waits_same, ending_same, goes_alike}
 

@@ -1,10 +1,8 @@
 -- Two actors that are alike are alike after their local work, and after an event, as long as no memory is refused.
 use Rattle.std.proofs.Common.{◌≡◌, ℕ, zero, suc, ◌<◌, false, None, Some, inl, inr, sym, ap, subst, ◌∙◌, arith}
-use Rattle.world_rules.proofs.Common.{Acts, Cells, Finished, IsEvent, NoMemory, Rows, Rules, cases_lt, ending_of, is_ready}
-use Rattle.world_rules.specs.Actor.{Actor}
-use Rattle.world_rules.specs.declared.actor.Status.TheVariants.{Ended, Ready}
-use Rattle.world_rules.specs.LocalWork.{Finishes, calls, finishes, starves, ActsOn, Works}
-use Rattle.world_laws.specs.Alike.{AreAlike}
+use Rattle.world_laws.proofs.Common.{Actor, Acts, ActsOn, AreAlike, Cells, Ended, Finished, IsEvent, NoMemory, Ready, Rows, Rules, calls, cases_lt, ending_of, finishes, starves}
+use Rattle.world_rules.proofs.Common.{is_ready}
+use Rattle.world_rules.specs.LocalWork.{Finishes, Works}
 use Rattle.world_laws.proofs.Likeness.Answers.{GoAlike}
 use Rattle.world_laws.proofs.Likeness.Calls.{step_alike, call_alike}
 

@@ -1,20 +1,11 @@
 -- An actor that has its world to itself goes on so over an event.
 use Rattle.std.proofs.Common.{◌≡◌, inl, inr, ℕ, ◌+◌, ◌/◌, ◌%◌, ◌≤◌, true, false, nat_lt, if◌then◌else◌, List, [], ◌∷◌, ◌++◌, Option, None, Some, refl, sym, ap, subst, ◌∙◌, arith, eq-eqb}
-use Rattle.world_rules.proofs.Common.{AreOfActors, Attempt, Beginning, Between, Continues, EndsAt, GoesOnAfter, IsBetween, IsRunOf, Outcome, Props, Rows, Rules, Tries, active_of, after_try, begin_of, begins, begins_at, between, bytes_at, current_of, ending_of, is_committed, is_done, of_thread, outrun, over, pending_of, prior_of, run_after, runs, shut_out, turned_away, same_Some}
-use Rattle.world_rules.specs.Actor.{Actor}
-use Rattle.world_rules.specs.declared.actor.Status.TheVariants.{Ended}
-use Rattle.tx_runs.specs.declared.ending.End.{End}
-use Rattle.tx_runs.specs.declared.ending.End.TheVariants.{Finished, GaveUp, NoMemory}
-use Rattle.world_laws.specs.Sole.{AreSole, EndsWith, IsFirstTry, IsOnWay, IsSole, StandsSole}
-use Rattle.world_laws.specs.Solo.{one_if}
+use Rattle.world_laws.proofs.Common.{Actor, AreOfActors, AreSole, Attempt, Beginning, Between, CallRecord, End, Ended, EndsWith, Finished, GaveUp, GoesOnAfter, IsFirstTry, IsIdle, IsKeptOut, IsOnWay, IsRunOf, IsSole, NoMemory, Outcome, Props, Rows, Rules, StandsSole, Tries, active_of, after_try, begin_of, begins, between, bytes_at, current_of, ending_of, is_committed, is_done, may_go, of_thread, one_if, outrun, over, pending_of, run_after, runs, same_Some, shut_out, try_begun, turned_away}
+use Rattle.world_rules.proofs.Common.{Continues, EndsAt, IsBetween, begins_at, prior_of}
 use Rattle.tx_attempts.specs.declared.attempt.Outcome.TheVariants as outcomes
 use Rattle.world_rules.proofs.Tries.ToldTries.{none_again}
 use Rattle.world_rules.specs.Tries.{EndsIt, Extends, GoesBack}
 use Rattle.tx_attempts.specs.Restarts.{open_in}
-use Rattle.tx_attempts.specs.declared.attempt.CallRecord.{CallRecord}
-use Rattle.norec_core.specs.Core.{may_go}
-use Rattle.world_laws.specs.Sole.{IsIdle, IsKeptOut}
-use Rattle.tx_runs.proofs.RunLists.{try_begun}
 
 -- ## Lists of attempts
 

@@ -1,14 +1,9 @@
 -- An engine between two calls.
 use Rattle.std.proofs.Common.{◌≡◌, ℕ, zero, suc, Bool, true, false, Some, refl, sym, ap, subst, ◌∙◌, if◌then◌else◌}
-use Rattle.world_rules.proofs.Common.{Acts, Answer, Answers, Asks, Call, Cells, Core, Ends, HasStarted, IsEvent, Next, Proceeds, Rows, Rules, Tells, after_undoing, ending_of, is_waiting, rests}
-use Rattle.world_rules.specs.Actor.{Actor}
-use Rattle.world_rules.specs.declared.actor.Status.{Status}
-use Rattle.world_rules.specs.declared.actor.Status.TheVariants.{Ready, Waits}
-use Rattle.tx_runs.specs.declared.ending.End.{End}
+use Rattle.world_laws.proofs.Common.{Actor, Acts, ActsOn, Answer, Answers, Asks, Call, Cells, Core, End, HasStarted, IsEvent, IsIdle, Next, Ready, Rows, Rules, Status, TakesIn, Tells, Waits, calls, ending_of, finishes, is_waiting, starves}
+use Rattle.world_rules.proofs.Common.{Ends, Proceeds, after_undoing, rests}
 use Rattle.norec_core.specs.Phases.{Idle}
 use Rattle.norec_core.specs.Core.{rolled_back}
-use Rattle.world_rules.specs.LocalWork.{ActsOn, TakesIn, calls, finishes, starves}
-use Rattle.world_laws.specs.Sole.{IsIdle}
 
 -- ## An answer
 

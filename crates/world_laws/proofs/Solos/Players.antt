@@ -1,16 +1,11 @@
 -- A player that runs alone, block by block.
 use Rattle.std.proofs.Common.{◌≡◌, ℕ, zero, suc, ◌+◌, ◌<◌, ◌≤◌, Bool, true, false, not, ◌&&◌, ◌||◌, nat_le, is_none, if◌then◌else◌, List, [], ◌∷◌, ◌++◌, map, Option, None, Some, refl, sym, ap, subst, ◌∙◌, arith, cond}
-use Rattle.world_rules.proofs.Common.{Begin, Beginning, Call, CallRecord, IsAlone, Obeys, Props, Rules, State, Unfinished, after, answers, both_ways, false_from_ne_true, takes_clock, answers_within, begin_code, begin_of, begin_within, cond-false, cond-true, is_open, opened, outside, pair_of, player_then, refusal, reply, same_Some, state_then, turn}
-use Rattle.tx_runs.specs.declared.ending.End.TheVariants.{Finished, GaveUp}
-use Rattle.world_laws.specs.Solo.{Progress, Solo, ended_as, one_if, row_of, solo_within, stopped, with_first}
-use Rattle.itm_types.specs.declared.call.Reply.{Reply}
-use Rattle.itm_model.specs.Runs.{state_after, unbroken}
-use Rattle.tx_attempts.specs.declared.attempt.Outcome.TheVariants.{Full}
-use Rattle.itm_types.specs.Calls.{is_abort}
-use Rattle.world_laws.specs.Solo.{entry_of, player_after, passed, before_taking, block_then, limited_then, within_limit, left_open, begun_then, aborts}
+use Rattle.world_laws.proofs.Common.{Begin, Beginning, Call, CallRecord, Finished, Full, GaveUp, IsAlone, Obeys, Progress, Props, Reply, Rules, Solo, State, Unfinished, aborts, after, and_left, and_right, answers, answers_within, before_taking, begin_code, begin_of, begin_within, both_ways, cond-false, cond-true, ended_as, false_from_ne_true, is_abort, is_open, left_open, one_if, opened, outside, pair_of, player_then, refusal, reply, row_of, same_Some, solo_within, state_then, stopped, takes_clock, turn, unbroken, with_first}
+use Rattle.itm_model.specs.Runs.{state_after}
+use Rattle.world_laws.specs.Solo.{entry_of, player_after, passed, block_then, limited_then, within_limit, begun_then}
 use Rattle.tx_attempts.proofs.AloneCalls.{asked}
 use Rattle.world_laws.proofs.Solos.TakingCalls.{goes_opened, marked_opened, marked_then, next_takes, none_takes}
-use Rattle.std.proofs.lemmas.Bool.{and_from, and_left, and_right, or_from}
+use Rattle.std.proofs.lemmas.Bool.{and_from, or_from}
 
 pub state_pairs : (deepest : ℕ) (s : State) (xs : List CallRecord) → state_after deepest s (map (λ (c : Call × Reply). c.0) (map pair_of xs)) ≡ state_then deepest unbroken s xs
 state_pairs deepest s [] = refl

@@ -1,22 +1,15 @@
 -- What a world with one actor shows is what its player does alone.
 use Rattle.std.proofs.Common.{◌≡◌, ◌⊎◌, inl, inr, ℕ, zero, suc, ◌+◌, ◌/◌, ◌%◌, ◌≤◌, Bool, true, false, ◌&&◌, ◌==◌, nat_le, if◌then◌else◌, List, [], ◌∷◌, ◌++◌, length, map, replicate, Option, None, Some, slice_get, refl, sym, ap, subst, ◌∙◌, arith, append-nil, le-leb}
+use Rattle.world_laws.proofs.Common.{Actor, Again, AreOfActors, AreOpaque, AreSole, AreTied, Attempt, Between, Call, CommitsInOrder, End, EndsAs, EndsWith, Finished, GaveUp, IsAlone, IsFirstTry, IsIdle, IsKeptOut, IsOnWay, IsRunOf, IsSole, NoMemory, Obeys, Outcome, Reply, Rules, ShowsAlone, StandsSole, State, Step, World, active_of, after, alone, and_left, and_right, answers, attempts_of, begin_code, begin_of, begin_within, both_ways, breaks_of, bytes_at, committed_at, cond-false, cond-true, current_of, ending_at, ending_of, first_of, in_transaction, is_committed, is_open, left_open, observed, odd_or_even, of_thread, one_if, open_in, opened, opens, option_and_then, pair_of, pending_of, player_then, reply, row_of, row_open, row_shut, row_unfinished, run_after, same_Some, solo_within, state_then, stopped, takes_clock, unbroken, with_all, with_first, with_open}
 use Rattle.std.proofs.lemmas.List.{map-append}
-use Rattle.std.proofs.lemmas.Bool.{and_left, and_right, lt-leb}
-use Rattle.world_rules.proofs.Common.{AreOfActors, AreOpaque, AreTied, Attempt, Between, Call, EndsAs, IsAlone, IsBeforeTry, IsRunOf, Obeys, Outcome, Row, Rules, StandsIn, State, Step, World, active_of, after, alone, answers, attempts_of, begin_code, begin_of, begin_within, both_ways, bytes_at, committed_at, cond-false, cond-true, current_of, ending_at, ending_of, observed, first_of, in_transaction, is_open, of_thread, opened, option_and_then, pair_of, pending_of, player_then, reply, run_after, same_Some, stands_for, state_then, takes_clock, CommitsInOrder, HasRow, is_committed}
-use Rattle.itm_model.specs.Runs.{gets_through, unbroken}
-use Rattle.world_rules.specs.Actor.{Actor}
-use Rattle.tx_runs.specs.declared.ending.End.{End}
-use Rattle.tx_runs.specs.declared.ending.End.TheVariants.{Finished, GaveUp, NoMemory}
-use Rattle.world_laws.specs.Sole.{AreSole, EndsWith, IsFirstTry, IsOnWay, IsSole, StandsSole}
-use Rattle.world_laws.specs.Solo.{one_if, row_of, solo_within, stopped, with_all, with_first, without_room}
-use Rattle.world_laws.specs.ShownAlone.{ShowsAlone}
-use Rattle.tx_attempts.specs.Restarts.{breaks_in, breaks_of}
+use Rattle.std.proofs.lemmas.Bool.{lt-leb}
+use Rattle.world_rules.proofs.Common.{IsBeforeTry, Row, StandsIn, stands_for, HasRow}
+use Rattle.itm_model.specs.Runs.{gets_through}
+use Rattle.world_laws.specs.Solo.{without_room}
+use Rattle.tx_attempts.specs.Restarts.{breaks_in}
 use Rattle.tx_attempts.specs.Attempts.{alone_whole, calls_of}
-use Rattle.tx_attempts.specs.declared.attempt.Again.{Again}
 use Rattle.itm_model.specs.Runs.{state_through}
-use Rattle.world_rules.proofs.Common.{open_in}
 use Rattle.tx_runs.proofs.Begins.{before_led}
-use Rattle.itm_types.specs.declared.call.Reply.{Reply}
 use Rattle.tx_attempts.specs.declared.attempt.Outcome.TheVariants as outcomes
 use Rattle.world_laws.specs.SoFar.{IsBegun, IsSoFar, IsAll}
 use Rattle.world_laws.specs.ShownAlone.{DoneBy}
@@ -25,15 +18,10 @@ use Rattle.tx_attempts.proofs.AloneCalls.{begins_alone, breaks_after, gets_none}
 use Rattle.world_laws.proofs.Solos.Players.{full_block, kept_out, open_block, no_block}
 use Rattle.world_rules.proofs.Commits.Memories.{bytes_still}
 use Rattle.tx_runs.proofs.RunLists.{run_still}
-use Rattle.world_rules.proofs.Tries.Stages.{row_open, row_shut, row_unfinished}
-use Rattle.world_rules.specs.Stages.{opens, with_open}
 use Rattle.world_laws.proofs.Solos.Events.{of_actors_first, of_thread_all}
 use Rattle.world_laws.proofs.Solos.Worlds.{even_free, even_shut}
 use Rattle.world_laws.proofs.Solos.Worlds.{HasSole}
 use Rattle.world_laws.proofs.Solos.Runs.{Arrives, IsNext, between, arrives, is_next, same_state, same_answers, same_row, made_alone}
-use Rattle.world_rules.proofs.Events.Worlds.{odd_or_even}
-use Rattle.world_laws.specs.Sole.{IsIdle, IsKeptOut}
-use Rattle.world_laws.specs.Solo.{left_open}
 use Rattle.norec_core.specs.Stands.{state_in}
 use Rattle.nest_frames.specs.Nest.{Frame}
 use Rattle.user_actions.specs.Actions.{Actions}

@@ -1,33 +1,20 @@
 -- The run of an actor that has its world to itself is what its player does alone.
 use Rattle.tx_attempts.specs.Opacity.{ran_of}
 use Rattle.std.proofs.Common.{◌≡◌, ℕ, suc, ◌+◌, ◌<◌, ◌≤◌, ◌==◌, ◌&&◌, Bool, true, false, ◌%◌, drop, nat_le, nat_lt, if◌then◌else◌, List, [], ◌∷◌, ◌++◌, length, map, replicate, take, Option, None, Some, refl, sym, ap, subst, ◌∙◌, arith, eqb-true, eq-eqb, lt-ltb, leb-true}
+use Rattle.world_laws.proofs.Common.{Abort, AreSole, Attempt, Begin, Beginning, Between, Block, Call, CallRecord, Commit, Copy, CopyPair, EndsAs, Fill, In, IsAlone, IsFirstTry, IsRunOf, Mode, Obeys, Out, Outcome, Progress, Props, Refusal, Reply, Rules, Saved, Solo, State, UndoAction, Within, Write, aborts, after, after_try, after_unless, alone, answers, answers_on, answers_through, answers_within, append-nil, back_from, begin_code, begin_of, breaks_of, bytes_at, closed_in, committed_at, effect, ended_as, entered, false_from_ne_true, irrevocable_from, is_abort, is_committed, is_done, is_open, made_irrevocable, one_if, opened, option_map, or_parts, outside, pair_of, player_then, pushed, refusal, reply, rolled_back, row_of, run_after, solo_within, source_bytes, state_then, target_written, try_begun, turn, unbroken, undone_from, with_action, with_all, with_first, written}
 use Rattle.std.proofs.Math.Nat.{add-zero}
-use Rattle.std.proofs.lemmas.Bool.{or_parts}
-use Rattle.std.proofs.lemmas.List.{append-nil, take-append-drop}
-use Rattle.world_rules.proofs.Common.{Attempt, Begin, Beginning, Between, Block, Call, ClosedBy, Commit, EndsAs, CallRecord, IsAlone, IsOpaque, IsRunOf, Obeys, Outcome, Refusal, Rules, State, Write, after, after_try, after_unless, alone, answered_all, answers, answers_within, begin_code, begin_of, bytes_at, committed_at, false_from_ne_true, follows, is_at, is_committed, is_done, is_open, memory_left, opened, outside, pair_of, player_then, Props, refusal, reply, run_after, state_then, turn}
-use Rattle.itm_model.specs.Runs.{answers_through, unbroken}
-use Rattle.tx_attempts.specs.Opacity.{answers_on}
-use Rattle.tx_attempts.specs.Restarts.{breaks_of}
-use Rattle.world_laws.specs.Sole.{AreSole, IsFirstTry}
-use Rattle.world_laws.specs.Solo.{Progress, Solo, ended_as, one_if, row_of, solo_within, with_all, with_first}
-use Rattle.itm_types.specs.declared.call.Reply.{Reply}
-use Rattle.itm_model.specs.Machine.{effect, back_from, closed_in, entered, handed, irrevocable_from, logged_in, made_irrevocable, pushed, rolled_back, with_action, source_bytes, target_written, undone_from, written}
+use Rattle.std.proofs.lemmas.List.{take-append-drop}
+use Rattle.world_rules.proofs.Common.{ClosedBy, IsOpaque, answered_all, follows, is_at, memory_left}
+use Rattle.itm_model.specs.Machine.{handed, logged_in}
 use Rattle.itm_types.specs.Access.{size_of}
-use Rattle.itm_types.specs.Calls.{is_abort}
-use Rattle.itm_types.specs.declared.call.Call.TheVariants.{Abort, Log, LogBytes, Copy, Fill, Mode, UndoAction}
-use Rattle.itm_types.specs.declared.copy.CopyPair.{CopyPair}
-use Rattle.itm_types.specs.declared.copy.CopyPair.TheVariants.{Out, In, Within}
+use Rattle.itm_types.specs.declared.call.Call.TheVariants.{Log, LogBytes}
 use Rattle.itm_types.specs.Slices.{with_slice}
-use Rattle.world_laws.specs.Solo.{aborts}
 use Rattle.tx_attempts.specs.declared.attempt.Outcome.TheVariants as outcomes
 use Rattle.tx_attempts.specs.Attempts.{replies_of}
 use Rattle.world_laws.proofs.Solos.Players.{aborts_snoc, ended_block}
 use Rattle.world_laws.proofs.Solos.TakingCalls.{in_open}
-use Rattle.itm_model.specs.State.{Saved}
-use Rattle.std.specs.Option.{option_map}
 use Rattle.itm_types.specs.declared.call.ActionKind.TheVariants as kinds
 use Rattle.itm_types.specs.KeptBytes.{also_kept, nothing}
-use Rattle.tx_runs.proofs.RunLists.{try_begun}
 
 -- ## The calls of an attempt
 

@@ -1,10 +1,7 @@
 -- A world that one player has to itself, after any schedule.
 use Rattle.std.proofs.Common.{◌≡◌, ℕ, zero, suc, List, [], ◌∷◌, ◌++◌, length, replicate, Result, refl, sym, ap, subst, ◌∙◌}
-use Rattle.world_rules.proofs.Common.{AreOpaque, AreTied, CommitsInOrder, Goes, Leads, Obeys, Rules, Takes, World, observed}
-use Rattle.world_rules.specs.declared.fault.WorldFault.{WorldFault}
+use Rattle.world_laws.proofs.Common.{AreOpaque, AreTied, CommitsInOrder, Goes, IsNew, Leads, Obeys, Rules, ShowsAlone, Takes, World, WorldFault, observed}
 use Rattle.world_rules.proofs.Events.WorldEvents.{leads_on}
-use Rattle.world_rules.specs.Starts.{IsNew}
-use Rattle.world_laws.specs.ShownAlone.{ShowsAlone}
 use Rattle.world_laws.proofs.Solos.Worlds.{HasSole, sole_first, sole_goes}
 use Rattle.world_laws.proofs.Solos.Results.{shows_alone}
 

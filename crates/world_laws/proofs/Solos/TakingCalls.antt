@@ -1,18 +1,10 @@
 -- The calls of an attempt before the first one that takes the clock.
 use Rattle.std.proofs.Common.{◌≡◌, ℕ, ◌%◌, Bool, true, false, not, ◌&&◌, ◌||◌, nat_lt, if◌then◌else◌, List, [], ◌∷◌, ◌++◌, length, map, replicate, Option, None, Some, refl, sym, ap, subst, ◌∙◌}
-use Rattle.std.proofs.lemmas.Bool.{or_left, or_parts}
-use Rattle.std.specs.Option.{option_map}
-use Rattle.world_rules.proofs.Common.{Begin, Block, Call, Commit, CallRecord, IsAlone, Props, Refusal, Rules, State, after, after_unless, append-nil, false_from_ne_true, is_open, opened, outside, pair_of, refusal, state_then, takes_clock}
-use Rattle.itm_model.specs.Runs.{unbroken}
-use Rattle.itm_types.specs.declared.call.Reply.{Reply}
+use Rattle.world_laws.proofs.Common.{Abort, Begin, Block, Call, CallRecord, Commit, Copy, CopyPair, Fill, In, IsAlone, Mode, Out, Props, Refusal, Reply, Rules, Saved, State, UndoAction, Within, Write, after, after_unless, append-nil, back_from, before_taking, closed_in, effect, entered, false_from_ne_true, irrevocable_from, is_open, made_irrevocable, opened, option_map, or_parts, outside, pair_of, pushed, refusal, rolled_back, source_bytes, state_then, takes_clock, target_written, unbroken, undone_from, with_action, written}
+use Rattle.std.proofs.lemmas.Bool.{or_left}
 use Rattle.itm_types.specs.declared.call.Refusal.TheVariants.{IsIrrevocable, NoAbort}
-use Rattle.itm_types.specs.declared.call.Call.TheVariants.{Abort, Copy, Fill, Mode, UndoAction, Write}
-use Rattle.itm_types.specs.declared.copy.CopyPair.{CopyPair}
-use Rattle.itm_types.specs.declared.copy.CopyPair.TheVariants.{Out, In, Within}
 use Rattle.itm_types.specs.declared.call.ActionKind.TheVariants as kinds
-use Rattle.itm_model.specs.State.{Saved}
-use Rattle.itm_model.specs.Machine.{abort_for, back_from, closed, closed_in, closed_irrevocable, copied, effect, with_action, entered, irrevocable_from, keeps_any, keeps_innermost, made_irrevocable, needs_open, or_else, pushed, rolled_back, source_bytes, target_written, undone_from, unless, with_undo, written}
-use Rattle.world_laws.specs.Solo.{before_taking}
+use Rattle.itm_model.specs.Machine.{abort_for, closed, closed_irrevocable, copied, keeps_any, keeps_innermost, needs_open, or_else, unless, with_undo}
 
 -- ## Irrevocable states
 

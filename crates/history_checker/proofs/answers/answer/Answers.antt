@@ -1,8 +1,5 @@
 use Rattle.std.proofs.Common.{◌≡◌, ◌<◌, ◌≤◌, List, length, get_or, ap, sym, subst, ◌∙◌, arith}
-use Rattle.std.proofs.lemmas.List.Elements.{All-get_or}
-use Rattle.itm_types.specs.declared.limits.TheConstants.{MAX_ARENA}
-use Rattle.tx_attempts.specs.declared.attempt.Attempt.{Attempt}
-use Rattle.history_checker.specs.Answers.{spot_answer}
+use Rattle.history_checker.proofs.Common.{All-get_or, Attempt, MAX_ARENA, spot_answer}
 use Rattle.history_checker.proofs.Steps.Answers.{attempt_there, no_attempt}
 use Rattle.history_checker.proofs.answers.answer.Goals as goal
 

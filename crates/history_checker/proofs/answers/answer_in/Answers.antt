@@ -1,6 +1,5 @@
 use Rattle.std.proofs.Common.{Option, subst, sym, ◌∙◌}
-use Rattle.itm_model.specs.Undoable.{Undoable}
-use Rattle.history_checker.specs.Answers.{Reaches}
+use Rattle.history_checker.proofs.Common.{Reaches, Undoable}
 use Rattle.history_checker.proofs.Steps.Answers.{answer_there, misplaced, not_reached}
 use Rattle.history_checker.proofs.answers.answer_in.Goals as goal
 

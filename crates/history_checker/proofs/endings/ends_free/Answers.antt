@@ -1,7 +1,5 @@
-use Rattle.std.proofs.Common.{◌≡◌, ℕ, Bool, ◌&&◌, ◌==◌, List, ap, ◌∙◌}
-use Rattle.std.specs.Prelude.{bytes_eq}
-use Rattle.tx_history.specs.Legal.{count_holding, memory_at}
-use Rattle.history_checker.specs.Tables.{told_holding}
+use Rattle.std.proofs.Common.{◌≡◌, ℕ, Bool, ◌&&◌, ◌==◌, List, ap, ◌∙◌, bytes_eq}
+use Rattle.history_checker.proofs.Common.{count_holding, memory_at, told_holding}
 use Rattle.history_checker.proofs.Steps.Ends.{holding_told}
 use Rattle.history_checker.proofs.endings.ends_free.Goals as goal
 

@@ -1,8 +1,5 @@
 use Rattle.std.proofs.Common.{◌≡◌, Bool, not, ◌&&◌, ◌==◌, nat_le, List, length, ap, ◌∙◌}
-use Rattle.tx_attempts.specs.declared.attempt.Attempt.{Attempt}
-use Rattle.tx_history.specs.Legal.{count_holding}
-use Rattle.history_checker.specs.Verdicts.{is_away, is_waiting}
-use Rattle.history_checker.specs.Tables.{told_away, told_holding}
+use Rattle.history_checker.proofs.Common.{Attempt, count_holding, is_away, is_waiting, told_away, told_holding}
 use Rattle.history_checker.proofs.Steps.Ends.{holding_told, away_told}
 use Rattle.history_checker.proofs.endings.ends_held.Goals as goal
 

@@ -1,5 +1,5 @@
 use Rattle.std.proofs.Common.{◌≡◌, ◌+◌, ◌≤◌, drop}
-use Rattle.history_checker.specs.Tables.{told_holding}
+use Rattle.history_checker.proofs.Common.{told_holding}
 use Rattle.history_checker.proofs.endings.holding.Given as goal
 
 abbrev pub invariant-loop-one : goal.invariant-loop-one

@@ -1,5 +1,5 @@
 use Rattle.std.proofs.Common.{◌≡◌, drop}
-use Rattle.history_checker.specs.Verdicts.{is_waiting}
+use Rattle.history_checker.proofs.Common.{is_waiting}
 use Rattle.history_checker.proofs.endings.is_waiting.Given as goal
 
 abbrev pub invariant-loop-attempt : goal.invariant-loop-attempt

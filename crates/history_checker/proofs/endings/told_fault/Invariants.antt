@@ -1,5 +1,5 @@
 use Rattle.std.proofs.Common.{◌≡◌, drop}
-use Rattle.history_checker.specs.Tables.{told_fault}
+use Rattle.history_checker.proofs.Common.{told_fault}
 use Rattle.history_checker.proofs.endings.told_fault.Given as goal
 
 abbrev pub invariant-loop-i : goal.invariant-loop-i

@@ -1,6 +1,5 @@
 use Rattle.std.proofs.Common.{ap, sym, ◌∙◌, arith}
-use Rattle.tx_attempts.specs.declared.attempt.CallRecord.{CallRecord}
-use Rattle.history_checker.specs.Replays.{is_abort_done}
+use Rattle.history_checker.proofs.Common.{CallRecord, is_abort_done}
 use Rattle.history_checker.proofs.Steps.Calls.{last_item}
 use Rattle.history_checker.proofs.replays.ends_by_abort.Goals as goal
 

@@ -1,10 +1,5 @@
 use Rattle.std.proofs.Common.{◌≡◌, ℕ, List, ap, sym, ◌∙◌, None, Some}
-use Rattle.itm_model.specs.Machine.{opened}
-use Rattle.itm_model.specs.Runs.{state_through}
-use Rattle.tx_attempts.specs.Attempts.{alone}
-use Rattle.tx_attempts.specs.Restarts.{again_at, breaks_of}
-use Rattle.history_checker.specs.declared.verdict.Fault.{Fault}
-use Rattle.history_checker.specs.Replays.{calls_fault, end_fault}
+use Rattle.history_checker.proofs.Common.{Fault, again_at, alone, breaks_of, calls_fault, end_fault, opened, state_through}
 use Rattle.history_checker.proofs.Steps.Calls.{made}
 use Rattle.history_checker.proofs.Steps.Faults.{called_fault, fault_refused, fault_early, fault_late, none_of}
 use Rattle.history_checker.proofs.replays.replay.Goals as goal

@@ -1,9 +1,5 @@
 use Rattle.std.proofs.Common.{◌≡◌, ℕ, List, None, ap, sym, ◌∙◌}
-use Rattle.std.proofs.lemmas.Bool.{cond-false, cond-true}
-use Rattle.itm_model.specs.Machine.{opened}
-use Rattle.tx_attempts.specs.Restarts.{again_at}
-use Rattle.history_checker.specs.Answers.{answer_at, answer_in}
-use Rattle.history_checker.specs.Replays.{calls_fault, may_stand}
+use Rattle.history_checker.proofs.Common.{again_at, answer_at, answer_in, calls_fault, cond-false, cond-true, may_stand, opened}
 use Rattle.history_checker.proofs.replays.replay_answer.Goals as goal
 
 pub returns-then-not-may_stand : goal.returns-then-not-may_stand

@@ -1,13 +1,5 @@
 use Rattle.std.proofs.Common.{◌≡◌, ℕ, ◌+◌, ◌-◌, ◌<◌, true, length, get_or, take, ap, sym, subst, ◌∙◌, arith}
-use Rattle.std.proofs.lemmas.Bool.{lt-ltb}
-use Rattle.itm_model.specs.State.{State}
-use Rattle.itm_model.specs.Machine.{after, is_open, reply}
-use Rattle.itm_model.specs.Runs.{state_through}
-use Rattle.itm_model.specs.Undoable.{Undoable}
-use Rattle.tx_attempts.specs.declared.attempt.Again.{Again}
-use Rattle.tx_attempts.specs.declared.attempt.CallRecord.{CallRecord}
-use Rattle.tx_attempts.specs.Restarts.{breaks_of}
-use Rattle.history_checker.specs.Matches.{same_reply}
+use Rattle.history_checker.proofs.Common.{Again, CallRecord, State, Undoable, after, breaks_of, is_open, lt-ltb, reply, same_reply, state_through}
 use Rattle.history_checker.proofs.Steps.Answers.{answered_there}
 use Rattle.history_checker.proofs.Steps.Calls.{before_stays, made}
 use Rattle.history_checker.proofs.Steps.Restarts.{IsReplayed, as_long, due_within, held_there, replayed_again, replayed_on}

@@ -1,6 +1,5 @@
 use Rattle.std.proofs.Common.{◌≡◌, ◌-◌, take}
-use Rattle.itm_model.specs.Runs.{state_through}
-use Rattle.tx_attempts.specs.Restarts.{breaks_of}
+use Rattle.history_checker.proofs.Common.{breaks_of, state_through}
 use Rattle.history_checker.proofs.Steps.Calls.{made}
 use Rattle.history_checker.proofs.Steps.Restarts.{IsReplayed}
 use Rattle.history_checker.proofs.replays.replay_calls.Given as goal

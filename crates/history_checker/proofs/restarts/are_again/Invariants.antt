@@ -1,5 +1,5 @@
 use Rattle.std.proofs.Common.{◌≡◌, drop}
-use Rattle.history_checker.specs.Replays.{are_again}
+use Rattle.history_checker.proofs.Common.{are_again}
 use Rattle.history_checker.proofs.restarts.are_again.Given as goal
 
 abbrev pub invariant-loop-again : goal.invariant-loop-again

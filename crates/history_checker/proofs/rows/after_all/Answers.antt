@@ -1,6 +1,5 @@
 use Rattle.std.proofs.Common.{◌≡◌, [], drop, sum_by, ap, arith}
-use Rattle.std.proofs.lemmas.Grind.{common_steps}
-use Rattle.history_checker.specs.Verdicts.{again_count}
+use Rattle.history_checker.proofs.Common.{again_count, common_steps}
 use Rattle.history_checker.proofs.rows.after_all.Goals as goal
 
 pub returns : goal.returns

@@ -1,5 +1,5 @@
 use Rattle.std.proofs.Common.{◌≡◌, ◌+◌, ◌≤◌, ◌-◌, ◌^◌, drop, sum_by}
-use Rattle.history_checker.specs.Verdicts.{again_count, told_row}
+use Rattle.history_checker.proofs.Common.{again_count, told_row}
 use Rattle.history_checker.proofs.rows.after_all.Given as goal
 
 abbrev pub invariant-loop-again : goal.invariant-loop-again

@@ -1,8 +1,5 @@
 use Rattle.std.proofs.Common.{◌≡◌, suc, List, [], drop, sum_by, ap, arith}
-use Rattle.std.proofs.lemmas.Grind.{common_steps}
-use Rattle.tx_attempts.specs.declared.attempt.Again.{Again}
-use Rattle.tx_attempts.specs.Restarts.{before}
-use Rattle.history_checker.specs.Verdicts.{again_count}
+use Rattle.history_checker.proofs.Common.{Again, again_count, before, common_steps}
 use Rattle.history_checker.proofs.rows.after_earlier.Goals as goal
 
 pub returns : goal.returns

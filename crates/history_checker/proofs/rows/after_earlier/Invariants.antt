@@ -1,6 +1,5 @@
 use Rattle.std.proofs.Common.{◌≡◌, suc, ◌+◌, ◌≤◌, ◌-◌, ◌^◌, drop, sum_by}
-use Rattle.tx_attempts.specs.Restarts.{before}
-use Rattle.history_checker.specs.Verdicts.{again_count, told_row}
+use Rattle.history_checker.proofs.Common.{again_count, before, told_row}
 use Rattle.history_checker.proofs.rows.after_earlier.Given as goal
 
 abbrev pub invariant-loop-again : goal.invariant-loop-again

@@ -1,6 +1,5 @@
 use Rattle.std.proofs.Common.{◌+◌, ap, ◌∙◌, arith}
-use Rattle.tx_attempts.specs.declared.attempt.Attempt.{Attempt}
-use Rattle.history_checker.specs.Verdicts.{line_count, told_row}
+use Rattle.history_checker.proofs.Common.{Attempt, line_count, told_row}
 use Rattle.history_checker.proofs.Steps.Ends.{row_next, row_last}
 use Rattle.history_checker.proofs.rows.head_row.Goals as goal
 

@@ -1,5 +1,5 @@
 use Rattle.std.proofs.Common.{◌≡◌, ◌≤◌}
-use Rattle.history_checker.specs.Verdicts.{head_row, told_row}
+use Rattle.history_checker.proofs.Common.{head_row, told_row}
 use Rattle.history_checker.proofs.rows.head_row.Given as goal
 
 abbrev pub invariant-loop-i : goal.invariant-loop-i

@@ -1,5 +1,5 @@
 use Rattle.std.proofs.Common.{◌≡◌, drop}
-use Rattle.history_checker.specs.Verdicts.{at_fault}
+use Rattle.history_checker.proofs.Common.{at_fault}
 use Rattle.history_checker.proofs.tables.beyond.Given as goal
 
 abbrev pub invariant-loop-i : goal.invariant-loop-i

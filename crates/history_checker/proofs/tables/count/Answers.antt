@@ -1,7 +1,5 @@
 use Rattle.std.proofs.Common.{◌≡◌, get_or, ap, ◌∙◌, arith}
-use Rattle.tx_attempts.specs.declared.attempt.Attempt.{Attempt}
-use Rattle.tx_attempts.specs.Attempts.{is_committed}
-use Rattle.tx_attempts.specs.Counts.{one_where}
+use Rattle.history_checker.proofs.Common.{Attempt, is_committed, one_where}
 use Rattle.history_checker.proofs.Steps.Tables.{count_next}
 use Rattle.history_checker.proofs.tables.count.Goals as goal
 

@@ -1,5 +1,5 @@
 use Rattle.std.proofs.Common.{◌≡◌, ◌≤◌, take}
-use Rattle.tx_attempts.specs.Counts.{count_committed}
+use Rattle.history_checker.proofs.Common.{count_committed}
 use Rattle.history_checker.proofs.tables.count.Given as goal
 
 abbrev pub invariant-loop-attempt : goal.invariant-loop-attempt

@@ -1,8 +1,5 @@
 use Rattle.std.proofs.Common.{◌≡◌, ◌+◌, ◌++◌, [], ◌∷◌, ℕ, true, false, List, Option, None, Some, get_or, ap, sym, ◌∙◌, arith, subst, Vec, Global, vec_capacity}
-use Rattle.std.proofs.Math.ListN.{set}
-use Rattle.tx_attempts.specs.declared.attempt.Attempt.{Attempt}
-use Rattle.tx_attempts.specs.Attempts.{is_committed}
-use Rattle.history_checker.specs.Tables.{AreLinks}
+use Rattle.history_checker.proofs.Common.{AreLinks, Attempt, is_committed, set}
 use Rattle.history_checker.proofs.Steps.Tables.{links_same, links_next, none_beyond, seen_within}
 use Rattle.history_checker.proofs.tables.link.Goals as goal
 use Rattle.history_checker.proofs.tables.link.Goals.{then-is_committed, else-is_committed}

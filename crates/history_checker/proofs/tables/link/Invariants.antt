@@ -1,5 +1,5 @@
 use Rattle.std.proofs.Common.{◌≤◌, length, vec_capacity}
-use Rattle.history_checker.specs.Tables.{AreLinks}
+use Rattle.history_checker.proofs.Common.{AreLinks}
 use Rattle.history_checker.proofs.tables.link.Given as goal
 
 abbrev pub invariant-loop-i : goal.invariant-loop-i

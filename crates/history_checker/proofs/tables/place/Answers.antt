@@ -1,11 +1,6 @@
-use Rattle.std.proofs.Common.{◌≡◌, ◌+◌, ◌||◌, ℕ, true, false, List, Option, None, Some, nat_le, is_some, length, take, get_or, ap, sym, ◌∙◌, subst}
-use Rattle.tx_attempts.specs.declared.attempt.Attempt.{Attempt}
-use Rattle.tx_attempts.specs.Attempts.{is_committed}
-use Rattle.history_checker.specs.declared.verdict.Fault.{Fault}
-use Rattle.history_checker.specs.Tables.{AreSlots}
+use Rattle.std.proofs.Common.{◌≡◌, ◌+◌, ◌||◌, ℕ, true, false, List, Option, None, Some, nat_le, is_some, length, take, get_or, ap, sym, ◌∙◌, subst, Vec, Global}
+use Rattle.history_checker.proofs.Common.{AreSlots, Attempt, Fault, is_committed, set}
 use Rattle.history_checker.proofs.Steps.Tables.{position_next, position_here, slots_same, slots_next, placed_free, misplaced_here, unplaced_here}
-use Rattle.std.proofs.Math.ListN.{set}
-use Rattle.std.proofs.Common.{Vec, Global}
 use Rattle.history_checker.proofs.tables.place.Goals as goal
 use Rattle.history_checker.proofs.tables.place.Goals.{then-is_committed+else-is_taken, else-is_committed}
 

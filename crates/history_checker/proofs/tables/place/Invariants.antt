@@ -1,6 +1,5 @@
 use Rattle.std.proofs.Common.{◌≡◌, [], take, drop}
-use Rattle.history_checker.specs.Verdicts.{position_fault}
-use Rattle.history_checker.specs.Tables.{AreSlots}
+use Rattle.history_checker.proofs.Common.{AreSlots, position_fault}
 use Rattle.history_checker.proofs.tables.place.Given as goal
 
 abbrev pub invariant-loop-i : goal.invariant-loop-i

@@ -1,11 +1,5 @@
-use Rattle.std.proofs.Common.{◌≡◌, ◌≤◌, ℕ, None, Option, ap, arith, subst, sym, ◌∙◌}
-use Rattle.std.specs.Prelude.{is_none, nat_le}
-use Rattle.std.proofs.lemmas.Bool.{and_from, le-leb}
-use Rattle.itm_model.specs.Undoable.{Undoable}
-use Rattle.tx_attempts.specs.Counts.{count_committed}
-use Rattle.tx_history.specs.Legal.{memory_at}
-use Rattle.history_checker.specs.declared.verdict.Spot.{Spot}
-use Rattle.history_checker.specs.Verdicts.{committed_fault}
+use Rattle.std.proofs.Common.{◌≡◌, ◌≤◌, ℕ, None, Option, ap, arith, subst, sym, ◌∙◌, is_none, nat_le}
+use Rattle.history_checker.proofs.Common.{Spot, Undoable, and_from, committed_fault, count_committed, le-leb, memory_at}
 use Rattle.history_checker.proofs.Steps.Answers.{second_fails, some_is_not_none}
 use Rattle.history_checker.proofs.Steps.Ends.{committed_first}
 use Rattle.history_checker.proofs.walk.reach.Goals as goal

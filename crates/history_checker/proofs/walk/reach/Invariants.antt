@@ -1,6 +1,5 @@
 use Rattle.std.proofs.Common.{◌≡◌, None}
-use Rattle.history_checker.specs.Verdicts.{committed_fault}
-use Rattle.history_checker.specs.Tables.{IsRest}
+use Rattle.history_checker.proofs.Common.{IsRest, committed_fault}
 use Rattle.history_checker.proofs.walk.reach.Given as goal
 
 abbrev pub invariant-loop-position : goal.invariant-loop-position

@@ -1,5 +1,5 @@
 use Rattle.std.proofs.Common.{sym, ◌∙◌, arith}
-use Rattle.tx_attempts.specs.Counts.{count_committed}
+use Rattle.history_checker.proofs.Common.{count_committed}
 use Rattle.history_checker.proofs.Steps.Ends.{committed_first}
 use Rattle.history_checker.proofs.walk.walk_all.Goals as goal
 

@@ -1,6 +1,5 @@
 use Rattle.std.proofs.Common.{◌≡◌, length, None}
-use Rattle.history_checker.specs.Verdicts.{committed_fault}
-use Rattle.history_checker.specs.Tables.{AreTold, IsRest}
+use Rattle.history_checker.proofs.Common.{AreTold, IsRest, committed_fault}
 use Rattle.history_checker.proofs.walk.walk_all.Given as goal
 
 abbrev pub invariant-loop-position : goal.invariant-loop-position

@@ -1,12 +1,6 @@
 use Rattle.std.proofs.Common.{◌≡◌, ◌≤◌, List, [], None, Some, length, get_or, ap, sym, subst, ◌∙◌, arith}
-use Rattle.std.proofs.lemmas.List.Elements.{All-get_or}
-use Rattle.itm_types.specs.declared.limits.TheConstants.{MAX_ARENA}
-use Rattle.tx_attempts.specs.declared.attempt.Attempt.{Attempt}
-use Rattle.tx_attempts.specs.Attempts.{alone, committed_at, is_committed, memory_left}
-use Rattle.tx_history.specs.Legal.{memory_at}
-use Rattle.tx_history.specs.Versions.{depth_of}
-use Rattle.history_checker.specs.Replays.{fault_in}
-use Rattle.history_checker.specs.Verdicts.{at_place}
+use Rattle.history_checker.proofs.Common.{All-get_or, Attempt, MAX_ARENA, alone, at_place, committed_at, depth_of, fault_in, is_committed, memory_at}
+use Rattle.tx_attempts.specs.Attempts.{memory_left}
 use Rattle.history_checker.proofs.Steps.Walks.{found_in, found_none, found_there, place_none}
 use Rattle.history_checker.proofs.walk.walk_committed.Goals as goal
 

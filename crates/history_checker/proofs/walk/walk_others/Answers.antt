@@ -1,12 +1,5 @@
 use Rattle.std.proofs.Common.{◌≡◌, ◌<◌, ◌≤◌, ℕ, suc, List, Option, None, length, take, get_or, ap, sym, subst, ◌∙◌, arith}
-use Rattle.std.proofs.Math.ListN.{set}
-use Rattle.std.proofs.lemmas.List.Elements.{All-get_or}
-use Rattle.itm_types.specs.declared.limits.TheConstants.{MAX_ARENA}
-use Rattle.tx_attempts.specs.declared.attempt.Attempt.{Attempt}
-use Rattle.tx_history.specs.Legal.{memory_at}
-use Rattle.tx_history.specs.Versions.{depth_of}
-use Rattle.history_checker.specs.declared.replays.Told.{Told}
-use Rattle.history_checker.specs.Tables.{last_other, told_on}
+use Rattle.history_checker.proofs.Common.{All-get_or, Attempt, MAX_ARENA, Told, depth_of, last_other, memory_at, set, told_on}
 use Rattle.history_checker.proofs.Steps.Walks.{IsNext, next_in, next_is, next_then, next_none, fewer_left, left_of}
 use Rattle.history_checker.proofs.walk.walk_others.Goals as goal
 

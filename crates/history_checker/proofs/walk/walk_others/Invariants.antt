@@ -1,4 +1,4 @@
-use Rattle.history_checker.specs.Tables.{IsRest}
+use Rattle.history_checker.proofs.Common.{IsRest}
 use Rattle.history_checker.proofs.Steps.Walks.{IsNext, left_of}
 use Rattle.history_checker.proofs.walk.walk_others.Given as goal
 

@@ -1,9 +1,5 @@
 use Rattle.std.proofs.Common.{Option, ap, subst, sym, ◌∙◌}
-use Rattle.itm_types.specs.declared.call.Reply.{Reply}
-use Rattle.tx_attempts.specs.Counts.{count_committed}
-use Rattle.history_checker.specs.declared.verdict.Spot.{Spot}
-use Rattle.history_checker.specs.Answers.{HasReason, spot_answer}
-use Rattle.history_checker.specs.Verdicts.{first_fault}
+use Rattle.history_checker.proofs.Common.{HasReason, Reply, Spot, count_committed, first_fault, spot_answer}
 use Rattle.history_checker.proofs.Legality.Reasons.{reason_of}
 use Rattle.history_checker.proofs.whole.explain.Goals as goal
 

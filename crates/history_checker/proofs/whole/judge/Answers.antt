@@ -1,11 +1,5 @@
 use Rattle.std.proofs.Common.{◌≡◌, ℕ, List, Option, None, Some, ap, sym, ◌∙◌, length, map, suc}
-use Rattle.tx_attempts.specs.declared.attempt.Attempt.{Attempt}
-use Rattle.tx_attempts.specs.Counts.{count_committed}
-use Rattle.tx_history.specs.declared.history.History.{History}
-use Rattle.history_checker.specs.declared.replays.Told.{Told}
-use Rattle.history_checker.specs.declared.verdict.Spot.{Spot}
-use Rattle.history_checker.specs.Verdicts.{at_fault, others_fault}
-use Rattle.history_checker.specs.Tables.{AreTold, told_fault, told_of}
+use Rattle.history_checker.proofs.Common.{AreTold, Attempt, History, Spot, Told, at_fault, count_committed, others_fault, told_fault, told_of}
 use Rattle.history_checker.proofs.Steps.Ends.{all_told, others_told}
 use Rattle.history_checker.proofs.Steps.Verdicts.{bad_position, bad_beyond, bad_committed, bad_other, beyond_is, told_final, first_position, first_beyond, first_committed, first_other}
 use Rattle.history_checker.proofs.whole.judge.Goals as goal

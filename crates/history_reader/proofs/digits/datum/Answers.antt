@@ -1,9 +1,5 @@
 use Rattle.std.proofs.Common.{Ok, Result, List, ℕ, ap, ◌∙◌, sym}
-use Rattle.itm_types.specs.Access.{size_of}
-use Rattle.itm_types.specs.declared.datum.Datum.{Datum}
-use Rattle.script_fields.specs.declared.fault.AsmKind.{AsmKind}
-use Rattle.script_fields.specs.Operands.{◌>>=◌}
-use Rattle.history_reader.specs.Digits.{datum, datum_of}
+use Rattle.history_reader.proofs.Common.{AsmKind, Datum, datum, datum_of, size_of, ◌>>=◌}
 use Rattle.history_reader.proofs.Values.{same_datum, low_is}
 use Rattle.history_reader.proofs.digits.datum.Goals as goal
 

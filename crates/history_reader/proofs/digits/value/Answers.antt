@@ -1,7 +1,5 @@
 use Rattle.std.proofs.Common.{Ok, List, ℕ, ap, ◌∙◌, sym, ◌≡◌, ◌/◌, ◌++◌, length}
-use Rattle.itm_types.specs.Access.{size_of}
-use Rattle.script_fields.specs.Operands.{decoded}
-use Rattle.history_reader.specs.Digits.{sized}
+use Rattle.history_reader.proofs.Common.{decoded, size_of, sized}
 use Rattle.history_reader.proofs.Values.{said_into}
 use Rattle.history_reader.proofs.digits.value.Goals as goal
 

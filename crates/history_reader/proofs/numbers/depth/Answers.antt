@@ -1,11 +1,5 @@
 use Rattle.std.proofs.Common.{◌≡◌, ℕ, ◌≤◌, Result, Ok, ap, sym, ◌∙◌, arith}
-use Rattle.itm_types.specs.declared.limits.Depth.{Depth}
-use Rattle.itm_types.specs.declared.limits.TheConstants.{MAX_DEPTH}
-use Rattle.script_fields.specs.declared.fault.AsmKind.{AsmKind}
-use Rattle.script_fields.specs.Operands.{◌>>=◌}
-use Rattle.tx_history.specs.Depths.{depth_from}
-use Rattle.tx_history.proofs.SameDepths.{near_is, same_depth}
-use Rattle.history_reader.specs.Numbers.{depth, ranged}
+use Rattle.history_reader.proofs.Common.{AsmKind, Depth, MAX_DEPTH, depth, depth_from, near_is, ranged, same_depth, ◌>>=◌}
 use Rattle.history_reader.proofs.numbers.depth.Goals as goal
 
 pub returns : goal.returns

@@ -1,8 +1,5 @@
 use Rattle.std.proofs.Common.{◌≡◌, ◌+◌, ◌≤◌, length}
-use Rattle.std.specs.List.{slice_split}
-use Rattle.script_fields.specs.Text.{is_feed}
-use Rattle.history_reader.specs.Lines.{initial}
-use Rattle.history_reader.specs.Reading.{parts_say}
+use Rattle.history_reader.proofs.Common.{initial, is_feed, parts_say, slice_split}
 use Rattle.history_reader.proofs.RoundTrips.ReadLines.{HasRead}
 use Rattle.history_reader.proofs.whole.read_lines.Given as goal
 

@@ -1,9 +1,7 @@
-use Rattle.std.proofs.Common.{◌≡◌, ◌≤◌, ◌+◌, ℕ, length, ap, sym, subst, ◌∙◌, rules}
+use Rattle.std.proofs.Common.{◌≡◌, ◌≤◌, ◌+◌, ℕ, length, ap, sym, subst, ◌∙◌, rules, Bool, true, false, not, get_or, refl, nat_eq}
+use Rattle.itm_model.proofs.Common.{Old, slice}
 use Rattle.std.proofs.lemmas.Slice.Eq.{bytes_eq-Decides}
-use Rattle.std.proofs.Common.{Bool, true, false, not, get_or, refl, nat_eq}
 use Rattle.std.specs.Cmp.Lexicographic.{pointwise}
-use Rattle.itm_types.specs.Slices.{slice}
-use Rattle.itm_model.specs.declared.journal.Old.{Old}
 use Rattle.itm_model.proofs.Journals.Rollbacks.{length-put_back}
 use Rattle.itm_model.proofs.Journals.LaidBytes.{laid_again, laid_nothing, within_at}
 use Rattle.itm_model.proofs.journal.is_laid.Goals as goal

@@ -1,7 +1,5 @@
 use Rattle.std.proofs.Common.{◌≡◌, ◌≤◌, ◌-◌, List, length, min, ap, subst, sym, arith, rules}
-use Rattle.std.proofs.lemmas.Grind.{div_ceil_times}
-use Rattle.itm_model.specs.Undoing.{AreWithin, Logged}
-use Rattle.itm_model.specs.declared.journal.Old.{Old}
+use Rattle.itm_model.proofs.Common.{AreWithin, Logged, Old, div_ceil_times}
 use Rattle.itm_model.proofs.Journals.KeptLogs.{logged_none, logged_more}
 use Rattle.itm_model.proofs.journal.keep.Goals as goal
 

@@ -1,5 +1,5 @@
 use Rattle.std.proofs.Common.{◌+◌, ◌*◌, ◌-◌, ◌≤◌, length, vec_len, vec_capacity}
-use Rattle.itm_model.specs.Undoing.{AreWithin, Logged}
+use Rattle.itm_model.proofs.Common.{AreWithin, Logged}
 use Rattle.itm_model.proofs.journal.keep.Given as goal
 
 abbrev pub invariant-loop-done : goal.invariant-loop-done

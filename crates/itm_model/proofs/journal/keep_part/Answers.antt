@@ -1,6 +1,5 @@
 use Rattle.std.proofs.Common.{◌≡◌, ℕ, [], ◌∷◌, ◌++◌, length, ap, sym, subst, refl, ◌∙◌, arith}
-use Rattle.itm_model.specs.Undoing.{AreWithin, Logged}
-use Rattle.itm_model.specs.declared.journal.Old.{Old}
+use Rattle.itm_model.proofs.Common.{AreWithin, Logged, Old}
 use Rattle.itm_model.proofs.Journals.Rollbacks.{length-slice, AreWithin-append}
 use Rattle.itm_model.proofs.Journals.KeptLogs.{logged_one}
 use Rattle.itm_model.proofs.journal.keep_part.Goals as goal

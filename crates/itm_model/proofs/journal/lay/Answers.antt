@@ -1,6 +1,5 @@
 use Rattle.std.proofs.Common.{◌≡◌, ◌≤◌, ◌+◌, ℕ, length, drop, ap, sym, subst, ◌∙◌, arith, rules}
-use Rattle.itm_types.specs.Slices.{slice, with_slice}
-use Rattle.itm_model.specs.declared.journal.Old.{Old}
+use Rattle.itm_model.proofs.Common.{Old, slice, with_slice}
 use Rattle.itm_model.proofs.Journals.Rollbacks.{length-put_back, length-slice, length-with_slice}
 use Rattle.itm_model.proofs.Journals.LaidBytes.{laid_over, laid_one, laid_again, laid_next, within_at}
 use Rattle.itm_model.proofs.journal.lay.Goals as goal

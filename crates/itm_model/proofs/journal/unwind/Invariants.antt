@@ -1,5 +1,5 @@
 use Rattle.std.proofs.Common.{◌≤◌, ◌≡◌, length, take}
-use Rattle.itm_model.specs.Undoing.{AreWithin, Restores}
+use Rattle.itm_model.proofs.Common.{AreWithin, Restores}
 use Rattle.itm_model.proofs.journal.unwind.Given as goal
 
 abbrev pub invariant-loop-journal : goal.invariant-loop-journal

@@ -1,7 +1,5 @@
 use Rattle.std.proofs.Common.{◌≡◌, ◌<◌, ◌+◌, ◌-◌, ℕ, length, take, set, sym, subst, ◌∙◌, arith}
-use Rattle.std.proofs.lemmas.List.{length-set}
-use Rattle.itm_model.specs.declared.journal.Old.{Old}
-use Rattle.itm_model.specs.Pieces.{AreAmong, AreNewest, piece_of}
+use Rattle.itm_model.proofs.Common.{AreAmong, AreNewest, Old, length-set, piece_of}
 use Rattle.itm_model.proofs.Journals.NewestEntries.{among_at, newest_forgotten}
 use Rattle.itm_model.proofs.pieces.forget.Goals as goal
 

@@ -1,5 +1,5 @@
 use Rattle.std.proofs.Common.{◌≡◌, ◌≤◌, length, take}
-use Rattle.itm_model.specs.Pieces.{AreNewest}
+use Rattle.itm_model.proofs.Common.{AreNewest}
 use Rattle.itm_model.proofs.pieces.forget.Given as goal
 
 abbrev pub invariant-loop-left : goal.invariant-loop-left

@@ -1,6 +1,5 @@
 use Rattle.std.proofs.Common.{ℕ, List, length, take, drop, refl, sym, subst, arith}
-use Rattle.itm_model.specs.declared.journal.Old.{Old}
-use Rattle.itm_model.specs.Pieces.{AreAmong, AreNewest}
+use Rattle.itm_model.proofs.Common.{AreAmong, AreNewest, Old}
 use Rattle.itm_model.proofs.Journals.NewestEntries.{among_drop}
 use Rattle.itm_model.proofs.pieces.hand_on.Goals as goal
 

@@ -1,11 +1,8 @@
 use Rattle.std.proofs.Common.{◌≡◌, ◌≤◌, ◌<◌, ◌+◌, ℕ, suc, inl, inr, List, [], ◌∷◌, ◌++◌, length, take, drop, get_or, set, ap, sym, subst, ◌∙◌, arith}
+use Rattle.itm_model.proofs.Common.{AreAmong, AreNewest, Old, cases_eq, common_steps, get_or-set_other, get_or-set_same, get_or_default, length-set, length-take-le, piece_of}
 use Rattle.std.specs.List.{swap}
-use Rattle.std.proofs.lemmas.Bool.{cases_eq}
-use Rattle.std.proofs.lemmas.Grind.{common_steps}
-use Rattle.std.proofs.lemmas.List.{take_more_set, take-set-le, drop_more, length-take-le, get_or-set_same, get_or-set_other, get_or_default, length-set}
+use Rattle.std.proofs.lemmas.List.{take_more_set, take-set-le, drop_more}
 use Rattle.std.proofs.lemmas.List.Edits.{swap_is}
-use Rattle.itm_model.specs.declared.journal.Old.{Old}
-use Rattle.itm_model.specs.Pieces.{AreAmong, AreNewest, piece_of}
 use Rattle.itm_model.proofs.Journals.NewestEntries.{newest_pushed}
 use Rattle.itm_model.proofs.pieces.hand_on_one.Goals as goal
 

@@ -1,8 +1,5 @@
 use Rattle.std.proofs.Common.{◌≡◌, ◌≤◌, ◌<◌, ◌+◌, ◌*◌, ℕ, suc, List, [], ◌∷◌, ◌++◌, length, drop, set, ap, sym, subst, ◌∙◌, arith}
-use Rattle.std.proofs.lemmas.List.{get_or_default}
-use Rattle.itm_model.specs.declared.journal.Old.{Old}
-use Rattle.itm_model.specs.Undoing.{Restores, put_back}
-use Rattle.itm_model.specs.Pieces.{IsIndexed, IsPiece, newest_in, piece_of}
+use Rattle.itm_model.proofs.Common.{IsIndexed, IsPiece, Old, Restores, get_or_default, newest_in, piece_of, put_back}
 use Rattle.itm_model.proofs.Journals.Rollbacks.{length-slice}
 use Rattle.itm_model.proofs.Journals.CoveredBytes.{own_slice}
 use Rattle.itm_model.proofs.Journals.NewestEntries.{indexed_push, newest_of_it}

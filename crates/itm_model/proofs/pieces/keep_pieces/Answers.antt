@@ -1,7 +1,5 @@
 use Rattle.std.proofs.Common.{◌≡◌, ◌≤◌, ◌<◌, ◌+◌, ◌/◌, ◌*◌, ℕ, inl, inr, length, subst, ◌∙◌, arith}
-use Rattle.std.proofs.lemmas.Bool.{cases_lt}
-use Rattle.std.proofs.lemmas.Grind.{div_ceil_times}
-use Rattle.itm_model.specs.Pieces.{newest_in}
+use Rattle.itm_model.proofs.Common.{cases_lt, div_ceil_times, newest_in}
 use Rattle.itm_model.proofs.Journals.NewestEntries.{adds_more, adds_longer, adds_newest, newest_covers}
 use Rattle.itm_model.proofs.pieces.keep_pieces.Goals as goal
 

@@ -1,8 +1,6 @@
 use Rattle.std.proofs.Common.{[], ◌∷◌, refl, sym, ◌∙◌}
-use Rattle.itm_types.specs.declared.step.Step.TheVariants.{Load}
-use Rattle.norec_core.specs.declared.answer.Next.TheVariants.{Step as Asks}
+use Rattle.itm_runtime.proofs.Common.{Asks, Load, view_of}
 use Rattle.norec_engine.proofs.BlockSteps.{closed_of}
-use Rattle.shared_words.specs.Passes.{view_of}
 use Rattle.call_rules.proofs.Steps.ClockLooks.{clock_fits, clock_within, may_look}
 use Rattle.itm_runtime.proofs.blocks.begin_block.Goals as goal
 

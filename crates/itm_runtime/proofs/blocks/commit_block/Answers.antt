@@ -1,13 +1,6 @@
 use Rattle.std.proofs.Common.{◌+◌, false, inr, subst, sym}
-use Rattle.itm_types.specs.declared.call.Call.TheVariants.{Commit}
-use Rattle.itm_types.specs.declared.step.Step.TheVariants.{Cas}
-use Rattle.norec_core.specs.Core.{Core}
-use Rattle.norec_core.specs.declared.answer.Next.TheVariants.{Step as Asks}
-use Rattle.norec_engine.specs.BlockSteps.{exchanging}
-use Rattle.shared_words.specs.Passes.{view_of}
-use Rattle.call_rules.specs.Underway.{Finds}
+use Rattle.itm_runtime.proofs.Common.{Asks, Cas, Commit, Core, Finds, exchanging, starts, view_of}
 use Rattle.call_rules.proofs.Steps.FurtherSteps.{found_finishes}
-use Rattle.call_rules.proofs.Steps.StepChains.{starts}
 use Rattle.itm_runtime.proofs.blocks.commit_block.Goals as goal
 
 pub commit_at_once-requires : goal.commit_at_once-requires

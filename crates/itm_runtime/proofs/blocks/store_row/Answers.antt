@@ -1,12 +1,7 @@
 use Rattle.std.proofs.Common.{◌≡◌, ℕ, suc, ◌+◌, ◌∙◌, [], ◌∷◌, Option, Some, IfNone, IfSome, add-one, refl, subst, sym, arith}
-use Rattle.itm_types.specs.declared.step.Step.{Step}
-use Rattle.itm_types.specs.declared.step.Step.TheVariants.{Load, Store}
+use Rattle.itm_runtime.proofs.Common.{Asks, InCall, Load, Step, Store, cell_within, cells_of, exchanging, goes, got_there, lawful_of, next_step, storing, view_of}
 use Rattle.norec_core.specs.Rows.{value_into, write_at}
-use Rattle.norec_core.specs.declared.answer.Next.TheVariants.{Step as Asks}
-use Rattle.norec_engine.specs.BlockSteps.{IsWhole, exchanging, merging, next_step, part_store, storing}
-use Rattle.shared_words.specs.Passes.{cells_of, view_of}
-use Rattle.call_rules.specs.InCall.{InCall}
-use Rattle.call_rules.proofs.Steps.StepChains.{cell_within, goes, got_there, lawful_of}
+use Rattle.norec_engine.specs.BlockSteps.{IsWhole, merging, part_store}
 use Rattle.itm_runtime.proofs.blocks.store_row.Goals as goal
 
 same_store : (cell word value stored : ℕ) → cell ≡ word + 1 → value ≡ stored → Store (suc word) stored ≡ Store cell value

@@ -1,13 +1,5 @@
 use Rattle.std.proofs.Common.{◌≡◌, ℕ, [], ◌++◌, length, refl, subst, arith}
-use Rattle.itm_types.specs.declared.step.Step.{Step}
-use Rattle.itm_types.specs.declared.step.Step.TheVariants.{Store}
-use Rattle.norec_core.specs.declared.answer.Next.TheVariants.{Step as Asks}
-use Rattle.norec_engine.specs.BlockSteps.{exchanging, next_step, storing}
-use Rattle.shared_words.specs.Passes.{cells_of, view_of}
-use Rattle.call_rules.specs.Drives.{LeadsOn}
-use Rattle.call_rules.specs.InCall.{InCall}
-use Rattle.call_rules.proofs.Steps.DrivenCalls.{due_on, leads_further}
-use Rattle.call_rules.proofs.Steps.StepChains.{cell_within, lawful_of}
+use Rattle.itm_runtime.proofs.Common.{Asks, InCall, LeadsOn, Step, Store, cell_within, cells_of, due_on, exchanging, lawful_of, leads_further, next_step, storing, view_of}
 use Rattle.itm_runtime.proofs.blocks.store_rows.Goals as goal
 
 pub loop-row-init : goal.loop-row-init

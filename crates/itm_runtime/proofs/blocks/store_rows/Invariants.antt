@@ -1,11 +1,6 @@
 use Rattle.std.proofs.Common.{◌≡◌, ◌≤◌, ◌-◌, List, ℕ, length}
-use Rattle.itm_types.specs.declared.step.Step.{Step}
-use Rattle.norec_core.specs.declared.answer.Next.TheVariants.{Step as Asks}
-use Rattle.norec_engine.specs.BlockSteps.{StoresRows, WritesBack, exchanging, next_step, storing}
-use Rattle.shared_words.specs.Passes.{cells_of, Owns, view_of}
-use Rattle.call_rules.specs.Drives.{LeadsOn}
-use Rattle.call_rules.specs.InCall.{InCall}
-use Rattle.call_rules.specs.Served.{Start}
+use Rattle.itm_runtime.proofs.Common.{Asks, InCall, LeadsOn, Owns, Start, Step, cells_of, exchanging, next_step, storing, view_of}
+use Rattle.norec_engine.specs.BlockSteps.{StoresRows, WritesBack}
 use Rattle.itm_runtime.proofs.blocks.store_rows.Given as goal
 
 abbrev pub invariant-loop-row : goal.invariant-loop-row

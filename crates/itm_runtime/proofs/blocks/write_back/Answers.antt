@@ -1,11 +1,6 @@
 use Rattle.std.proofs.Common.{◌≡◌, ℕ, ◌+◌, ◌∙◌, [], ◌∷◌, ap, refl, subst, sym, arith}
-use Rattle.itm_types.specs.declared.step.Step.TheVariants.{Cas}
-use Rattle.norec_core.specs.declared.answer.Next.TheVariants.{Step as Asks}
+use Rattle.itm_runtime.proofs.Common.{Asks, Cas, InCall, cell_within, cells_of, exchanging, goes, lawful_of, next_step, storing, view_of}
 use Rattle.norec_core.specs.Moves.{IsResumed}
-use Rattle.norec_engine.specs.BlockSteps.{exchanging, next_step, storing}
-use Rattle.shared_words.specs.Passes.{cells_of, view_of}
-use Rattle.call_rules.specs.InCall.{InCall}
-use Rattle.call_rules.proofs.Steps.StepChains.{cell_within, goes, lawful_of}
 use Rattle.itm_runtime.proofs.blocks.write_back.Goals as goal
 
 pub step-found-requires : goal.step-found-requires

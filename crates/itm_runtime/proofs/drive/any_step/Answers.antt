@@ -1,6 +1,6 @@
 use Rattle.std.proofs.Common.{[], ◌∷◌, refl}
-use Rattle.shared_words.specs.Passes.{view_of, cells_of}
-use Rattle.call_rules.proofs.Steps.StepChains.{lawful_of, cell_within, fits_of, waits_of, smaller, got_there}
+use Rattle.itm_runtime.proofs.Common.{cell_within, cells_of, fits_of, got_there, lawful_of, view_of, waits_of}
+use Rattle.call_rules.proofs.Steps.StepChains.{smaller}
 use Rattle.itm_runtime.proofs.drive.any_step.Goals as goal
 
 pub step_over-found-requires : goal.step_over-found-requires

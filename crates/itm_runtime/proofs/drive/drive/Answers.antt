@@ -1,11 +1,5 @@
 use Rattle.std.proofs.Common.{[], ◌++◌, ◌<◌, refl, subst, sym}
-use Rattle.norec_core.specs.declared.answer.Next.{Next}
-use Rattle.norec_core.specs.declared.answer.Next.TheVariants.{Step as Asks}
-use Rattle.norec_engine.specs.NextSteps.{next_in}
-use Rattle.shared_words.specs.Passes.{cells_of, view_of}
-use Rattle.call_rules.specs.Drives.{LeadsOn}
-use Rattle.call_rules.specs.InCall.{left}
-use Rattle.call_rules.proofs.Steps.DrivenCalls.{due_on, leads_further}
+use Rattle.itm_runtime.proofs.Common.{Asks, LeadsOn, Next, cells_of, due_on, leads_further, left, next_in, view_of}
 use Rattle.itm_runtime.proofs.DueSteps.{answer_due, step_due}
 use Rattle.call_rules.proofs.Steps.StepChains.{at_step}
 use Rattle.itm_runtime.proofs.drive.drive.Goals as goal

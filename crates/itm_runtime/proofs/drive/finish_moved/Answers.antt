@@ -1,7 +1,5 @@
 use Rattle.std.proofs.Common.{◌∷◌, refl}
-use Rattle.itm_types.specs.declared.step.Step.TheVariants.{Load}
-use Rattle.shared_words.specs.Passes.{view_of, cells_of}
-use Rattle.call_rules.proofs.Steps.StepChains.{goes}
+use Rattle.itm_runtime.proofs.Common.{Load, cells_of, goes, view_of}
 use Rattle.itm_runtime.proofs.drive.finish_moved.Goals as goal
 
 pub finish-requires-clause-due : goal.finish-requires-clause-due

@@ -1,9 +1,5 @@
-use Rattle.std.proofs.Common.{[], ◌∷◌, refl}
-use Rattle.std.proofs.Common.{◌+◌}
-use Rattle.itm_types.specs.declared.step.Step.TheVariants.{Load}
-use Rattle.shared_words.specs.Passes.{view_of, cells_of}
-use Rattle.call_rules.proofs.Steps.StepChains.{goes}
-use Rattle.call_rules.proofs.Steps.WordReads.{may_look}
+use Rattle.std.proofs.Common.{[], ◌∷◌, refl, ◌+◌}
+use Rattle.itm_runtime.proofs.Common.{Load, cells_of, goes, may_look, view_of}
 use Rattle.itm_runtime.proofs.drive.finish_read.Goals as goal
 
 pub step-clock-requires-clause-lawful : goal.step-clock-requires-clause-lawful

@@ -1,7 +1,5 @@
 use Rattle.std.proofs.Common.{subst}
-use Rattle.itm_types.specs.declared.step.Step.TheVariants.{Load}
-use Rattle.shared_words.specs.Passes.{view_of}
-use Rattle.call_rules.specs.InCall.{InCall}
+use Rattle.itm_runtime.proofs.Common.{InCall, Load, view_of}
 use Rattle.call_rules.proofs.Steps.FurtherSteps.{waits_for}
 use Rattle.itm_runtime.proofs.drive.go_on.Goals as goal
 

@@ -1,6 +1,5 @@
 use Rattle.std.proofs.Common.{◌∷◌, refl}
-use Rattle.shared_words.specs.Passes.{view_of, cells_of}
-use Rattle.call_rules.proofs.Steps.StepChains.{fits_of, waits_of, goes}
+use Rattle.itm_runtime.proofs.Common.{cells_of, fits_of, goes, view_of, waits_of}
 use Rattle.itm_runtime.proofs.drive.resume.Goals as goal
 
 pub resume_into-next-requires : goal.resume_into-next-requires

@@ -1,5 +1,5 @@
 use Rattle.std.proofs.Common.{◌∙◌, Some, ap, subst, sym}
-use Rattle.itm_runtime.specs.Stops.{HasNumber}
+use Rattle.itm_runtime.proofs.Common.{HasNumber}
 use Rattle.itm_runtime.proofs.numbers.number_of.Goals as goal
 
 pub number_in-requires : goal.number_in-requires

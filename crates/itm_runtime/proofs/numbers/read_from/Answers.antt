@@ -1,12 +1,6 @@
 use Rattle.std.proofs.Common.{false}
-use Rattle.itm_types.specs.declared.access.ReadHint.TheVariants.{R}
-use Rattle.itm_types.specs.declared.access.Width.TheVariants.{U8}
-use Rattle.itm_types.specs.declared.call.Call.TheVariants.{Read}
-use Rattle.norec_core.specs.declared.answer.Next.TheVariants.{Step as Asks, Answer as Answers}
-use Rattle.shared_words.specs.Passes.{cells_of, view_of}
-use Rattle.call_rules.specs.Standing.{start_of}
+use Rattle.itm_runtime.proofs.Common.{Answers, Asks, R, Read, U8, cells_of, due_on, start_of, view_of}
 use Rattle.itm_runtime.proofs.NumberAnswers.{read_number}
-use Rattle.call_rules.proofs.Steps.DrivenCalls.{due_on}
 use Rattle.itm_runtime.proofs.numbers.read_from.Goals as goal
 
 pub number_of-requires : goal.number_of-requires

@@ -1,13 +1,7 @@
 use Rattle.std.proofs.Common.{◌+◌, inl, subst, sym}
-use Rattle.itm_types.specs.declared.step.Step.TheVariants.{Cas}
-use Rattle.norec_core.specs.Core.{Core}
-use Rattle.norec_core.specs.declared.answer.Next.TheVariants.{Step as Asks}
-use Rattle.shared_words.specs.Passes.{view_of}
+use Rattle.itm_runtime.proofs.Common.{Asks, Cas, Core, Finds, InCall, fits_of, view_of, waits_of}
 use Rattle.itm_runtime.specs.Blocks.{RowsStored}
-use Rattle.call_rules.specs.Underway.{Finds}
-use Rattle.call_rules.specs.InCall.{InCall}
 use Rattle.call_rules.proofs.Steps.FurtherSteps.{found_further, found_in}
-use Rattle.call_rules.proofs.Steps.StepChains.{fits_of, waits_of}
 use Rattle.itm_runtime.proofs.rounds.commit_again.Goals as goal
 
 pub write_back-requires : goal.write_back-requires

@@ -1,7 +1,5 @@
-use Rattle.itm_types.specs.declared.step.Step.TheVariants.{Load}
-use Rattle.shared_words.specs.Passes.{cells_of, view_of}
+use Rattle.itm_runtime.proofs.Common.{Load, cell_within, cells_of, fits_of, lawful_of, view_of}
 use Rattle.call_rules.proofs.Steps.FurtherSteps.{fewer_left, in_call, one_further, one_step}
-use Rattle.call_rules.proofs.Steps.StepChains.{cell_within, fits_of, lawful_of}
 use Rattle.itm_runtime.proofs.rounds.round.Goals as goal
 
 pub loop-cell-init : goal.loop-cell-init

@@ -1,8 +1,5 @@
-use Rattle.itm_types.specs.declared.step.Step.TheVariants.{Load}
-use Rattle.norec_engine.specs.NextSteps.{next_in}
-use Rattle.shared_words.specs.Passes.{view_of}
+use Rattle.itm_runtime.proofs.Common.{Load, left, next_in, view_of}
 use Rattle.call_rules.specs.Drives.{StepsOn}
-use Rattle.call_rules.specs.InCall.{left}
 use Rattle.itm_runtime.proofs.rounds.round.Given as goal
 
 -- steps of the call were done

@@ -1,13 +1,7 @@
 use Rattle.std.proofs.Common.{ℕ, ◌+◌, [], ◌∷◌, refl, subst, sym, ◌∙◌, arith}
+use Rattle.itm_runtime.proofs.Common.{Asks, Bytes, Load, R, Reply, U8, cells_of, view_of}
 use Rattle.std.specs.Int.{w64, to_le_bytes}
-use Rattle.itm_types.specs.declared.access.ReadHint.TheVariants.{R}
-use Rattle.itm_types.specs.declared.access.Width.TheVariants.{U8}
-use Rattle.itm_types.specs.declared.call.Reply.TheVariants.{Bytes}
-use Rattle.itm_types.specs.declared.step.Step.TheVariants.{Load}
-use Rattle.norec_core.specs.declared.answer.Answer.TheVariants.{Reply}
-use Rattle.norec_core.specs.declared.answer.Next.TheVariants.{Step as Asks}
 use Rattle.norec_engine.specs.WholeReads.{IsConfirmed}
-use Rattle.shared_words.specs.Passes.{cells_of, view_of}
 use Rattle.call_rules.proofs.Steps.WordReads.{clock_next, word_first}
 use Rattle.itm_runtime.proofs.whole_words.look_at_once.Goals as goal
 

@@ -1,12 +1,5 @@
 use Rattle.std.proofs.Common.{◌+◌, ◌∙◌, false, sym}
-use Rattle.itm_types.specs.declared.access.ReadHint.TheVariants.{R}
-use Rattle.itm_types.specs.declared.access.Width.TheVariants.{U8}
-use Rattle.itm_types.specs.declared.call.Call.TheVariants.{Read}
-use Rattle.itm_types.specs.declared.step.Step.TheVariants.{Load}
-use Rattle.norec_core.specs.declared.answer.Next.TheVariants.{Step as Asks}
-use Rattle.shared_words.specs.Passes.{view_of}
-use Rattle.call_rules.specs.Standing.{start_of}
-use Rattle.call_rules.proofs.Steps.StepChains.{starts}
+use Rattle.itm_runtime.proofs.Common.{Asks, Load, R, Read, U8, start_of, starts, view_of}
 use Rattle.itm_runtime.proofs.whole_words.look_further.Goals as goal
 
 pub load_both-requires-clause-due : goal.load_both-requires-clause-due

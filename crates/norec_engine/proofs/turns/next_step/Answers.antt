@@ -1,6 +1,5 @@
 use Rattle.std.proofs.Common.{arith, rules}
-use Rattle.norec_data.specs.Turns.{counted}
-use Rattle.norec_data.specs.View.{phase_of}
+use Rattle.norec_engine.proofs.Common.{counted, phase_of}
 use Rattle.norec_data.proofs.CallsInProgress.{is_on}
 use Rattle.norec_revocable.proofs.Counts.{fits}
 use Rattle.norec_engine.proofs.HeldCounts.{held_fits}

@@ -1,6 +1,5 @@
-use Rattle.word_pieces.specs.Masks.{mask_of, whole}
 use Rattle.std.proofs.Common.{◌≢◌, inl, inr, sym, ◌∙◌}
-use Rattle.norec_core.specs.Phases.{Fetch, Place}
+use Rattle.norec_irrevocable.proofs.Common.{Fetch, Place, mask_of, whole}
 use Rattle.norec_irrevocable.proofs.Pieces.PlacedPieces.{mask_is, none_there, piece_there, place_ends, place_part, place_whole}
 use Rattle.norec_irrevocable.proofs.access.next_place.Goals as goal
 

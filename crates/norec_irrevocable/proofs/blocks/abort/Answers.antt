@@ -1,5 +1,5 @@
 use Rattle.std.proofs.Common.{refl, sym, ap, ◌∙◌, Some}
-use Rattle.itm_types.specs.declared.call.Call.TheVariants.{Abort}
+use Rattle.norec_irrevocable.proofs.Common.{Abort}
 use Rattle.norec_irrevocable.proofs.Replies.KeptStates.{abort_refused}
 use Rattle.norec_irrevocable.proofs.Replies.Refusals.{refused_turn}
 use Rattle.norec_irrevocable.proofs.blocks.abort.Goals as goal

@@ -1,16 +1,10 @@
 use Rattle.std.proofs.Common.{◌≡◌, ℕ, ◌∷◌, sym, ap, ◌∙◌, true, length, ◌<◌, rules, Option, subst}
-use Rattle.itm_types.specs.declared.call.Call.TheVariants.{Begin}
+use Rattle.norec_irrevocable.proofs.Common.{Answer, Begin, Data, EndIrrevocable, TurnEndsSo, begun, may_go}
 use Rattle.norec_irrevocable.proofs.Replies.KeptStates.{begin_kept}
-use Rattle.nest_frames.specs.Nest.{begun}
 use Rattle.write_set.specs.Marks.{Written}
-use Rattle.norec_core.specs.Core.{may_go}
-use Rattle.norec_data.specs.declared.data.Data.{Data}
 use Rattle.norec_irrevocable.proofs.Replies.HeldBlocks.{HasEntered, begin_entered, begin_comes}
 use Rattle.norec_irrevocable.proofs.Replies.Refusals.{begin_ending, begin_stage, refused_turn}
-use Rattle.norec_core.specs.declared.answer.Answer.{Answer}
 use Rattle.norec_data.specs.declared.end.CallEnd.TheVariants as ends
-use Rattle.norec_data.specs.declared.turn.Turn.TheVariants.{EndIrrevocable}
-use Rattle.norec_data.specs.Turns.{TurnEndsSo}
 use Rattle.norec_irrevocable.proofs.blocks.begin.Goals as goal
 
 pub returns-in-Some : goal.returns-in-Some

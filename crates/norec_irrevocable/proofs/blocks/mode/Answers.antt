@@ -1,12 +1,9 @@
 use Rattle.std.proofs.Common.{sym, ◌∙◌, rules, Option, subst}
-use Rattle.itm_types.specs.declared.call.Call.TheVariants.{Mode}
+use Rattle.norec_irrevocable.proofs.Common.{Answer, EndIrrevocable, Mode, TurnEndsSo}
 use Rattle.norec_irrevocable.proofs.Replies.KeptStates.{mode_kept}
 use Rattle.norec_irrevocable.proofs.Replies.HeldBlocks.{mode_replies, mode_comes}
 use Rattle.norec_irrevocable.proofs.Replies.Refusals.{mode_ending, mode_stage, refused_turn}
-use Rattle.norec_core.specs.declared.answer.Answer.{Answer}
 use Rattle.norec_data.specs.declared.end.CallEnd.TheVariants as ends
-use Rattle.norec_data.specs.declared.turn.Turn.TheVariants.{EndIrrevocable}
-use Rattle.norec_data.specs.Turns.{TurnEndsSo}
 use Rattle.norec_irrevocable.proofs.blocks.mode.Goals as goal
 
 pub returns-in-Some : goal.returns-in-Some

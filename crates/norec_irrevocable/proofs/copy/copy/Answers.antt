@@ -1,21 +1,6 @@
 use Rattle.std.proofs.Common.{◌≡◌, Bool, false, [], ℕ, length, drop, sym, ap, subst, ◌∙◌, rules}
-use Rattle.itm_types.specs.declared.call.Call.TheVariants.{Copy}
-use Rattle.itm_types.specs.Memory.{IsMemory}
-use Rattle.itm_model.specs.Machine.{after}
-use Rattle.norec_irrevocable.specs.Outcomes.{kept}
-use Rattle.itm_types.specs.declared.call.Reply.{Reply}
-use Rattle.itm_types.specs.declared.call.Reply.TheVariants.{Done}
-use Rattle.itm_model.specs.State.{State}
-use Rattle.norec_core.specs.Copies.{chunks_in, copy_refusal}
-use Rattle.norec_core.specs.Held.{ComesTo}
-use Rattle.norec_core.specs.Parts.{copied_each}
-use Rattle.norec_data.specs.Turns.{next_of}
+use Rattle.norec_irrevocable.proofs.Common.{ComesTo, Copy, Core, Data, Done, HeldTurns, IsMemory, IsServed, Reply, State, after, came, chunks_in, copied_each, copy_refusal, core_held, held_after, in_call, kept, next_of}
 use Rattle.norec_irrevocable.proofs.Pieces.HeldCopies.{copy_comes}
-use Rattle.norec_core.specs.Core.{Core, came}
-use Rattle.norec_data.specs.declared.data.Data.{Data}
-use Rattle.norec_data.specs.View.{core_held}
-use Rattle.norec_irrevocable.specs.Outcomes.{held_after, in_call, HeldTurns}
-use Rattle.norec_irrevocable.specs.Phases.{IsServed}
 use Rattle.norec_irrevocable.proofs.Replies.Refusals.{refused_copy}
 use Rattle.norec_irrevocable.proofs.copy.copy.Goals as goal
 

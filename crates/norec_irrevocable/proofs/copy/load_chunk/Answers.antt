@@ -1,19 +1,6 @@
 use Rattle.std.proofs.Common.{◌≡◌, ℕ, suc, ◌+◌, ◌-◌, List, ◌++◌, drop, refl, sym, ap, subst, ◌∙◌}
-use Rattle.itm_types.specs.declared.call.Call.TheVariants.{Copy}
-use Rattle.itm_types.specs.declared.call.Reply.TheVariants.{Done}
-use Rattle.itm_model.specs.Machine.{target_written}
-use Rattle.word_pieces.specs.Pieces.{gathered, pieces_of}
-use Rattle.norec_core.specs.declared.call_parts.Reading.{Reading}
-use Rattle.norec_core.specs.Phases.{Load}
-use Rattle.norec_core.specs.Copies.{chunks_in}
-use Rattle.norec_core.specs.Order.{chunk_from, chunk_reading}
-use Rattle.norec_core.specs.Parts.{copied_each}
-use Rattle.norec_data.specs.declared.data.Data.{Data}
+use Rattle.norec_irrevocable.proofs.Common.{ComesBy, Copy, Data, Done, HeldTurns, IsHeld, IsSoundAfter, Load, MayCopy, Reading, Wait, chunk_from, chunk_reading, chunks_in, copied_each, gathered, in_call, kept, pieces_of, target_written}
 use Rattle.norec_data.specs.declared.pending.Pending.TheVariants as waits
-use Rattle.norec_data.specs.declared.turn.Turn.TheVariants.{Wait}
-use Rattle.norec_data.specs.Bounds.{IsHeld}
-use Rattle.norec_irrevocable.specs.Outcomes.{in_call, kept, ComesBy, HeldTurns, IsSoundAfter}
-use Rattle.norec_irrevocable.specs.Phases.{MayCopy}
 use Rattle.norec_irrevocable.proofs.Pieces.ChunkPhases.{chunk_ends, chunk_loads, load_asks, load_comes_next, load_sound, no_loads}
 use Rattle.norec_irrevocable.proofs.Pieces.HeldCopies.{chunk_comes, copies_end}
 use Rattle.norec_irrevocable.proofs.Replies.Completions.{copy_done}

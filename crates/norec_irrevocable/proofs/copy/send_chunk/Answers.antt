@@ -1,13 +1,5 @@
 use Rattle.std.proofs.Common.{◌≡◌, ◌+◌, ◌-◌, take, None, Some, drop, slice_get, refl, sym, subst, ◌∙◌, arith}
-use Rattle.itm_types.specs.Slices.{slice}
-use Rattle.itm_types.specs.declared.call.Reply.TheVariants.{Done}
-use Rattle.itm_model.specs.State.{State}
-use Rattle.word_pieces.specs.Chunks.{chunks_of}
-use Rattle.norec_core.specs.Copies.{chunks_in}
-use Rattle.norec_core.specs.Held.{ComesTo}
-use Rattle.norec_core.specs.Phases.{Idle}
-use Rattle.norec_data.specs.Turns.{next_of}
-use Rattle.norec_irrevocable.specs.Outcomes.{held_after, kept}
+use Rattle.norec_irrevocable.proofs.Common.{ComesTo, Done, Idle, State, chunks_in, chunks_of, held_after, kept, next_of, slice}
 use Rattle.norec_irrevocable.proofs.Pieces.ChunkPhases.{chunk_ends, out_comes_next}
 use Rattle.norec_irrevocable.proofs.Pieces.HeldCopies.{copies_end, sent_comes, out_source}
 use Rattle.norec_irrevocable.proofs.Replies.Completions.{copy_done}

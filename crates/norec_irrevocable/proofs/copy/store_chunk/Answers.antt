@@ -1,16 +1,5 @@
 use Rattle.std.proofs.Common.{◌≡◌, suc, ◌+◌, drop, refl, sym, subst, add-one, arith}
-use Rattle.itm_types.specs.declared.call.Reply.TheVariants.{Done}
-use Rattle.itm_types.specs.Slices.{AreBytes}
-use Rattle.itm_model.specs.Machine.{written as written_at}
-use Rattle.itm_model.specs.State.{State}
-use Rattle.word_pieces.specs.Pieces.{pieces_of, written}
-use Rattle.word_pieces.specs.declared.chunk.Chunk.{Chunk}
-use Rattle.norec_core.specs.Copies.{chunks_in, direction_of}
-use Rattle.norec_core.specs.Held.{ComesTo}
-use Rattle.norec_core.specs.Parts.{copied_each}
-use Rattle.norec_core.proofs.Accesses.CopyChunks.{chunk_within}
-use Rattle.norec_data.specs.Turns.{next_of}
-use Rattle.norec_irrevocable.specs.Outcomes.{held_after, kept}
+use Rattle.norec_irrevocable.proofs.Common.{AreBytes, Chunk, ComesTo, Done, State, chunk_within, chunks_in, copied_each, direction_of, held_after, kept, next_of, pieces_of, written, written_at}
 use Rattle.norec_irrevocable.proofs.Pieces.ChunkPhases.{target_in_memory}
 use Rattle.norec_irrevocable.proofs.Replies.HeldAccesses.{kept_written}
 use Rattle.norec_irrevocable.proofs.Pieces.HeldCopies.{some_chunk}

@@ -1,19 +1,5 @@
 use Rattle.std.proofs.Common.{◌≡◌, [], ℕ, ◌%◌, drop, false, sym, ap, subst, refl, ◌∙◌, rules}
-use Rattle.itm_types.specs.declared.call.Call.TheVariants.{Fill}
-use Rattle.itm_types.specs.Memory.{IsMemory}
-use Rattle.itm_model.specs.Machine.{after}
-use Rattle.norec_irrevocable.specs.Outcomes.{held_after, in_call, kept, HeldTurns}
-use Rattle.itm_types.specs.declared.call.Reply.{Reply}
-use Rattle.itm_types.specs.declared.call.Reply.TheVariants.{Done}
-use Rattle.itm_model.specs.State.{State}
-use Rattle.word_pieces.specs.declared.chunk.Direction.TheVariants.{Up}
-use Rattle.word_pieces.specs.Chunks.{chunks_of}
-use Rattle.norec_core.specs.Core.{Core, came}
-use Rattle.norec_core.specs.Held.{ComesTo}
-use Rattle.norec_core.specs.Parts.{filled_each}
-use Rattle.norec_data.specs.declared.data.Data.{Data}
-use Rattle.norec_data.specs.Turns.{next_of}
-use Rattle.norec_data.specs.View.{core_held, in_block}
+use Rattle.norec_irrevocable.proofs.Common.{ComesTo, Core, Data, Done, Fill, HeldTurns, IsMemory, Reply, State, Up, after, came, chunks_of, core_held, filled_each, held_after, in_block, in_call, kept, next_of}
 use Rattle.norec_irrevocable.proofs.Replies.HeldAccesses.{accepted}
 use Rattle.norec_irrevocable.proofs.Pieces.HeldCopies.{fill_comes}
 use Rattle.norec_irrevocable.proofs.Replies.Refusals.{refused_access}

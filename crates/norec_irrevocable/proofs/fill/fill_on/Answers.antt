@@ -1,19 +1,6 @@
 use Rattle.std.proofs.Common.{◌≡◌, ℕ, suc, ◌+◌, ◌*◌, ◌%◌, ◌≤◌, None, Some, drop, length, slice_get, refl, sym, ap, subst, ◌∙◌, arith}
-use Rattle.itm_types.specs.declared.call.Reply.TheVariants.{Done}
-use Rattle.itm_types.specs.Slices.{AreBytes}
-use Rattle.std.proofs.lemmas.List.{length-replicate}
-use Rattle.itm_model.specs.Machine.{written as written_at}
-use Rattle.itm_model.specs.State.{State}
-use Rattle.word_pieces.specs.Pieces.{pieces_of, written}
-use Rattle.norec_core.specs.Parts.{filled_each}
-use Rattle.word_pieces.specs.declared.chunk.Direction.TheVariants.{Up}
-use Rattle.word_pieces.specs.Chunks.{chunks_of}
-use Rattle.norec_core.specs.Held.{ComesTo}
+use Rattle.norec_irrevocable.proofs.Common.{AreBytes, ComesTo, Done, Idle, State, Up, chunks_of, filled_each, held_after, kept, length-replicate, next_of, none_drop, pieces_of, some_drop, written, written_at}
 use Rattle.norec_core.specs.Order.{fill_stage}
-use Rattle.norec_core.specs.Phases.{Idle}
-use Rattle.norec_core.proofs.Accesses.Readings.{none_drop, some_drop}
-use Rattle.norec_data.specs.Turns.{next_of}
-use Rattle.norec_irrevocable.specs.Outcomes.{held_after, kept}
 use Rattle.norec_irrevocable.proofs.Replies.HeldAccesses.{kept_written}
 use Rattle.norec_irrevocable.proofs.Pieces.HeldCopies.{fills_end, fills_on}
 use Rattle.norec_irrevocable.proofs.Replies.Completions.{fill_done}

@@ -1,5 +1,5 @@
 use Rattle.std.proofs.Common.{ap, ◌∙◌, ℕ, take, replicate}
-use Rattle.std.proofs.lemmas.List.{take-replicate}
+use Rattle.norec_irrevocable.proofs.Common.{take-replicate}
 use Rattle.norec_irrevocable.proofs.fill.repeated.Goals as goal
 
 pub returns : goal.returns

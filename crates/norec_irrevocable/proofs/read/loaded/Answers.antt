@@ -1,21 +1,9 @@
 use Rattle.std.proofs.Common.{◌≡◌, ℕ, suc, ◌+◌, ◌<◌, ◌≤◌, ◌==◌, List, [], ◌++◌, length, drop, Some, slice_get, refl, sym, ap, subst, ◌∙◌, add-one, arith, eq-eqb}
-use Rattle.std.proofs.lemmas.Bool.{cond-false, cond-true, ne_eqb}
-use Rattle.word_pieces.specs.declared.piece.Piece.{Piece}
-use Rattle.word_pieces.specs.Pieces.{count_of, gathered, part_of, pieces_of}
-use Rattle.word_pieces.proofs.Covers.{word-pieces_of}
-use Rattle.norec_core.specs.Phases.{Load}
-use Rattle.norec_core.specs.declared.call_parts.Reading.{Reading}
+use Rattle.norec_irrevocable.proofs.Common.{ComesTo, Core, Data, HeldTurns, IsSoundAfter, Load, Piece, Reading, Wait, access_saved, answered, call_for, cond-false, cond-true, count_of, counted, gathered, held, held_after, in_call, kept, ne_eqb, next_of, part_of, pieces_of, read_from, read_past, reading_of, word-pieces_of, word_of}
 use Rattle.norec_core.specs.Accesses.{part}
-use Rattle.norec_core.specs.Core.{Core, handed}
-use Rattle.norec_core.specs.Held.{ComesTo, answered, reading as reading_of}
-use Rattle.norec_core.specs.Order.{read_from, read_past}
-use Rattle.norec_core.specs.OwnAccesses.{access_saved, word_of}
-use Rattle.norec_data.specs.declared.data.Data.{Data}
+use Rattle.norec_core.specs.Core.{handed}
 use Rattle.norec_data.specs.declared.pending.Pending.TheVariants as waits
-use Rattle.norec_data.specs.declared.turn.Turn.TheVariants.{Wait}
-use Rattle.norec_data.specs.Turns.{counted, next_of}
-use Rattle.norec_data.specs.View.{call_for, held}
-use Rattle.norec_irrevocable.specs.Outcomes.{held_after, in_call, kept, HeldTurns, IsSoundAfter, Steps}
+use Rattle.norec_irrevocable.specs.Outcomes.{Steps}
 use Rattle.norec_irrevocable.proofs.Pieces.ChunkPhases.{first_piece}
 use Rattle.norec_irrevocable.proofs.Replies.HeldAccesses.{gathers_on}
 use Rattle.norec_irrevocable.proofs.Pieces.LoadedPieces.{gathers_all, loads_later, longer, more_left, none_left, read_ends, reading_next, whole_length}

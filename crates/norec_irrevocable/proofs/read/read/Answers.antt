@@ -1,13 +1,6 @@
 use Rattle.std.proofs.Common.{ℕ, ◌+◌, ◌*◌, ◌≤◌, ◌++◌, sym, ap, refl, ◌∙◌, rules, arith}
+use Rattle.norec_irrevocable.proofs.Common.{Data, Read, access_refusal, bytes_reply, gathered, in_block, kept, pieces_of, size_of}
 use Rattle.std.proofs.lemmas.Grind.{common_steps}
-use Rattle.itm_types.specs.declared.call.Call.TheVariants.{Read}
-use Rattle.itm_types.specs.Access.{size_of}
-use Rattle.norec_core.specs.Accesses.{access_refusal}
-use Rattle.norec_data.specs.View.{in_block}
-use Rattle.norec_irrevocable.specs.Outcomes.{kept}
-use Rattle.itm_model.specs.Machine.{bytes_reply}
-use Rattle.word_pieces.specs.Pieces.{gathered, pieces_of}
-use Rattle.norec_data.specs.declared.data.Data.{Data}
 use Rattle.norec_irrevocable.proofs.Replies.HeldAccesses.{accepted, read_comes}
 use Rattle.norec_irrevocable.proofs.Replies.Refusals.{refused_access}
 use Rattle.norec_irrevocable.proofs.read.read.Goals as goal

@@ -1,25 +1,7 @@
 use Rattle.std.proofs.Common.{◌≡◌, ℕ, suc, ◌+◌, ◌-◌, true, drop, length, None, Some, refl, sym, ap, subst, ◌∙◌, add-one, arith, rules}
-use Rattle.norec_data.specs.View.{call_for}
-use Rattle.norec_core.specs.Core.{Core}
-use Rattle.itm_types.specs.declared.call.Call.TheVariants.{Copy}
-use Rattle.itm_types.specs.declared.call.Reply.{Reply}
-use Rattle.itm_types.specs.declared.call.Reply.TheVariants.{Done}
-use Rattle.itm_types.specs.declared.copy.CopyPair.{CopyPair}
-use Rattle.itm_types.specs.Slices.{with_slice}
-use Rattle.itm_model.specs.State.{State}
-use Rattle.itm_model.specs.Machine.{target_written, written}
-use Rattle.word_pieces.specs.Pieces.{count_of}
-use Rattle.norec_core.specs.Phases.{Idle}
-use Rattle.norec_core.specs.declared.call_parts.Purpose.{Purpose}
+use Rattle.norec_irrevocable.proofs.Common.{ComesTo, Copy, CopyPair, Core, Done, HeldTurns, Idle, Purpose, Reply, State, WritesShared, access_saved, answered, call_for, chunk_source, chunks_in, copied_each, copy_refusal, count_of, held_after, in_call, is_in, kept, next_of, place_from, read_past, reading_of, target_written, with_slice, written_at as written}
 use Rattle.norec_core.specs.declared.call_parts.Target.TheVariants as into
-use Rattle.norec_core.specs.Copies.{chunks_in, copy_refusal, WritesShared}
-use Rattle.norec_core.specs.Held.{ComesTo, answered, reading as reading_of}
-use Rattle.norec_core.specs.Order.{place_from, read_past}
-use Rattle.norec_core.specs.OwnAccesses.{chunk_source, access_saved, chunk_saved}
-use Rattle.norec_core.specs.Parts.{copied_each}
-use Rattle.norec_data.specs.Turns.{next_of}
-use Rattle.norec_irrevocable.specs.Outcomes.{held_after, kept, in_call, HeldTurns}
-use Rattle.norec_irrevocable.specs.Phases.{is_in}
+use Rattle.norec_core.specs.OwnAccesses.{chunk_saved}
 use Rattle.norec_irrevocable.proofs.Pieces.ChunkPhases.{few_chunks, read_in_next, read_within_next, steps_in, steps_within, target_in_arena}
 use Rattle.norec_irrevocable.proofs.Replies.Completions.{read_done}
 use Rattle.norec_irrevocable.proofs.read.whole.Goals as goal

@@ -1,20 +1,7 @@
 use Rattle.std.proofs.Common.{◌≡◌, ℕ, ◌+◌, ◌%◌, drop, refl, sym, ap, subst, ◌∙◌, add-one, arith, rules}
+use Rattle.norec_irrevocable.proofs.Common.{ComesTo, Done, HeldTurns, State, Target, Up, chunk_from, chunk_there, chunks_in, chunks_of, copied_each, count_of, filled_each, held_after, in_call, kept, next_of, placed_past, rest_of, size_of, words_in-next}
 use Rattle.norec_data.specs.View.{placed_for}
-use Rattle.norec_core.specs.Order.{chunk_from, fill_from, placed_past}
-use Rattle.itm_types.specs.declared.call.Reply.TheVariants.{Done}
-use Rattle.itm_types.specs.Access.{size_of}
-use Rattle.itm_model.specs.State.{State}
-use Rattle.word_pieces.specs.declared.chunk.Direction.TheVariants.{Up}
-use Rattle.word_pieces.specs.Chunks.{chunks_of}
-use Rattle.word_pieces.specs.Pieces.{count_of}
-use Rattle.norec_core.specs.declared.call_parts.Target.{Target}
-use Rattle.norec_core.specs.Copies.{chunks_in}
-use Rattle.norec_core.specs.Held.{ComesTo, rest_of}
-use Rattle.norec_core.specs.Parts.{copied_each, filled_each}
-use Rattle.norec_core.proofs.Accesses.CopyChunks.{chunk_there}
-use Rattle.norec_core.proofs.Accesses.Readings.{words_in-next}
-use Rattle.norec_data.specs.Turns.{next_of}
-use Rattle.norec_irrevocable.specs.Outcomes.{held_after, kept, in_call, HeldTurns}
+use Rattle.norec_core.specs.Order.{fill_from}
 use Rattle.norec_irrevocable.proofs.Pieces.ChunkPhases.{few_chunks, steps_placed}
 use Rattle.norec_irrevocable.proofs.Replies.Completions.{write_done}
 use Rattle.norec_irrevocable.proofs.write.past.Goals as goal

@@ -1,21 +1,8 @@
 use Rattle.std.proofs.Common.{◌≡◌, ℕ, suc, ◌+◌, List, [], drop, None, slice_get, slice_set, refl, sym, ap, subst, ◌∙◌, add-one, arith, inl, inr, rules}
-use Rattle.itm_types.specs.declared.call.Reply.TheVariants.{Done}
-use Rattle.itm_types.specs.Memory.{IsMemory}
-use Rattle.itm_types.specs.Slices.{AreBytes}
-use Rattle.itm_model.specs.State.{State}
-use Rattle.word_pieces.specs.declared.piece.Piece.{Piece}
-use Rattle.word_pieces.specs.Pieces.{pieces_of, written}
-use Rattle.norec_core.specs.Phases.{Phase}
-use Rattle.norec_core.specs.Phases.{Place}
-use Rattle.norec_core.specs.declared.call_parts.Writing.{Writing}
+use Rattle.norec_irrevocable.proofs.Common.{AreBytes, ComesTo, Data, Done, Got, IsMemory, Phase, Piece, Place, State, Writing, counted, held, held_after, kept, next_of, pieces_of, place_from, placed_past, placed_piece, placed_value, rest_of, written}
 use Rattle.norec_core.specs.declared.answer.Next.TheVariants.{Step as Asks}
-use Rattle.norec_core.specs.Held.{ComesTo, StepsHeld, rest_of}
-use Rattle.norec_data.specs.declared.data.Data.{Data}
-use Rattle.norec_data.specs.View.{held, step_of}
-use Rattle.norec_core.specs.Order.{place_from, placed_past, placed_piece, placed_value}
-use Rattle.norec_core.specs.Proceeds.{Got}
-use Rattle.norec_data.specs.Turns.{counted, next_of}
-use Rattle.norec_irrevocable.specs.Outcomes.{held_after, kept}
+use Rattle.norec_core.specs.Held.{StepsHeld}
+use Rattle.norec_data.specs.View.{step_of}
 use Rattle.norec_irrevocable.proofs.Replies.HeldAccesses.{fits_stored, stores_on}
 use Rattle.norec_irrevocable.proofs.Pieces.NextPlaces.{next_sound, places_later}
 use Rattle.norec_irrevocable.proofs.Pieces.PlacedPieces.{is_piece, no_pieces, piece_here, placing_facts}

@@ -1,24 +1,8 @@
 use Rattle.std.proofs.Common.{◌≡◌, ℕ, false, subst, sym, ap, refl, ◌∙◌, rules}
-use Rattle.itm_types.specs.declared.call.Call.TheVariants.{Write}
-use Rattle.itm_types.specs.Access.{size_of}
-use Rattle.itm_types.specs.Memory.{IsMemory}
-use Rattle.itm_model.specs.Machine.{after}
-use Rattle.norec_core.specs.Accesses.{access_refusal}
-use Rattle.norec_data.specs.View.{core_held, in_block}
-use Rattle.norec_irrevocable.specs.Outcomes.{held_after, in_call, kept, HeldTurns}
-use Rattle.itm_types.specs.declared.call.Reply.{Reply}
-use Rattle.itm_types.specs.declared.call.Reply.TheVariants.{Done}
-use Rattle.itm_types.specs.Slices.{AreBytes}
-use Rattle.itm_model.specs.State.{State}
-use Rattle.word_pieces.specs.Pieces.{pieces_of, written}
-use Rattle.norec_core.specs.Core.{Core, came}
-use Rattle.norec_core.specs.Held.{ComesTo}
-use Rattle.norec_data.specs.declared.data.Data.{Data}
-use Rattle.norec_data.specs.Turns.{next_of}
+use Rattle.norec_irrevocable.proofs.Common.{AreBytes, ComesTo, Core, Data, Done, HeldTurns, Idle, IsMemory, Reply, State, Write, access_refusal, after, came, core_held, held_after, in_block, in_call, kept, next_of, pieces_of, size_of, written}
 use Rattle.norec_irrevocable.proofs.Replies.HeldAccesses.{accepted, write_comes}
 use Rattle.norec_irrevocable.proofs.SameDatum.{same_datum}
 use Rattle.norec_irrevocable.proofs.Replies.Refusals.{refused_access}
-use Rattle.norec_core.specs.Phases.{Idle}
 use Rattle.norec_irrevocable.proofs.write.write.Goals as goal
 
 pub returns-in-Some : goal.returns-in-Some

@@ -1,6 +1,5 @@
 use Rattle.std.proofs.Common.{◌≡◌, Bool, false, sym, ap, ◌∙◌, rules}
-use Rattle.nest_frames.specs.Nest.{is_kept}
-use Rattle.norec_core.specs.Core.{is_outermost}
+use Rattle.norec_revocable.proofs.Common.{is_kept, is_outermost}
 use Rattle.norec_revocable.proofs.Blocks.Cancels.{kept_replies, cancelled_replies, cancelled_sound, all_replies, not_both}
 use Rattle.norec_revocable.proofs.abort.abort.Goals.{then-outer, else-outer}
 use Rattle.norec_revocable.proofs.abort.abort.Goals as goal

@@ -1,20 +1,8 @@
 use Rattle.std.proofs.Common.{◌≡◌, ℕ, ◌∷◌, true, length, sym, ap, subst, ◌∙◌, rules}
-use Rattle.itm_types.specs.declared.call.Call.TheVariants.{Begin as Begins}
-use Rattle.itm_types.specs.declared.call.Reply.TheVariants.{Code}
-use Rattle.write_set.specs.Marks.{place_of}
-use Rattle.nest_frames.specs.Nest.{Nest, begun}
+use Rattle.norec_revocable.proofs.Common.{Begin as Begins, Code, Core, Data, Idle, IsSound, Nest, Replies, Turns, Wait, begun, between, came, core, in_block, moved, place_of}
 use Rattle.norec_core.specs.Aims as aims
-use Rattle.norec_core.specs.Phases.{Idle}
 use Rattle.norec_core.specs.declared.call_parts.Taking.TheVariants.{Begin}
-use Rattle.norec_core.specs.Core.{Core, came}
-use Rattle.norec_core.specs.Proceeds.{Replies}
-use Rattle.norec_data.specs.declared.data.Data.{Data}
 use Rattle.norec_data.specs.declared.pending.Pending.TheVariants as waits
-use Rattle.norec_data.specs.declared.turn.Turn.TheVariants.{Wait}
-use Rattle.norec_data.specs.Turns.{Turns}
-use Rattle.norec_data.specs.View.{core, in_block}
-use Rattle.norec_revocable.specs.Between.{between, moved}
-use Rattle.norec_revocable.specs.InPhases.{IsSound}
 use Rattle.norec_revocable.proofs.Blocks.Begins.{begin_asks, begin_came, begin_denied, begun_with, denied_ends, denied_order, nested, nested_replies, nested_sound}
 use Rattle.norec_revocable.proofs.begins.begin.Goals as goal
 

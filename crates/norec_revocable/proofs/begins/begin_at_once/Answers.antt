@@ -1,5 +1,5 @@
 use Rattle.std.proofs.Common.{subst, sym}
-use Rattle.norec_revocable.specs.OuterBegins.{BeginTurns}
+use Rattle.norec_revocable.proofs.Common.{BeginTurns}
 use Rattle.norec_revocable.proofs.Blocks.OuterBegins.{begins_at_once}
 use Rattle.norec_revocable.proofs.begins.begin_at_once.Goals as goal
 

@@ -1,11 +1,6 @@
 use Rattle.std.proofs.Common.{Bool, ap, if◌then◌else◌, subst, sym, ◌∙◌}
-use Rattle.itm_types.specs.declared.call.Props.{Props}
-use Rattle.itm_types.specs.declared.call.Reply.TheVariants.{Code}
-use Rattle.norec_core.specs.declared.answer.Answer.TheVariants.{Reply}
+use Rattle.norec_revocable.proofs.Common.{Code, Data, End, Props, Reply, StepTurns}
 use Rattle.norec_core.specs.Phases.{Begin}
-use Rattle.norec_data.specs.declared.data.Data.{Data}
-use Rattle.norec_data.specs.declared.turn.Turn.TheVariants.{End}
-use Rattle.norec_revocable.specs.Moves.{StepTurns}
 use Rattle.norec_revocable.proofs.Blocks.OuterBegins.{Opened, opens_even}
 use Rattle.norec_revocable.proofs.begins.begin_even.Goals as goal
 

@@ -1,9 +1,6 @@
 use Rattle.std.proofs.Common.{sym, subst}
-use Rattle.itm_types.specs.declared.call.Call.TheVariants.{Begin as Begins}
-use Rattle.norec_data.specs.declared.data.Data.{Data}
+use Rattle.norec_revocable.proofs.Common.{Begin as Begins, CallTurns, Data, Wait}
 use Rattle.norec_data.specs.declared.pending.Pending.TheVariants as waits
-use Rattle.norec_data.specs.declared.turn.Turn.TheVariants.{Wait}
-use Rattle.norec_revocable.specs.Moves.{CallTurns}
 use Rattle.norec_revocable.proofs.Blocks.OuterBegins.{asks}
 use Rattle.norec_revocable.proofs.begins.begin_outer.Goals as goal
 

@@ -1,7 +1,6 @@
 use Rattle.std.proofs.Common.{ℕ, ◌+◌, length, ap, arith, rules, subst, sym}
+use Rattle.norec_revocable.proofs.Common.{IsSound, storing}
 use Rattle.norec_core.specs.Phases.{Free}
-use Rattle.norec_revocable.specs.Between.{storing}
-use Rattle.norec_revocable.specs.InPhases.{IsSound}
 use Rattle.norec_revocable.proofs.Counts.{fits}
 use Rattle.norec_revocable.proofs.StoredRows.{sound_free}
 use Rattle.norec_revocable.proofs.commits.ask_free.Goals as goal

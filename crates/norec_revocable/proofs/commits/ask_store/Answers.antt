@@ -1,6 +1,5 @@
 use Rattle.std.proofs.Common.{◌∙◌, ap}
-use Rattle.write_set.specs.declared.row.Row.{Row}
-use Rattle.norec_core.proofs.Accesses.Overlays.{write_at_of}
+use Rattle.norec_revocable.proofs.Common.{Row, write_at_of}
 use Rattle.norec_revocable.proofs.StoredRows.{asks_row}
 use Rattle.norec_revocable.proofs.commits.ask_store.Goals as goal
 

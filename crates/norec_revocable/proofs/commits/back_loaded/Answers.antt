@@ -1,5 +1,5 @@
 use Rattle.std.proofs.Common.{arith, refl, rules}
-use Rattle.norec_core.proofs.Accesses.Overlays.{AllWritesWithin-at, stores_part}
+use Rattle.norec_revocable.proofs.Common.{AllWritesWithin-at, stores_part}
 use Rattle.norec_revocable.proofs.commits.back_loaded.Goals as goal
 
 pub returns : goal.returns

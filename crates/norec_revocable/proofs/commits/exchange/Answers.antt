@@ -1,11 +1,7 @@
 use Rattle.std.proofs.Common.{ℕ, refl, sym, ap, ◌∙◌, arith, rules}
-use Rattle.norec_core.specs.Core.{rolled_back}
+use Rattle.norec_revocable.proofs.Common.{Idle, between, core, core_ended, moved, rolled_back}
 use Rattle.norec_core.specs.Aims as aims
-use Rattle.norec_core.specs.Phases.{Idle}
-use Rattle.norec_data.specs.View.{core}
-use Rattle.norec_revocable.specs.Between.{between, moved}
 use Rattle.norec_revocable.proofs.Blocks.EndedTransactions.{ended_undone}
-use Rattle.norec_data.proofs.EndedTransactions.{core_ended}
 use Rattle.norec_revocable.proofs.Blocks.IrrevocableEntries.{wants_clock}
 use Rattle.norec_revocable.proofs.commits.exchange.Goals as goal
 

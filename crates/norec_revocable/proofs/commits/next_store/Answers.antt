@@ -1,23 +1,9 @@
 use Rattle.std.proofs.Common.{◌≡◌, ◌≢◌, ◌<◌, ◌*◌, ◌==◌, nat_lt, length, arith, refl, sym, ap, subst, ◌∙◌, rules}
-use Rattle.itm_types.specs.declared.call.Reply.TheVariants.{Done, Code}
-use Rattle.norec_data.specs.declared.end.CallEnd.{CallEnd}
-use Rattle.norec_data.specs.declared.turn.Turn.TheVariants.{EndIrrevocable}
-use Rattle.norec_data.specs.Turns.{Turns}
+use Rattle.norec_revocable.proofs.Common.{AllWritesWithin-at, CallEnd, Code, Done, EndIrrevocable, Enters, IsHolding, Row, Taking, Turns, call_of, cond-false, cond-true, core_held, in_stores, lt-ltb, ne_eqb, row_store, stored_stage, whole, write_at, write_at_of}
 use Rattle.norec_core.specs.Aims as aims
-use Rattle.norec_core.specs.declared.call_parts.Taking.{Taking}
-use Rattle.norec_core.specs.Proceeds.{Enters}
-use Rattle.norec_data.specs.View.{call_of, core_held}
-use Rattle.norec_revocable.specs.InPhases.{IsHolding}
-use Rattle.norec_revocable.specs.Between.{in_stores}
 use Rattle.norec_revocable.proofs.Blocks.IrrevocableEntries.{begin_entered, mode_entered}
-use Rattle.std.proofs.lemmas.Bool.{cond-true, cond-false, lt-ltb, ne_eqb}
-use Rattle.write_set.specs.declared.row.Row.{Row}
-use Rattle.word_pieces.specs.Masks.{whole}
 use Rattle.norec_core.specs.Phases.{BackLoad, Store}
-use Rattle.norec_core.specs.Rows.{write_at}
-use Rattle.norec_core.specs.Order.{row_store, stored_stage}
 use Rattle.norec_revocable.proofs.Holding.{holds_on}
-use Rattle.norec_core.proofs.Accesses.Overlays.{AllWritesWithin-at, write_at_of}
 use Rattle.norec_revocable.proofs.commits.next_store.Goals as goal
 
 pub returns-else-written : goal.returns-else-written

@@ -1,17 +1,6 @@
 use Rattle.std.proofs.Common.{ℕ, ◌<◌, List, length, refl, sym, ap, subst, ◌∙◌, arith, rules}
-use Rattle.itm_types.specs.Memory.{bytes_of, IsMemory, Agrees}
-use Rattle.write_set.specs.declared.row.Row.{Row}
-use Rattle.write_set.specs.Rows.{overlay, AreRows}
-use Rattle.norec_core.specs.Copies.{source_in}
-use Rattle.norec_core.specs.Core.{is_inside}
-use Rattle.norec_core.specs.Phases.{Idle}
-use Rattle.nest_frames.specs.Nest.{Nest}
-use Rattle.norec_data.specs.View.{core, rows_before}
+use Rattle.norec_revocable.proofs.Common.{Agrees, AllWritesWithin, AreFrames, AreRows, Idle, IsMemory, Nest, Row, arena_copied, bytes_of, core, is_inside, overlay, rows_before, source_in, state_over, writes_copied}
 use Rattle.norec_revocable.proofs.Blocks.OpenBegins.{begun_same}
-use Rattle.norec_revocable.specs.InPhases.{AreFrames}
-use Rattle.norec_core.specs.Effects.{arena_copied, writes_copied}
-use Rattle.norec_core.specs.Rows.{AllWritesWithin}
-use Rattle.norec_core.specs.Stands.{state_over}
 use Rattle.norec_revocable.proofs.Copies.Effects.{copies}
 use Rattle.norec_revocable.proofs.Copies.Sources.{rows_before-fit, copied_fits, overlay_for, length-arena_copied}
 use Rattle.norec_revocable.proofs.copy.copied.Goals as goal

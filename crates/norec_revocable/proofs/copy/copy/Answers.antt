@@ -1,22 +1,7 @@
-use Rattle.std.proofs.Common.{◌≡◌, ℕ, false, List, length, None, sym, ap, subst, ◌∙◌, inl, inr, rules}
-use Rattle.std.proofs.lemmas.Bool.{cond-true}
-use Rattle.std.specs.Prelude.{is_none}
-use Rattle.itm_types.specs.declared.copy.CopyPair.{CopyPair}
-use Rattle.itm_types.specs.Memory.{bytes_of}
-use Rattle.itm_types.specs.Slices.{slice}
-use Rattle.word_pieces.proofs.Lists.{length-slice}
-use Rattle.write_set.specs.declared.row.Row.{Row}
-use Rattle.write_set.specs.Rows.{overlay}
-use Rattle.norec_core.specs.Copies.{chunks_in, copy_refusal, is_out, source_refusal}
-use Rattle.norec_core.specs.Core.{is_inside}
-use Rattle.nest_frames.specs.Nest.{Nest}
-use Rattle.norec_data.specs.declared.data.Data.{Data}
-use Rattle.norec_core.specs.Phases.{Phase}
-use Rattle.norec_data.specs.View.{in_block, rows_before}
-use Rattle.norec_revocable.specs.Between.{in_copy, logged}
-use Rattle.norec_data.specs.Turns.{phase_after, Turns}
-use Rattle.norec_core.specs.Order.{load_chunks, tries_after, tries_at}
-use Rattle.norec_core.proofs.Replies.CopyRefusals.{accepted_sides, arena_within}
+use Rattle.std.proofs.Common.{◌≡◌, ℕ, false, List, length, None, sym, ap, subst, ◌∙◌, inl, inr, rules, is_none}
+use Rattle.norec_revocable.proofs.Common.{CopyPair, Data, Nest, Phase, Row, Turns, accepted_sides, arena_within, bytes_of, chunks_in, cond-true, copy_refusal, in_block, in_copy, is_inside, is_out, length-slice, load_chunks, logged, overlay, rows_before, slice, source_refusal}
+use Rattle.norec_data.specs.Turns.{phase_after}
+use Rattle.norec_core.specs.Order.{tries_after, tries_at}
 use Rattle.norec_revocable.proofs.Copies.ReadyCopies.{ready, taken, before, ready_bounds, ready_open, ready_settled, ready_served, ready_came, ready_to_copy, copy_stage_is, out_source}
 use Rattle.norec_core.proofs.Accesses.Readings.{starts_chunks}
 use Rattle.norec_revocable.proofs.copy.copy.Goals as goal

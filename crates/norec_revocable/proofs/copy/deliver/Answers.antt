@@ -1,20 +1,5 @@
-use Rattle.std.proofs.Common.{◌≡◌, ℕ, List, All, length, None, refl, sym, ap, subst, ◌∙◌, inl, inr, arith}
-use Rattle.std.proofs.lemmas.List.Elements.{All-from_recursion}
-use Rattle.std.specs.Prelude.{IsSome}
-use Rattle.itm_types.specs.declared.copy.CopyPair.{CopyPair}
-use Rattle.word_pieces.specs.declared.piece.Piece.{Piece}
-use Rattle.word_pieces.specs.Chunks.{chunks_of}
-use Rattle.write_set.specs.declared.row.Row.{Row}
-use Rattle.write_set.specs.Marks.{MayPut}
-use Rattle.itm_types.specs.Slices.{with_slice, AreBytes}
-use Rattle.write_set.specs.Rows.{lookup}
-use Rattle.norec_core.specs.Copies.{target_refusal, chunks_in, direction_of, WritesShared}
-use Rattle.norec_core.specs.Rows.{range_pieces, reserved_all, put_chunks}
-use Rattle.norec_data.specs.View.{rows_before}
-use Rattle.norec_revocable.specs.InPhases.{reserved_for}
-use Rattle.norec_core.specs.Effects.{writes_copied, arena_copied}
-use Rattle.norec_core.proofs.Accesses.Writings.{all_reserved}
-use Rattle.norec_core.proofs.Replies.CopyRefusals.{accepted_sides, arena_within}
+use Rattle.std.proofs.Common.{◌≡◌, ℕ, List, All, length, None, refl, sym, ap, subst, ◌∙◌, inl, inr, arith, IsSome}
+use Rattle.norec_revocable.proofs.Common.{All-from_recursion, AreBytes, CopyPair, MayPut, Piece, Row, WritesShared, accepted_sides, all_reserved, arena_copied, arena_within, chunks_in, chunks_of, direction_of, lookup, put_chunks, range_pieces, reserved_all, reserved_for, rows_before, target_refusal, with_slice, writes_copied}
 use Rattle.norec_revocable.proofs.Copies.AcceptedCopies.{target_within, reserved_shared, may_put_shared, writes_shared, arena_shared}
 use Rattle.norec_revocable.proofs.copy.deliver.Goals as goal
 

@@ -1,17 +1,8 @@
 use Rattle.std.proofs.Common.{◌≡◌, ℕ, ◌+◌, ◌-◌, ◌≤◌, List, [], length, take, replicate, sym, ap, subst, ◌∙◌, arith}
-use Rattle.itm_types.specs.Memory.{bytes_of}
-use Rattle.itm_types.specs.Slices.{slice, with_slice}
-use Rattle.word_pieces.specs.Pieces.{gathered}
-use Rattle.word_pieces.proofs.Covers.{gathered-pieces_of, take_all-pieces_of}
+use Rattle.norec_revocable.proofs.Common.{IsFor, Purpose, bytes_of, chunk_there, chunk_within, count, direction_of, gathered, gathered-pieces_of, length-overlay, length-with_slice, overlay, parts, slice, take_all-pieces_of, with_slice}
 use Rattle.word_pieces.proofs.ChunkBytes.{written-next-chunk}
-use Rattle.word_pieces.proofs.Lists.{slice-slice, length-with_slice}
-use Rattle.write_set.specs.Rows.{overlay}
-use Rattle.write_set.proofs.Overlays.{length-overlay}
-use Rattle.norec_core.specs.Copies.{direction_of}
-use Rattle.norec_core.specs.Accesses.{parts, count}
-use Rattle.norec_revocable.specs.InPhases.{IsFor}
-use Rattle.norec_core.specs.declared.call_parts.Purpose.{Purpose}
-use Rattle.norec_core.proofs.Accesses.CopyChunks.{chunk_there, chunk_within, length-gathered-all}
+use Rattle.word_pieces.proofs.Lists.{slice-slice}
+use Rattle.norec_core.proofs.Accesses.CopyChunks.{length-gathered-all}
 use Rattle.norec_revocable.proofs.copy.keep_chunk.Goals as goal
 
 pub overflow_sub-start : goal.overflow_sub-start

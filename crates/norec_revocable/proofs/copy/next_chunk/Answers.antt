@@ -1,25 +1,9 @@
 use Rattle.std.proofs.Common.{◌≡◌, ℕ, suc, ◌+◌, length, drop, sym, ap, subst, ◌∙◌, arith, add-one, rules}
-use Rattle.itm_types.proofs.Words.{length-bytes_of}
-use Rattle.itm_types.specs.Memory.{bytes_of}
-use Rattle.word_pieces.proofs.Lists.{length-slice}
-use Rattle.write_set.specs.Rows.{overlay}
-use Rattle.write_set.proofs.Overlays.{length-overlay}
-use Rattle.norec_data.specs.declared.data.Data.{Data}
+use Rattle.norec_revocable.proofs.Common.{Data, IsReading, Phase, Reading, Turns, Wait, bytes_of, chunk_reading, chunk_there, chunks_in, direction_of, in_copy, length-bytes_of, length-overlay, length-slice, load_among, load_chunks, overlay, parts, rows_before, some_count, words_in-next}
 use Rattle.norec_data.specs.declared.pending.Pending.TheVariants as waits
-use Rattle.norec_data.specs.declared.turn.Turn.TheVariants.{Wait}
-use Rattle.norec_data.specs.Turns.{Turns}
-use Rattle.norec_revocable.specs.Between.{in_copy}
-use Rattle.norec_core.specs.Phases.{Phase}
-use Rattle.norec_core.specs.declared.call_parts.Reading.{Reading}
-use Rattle.norec_core.specs.Copies.{chunks_in, direction_of}
-use Rattle.norec_core.specs.Order.{chunk_reading, load_among, load_chunks}
-use Rattle.norec_core.specs.Accesses.{parts}
-use Rattle.norec_data.specs.View.{rows_before}
-use Rattle.norec_revocable.specs.InPhases.{IsReading}
 use Rattle.norec_revocable.proofs.Copies.AcceptedCopies.{source_within}
-use Rattle.norec_core.proofs.Accesses.CopyChunks.{chunk_there}
 use Rattle.norec_revocable.proofs.ReadCalls.Loads.{open_gathering, load_proceeds, load_sound, logs_chunk, may_read, reading_of, no_reading, starts_chunk, whole_source}
-use Rattle.norec_core.proofs.Accesses.Readings.{none_drop, some_drop, some_count, words_in-next}
+use Rattle.norec_core.proofs.Accesses.Readings.{none_drop, some_drop}
 use Rattle.norec_revocable.proofs.copy.next_chunk.Goals as goal
 
 pub take_known-requires : goal.take_known-requires

@@ -1,8 +1,5 @@
 use Rattle.std.proofs.Common.{◌≡◌, ◌-◌, length, drop}
-use Rattle.norec_core.specs.Copies.{chunks_in}
-use Rattle.norec_data.specs.View.{rows_before}
-use Rattle.norec_revocable.specs.Between.{MayCopy}
-use Rattle.norec_core.specs.Order.{load_chunks}
+use Rattle.norec_revocable.proofs.Common.{MayCopy, chunks_in, load_chunks, rows_before}
 use Rattle.norec_revocable.proofs.copy.next_chunk.Given as goal
 
 abbrev pub decreases-loop-reading : goal.decreases-loop-reading

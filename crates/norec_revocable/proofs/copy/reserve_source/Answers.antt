@@ -1,8 +1,6 @@
 use Rattle.std.proofs.Common.{◌≡◌, ◌*◌, ◌≤◌, false, length, arith}
-use Rattle.word_pieces.specs.Chunks.{chunks_of}
-use Rattle.norec_core.specs.Copies.{chunks_in, is_out}
+use Rattle.norec_revocable.proofs.Common.{chunks_in, chunks_of, is_out, source_few}
 use Rattle.norec_revocable.specs.declared.read.TheConstants.{MOST_PIECES}
-use Rattle.norec_core.proofs.Accesses.CopyChunks.{source_few}
 use Rattle.norec_core.proofs.Accesses.Writings.{map_ok}
 use Rattle.norec_revocable.proofs.copy.reserve_source.Goals as goal
 

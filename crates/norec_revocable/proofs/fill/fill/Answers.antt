@@ -1,20 +1,8 @@
 use Rattle.std.proofs.Common.{◌≡◌, ℕ, ◌%◌, List, All, length, IsSome, false, refl, ap, sym, subst, ◌∙◌, arith}
-use Rattle.std.proofs.lemmas.List.{length-replicate}
-use Rattle.std.proofs.lemmas.List.Elements.{All-from_recursion}
-use Rattle.itm_types.specs.declared.access.WriteHint.{WriteHint}
-use Rattle.itm_types.specs.declared.call.Call.TheVariants.{Fill}
+use Rattle.norec_revocable.proofs.Common.{All-from_recursion, CallTurns, End, Fill, Piece, Row, Up, WriteHint, all_reserved, chunks_of, length-replicate, lookup, range_pieces, reserved_all}
 use Rattle.norec_data.specs.declared.end.CallEnd.TheVariants as ends
-use Rattle.norec_data.specs.declared.turn.Turn.TheVariants.{End}
-use Rattle.word_pieces.specs.declared.piece.Piece.{Piece}
-use Rattle.word_pieces.specs.declared.chunk.Direction.TheVariants.{Up}
-use Rattle.word_pieces.specs.Chunks.{chunks_of}
-use Rattle.write_set.specs.declared.row.Row.{Row}
-use Rattle.write_set.specs.Rows.{lookup}
-use Rattle.norec_core.specs.Rows.{range_pieces, reserved_all}
-use Rattle.norec_revocable.specs.Moves.{CallTurns}
 use Rattle.norec_revocable.proofs.KeptFrames.{kept_on}
 use Rattle.norec_revocable.proofs.Copies.Fills.{none_filled, some_filled, fill_turns}
-use Rattle.norec_core.proofs.Accesses.Writings.{all_reserved}
 use Rattle.norec_revocable.proofs.fill.fill.Goals.{then-size-gt0+in_ok-set_all+in_ok-reserve_range, else-size-gt0}
 use Rattle.norec_revocable.proofs.fill.fill.Goals as goal
 

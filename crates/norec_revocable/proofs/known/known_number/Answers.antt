@@ -1,11 +1,5 @@
 use Rattle.std.proofs.Common.{◌≡◌, ◌+◌, ◌*◌, ◌/◌, ◌≤◌, ◌&&◌, nat_le, true, false, length, sym, subst, ◌∙◌, arith, rules}
-use Rattle.itm_types.specs.Access.{size_of}
-use Rattle.itm_types.specs.declared.call.Call.TheVariants.{Read}
-use Rattle.norec_data.specs.declared.data.Data.{Data}
-use Rattle.norec_data.specs.declared.end.CallEnd.TheVariants.{Word}
-use Rattle.norec_data.specs.declared.turn.Turn.TheVariants.{End}
-use Rattle.norec_data.specs.View.{in_block}
-use Rattle.norec_revocable.specs.Moves.{CallTurns}
+use Rattle.norec_revocable.proofs.Common.{CallTurns, Data, End, Read, Word, in_block, size_of}
 use Rattle.norec_revocable.proofs.ReadCalls.ReadyReads.{ready}
 use Rattle.norec_revocable.proofs.ReadCalls.KnownReads.{known_turns}
 use Rattle.norec_revocable.proofs.known.known_number.Goals as goal

@@ -1,16 +1,6 @@
 use Rattle.std.proofs.Common.{◌≡◌, ◌+◌, length, nat_le, Bool, false, Some, sym, ap, subst, refl, ◌∙◌, rules}
-use Rattle.std.proofs.lemmas.Result.{err_from_is_err_and}
-use Rattle.itm_types.specs.declared.call.Call.{Call}
-use Rattle.itm_types.specs.declared.call.Refusal.TheVariants.{Outside, OutOfArena}
-use Rattle.itm_types.specs.Calls.{logged_of}
-use Rattle.itm_types.specs.KeptBytes.{also_kept}
-use Rattle.itm_model.specs.Machine.{or_else, unless}
-use Rattle.undo_log.specs.Rollback.{found, kept_of}
-use Rattle.nest_frames.specs.Nest.{Nest, log_of}
-use Rattle.norec_data.specs.declared.data.Data.{Data}
-use Rattle.norec_data.specs.declared.turn.Turn.TheVariants.{End}
+use Rattle.norec_revocable.proofs.Common.{Call, CallTurns, Data, End, Nest, OutOfArena, Outside, also_kept, err_from_is_err_and, found, kept_of, log_of, logged_of, or_else, unless}
 use Rattle.norec_data.specs.declared.end.CallEnd.TheVariants as ends
-use Rattle.norec_revocable.specs.Moves.{CallTurns}
 use Rattle.norec_revocable.proofs.Replies.ImmediateReplies.{answered, logged_at_once, logged_starves, refused_as_it_was, starved}
 use Rattle.norec_revocable.proofs.Blocks.Cancels.{come}
 use Rattle.norec_revocable.proofs.Replies.LocalReplies.{logged_replies, logged_sound, not_within, unlogged_replies, with_log}

@@ -1,18 +1,9 @@
 use Rattle.std.proofs.Common.{◌≡◌, ℕ, ◌/◌, ◌&&◌, not, false, length, Option, None, Some, if◌then◌else◌, sym, ap, subst, ◌∙◌, rules}
-use Rattle.itm_types.specs.declared.call.Reply.TheVariants.{Refused}
-use Rattle.nest_frames.specs.Nest.{Nest, stays_revocable}
-use Rattle.norec_core.specs.declared.answer.Answer.{Answer}
-use Rattle.norec_core.specs.declared.answer.Answer.TheVariants.{Full, Reply}
+use Rattle.norec_revocable.proofs.Common.{Answer, Core, Data, Idle, IsEnding, Nest, Refused, Reply, TurnEndsSo, Turns, between, core, going_ending, going_stage, in_block, moved, stays_revocable}
+use Rattle.norec_core.specs.declared.answer.Answer.TheVariants.{Full}
 use Rattle.norec_core.specs.Aims as aims
-use Rattle.norec_core.specs.Phases.{Idle}
 use Rattle.norec_core.specs.declared.call_parts.Taking.TheVariants.{Mode}
-use Rattle.norec_core.specs.Core.{Core}
-use Rattle.norec_core.specs.Endings.{IsEnding, going_ending}
-use Rattle.norec_core.specs.Order.{exchange_stage, going_stage}
-use Rattle.norec_data.specs.declared.data.Data.{Data}
-use Rattle.norec_data.specs.Turns.{TurnEndsSo, Turns}
-use Rattle.norec_data.specs.View.{core, in_block}
-use Rattle.norec_revocable.specs.Between.{between, moved}
+use Rattle.norec_core.specs.Order.{exchange_stage}
 use Rattle.norec_revocable.proofs.Blocks.IrrevocableEntries.{mode_accepted, mode_came, mode_denied, no_room}
 use Rattle.norec_revocable.proofs.mode.mode.Goals as goal
 

@@ -1,14 +1,6 @@
 use Rattle.std.proofs.Common.{◌≡◌, ◌+◌, ◌-◌, List, All, drop, length, take, IsSome, Some, slice_get, refl, ap, sym, subst, ◌∙◌, arith}
-use Rattle.std.proofs.lemmas.List.{take_all}
-use Rattle.word_pieces.specs.declared.chunk.Chunk.{Chunk}
-use Rattle.word_pieces.specs.declared.piece.Piece.{Piece}
-use Rattle.word_pieces.specs.Chunks.{chunks_of, chunks_before}
-use Rattle.word_pieces.specs.Pieces.{pieces_of}
-use Rattle.write_set.specs.Marks.{MayPut}
-use Rattle.write_set.specs.Rows.{lookup}
-use Rattle.norec_core.specs.Rows.{put_all, put_chunks}
+use Rattle.norec_revocable.proofs.Common.{Chunk, MayPut, Piece, chunks_before, chunks_of, lookup, pieces_of, put_all, put_chunks, some_words, take_all}
 use Rattle.norec_core.proofs.Accesses.Ranges.{all_of_chunk, put_chunks_more}
-use Rattle.norec_core.proofs.Accesses.Writings.{some_words}
 use Rattle.norec_revocable.proofs.KeptFrames.{kept_on}
 use Rattle.norec_revocable.proofs.range.put_range.Goals as goal
 

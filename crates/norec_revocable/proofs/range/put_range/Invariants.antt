@@ -1,8 +1,5 @@
 use Rattle.std.proofs.Common.{◌≡◌, map}
-use Rattle.word_pieces.specs.Chunks.{chunks_before}
-use Rattle.write_set.specs.Marks.{KeepsRoom}
-use Rattle.norec_core.specs.Rows.{put_chunks}
-use Rattle.norec_revocable.specs.KeptFrames.{KeepsAllButWrites}
+use Rattle.norec_revocable.proofs.Common.{KeepsAllButWrites, KeepsRoom, chunks_before, put_chunks}
 use Rattle.norec_revocable.proofs.range.put_range.Given as goal
 
 abbrev pub invariant-loop-number : goal.invariant-loop-number

@@ -1,18 +1,7 @@
 use Rattle.std.proofs.Common.{◌≡◌, ℕ, ◌+◌, ◌<◌, ◌++◌, List, All, drop, length, take, refl, ap, sym, subst, ◌∙◌, arith}
-use Rattle.std.proofs.lemmas.List.{take_all}
-use Rattle.std.proofs.lemmas.List.Elements.{All-append, All-nil}
-use Rattle.word_pieces.specs.declared.chunk.Chunk.{Chunk}
-use Rattle.word_pieces.specs.declared.piece.Piece.{Piece}
-use Rattle.word_pieces.specs.Chunks.{chunks_of, chunks_before}
-use Rattle.word_pieces.specs.Pieces.{pieces_of}
-use Rattle.write_set.specs.declared.mark.Place.{Place}
-use Rattle.write_set.specs.declared.row.Row.{Row}
-use Rattle.write_set.specs.Marks.{MayPut}
-use Rattle.write_set.specs.Rows.{AreEmpty}
-use Rattle.nest_frames.specs.Nest.{Nest, Frame}
-use Rattle.norec_core.specs.Rows.{range_pieces, reserved_all}
+use Rattle.norec_revocable.proofs.Common.{All-nil, AreEmpty, Chunk, Frame, MayPut, Nest, Piece, Place, Row, chunks_before, chunks_of, cut-reserved_all, on_err, on_ok, pieces_of, range_pieces, reserved_all, take_all}
+use Rattle.std.proofs.lemmas.List.Elements.{All-append}
 use Rattle.norec_core.proofs.Accesses.Ranges.{range_pieces_more, reserved_all-append}
-use Rattle.norec_core.proofs.Accesses.Writings.{cut-reserved_all, on_err, on_ok}
 use Rattle.norec_revocable.proofs.KeptFrames.{kept_on, only_writes}
 use Rattle.norec_revocable.proofs.range.reserve_range.Goals as goal
 

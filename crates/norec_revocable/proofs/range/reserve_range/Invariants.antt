@@ -1,8 +1,5 @@
 use Rattle.std.proofs.Common.{◌≡◌, All}
-use Rattle.word_pieces.specs.Chunks.{chunks_before}
-use Rattle.write_set.specs.Marks.{MayPut}
-use Rattle.norec_core.specs.Rows.{range_pieces, reserved_all}
-use Rattle.norec_revocable.specs.KeptFrames.{KeepsAllButWrites}
+use Rattle.norec_revocable.proofs.Common.{KeepsAllButWrites, MayPut, chunks_before, range_pieces, reserved_all}
 use Rattle.norec_revocable.proofs.range.reserve_range.Given as goal
 
 abbrev pub invariant-loop-number : goal.invariant-loop-number

@@ -1,16 +1,7 @@
-use Rattle.std.proofs.Common.{◌≡◌, ℕ, ◌+◌, Option, None, Some, List, [], ◌++◌, length, take, drop, refl, sym, ap, subst, ◌∙◌, arith}
-use Rattle.word_pieces.specs.Pieces.{gathered, part_of}
-use Rattle.std.specs.Prelude.{slice_index}
-use Rattle.std.proofs.lemmas.List.{length-append}
-use Rattle.write_set.specs.Rows.{overlay}
-use Rattle.norec_core.specs.declared.call_parts.Reading.{Reading}
-use Rattle.norec_core.specs.Order.{load_among}
-use Rattle.norec_core.specs.Accesses.{parts, count}
-use Rattle.norec_data.specs.View.{rows_before}
-use Rattle.norec_core.specs.Phases.{Phase}
-use Rattle.norec_revocable.specs.InPhases.{IsReading, next_load}
-use Rattle.norec_core.specs.Rows.{is_had}
-use Rattle.norec_core.proofs.Accesses.Readings.{load_ends, load_here, load_next, none_left, some_left, part_is, length-part_of}
+use Rattle.std.proofs.Common.{◌≡◌, ℕ, ◌+◌, Option, None, Some, List, [], ◌++◌, length, take, drop, refl, sym, ap, subst, ◌∙◌, arith, slice_index}
+use Rattle.norec_revocable.proofs.Common.{IsReading, Phase, Reading, count, gathered, is_had, length-append, length-part_of, load_among, load_here, load_next, none_left, overlay, part_is, part_of, parts, rows_before}
+use Rattle.norec_revocable.specs.InPhases.{next_load}
+use Rattle.norec_core.proofs.Accesses.Readings.{load_ends, some_left}
 use Rattle.norec_revocable.proofs.Copies.Sources.{had_before}
 use Rattle.norec_revocable.proofs.read.+take_known.Goals as goal
 

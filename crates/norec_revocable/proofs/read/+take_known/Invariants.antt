@@ -1,5 +1,5 @@
 use Rattle.std.proofs.Common.{◌+◌, ◌-◌, ◌*◌}
-use Rattle.norec_core.specs.Accesses.{count}
+use Rattle.norec_revocable.proofs.Common.{count}
 use Rattle.norec_revocable.proofs.read.+take_known.Given as goal
 
 abbrev pub decreases-take_known : goal.decreases-take_known

@@ -1,17 +1,6 @@
-use Rattle.std.proofs.Common.{◌≡◌, ℕ, List, [], ◌∷◌, ◌++◌, Some, length, slice_get, take, sym, ap, subst, ◌∙◌, arith, ◌==◌, eq-eqb, Option, rules}
-use Rattle.std.proofs.lemmas.Bool.{cond-true}
-use Rattle.norec_core.specs.declared.answer.Answer.{Answer}
-use Rattle.norec_data.specs.Turns.{TurnEndsSo}
-use Rattle.std.proofs.lemmas.List.{length-append}
-use Rattle.std.specs.Prelude.{slice_index}
-use Rattle.itm_types.specs.declared.row.LogRow.{LogRow}
-use Rattle.word_pieces.specs.declared.piece.Piece.{Piece}
-use Rattle.word_pieces.specs.Pieces.{gathered, part_of}
-use Rattle.write_set.specs.Rows.{overlay}
-use Rattle.norec_core.specs.Rows.{is_had}
-use Rattle.norec_core.specs.Accesses.{count, parts}
-use Rattle.norec_core.proofs.Accesses.Overlays.{index_of}
-use Rattle.norec_core.proofs.Accesses.Readings.{none_left, part_is, length-part_of, passed_next, total_left}
+use Rattle.std.proofs.Common.{◌≡◌, ℕ, List, [], ◌∷◌, ◌++◌, Some, length, slice_get, take, sym, ap, subst, ◌∙◌, arith, ◌==◌, eq-eqb, Option, rules, slice_index}
+use Rattle.norec_revocable.proofs.Common.{Answer, LogRow, Piece, TurnEndsSo, cond-true, count, gathered, index_of, is_had, length-append, length-part_of, none_left, overlay, part_is, part_of, parts, total_left}
+use Rattle.norec_core.proofs.Accesses.Readings.{passed_next}
 use Rattle.norec_revocable.proofs.ReadCalls.JoinedRows.{agreed_before, has_value, joined_open, joined_for, joins, stage_joined, log_joined}
 use Rattle.norec_revocable.proofs.ReadCalls.ReadingFields.{among}
 use Rattle.norec_revocable.proofs.Copies.Sources.{unlogged}

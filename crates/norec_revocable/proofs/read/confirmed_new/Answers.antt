@@ -1,7 +1,5 @@
 use Rattle.std.proofs.Common.{◌≡◌, List, None, subst, ◌∙◌, arith}
-use Rattle.write_set.specs.declared.row.Row.{Row}
-use Rattle.write_set.specs.Rows.{lookup}
-use Rattle.write_set.proofs.Overlays.{overlay-unwritten}
+use Rattle.norec_revocable.proofs.Common.{Row, lookup, overlay-unwritten}
 use Rattle.norec_revocable.proofs.ReadCalls.ConfirmedWords.{confirms, may_join}
 use Rattle.norec_revocable.proofs.ReadCalls.Replies.{all_before}
 use Rattle.norec_revocable.proofs.read.confirmed_new.Goals as goal

@@ -1,10 +1,8 @@
-use Rattle.std.proofs.Common.{◌≡◌, Option, Some, slice_get, ap, sym, ◌∙◌}
-use Rattle.std.specs.Prelude.{slice_index}
-use Rattle.write_set.specs.declared.row.Row.{Row}
-use Rattle.write_set.specs.Rows.{overlay, laid}
-use Rattle.word_pieces.specs.Pieces.{part_of}
+use Rattle.std.proofs.Common.{◌≡◌, Option, Some, slice_get, ap, sym, ◌∙◌, slice_index}
+use Rattle.norec_revocable.proofs.Common.{Row, got_at, index_of, overlay, part_of}
+use Rattle.write_set.specs.Rows.{laid}
 use Rattle.word_pieces.proofs.Covers.{AllFit-at}
-use Rattle.norec_core.proofs.Accesses.Overlays.{index_of, got_at, lookup_fits}
+use Rattle.norec_core.proofs.Accesses.Overlays.{lookup_fits}
 use Rattle.norec_revocable.proofs.read.covered.Goals as goal
 
 pub returns-in-Some-clause-part : goal.returns-in-Some-clause-part

@@ -1,21 +1,9 @@
 use Rattle.std.proofs.Common.{◌≡◌, ℕ, ◌+◌, ◌*◌, length, take, drop, refl, sym, ap, subst, ◌∙◌, arith, add-one, rules}
-use Rattle.word_pieces.specs.Pieces.{count_of}
-use Rattle.norec_data.specs.declared.data.Data.{Data}
+use Rattle.norec_revocable.proofs.Common.{Core, Data, IsFor, IsValue, Purpose, Reading, Turns, between, chunk_there, chunks_in, count, count_of, direction_of, in_copy, load_chunks, load_past, logged, passed, passed_for, rows_before, some_count, source_words, total, total_for, words_in-next}
 use Rattle.norec_core.specs.Aims as aims
-use Rattle.norec_core.specs.declared.call_parts.Purpose.{Purpose}
-use Rattle.norec_core.specs.declared.call_parts.Reading.{Reading}
-use Rattle.norec_core.specs.Copies.{chunks_in, direction_of, source_words, words_in}
+use Rattle.norec_core.specs.Copies.{words_in}
 use Rattle.norec_revocable.proofs.Copies.AcceptedCopies.{source_within}
-use Rattle.norec_core.proofs.Accesses.CopyChunks.{chunk_there}
-use Rattle.norec_core.specs.Core.{Core}
-use Rattle.norec_core.specs.Order.{load_chunks, load_past}
-use Rattle.norec_core.specs.Accesses.{count, passed, passed_for, total, total_for}
-use Rattle.norec_data.specs.View.{rows_before}
-use Rattle.norec_revocable.specs.InPhases.{IsFor}
-use Rattle.norec_revocable.specs.Between.{between, in_copy, logged, IsValue}
-use Rattle.norec_data.specs.Turns.{Turns}
 use Rattle.norec_revocable.proofs.ReadCalls.Loads.{open_gathering, load_sound, load_proceeds, may_read}
-use Rattle.norec_core.proofs.Accesses.Readings.{some_count, words_in-next}
 use Rattle.norec_revocable.proofs.read.go_on.Goals as goal
 
 pub take_known-requires : goal.take_known-requires

@@ -1,11 +1,6 @@
 use Rattle.std.proofs.Common.{◌≡◌, ℕ, ◌+◌, sym, subst, ◌∙◌, arith, rules}
+use Rattle.norec_revocable.proofs.Common.{IsReading, Reading, Turns, between, count, logged, rows_before}
 use Rattle.norec_core.specs.Aims as aims
-use Rattle.norec_core.specs.declared.call_parts.Reading.{Reading}
-use Rattle.norec_core.specs.Accesses.{count}
-use Rattle.norec_data.specs.View.{rows_before}
-use Rattle.norec_data.specs.Turns.{Turns}
-use Rattle.norec_revocable.specs.InPhases.{IsReading}
-use Rattle.norec_revocable.specs.Between.{between, logged}
 use Rattle.norec_revocable.proofs.ReadCalls.Replies.{loads_no_more}
 use Rattle.norec_revocable.proofs.read.go_past.Goals as goal
 

@@ -1,9 +1,6 @@
 use Rattle.std.proofs.Common.{◌≡◌, ℕ, ◌+◌, ◌/◌, ◌%◌, ◌≤◌, ◌==◌, sym, ap, subst, ◌∙◌, arith}
+use Rattle.norec_revocable.proofs.Common.{IsValue, Piece, Reading, count, part}
 use Rattle.std.proofs.lemmas.Bool.{cond_both, eqb-true}
-use Rattle.word_pieces.specs.declared.piece.Piece.{Piece}
-use Rattle.norec_core.specs.declared.call_parts.Reading.{Reading}
-use Rattle.norec_core.specs.Accesses.{count, part}
-use Rattle.norec_revocable.specs.Between.{IsValue}
 use Rattle.norec_revocable.proofs.read.is_whole.Goals as goal
 
 -- past a piece that ends where the value does there is none

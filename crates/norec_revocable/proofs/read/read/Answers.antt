@@ -1,29 +1,9 @@
 use Rattle.std.proofs.Common.{◌≡◌, ◌+◌, ◌*◌, ◌≤◌, ◌&&◌, nat_le, ℕ, true, if◌then◌else◌, List, Some, length, drop, take, refl, sym, ap, subst, ◌∙◌, arith, rules}
+use Rattle.norec_revocable.proofs.Common.{Core, Data, Idle, IsMissing, IsOpen, IsReading, IsSoundTurn, Load, Log, MayRead, Phase, Read, Reading, Row, Turns, Wait, between, cond-true, count_of, err_from_is_err_and, few_words, in_block, load_among, load_stage, logged, parts, size_of, take_all, total, value_reading}
 use Rattle.std.proofs.lemmas.Grind.{common_steps}
-use Rattle.std.proofs.lemmas.Bool.{cond-true}
-use Rattle.std.proofs.lemmas.List.{take_all}
-use Rattle.std.proofs.lemmas.Result.{err_from_is_err_and}
-use Rattle.itm_types.specs.Access.{size_of}
-use Rattle.itm_types.specs.declared.call.Call.TheVariants.{Read}
-use Rattle.value_log.specs.Log.{Log}
-use Rattle.word_pieces.specs.Pieces.{count_of}
-use Rattle.write_set.specs.declared.row.Row.{Row}
 use Rattle.norec_core.specs.Aims as aims
-use Rattle.norec_core.specs.Phases.{Phase}
-use Rattle.norec_core.specs.Phases.{Idle, Load}
 use Rattle.norec_core.specs.declared.call_parts.Purpose.TheVariants as for
-use Rattle.norec_core.specs.declared.call_parts.Reading.{Reading}
-use Rattle.norec_core.specs.Accesses.{parts, total}
-use Rattle.norec_core.specs.Core.{Core}
-use Rattle.norec_core.specs.Order.{load_among, load_stage, value_reading}
-use Rattle.norec_core.proofs.Accesses.CopyChunks.{few_words}
-use Rattle.norec_data.specs.declared.data.Data.{Data}
 use Rattle.norec_data.specs.declared.pending.Pending.TheVariants as waits
-use Rattle.norec_data.specs.declared.turn.Turn.TheVariants.{Wait}
-use Rattle.norec_data.specs.Turns.{Turns}
-use Rattle.norec_data.specs.View.{in_block}
-use Rattle.norec_revocable.specs.InPhases.{IsMissing, IsOpen, IsReading, MayRead}
-use Rattle.norec_revocable.specs.Between.{between, logged, IsSoundTurn}
 use Rattle.norec_revocable.proofs.ReadCalls.Loads.{load_sound}
 use Rattle.norec_revocable.proofs.ReadCalls.ReadyReads.{gathering, ready, ready_came, ready_missing, ready_open, ready_reading, settled}
 use Rattle.norec_revocable.proofs.Replies.Refusals.{served}

@@ -1,9 +1,5 @@
 use Rattle.std.proofs.Common.{◌≡◌, ◌∙◌, refl, ap, length, arith, rules}
-use Rattle.write_set.specs.Rows.{overlay}
-use Rattle.write_set.proofs.Overlays.{length-overlay}
-use Rattle.word_pieces.proofs.Covers.{gathered-pieces_of, take_all-pieces_of}
-use Rattle.word_pieces.specs.Pieces.{gathered}
-use Rattle.norec_core.specs.Accesses.{count}
+use Rattle.norec_revocable.proofs.Common.{count, gathered, gathered-pieces_of, length-overlay, overlay, take_all-pieces_of}
 use Rattle.norec_revocable.proofs.ReadCalls.Replies.{Finds, replies}
 use Rattle.norec_revocable.proofs.read.reply_gathered.Goals as goal
 

@@ -1,7 +1,5 @@
 use Rattle.std.proofs.Common.{◌≡◌, ℕ, take, refl, sym, ap, ◌∙◌}
-use Rattle.std.proofs.lemmas.Option.{get_or_from_slice_get}
-use Rattle.itm_types.specs.declared.row.LogRow.{LogRow}
-use Rattle.norec_core.specs.Rows.{row_at}
+use Rattle.norec_revocable.proofs.Common.{LogRow, get_or_from_slice_get, row_at}
 use Rattle.norec_data.specs.declared.end.CallEnd.TheVariants.{Restarted}
 use Rattle.norec_revocable.proofs.restarts.restart.Goals as goal
 

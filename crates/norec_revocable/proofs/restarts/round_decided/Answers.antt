@@ -1,6 +1,5 @@
 use Rattle.std.proofs.Common.{◌+◌, length, arith}
-use Rattle.norec_data.specs.View.{aim_of}
-use Rattle.norec_revocable.specs.InPhases.{InRound}
+use Rattle.norec_revocable.proofs.Common.{InRound, aim_of}
 use Rattle.norec_revocable.proofs.Blocks.Restarts.{may_renew, round_renewed}
 use Rattle.norec_revocable.proofs.Counts.{round_over}
 use Rattle.norec_revocable.proofs.ReadCalls.Loads.{aims_later}

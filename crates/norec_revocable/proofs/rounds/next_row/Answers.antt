@@ -1,5 +1,5 @@
 use Rattle.std.proofs.Common.{arith, refl, rules}
-use Rattle.norec_core.proofs.Accesses.Overlays.{AllWithin-at}
+use Rattle.norec_revocable.proofs.Common.{AllWithin-at}
 use Rattle.norec_revocable.proofs.rounds.next_row.Goals as goal
 
 pub returns-then-row-len-clause-goes : goal.returns-then-row-len-clause-goes

@@ -1,11 +1,8 @@
 use Rattle.std.proofs.Common.{◌+◌, ◌-◌, ◌*◌, ◌≤◌, length, refl, subst, arith, rules}
+use Rattle.norec_revocable.proofs.Common.{Aims, MayRead, aim_for, aim_of, count, first_of, round_of, total, total_left}
 use Rattle.norec_data.specs.declared.pending.Cause.{Cause}
-use Rattle.norec_revocable.specs.InPhases.{Aims, MayRead, first_of, round_of}
 use Rattle.norec_core.specs.Aims as aims
-use Rattle.norec_core.specs.Accesses.{count, total}
-use Rattle.norec_data.specs.View.{aim_for, aim_of}
 use Rattle.norec_revocable.proofs.Counts.{more, round_over}
-use Rattle.norec_core.proofs.Accesses.Readings.{total_left}
 use Rattle.norec_revocable.proofs.ReadCalls.ReadingFields.{among}
 use Rattle.norec_revocable.proofs.ReadCalls.Loads.{aims_later}
 use Rattle.norec_revocable.proofs.rounds.round_ended.Goals as goal

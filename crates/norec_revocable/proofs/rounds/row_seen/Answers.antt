@@ -1,18 +1,8 @@
 use Rattle.std.proofs.Common.{◌≡◌, ◌≢◌, ◌==◌, ◌+◌, Bool, Some, List, arith, refl, rules, sym, ap, subst, ◌∙◌, eq-eqb, take, ◌∷◌, [], ◌++◌}
-use Rattle.std.proofs.lemmas.Bool.{cond-true}
-use Rattle.std.proofs.lemmas.List.{take_more}
-use Rattle.std.proofs.lemmas.Option.{get_or_from_slice_get}
-use Rattle.itm_types.specs.declared.row.LogRow.{LogRow}
-use Rattle.norec_core.specs.declared.answer.Answer.TheVariants.{Conflict}
-use Rattle.norec_core.specs.Phases.{Idle, RoundRow}
-use Rattle.norec_core.specs.Core.{handed}
-use Rattle.norec_core.specs.Proceeds.{ConflictsIn}
-use Rattle.norec_core.specs.Rows.{row_at}
-use Rattle.norec_data.specs.View.{aim_of, core}
+use Rattle.norec_revocable.proofs.Common.{Conflict, ConflictsIn, Idle, LogRow, Turns, aim_of, cond-true, core, core_ended, get_or_from_slice_get, handed, row_at, take_more}
+use Rattle.norec_core.specs.Phases.{RoundRow}
 use Rattle.norec_revocable.specs.Between.{in_rows}
-use Rattle.norec_data.specs.Turns.{Turns}
 use Rattle.norec_revocable.proofs.Blocks.EndedTransactions.{ended_undone}
-use Rattle.norec_data.proofs.EndedTransactions.{core_ended}
 use Rattle.norec_revocable.proofs.Blocks.DifferentRows.{decides, decides_order, decides_sound, ends_order}
 use Rattle.norec_revocable.proofs.rounds.row_seen.Goals as goal
 

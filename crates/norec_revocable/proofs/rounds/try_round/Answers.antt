@@ -1,10 +1,6 @@
 use Rattle.std.proofs.Common.{Bool, None, arith, refl, rules, subst, sym}
-use Rattle.norec_core.specs.Proceeds.{ConflictsIn}
-use Rattle.norec_core.specs.Phases.{Idle}
-use Rattle.norec_data.specs.View.{aim_for, core}
-use Rattle.norec_revocable.specs.Between.{between}
+use Rattle.norec_revocable.proofs.Common.{ConflictsIn, Idle, aim_for, between, core, core_ended}
 use Rattle.norec_revocable.proofs.Blocks.EndedTransactions.{ended_undone}
-use Rattle.norec_data.proofs.EndedTransactions.{core_ended}
 use Rattle.norec_revocable.proofs.rounds.try_round.Goals as goal
 
 pub returns-else-state : goal.returns-else-state

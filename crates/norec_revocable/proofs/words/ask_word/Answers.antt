@@ -1,9 +1,6 @@
 use Rattle.std.proofs.Common.{[], false, refl, subst, sym, ◌∙◌}
-use Rattle.itm_types.specs.declared.call.Call.TheVariants.{Read}
+use Rattle.norec_revocable.proofs.Common.{CallTurns, Read, Wait, asking_word}
 use Rattle.norec_data.specs.declared.pending.Pending.TheVariants as waits
-use Rattle.norec_data.specs.declared.turn.Turn.TheVariants.{Wait}
-use Rattle.norec_revocable.specs.Moves.{CallTurns}
-use Rattle.norec_revocable.specs.WholeReads.{asking_word}
 use Rattle.norec_revocable.proofs.ReadCalls.WholeReads.{asks}
 use Rattle.norec_revocable.proofs.words.ask_word.Goals as goal
 

@@ -1,8 +1,5 @@
 use Rattle.std.proofs.Common.{length, ap, arith, ◌∙◌}
-use Rattle.std.proofs.lemmas.List.{take_all}
-use Rattle.write_set.specs.Rows.{lookup}
-use Rattle.norec_data.specs.declared.data.Data.{Data}
-use Rattle.norec_data.specs.View.{rows_before}
+use Rattle.norec_revocable.proofs.Common.{Data, lookup, rows_before, take_all}
 use Rattle.norec_revocable.proofs.words.begin_word.Goals as goal
 
 pub returns-clause-unwritten : goal.returns-clause-unwritten

@@ -1,5 +1,5 @@
 use Rattle.std.proofs.Common.{ℕ, ap, arith, subst, sym}
-use Rattle.norec_revocable.specs.WholeReads.{ReadTurns}
+use Rattle.norec_revocable.proofs.Common.{ReadTurns}
 use Rattle.norec_revocable.proofs.ReadCalls.ReadsAtOnce.{reads}
 use Rattle.norec_revocable.proofs.words.read_at_once.Goals as goal
 

@@ -1,10 +1,6 @@
 use Rattle.std.proofs.Common.{List, take, get_or, refl, ap, sym, ◌∙◌, arith}
-use Rattle.std.proofs.lemmas.List.{take_more, take_all}
-use Rattle.word_pieces.specs.declared.piece.Piece.{Piece}
-use Rattle.write_set.specs.Rows.{put}
-use Rattle.nest_frames.specs.Nest.{Nest}
-use Rattle.norec_core.specs.Rows.{put_all}
-use Rattle.norec_core.proofs.Accesses.Writings.{put_all_more, some_words}
+use Rattle.norec_revocable.proofs.Common.{Nest, Piece, put, put_all, some_words, take_all, take_more}
+use Rattle.norec_core.proofs.Accesses.Writings.{put_all_more}
 use Rattle.norec_revocable.proofs.KeptFrames.{kept_on, only_writes}
 use Rattle.norec_revocable.proofs.writes.put_all.Goals as goal
 

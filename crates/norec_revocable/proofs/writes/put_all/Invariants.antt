@@ -1,7 +1,5 @@
 use Rattle.std.proofs.Common.{◌≡◌, take, map}
-use Rattle.write_set.specs.Marks.{KeepsRoom}
-use Rattle.norec_core.specs.Rows.{put_all}
-use Rattle.norec_revocable.specs.KeptFrames.{KeepsAllButWrites}
+use Rattle.norec_revocable.proofs.Common.{KeepsAllButWrites, KeepsRoom, put_all}
 use Rattle.norec_revocable.proofs.writes.put_all.Given as goal
 
 abbrev pub invariant-loop-piece : goal.invariant-loop-piece

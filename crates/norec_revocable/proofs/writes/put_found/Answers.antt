@@ -1,11 +1,5 @@
 use Rattle.std.proofs.Common.{◌≡◌, inl, inr, [], ◌∷◌, List, sym, ap, ◌∙◌}
-use Rattle.std.proofs.lemmas.Bool.{cases_Bool}
-use Rattle.word_pieces.specs.declared.piece.Piece.{Piece}
-use Rattle.word_pieces.specs.Pieces.{pieces_of}
-use Rattle.word_pieces.proofs.Covers.{one_piece}
-use Rattle.write_set.specs.Rows.{put, reserved}
-use Rattle.nest_frames.specs.Nest.{Nest}
-use Rattle.norec_core.specs.Rows.{reserved_all, put_all}
+use Rattle.norec_revocable.proofs.Common.{Nest, Piece, cases_Bool, one_piece, pieces_of, put, put_all, reserved, reserved_all}
 use Rattle.norec_revocable.proofs.KeptFrames.{only_writes}
 use Rattle.norec_revocable.proofs.writes.put_found.Goals as goal
 

@@ -1,11 +1,6 @@
 use Rattle.std.proofs.Common.{◌≡◌, List, IsSome, All, sym, ap, subst, ◌∙◌}
-use Rattle.std.proofs.lemmas.List.Elements.{All-from_recursion}
-use Rattle.word_pieces.specs.declared.piece.Piece.{Piece}
-use Rattle.write_set.specs.declared.row.Row.{Row}
-use Rattle.write_set.specs.Rows.{lookup}
-use Rattle.nest_frames.specs.Nest.{rows_of}
-use Rattle.norec_core.specs.Rows.{reserved_all, put_all, AreRoomy}
-use Rattle.norec_core.proofs.Accesses.Writings.{all_reserved, either_way}
+use Rattle.norec_revocable.proofs.Common.{All-from_recursion, AreRoomy, Piece, Row, all_reserved, lookup, put_all, reserved_all, rows_of}
+use Rattle.norec_core.proofs.Accesses.Writings.{either_way}
 use Rattle.norec_revocable.proofs.writes.put_pieces.Goals as goal
 
 pub put_all-requires-clause-room : goal.put_all-requires-clause-room

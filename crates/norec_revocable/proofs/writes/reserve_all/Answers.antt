@@ -1,14 +1,7 @@
 use Rattle.std.proofs.Common.{◌≡◌, ℕ, ◌<◌, List, All, None, length, take, drop, get_or, IsSome, refl, ap, sym, subst, ◌∙◌, arith}
-use Rattle.std.proofs.lemmas.List.{take_more, take_all}
-use Rattle.std.proofs.lemmas.List.Elements.{All-more, All-nil}
-use Rattle.word_pieces.specs.declared.piece.Piece.{Piece}
-use Rattle.write_set.specs.declared.mark.Place.{Place}
-use Rattle.write_set.specs.declared.row.Row.{Row}
-use Rattle.write_set.specs.Marks.{MayPut}
-use Rattle.write_set.specs.Rows.{lookup, reserved, AreEmpty}
-use Rattle.nest_frames.specs.Nest.{Nest, Frame, rows_of}
-use Rattle.norec_core.specs.Rows.{reserved_all}
-use Rattle.norec_core.proofs.Accesses.Writings.{cut-reserved_all, reserved_all_more, some_kept_all, not_ok, on_err, on_ok}
+use Rattle.norec_revocable.proofs.Common.{All-nil, AreEmpty, Frame, MayPut, Nest, Piece, Place, Row, cut-reserved_all, lookup, on_err, on_ok, reserved, reserved_all, rows_of, take_all, take_more}
+use Rattle.std.proofs.lemmas.List.Elements.{All-more}
+use Rattle.norec_core.proofs.Accesses.Writings.{reserved_all_more, some_kept_all, not_ok}
 use Rattle.norec_revocable.proofs.KeptFrames.{kept_on, only_writes}
 use Rattle.norec_revocable.proofs.writes.reserve_all.Goals as goal
 

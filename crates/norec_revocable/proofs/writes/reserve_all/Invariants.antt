@@ -1,7 +1,5 @@
 use Rattle.std.proofs.Common.{◌≡◌, All, take}
-use Rattle.write_set.specs.Marks.{KeepsRoom, MayPut}
-use Rattle.norec_core.specs.Rows.{reserved_all}
-use Rattle.norec_revocable.specs.KeptFrames.{KeepsAllButWrites}
+use Rattle.norec_revocable.proofs.Common.{KeepsAllButWrites, KeepsRoom, MayPut, reserved_all}
 use Rattle.norec_revocable.proofs.writes.reserve_all.Given as goal
 
 abbrev pub invariant-loop-piece : goal.invariant-loop-piece

@@ -1,8 +1,5 @@
 use Rattle.std.proofs.Common.{◌≡◌, ℕ, None, Some, sym, ap, subst, ◌∙◌}
-use Rattle.std.proofs.lemmas.Result.{err_from_is_err_and}
-use Rattle.norec_core.specs.Accesses.{access_refusal}
-use Rattle.norec_data.specs.View.{in_block}
-use Rattle.itm_types.specs.declared.call.Call.TheVariants.{Write}
+use Rattle.norec_revocable.proofs.Common.{Write, access_refusal, err_from_is_err_and, in_block}
 use Rattle.norec_revocable.proofs.writes.write.Goals as goal
 
 pub write_served-requires-clause-served : goal.write_served-requires-clause-served

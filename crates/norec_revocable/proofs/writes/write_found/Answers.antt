@@ -1,8 +1,5 @@
 use Rattle.std.proofs.Common.{◌≡◌, subst, ◌∙◌, arith}
-use Rattle.itm_types.specs.Access.{size_of}
-use Rattle.itm_types.specs.Slices.{AreBytes}
-use Rattle.norec_core.specs.Rows.{reserved_all, put_all}
-use Rattle.word_pieces.specs.Pieces.{pieces_of}
+use Rattle.norec_revocable.proofs.Common.{AreBytes, pieces_of, put_all, reserved_all, size_of}
 use Rattle.norec_revocable.proofs.Replies.WriteReplies.{write_turns}
 use Rattle.norec_revocable.proofs.writes.write_found.Goals as goal
 

@@ -1,12 +1,6 @@
 use Rattle.std.proofs.Common.{◌≡◌, ℕ, sym, subst, ◌∙◌, arith, rules}
-use Rattle.std.proofs.lemmas.Result.{err_from_is_err_and}
-use Rattle.norec_data.specs.View.{in_block}
-use Rattle.nest_frames.specs.Nest.{rows_of}
-use Rattle.norec_core.specs.Rows.{reserved_all, put_all, AreRoomy}
-use Rattle.itm_types.specs.Access.{size_of}
+use Rattle.norec_revocable.proofs.Common.{AreBytes, AreRoomy, err_from_is_err_and, in_block, pieces_of, put_all, reserved_all, rows_of, size_of}
 use Rattle.norec_revocable.proofs.Replies.Refusals.{served}
-use Rattle.word_pieces.specs.Pieces.{pieces_of}
-use Rattle.itm_types.specs.Slices.{AreBytes}
 use Rattle.norec_revocable.proofs.Replies.WriteReplies.{write_turns}
 use Rattle.norec_revocable.proofs.writes.write_served.Goals as goal
 

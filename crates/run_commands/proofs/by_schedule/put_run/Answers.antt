@@ -1,8 +1,5 @@
 use Rattle.std.proofs.Common.{Ok, ap, sym, ◌∙◌}
-use Rattle.std.proofs.KnownBytes.{Appends-kept}
-use Rattle.script_vm.specs.Threads.{thread_rules}
-use Rattle.text_commands.proofs.WrittenTexts.{flushed}
-use Rattle.tx_history.specs.Streams.{Standing}
+use Rattle.run_commands.proofs.Common.{Appends-kept, Standing, flushed, thread_rules}
 use Rattle.tx_history.proofs.Streams.{cut_through, put_through}
 use Rattle.run_commands.proofs.Plays.{cut_as, cut_whole, none_ok, on_any, on_err}
 use Rattle.run_commands.proofs.WrittenWorlds.{cut_written}

@@ -1,4 +1,4 @@
-use Rattle.script_laws.proofs.AssembledCode.{assembled_nests}
+use Rattle.run_commands.proofs.Common.{assembled_nests}
 use Rattle.run_commands.proofs.by_schedule.run.Goals as goal
 
 pub run_program-requires : goal.run_program-requires

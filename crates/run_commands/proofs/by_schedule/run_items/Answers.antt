@@ -1,16 +1,5 @@
 use Rattle.std.proofs.Common.{List, ℕ, ◌∙◌, ap, subst}
-use Rattle.std.proofs.lemmas.Result.{err_from_is_err_and}
-use Rattle.std.specs.Io.KnownBytes.{Appends}
-use Rattle.script_program.specs.declared.schedule.Item.{Item}
-use Rattle.script_vm.specs.Threads.{thread_rules}
-use Rattle.tx_history.specs.Bounds.{HistoryFits}
-use Rattle.tx_history.specs.declared.history.Version.{Version}
-use Rattle.tx_history.specs.Histories.{history_text}
-use Rattle.tx_host.specs.Versions.{version_of}
-use Rattle.world_laws.specs.Told.{told_of}
-use Rattle.run_commands.specs.Items.{ItemsLead}
-use Rattle.run_commands.specs.Plays.{IsCutOff}
-use Rattle.run_commands.specs.Scheduled.{endings_of}
+use Rattle.run_commands.proofs.Common.{Appends, HistoryFits, IsCutOff, Item, ItemsLead, Version, endings_of, err_from_is_err_and, history_text, thread_rules, told_of, version_of}
 use Rattle.run_commands.proofs.ProgramPages.{world_of_run}
 use Rattle.run_commands.proofs.WrittenWorlds.{told, begun}
 use Rattle.run_commands.proofs.by_schedule.run_items.Goals as goal

@@ -1,5 +1,5 @@
 use Rattle.std.proofs.Common.{None}
-use Rattle.std.proofs.lemmas.Result.{err_from_is_err_and}
+use Rattle.run_commands.proofs.Common.{err_from_is_err_and}
 use Rattle.run_commands.proofs.EndingLines.{lines_stop}
 use Rattle.run_commands.proofs.endings.put_endings.Goals as goal
 

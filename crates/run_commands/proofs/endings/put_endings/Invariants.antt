@@ -1,6 +1,5 @@
 use Rattle.std.proofs.Common.{take}
-use Rattle.std.specs.Io.KnownBytes.{Appends}
-use Rattle.run_commands.specs.Endings.{ending_lines}
+use Rattle.run_commands.proofs.Common.{Appends, ending_lines}
 use Rattle.run_commands.proofs.endings.put_endings.Given as goal
 
 abbrev pub invariant-loop-thread : goal.invariant-loop-thread

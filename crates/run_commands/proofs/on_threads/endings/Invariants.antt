@@ -1,5 +1,5 @@
 use Rattle.std.proofs.Common.{◌≡◌, Some, map, take}
-use Rattle.arrayvec.specs.ArrayVec.{array_vec_len}
+use Rattle.run_commands.proofs.Common.{array_vec_len}
 use Rattle.run_commands.proofs.on_threads.endings.Given as goal
 
 abbrev pub invariant-loop-thread : goal.invariant-loop-thread

@@ -1,9 +1,5 @@
 use Rattle.std.proofs.Common.{subst}
-use Rattle.text_commands.proofs.WrittenTexts.{flushed}
-use Rattle.tx_history.specs.Bounds.{HistoryFits}
-use Rattle.tx_history.specs.declared.history.History.{History}
-use Rattle.tx_history.specs.Histories.{history_text}
-use Rattle.tx_history.specs.Spelling.{Writes}
+use Rattle.run_commands.proofs.Common.{History, HistoryFits, Writes, flushed, history_text}
 use Rattle.run_commands.proofs.on_threads.put_history.Goals as goal
 
 pub returns-clause-text : goal.returns-clause-text

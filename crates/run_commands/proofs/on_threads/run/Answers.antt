@@ -1,4 +1,4 @@
-use Rattle.script_laws.proofs.AssembledCode.{assembled_nests}
+use Rattle.run_commands.proofs.Common.{assembled_nests}
 use Rattle.run_commands.proofs.on_threads.run.Goals as goal
 
 pub play-requires : goal.play-requires

@@ -1,8 +1,5 @@
 use Rattle.std.proofs.Common.{◌≡◌, ℕ, length, true, Ok, IsSome}
-use Rattle.world_rules.specs.World.{waits_at}
-use Rattle.world_rules.specs.WorldEvents.{Takes}
-use Rattle.world_rules.proofs.Events.WorldEvents.{LeavesLessSoFar, call_left_at}
-use Rattle.run_commands.specs.Plays.{SendsEnded}
+use Rattle.run_commands.proofs.Common.{LeavesLessSoFar, SendsEnded, Takes, call_left_at, waits_at}
 use Rattle.run_commands.proofs.playing.finish_call.Given as goal
 
 abbrev pub invariant-loop-goes_on : goal.invariant-loop-goes_on

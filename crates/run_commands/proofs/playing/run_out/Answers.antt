@@ -1,7 +1,6 @@
 use Rattle.std.proofs.Common.{refl, ◌∙◌, arith}
+use Rattle.run_commands.proofs.Common.{ItemBegins, Out}
 use Rattle.world_rules.proofs.Events.WorldEvents.{no_more_first, no_more_on, run_falls, takes_both}
-use Rattle.script_program.specs.declared.schedule.Item.TheVariants.{Out}
-use Rattle.run_commands.specs.Items.{ItemBegins}
 use Rattle.run_commands.proofs.Plays.{fails_later, performs_stopped, sends_none, sends_on, sends_stopped}
 use Rattle.run_commands.proofs.playing.run_out.Goals as goal
 

@@ -1,7 +1,6 @@
 use Rattle.std.proofs.Common.{◌≡◌, ℕ, length, Ok}
-use Rattle.world_rules.specs.WorldEvents.{Takes}
+use Rattle.run_commands.proofs.Common.{SendsEnded, Takes}
 use Rattle.world_rules.proofs.Events.WorldEvents.{LeavesNoMore, run_left_at, whole_at}
-use Rattle.run_commands.specs.Plays.{SendsEnded}
 use Rattle.run_commands.proofs.playing.run_out.Given as goal
 
 abbrev pub invariant-loop-alloc : goal.invariant-loop-alloc

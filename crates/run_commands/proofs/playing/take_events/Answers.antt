@@ -1,6 +1,5 @@
 use Rattle.std.proofs.Common.{◌+◌, refl, ◌∙◌, arith}
-use Rattle.script_program.specs.declared.schedule.Item.TheVariants.{Take}
-use Rattle.run_commands.specs.Items.{ItemBegins}
+use Rattle.run_commands.proofs.Common.{ItemBegins, Take}
 use Rattle.run_commands.proofs.Items.{led_none, led_on, led_to_end}
 use Rattle.run_commands.proofs.Plays.{fails_here, performs_stopped, sends_none, sends_on, sends_stopped}
 use Rattle.run_commands.proofs.playing.take_events.Goals as goal

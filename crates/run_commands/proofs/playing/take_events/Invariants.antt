@@ -1,5 +1,5 @@
 use Rattle.std.proofs.Common.{◌≡◌, length, replicate, Ok}
-use Rattle.run_commands.specs.Plays.{SendsEnded}
+use Rattle.run_commands.proofs.Common.{SendsEnded}
 use Rattle.run_commands.proofs.Items.{IsLed}
 use Rattle.run_commands.proofs.playing.take_events.Given as goal
 

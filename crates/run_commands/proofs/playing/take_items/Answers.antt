@@ -1,5 +1,5 @@
 use Rattle.std.proofs.Common.{refl, ◌∙◌, arith}
-use Rattle.run_commands.specs.Items.{ItemBegins, ItemsBegin}
+use Rattle.run_commands.proofs.Common.{ItemBegins, ItemsBegin}
 use Rattle.run_commands.proofs.Items.{items_begun, items_more, items_none}
 use Rattle.run_commands.proofs.Plays.{fails_later, performs_stopped, sends_none, sends_on, sends_stopped}
 use Rattle.run_commands.proofs.playing.take_items.Goals as goal

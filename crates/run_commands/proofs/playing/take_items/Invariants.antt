@@ -1,6 +1,5 @@
 use Rattle.std.proofs.Common.{◌≡◌, length, take, Ok}
-use Rattle.run_commands.specs.Items.{ItemsLead}
-use Rattle.run_commands.specs.Plays.{SendsEnded}
+use Rattle.run_commands.proofs.Common.{ItemsLead, SendsEnded}
 use Rattle.run_commands.proofs.playing.take_items.Given as goal
 
 abbrev pub invariant-loop-item : goal.invariant-loop-item

@@ -1,14 +1,11 @@
 use Rattle.std.proofs.Common.{◌≡◌, ℕ, ◌≤◌, List, All, length, ap, subst, sym, ◌∙◌}
-use Rattle.std.proofs.lemmas.List.{length-map}
+use Rattle.run_commands.proofs.Common.{MAX_ARENA, Thread, depth_of, length-map, opening, opening_of, players_of, threads_of}
 use Rattle.std.proofs.lemmas.List.Elements.{All-from_recursion}
 use Rattle.itm_types.specs.Limits.{AreWithin}
-use Rattle.itm_types.specs.declared.limits.TheConstants.{MAX_ACTORS, MAX_ARENA}
-use Rattle.script_program.specs.Listing.{opening_of, threads_of}
+use Rattle.itm_types.specs.declared.limits.TheConstants.{MAX_ACTORS}
 use Rattle.script_program.specs.Sizes.{IsSize}
-use Rattle.script_vm.specs.Threads.{Thread, depth_of, opening}
 use Rattle.tx_host.proofs.Histories.ToldLimits.{limited_listing}
 use Rattle.run_commands.proofs.Plays.{if_any}
-use Rattle.run_commands.specs.Scheduled.{players_of}
 use Rattle.run_commands.proofs.ScheduleItems.{outside}
 use Rattle.run_commands.proofs.running.begin.Goals as goal
 

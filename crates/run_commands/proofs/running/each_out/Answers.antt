@@ -1,7 +1,5 @@
 use Rattle.std.proofs.Common.{arith, ap, sym, ◌∙◌, ◌++◌, [], ◌∷◌, List}
-use Rattle.std.proofs.lemmas.List.FromFn.{map-range_with_len_more}
-use Rattle.script_program.specs.declared.schedule.Item.{Item}
-use Rattle.script_program.specs.declared.schedule.Item.TheVariants.{Out}
+use Rattle.run_commands.proofs.Common.{Item, Out, map-range_with_len_more}
 use Rattle.run_commands.proofs.running.each_out.Goals as goal
 
 pub loop-thread-preserved : goal.loop-thread-preserved

@@ -1,5 +1,5 @@
 use Rattle.std.proofs.Common.{◌≡◌}
-use Rattle.run_commands.specs.Scheduled.{each_out}
+use Rattle.run_commands.proofs.Common.{each_out}
 use Rattle.run_commands.proofs.running.each_out.Given as goal
 
 abbrev pub invariant-loop-thread : goal.invariant-loop-thread

@@ -1,6 +1,5 @@
 use Rattle.std.proofs.Common.{◌≡◌}
-use Rattle.arrayvec.specs.ArrayVec.{array_vec_len}
-use Rattle.run_commands.specs.Scheduled.{endings_of}
+use Rattle.run_commands.proofs.Common.{array_vec_len, endings_of}
 use Rattle.run_commands.proofs.running.endings.Given as goal
 
 abbrev pub invariant-loop-thread : goal.invariant-loop-thread

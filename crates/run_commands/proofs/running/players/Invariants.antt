@@ -1,6 +1,5 @@
 use Rattle.std.proofs.Common.{◌≡◌, map, take}
-use Rattle.script_program.specs.Listing.{threads_of}
-use Rattle.script_vm.specs.Threads.{opening}
+use Rattle.run_commands.proofs.Common.{opening, threads_of}
 use Rattle.run_commands.proofs.running.players.Given as goal
 
 abbrev pub invariant-loop-thread : goal.invariant-loop-thread

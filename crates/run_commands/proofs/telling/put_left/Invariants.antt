@@ -1,5 +1,5 @@
 use Rattle.std.proofs.Common.{◌≡◌, length, drop}
-use Rattle.norec_world.specs.Listed.{left_of}
+use Rattle.run_commands.proofs.Common.{left_of}
 use Rattle.run_commands.proofs.SentTexts.{SendsFirst}
 use Rattle.run_commands.proofs.telling.put_left.Given as goal
 

@@ -1,5 +1,5 @@
 use Rattle.std.proofs.Common.{sym}
-use Rattle.std.proofs.lemmas.Bool.{leb-false}
+use Rattle.script_asm.proofs.Common.{leb-false}
 use Rattle.script_asm.proofs.KeptLines.{begin_kept}
 use Rattle.script_asm.proofs.blocks.begin.Goals as goal
 

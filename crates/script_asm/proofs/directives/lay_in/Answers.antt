@@ -1,5 +1,5 @@
 use Rattle.std.proofs.Common.{◌≡◌, ◌+◌, true, false, leb, length, sym, ap, arith}
-use Rattle.script_fields.specs.Operands.{decoded}
+use Rattle.script_asm.proofs.Common.{decoded}
 use Rattle.script_asm.proofs.LaidBytes.{length-decoded, decoded_is, lies_beyond, left_within, adds_bytes}
 use Rattle.std.proofs.lemmas.Bool.{leb-true}
 use Rattle.script_asm.proofs.directives.lay_in.Goals as goal

@@ -1,7 +1,5 @@
 use Rattle.std.proofs.Common.{◌+◌, ◌≤◌, length, arith}
-use Rattle.script_program.specs.declared.limits.TheConstants.{MAX_ITEMS}
-use Rattle.script_fields.specs.Text.{fields}
-use Rattle.script_asm.specs.Items.{items_in}
+use Rattle.script_asm.proofs.Common.{MAX_ITEMS, fields, items_in}
 use Rattle.script_asm.proofs.KeptLines.{items_kept}
 use Rattle.script_asm.proofs.directives.read_schedule.Goals as goal
 

@@ -1,8 +1,5 @@
 use Rattle.std.proofs.Common.{◌≡◌, ◌+◌, ◌<◌, ◌≤◌, None, length}
-use Rattle.script_fields.specs.Text.{fields}
-use Rattle.script_program.specs.declared.limits.TheConstants.{MAX_ITEMS}
-use Rattle.script_program.specs.Schedules.{planned}
-use Rattle.script_asm.specs.Items.{items_in, items_of}
+use Rattle.script_asm.proofs.Common.{MAX_ITEMS, fields, items_in, items_of, planned}
 use Rattle.script_asm.proofs.LineItems.{after, tally}
 use Rattle.script_asm.proofs.items.add_items.Given as goal
 

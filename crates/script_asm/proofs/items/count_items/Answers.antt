@@ -1,5 +1,5 @@
 use Rattle.std.proofs.Common.{sym, ◌∙◌, arith}
-use Rattle.script_fields.specs.Text.{fields}
+use Rattle.script_asm.proofs.Common.{fields}
 use Rattle.script_asm.proofs.LineItems.{refused_items, stop_next, end_beyond, end_none, end_items}
 use Rattle.script_fields.specs.declared.fault.AsmKind.TheVariants as kinds
 use Rattle.script_asm.proofs.items.count_items.Goals as goal

@@ -1,6 +1,5 @@
 use Rattle.std.proofs.Common.{◌≡◌, ◌+◌, ◌≤◌, length}
-use Rattle.script_fields.specs.Text.{fields}
-use Rattle.script_asm.specs.Items.{items_of}
+use Rattle.script_asm.proofs.Common.{fields, items_of}
 use Rattle.script_asm.proofs.LineItems.{tally, after}
 use Rattle.script_asm.proofs.items.count_items.Given as goal
 

@@ -1,7 +1,6 @@
 use Rattle.std.proofs.Common.{◌≤◌, ◌+◌, ◌∙◌, sym, arith}
-use Rattle.itm_types.specs.declared.limits.TheConstants.{MAX_ACTORS}
+use Rattle.script_asm.proofs.Common.{MAX_ACTORS, thread_total}
 use Rattle.script_asm.specs.Groups.{innermost_line}
-use Rattle.script_program.specs.Sections.{thread_total}
 use Rattle.script_asm.proofs.KeptLines.{section_kept}
 use Rattle.script_asm.proofs.obeying.begin_threads.Goals as goal
 

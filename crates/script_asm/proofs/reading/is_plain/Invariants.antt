@@ -1,6 +1,5 @@
 use Rattle.std.proofs.Common.{◌≡◌, take}
-use Rattle.std.specs.List.{list_all}
-use Rattle.script_asm.specs.PlainTexts.{is_plain_or_feed}
+use Rattle.script_asm.proofs.Common.{is_plain_or_feed, list_all}
 use Rattle.script_asm.proofs.reading.is_plain.Given as goal
 
 abbrev pub invariant-loop-b : goal.invariant-loop-b

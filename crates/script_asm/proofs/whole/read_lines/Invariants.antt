@@ -1,8 +1,5 @@
 use Rattle.std.proofs.Common.{◌≡◌, ◌+◌, ◌≤◌, Ok, length, take, drop, true}
-use Rattle.std.specs.List.{list_all}
-use Rattle.std.specs.Str.Lines.{lines}
-use Rattle.script_asm.specs.Assembly.{lines_say, initial}
-use Rattle.script_asm.specs.PlainTexts.{is_plain}
+use Rattle.script_asm.proofs.Common.{initial, is_plain, lines, lines_say, list_all}
 use Rattle.script_asm.proofs.whole.read_lines.Given as goal
 
 abbrev pub invariant-loop-line : goal.invariant-loop-line

@@ -1,5 +1,5 @@
 use Rattle.std.proofs.Common.{◌≡◌, drop, map}
-use Rattle.script_fields.specs.Names.{lookup, row}
+use Rattle.script_fields.proofs.Common.{lookup, row}
 use Rattle.script_fields.proofs.names.lookup.Given as goal
 
 abbrev pub invariant-loop-name : goal.invariant-loop-name

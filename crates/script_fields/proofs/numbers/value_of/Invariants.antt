@@ -1,5 +1,5 @@
 use Rattle.std.proofs.Common.{◌≡◌, ◌<◌, ◌^◌, drop}
-use Rattle.script_fields.specs.Operands.{value_after}
+use Rattle.script_fields.proofs.Common.{value_after}
 use Rattle.script_fields.proofs.numbers.value_of.Given as goal
 
 abbrev pub invariant-loop-b : goal.invariant-loop-b

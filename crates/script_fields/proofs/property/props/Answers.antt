@@ -1,8 +1,5 @@
 use Rattle.std.proofs.Common.{◌≡◌, Err, Some, take, sym, ap, ◌∙◌, position, arith}
-use Rattle.std.specs.List.{slice_split}
-use Rattle.std.proofs.lemmas.Grind.{common_steps}
-use Rattle.script_fields.specs.Properties.{no_props}
-use Rattle.script_fields.specs.Operands.{property, add_property, add_names, is_plus, props}
+use Rattle.script_fields.proofs.Common.{add_names, add_property, common_steps, is_plus, no_props, property, props, slice_split}
 use Rattle.script_fields.proofs.NamedProperties.{name_refused}
 use Rattle.script_fields.proofs.property.props.Goals as goal
 

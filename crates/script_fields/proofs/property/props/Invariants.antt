@@ -1,7 +1,5 @@
 use Rattle.std.proofs.Common.{◌≡◌, length}
-use Rattle.std.specs.List.{slice_split}
-use Rattle.script_fields.specs.Operands.{add_names, is_plus}
-use Rattle.script_fields.specs.Properties.{no_props}
+use Rattle.script_fields.proofs.Common.{add_names, is_plus, no_props, slice_split}
 use Rattle.script_fields.proofs.property.props.Given as goal
 
 abbrev pub invariant-loop-end : goal.invariant-loop-end

@@ -1,5 +1,5 @@
 use Rattle.std.proofs.Common.{arith}
-use Rattle.script_fields.specs.Text.{is_blank}
+use Rattle.script_fields.proofs.Common.{is_blank}
 use Rattle.script_fields.proofs.Scans.{goes_on, here}
 use Rattle.script_fields.proofs.scan.blank_at.Goals as goal
 

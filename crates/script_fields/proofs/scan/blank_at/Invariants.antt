@@ -1,6 +1,5 @@
 use Rattle.std.proofs.Common.{◌≡◌, ◌+◌, ◌-◌, ◌≤◌, length, drop}
-use Rattle.std.specs.List.{position_or_len}
-use Rattle.script_fields.specs.Text.{is_blank}
+use Rattle.script_fields.proofs.Common.{is_blank, position_or_len}
 use Rattle.script_fields.proofs.scan.blank_at.Given as goal
 
 abbrev pub invariant-loop-at : goal.invariant-loop-at

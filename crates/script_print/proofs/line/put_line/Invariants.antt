@@ -1,6 +1,5 @@
 use Rattle.std.proofs.Common.{◌≡◌, ◌∷◌, ◌++◌, map, take}
-use Rattle.script_fields.specs.Text.{joined}
-use Rattle.script_print.specs.Fields.{field_text}
+use Rattle.script_print.proofs.Common.{field_text, joined}
 use Rattle.script_print.proofs.line.put_line.Given as goal
 
 abbrev pub invariant-loop-field : goal.invariant-loop-field

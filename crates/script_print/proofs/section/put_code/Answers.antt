@@ -1,4 +1,4 @@
-use Rattle.script_print.specs.Printing.{instruction_fields}
+use Rattle.script_print.proofs.Common.{instruction_fields}
 use Rattle.script_print.proofs.Texts.LineTexts.{none_put, each_put}
 use Rattle.script_print.proofs.section.put_code.Goals as goal
 

@@ -1,6 +1,5 @@
 use Rattle.std.proofs.Common.{◌≡◌, ◌++◌, map, take}
-use Rattle.script_print.specs.Fields.{lines_text}
-use Rattle.script_print.specs.Printing.{instruction_fields}
+use Rattle.script_print.proofs.Common.{instruction_fields, lines_text}
 use Rattle.script_print.proofs.section.put_code.Given as goal
 
 abbrev pub invariant-loop-instruction : goal.invariant-loop-instruction

@@ -1,6 +1,5 @@
 use Rattle.std.proofs.Common.{[], ◌∷◌, map}
-use Rattle.std.proofs.lemmas.Result.{on_ok_weaker}
-use Rattle.script_print.specs.Printing.{instruction_fields, thread_fields}
+use Rattle.script_print.proofs.Common.{instruction_fields, on_ok_weaker, thread_fields}
 use Rattle.script_print.proofs.Texts.LineTexts.{lines_put}
 use Rattle.script_print.proofs.section.put_section.Goals as goal
 

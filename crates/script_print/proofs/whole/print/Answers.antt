@@ -1,7 +1,5 @@
 use Rattle.std.proofs.Common.{◌≡◌, ◌++◌, [], map, ◌∙◌, sym, subst}
-use Rattle.std.specs.List.{flat_map}
-use Rattle.script_print.specs.Fields.{lines_text}
-use Rattle.script_print.specs.Printing.{limit_lines, init_fields, item_fields, part_lines, printed, SaysAgain}
+use Rattle.script_print.proofs.Common.{SaysAgain, flat_map, init_fields, item_fields, limit_lines, lines_text, part_lines, printed}
 use Rattle.script_print.proofs.Texts.LineTexts.{lines_put, printed_lines}
 use Rattle.script_print.proofs.Texts.RoundTrips.{again}
 use Rattle.script_print.proofs.whole.print.Goals as goal

@@ -1,4 +1,4 @@
-use Rattle.script_print.specs.Printing.{init_fields}
+use Rattle.script_print.proofs.Common.{init_fields}
 use Rattle.script_print.proofs.Texts.LineTexts.{none_put, each_put}
 use Rattle.script_print.proofs.whole.put_inits.Goals as goal
 

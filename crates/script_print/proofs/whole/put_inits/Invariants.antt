@@ -1,6 +1,5 @@
 use Rattle.std.proofs.Common.{◌≡◌, ◌++◌, map, take}
-use Rattle.script_print.specs.Fields.{lines_text}
-use Rattle.script_print.specs.Printing.{init_fields}
+use Rattle.script_print.proofs.Common.{init_fields, lines_text}
 use Rattle.script_print.proofs.whole.put_inits.Given as goal
 
 abbrev pub invariant-loop-init : goal.invariant-loop-init

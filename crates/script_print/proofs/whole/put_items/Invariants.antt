@@ -1,6 +1,5 @@
 use Rattle.std.proofs.Common.{◌≡◌, ◌++◌, map, take}
-use Rattle.script_print.specs.Fields.{lines_text}
-use Rattle.script_print.specs.Printing.{item_fields}
+use Rattle.script_print.proofs.Common.{item_fields, lines_text}
 use Rattle.script_print.proofs.whole.put_items.Given as goal
 
 abbrev pub invariant-loop-item : goal.invariant-loop-item

@@ -1,9 +1,6 @@
-use Rattle.std.proofs.Common.{◌≡◌, ℕ, List, [], ◌∷◌, ◌++◌, ap, ◌∙◌}
-use Rattle.std.specs.Prelude.{codes}
-use Rattle.std.proofs.lemmas.Result.{on_ok_weaker}
+use Rattle.std.proofs.Common.{◌≡◌, ℕ, List, [], ◌∷◌, ◌++◌, ap, ◌∙◌, codes}
+use Rattle.script_print.proofs.Common.{depth_lines, lines_text, number_fields, on_ok_weaker, restart_lines}
 use Rattle.itm_types.specs.declared.limits.Limits.{Limits}
-use Rattle.script_print.specs.Fields.{lines_text}
-use Rattle.script_print.specs.Printing.{number_fields, depth_lines, restart_lines}
 use Rattle.script_print.proofs.Texts.LineTexts.{lines_put}
 use Rattle.script_print.proofs.whole.put_limits.Goals as goal
 

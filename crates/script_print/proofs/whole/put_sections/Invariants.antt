@@ -1,7 +1,5 @@
 use Rattle.std.proofs.Common.{◌≡◌, ◌++◌, take}
-use Rattle.std.specs.List.{flat_map}
-use Rattle.script_print.specs.Fields.{lines_text}
-use Rattle.script_print.specs.Printing.{part_lines}
+use Rattle.script_print.proofs.Common.{flat_map, lines_text, part_lines}
 use Rattle.script_print.proofs.whole.put_sections.Given as goal
 
 abbrev pub invariant-loop-index : goal.invariant-loop-index

@@ -1,5 +1,5 @@
 use Rattle.std.proofs.Common.{◌≡◌, ◌+◌, ◌≤◌, length}
-use Rattle.script_vm.specs.Threads.{room}
+use Rattle.script_vm.proofs.Common.{room}
 use Rattle.script_vm.proofs.ends.room.Given as goal
 
 abbrev pub invariant-loop-first : goal.invariant-loop-first

@@ -1,6 +1,5 @@
 use Rattle.std.proofs.Common.{◌≡◌, ◌≤◌, length}
-use Rattle.script_vm.specs.declared.stage.Stage.TheVariants.{Runs}
-use Rattle.script_vm.specs.Work.{worked, settled}
+use Rattle.script_vm.proofs.Common.{Runs, settled, worked}
 use Rattle.script_vm.proofs.work.settle.Given as goal
 
 abbrev pub invariant-loop-first : goal.invariant-loop-first

@@ -1,5 +1,5 @@
 use Rattle.std.proofs.Common.{rules, sym, ◌++◌, ◌∷◌, [], List, ℕ, drop, ◌≡◌, ◌∙◌, ap}
-use Rattle.itm_types.specs.Memory.{bytes_of}
+use Rattle.shared_words.proofs.Common.{bytes_of}
 use Rattle.shared_words.proofs.LaidWords.{reads_more}
 use Rattle.shared_words.proofs.bytes.cells_of_bytes.Goals as goal
 

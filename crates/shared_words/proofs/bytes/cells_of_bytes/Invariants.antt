@@ -1,5 +1,5 @@
 use Rattle.std.proofs.Common.{◌≡◌, ◌∷◌, ◌*◌, take, drop}
-use Rattle.itm_types.specs.Memory.{bytes_of}
+use Rattle.shared_words.proofs.Common.{bytes_of}
 use Rattle.shared_words.proofs.bytes.cells_of_bytes.Given as goal
 
 abbrev pub invariant-loop-i : goal.invariant-loop-i

@@ -1,50 +1,24 @@
 -- `attach` hands the cells to what waits for them. Assumes `Logic`.
 use Rattle.std.proofs.Common.{◌≡◌, ℕ, List, [], ◌∷◌, ◌++◌, length, refl, sym, ap, ◌∙◌, subst}
-use seplogic.Ra.Ura.{Ura}
-use mir.Syntax.{Fn, Args, Dict, a_type, dcons, dnil}
-use mir.Val.{Val}
-use mir.MapTy.{inst_fn}
-use base.Logic.{SProp, ent, all_e, apply∗}
-use base.Fml.{fsep, feq, fwand}
-use prog.Memory.{Memory}
-use prog.Routine.{Routine}
-use prog.Wp.{Calls, Loops, WpFn, Tables}
-use contract.Monad.{Fun, fact}
-use contract.Running.{tables, tables_of}
-use sound.WpLaws.{WpFn-mono}
-use types.Logic.{Logic, sem}
-use types.Kit.{‵, raw, ◌⊛◌, prop, ◌$◌, ◌∵◌, !, qed, move, drop, use1, use2, split, fsplit, fjoin, fpick, feq_l, feq_i, regoal, rewrite, suffices, done}
+use Rattle.shared_words.proofs.Common.{Args, Calls, Clauses, Dict, Ended, Extent, Fn, Fun, Ghosts, Goes-blank, Laws, Logic, Loops, Meets, Memory, RattleType, Routine, Tables, Typed, Ura, Val, WpFn, WpFn-mono, a_type, bounded, closing, copy_shared, dcons, dnil, done, drop, ends_at, ent, entered, feq, feq_i, feq_l, fjoin, fpick, fsep, fsplit, fwand, heard, inst_fn, move, no, nothing, of_field, param, param_laws, prop, regoal, says, sem, strip, suffices, tables_of, triple_of, u64-copy, u64-field, u64-laws, walk_Meets, with_items, with_items_is, ‵, ◌$◌, ◌⊑◌}
+use base.Logic.{SProp, all_e, apply∗}
+use contract.Monad.{fact}
+use contract.Running.{tables}
+use types.Kit.{raw, ◌⊛◌, ◌∵◌, !, qed, use1, use2, split, rewrite}
 use types.Part.{sub, whole}
 use types.Run.{enter, returns, of_opd, fld, stop}
 use types.ByLocal.{alloc_all, pass_all, free_all, look_at, get, get_in, sets}
-use denote.Exit.{yes, no}
-use denote.Laws.{Typed}
-use denote.RattleType.{RattleType, owns}
+use denote.Exit.{yes}
+use denote.RattleType.{owns}
 use denote.Builtin.{u64}
-use denote.Param.{param, bounded}
-use denote.Param.Laws.{Laws, param_laws, of_field}
 use denote.Signature.{plain, types_at}
-use denote.Steps.{nothing, heard}
-use denote.Triple.Clauses.{Clauses, Ended, closing}
 use denote.Triple.Entry.{alive}
-use denote.Triple.Spec.{Meets, triple_of}
-use denote.Triple.Table.{entered}
-use denote.Triple.Walked.{says, Stays, stay_dropped, walk_of, ends_at, walk_Meets}
-use Rattle.std.specs.declared.alloc.Allocator.{Ghosts}
-use Rattle.std.proofs.alloc.Calls.{Goes-blank}
+use denote.Triple.Walked.{Stays, stay_dropped, walk_of}
 use Rattle.shared_words.proofs.StructSteps.{plainly, none, one, one_had, none_had}
-use contract.BorrowLft.{◌⊑◌}
-use denote.Struct.Laws.{u64-laws, u64-copy}
-use denote.Struct.Field.{u64-field}
-use denote.Param.Shared.{copy_shared}
 use Rattle.shared_words.specs.contracts.in_place.Row as Row
 use Rattle.shared_words.specs.contracts.in_place.Hollow as Hollow
 use Rattle.std_alloc.specs.contracts.vec.Vec as Vec
 use Rattle.std_alloc.proofs.vec.Vec.TheLaws as vec_laws
-use Rattle.std.specs.Vec.{with_items}
-use Rattle.std.proofs.lemmas.List.{with_items_is}
-use Rattle.atomic_table.specs.Seated.{strip}
-use Rattle.shared_words.specs.InPlace.{Extent}
 use Rattle.shared_words.specs.contracts.in_place.attach as F
 use Rattle.shared_words.specs.contracts.in_place.attach.Key.{name as #self}
 use Rattle.shared_words.proofs.in_place.attach.Statement as stated

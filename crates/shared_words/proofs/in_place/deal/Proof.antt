@@ -1,22 +1,12 @@
 -- The cells go under the table's invariant where they lie, and the first seat is made.
-use Rattle.atomic_table.proofs.Names.{◌≡◌, ℕ, ◌*◌, ◌^◌, ◌<◌, List, [], ◌∷◌, ◌++◌, length, refl, lit<, Val, vstruct, SProp, emp, ftrue, fsep, ‵, raw, ◌⊛◌, some, given, later, ◌$◌, ◌∵◌, !, qed, by, move, keep, drop, split, join, fsplit, fjoin, fjoin3, fpack, pick, learn, use0, use1, use2, await, rewrite, feq_i, stop, of_opd, load, addr, no_more, and_then, first, blocks, exec, returns, enter, alloc_all, pass_all, free_all, look_at, get, through, sets, sets_last, agg, tables, yes, owns, Valss, types_at, plain, Ptr, ptr_val, nothing, alive, Stays, stay_dropped, walk_of, Goes-dropped, fact, fact_i, heard, u64, RawPtr, of_list, InBlock, mem, env, at_ret}
-use types.Run.{from, look}
-use base.Fml.{fat}
-use base.Fraction.{full_share}
-use base.Logic.{via}
-use prog.Wp.{spot_of}
-use mir.Syntax.{Ty}
-use denote.Builtin.{u8}
+use Rattle.atomic_table.proofs.Names.{◌*◌, ◌^◌, ◌<◌, ◌++◌, Val, vstruct, fsep, ‵, some, ◌$◌, move, drop, fsplit, fjoin, fpack, feq_i, load, sets_last, Valss, ptr_val, nothing, heard, RawPtr, of_list, mem}
+use types.Run.{look}
 use denote.RawPtr.{rawptr_vals, rawptr_Tells}
 use Rattle.std.proofs.Common.{drop as drop_list}
+use Rattle.shared_words.proofs.Common.{Goes-dropped, Good, InBlock, List, Ptr, SProp, Stays, TableId, Ty, View, addr, agg, alive, alloc_all, and_then, at_ret, await, blocks, by, emp, enter, env, exec, fact, fact_i, fat, first, fjoin3, free_all, from, ftrue, full_share, get, given, hand_good, hand_of, join, keep, later, learn, leaves, length, lit<, look_at, mine, no_more, of_opd, opening, owns, pass_all, pick, plain, proved, qed, raw, refl, returns, rewrite, sets, split, spot_of, stay_dropped, stop, strip, table_owns, tables, through, types_at, u64, u8, use0, use1, use2, via, walk_of, yes, ℕ, !, [], ◌∵◌, ◌∷◌, ◌≡◌, ◌⊛◌}
 use Rattle.std.proofs.VecSteps.Shapes.{after}
-use Rattle.atomic_table.proofs.Walks.{proved, leaves}
-use Rattle.atomic_table.specs.Seated.{TableId, strip, mine, table_owns}
-use Rattle.atomic_table.proofs.Fields.{hand_of, HandData, hand_made, hand_good, Ptr-Good, Token, token_val, token_made, pair_of, dealt_good}
+use Rattle.atomic_table.proofs.Fields.{HandData, hand_made, Ptr-Good, Token, token_val, token_made, pair_of, dealt_good}
 use Rattle.atomic_table.proofs.Dealing.{strip_lies, deals}
-use Rattle.shared_words.specs.declared.view.View.{View}
-use Rattle.shared_words.specs.Views.{opening}
-use Rattle.shared_words.specs.Good.{Good}
 use Rattle.shared_words.specs.contracts.rule.CoreTableRuleU8ViewInitialWords.TheImpl as rule
 use Rattle.shared_words.specs.contracts.in_place.Row as row
 use Rattle.shared_words.specs.contracts.in_place.deal as f

@@ -1,48 +1,25 @@
 -- `detach` takes the cells out, and leaves the way back. Assumes `Logic`.
 use Rattle.std.proofs.Common.{◌<◌, List, [], ◌∷◌, ◌++◌, refl}
-use seplogic.Ra.Ura.{Ura}
-use mir.Syntax.{Fn, Args, Dict, a_type, dcons, dnil}
-use mir.Val.{Val}
-use mir.MapTy.{inst_fn}
-use base.Logic.{SProp, ent}
+use Rattle.shared_words.proofs.Common.{Args, Calls, Clauses, Dict, Ended, Fn, Fun, Ghosts, Goes-blank, Laws, Logic, Loops, Meets, Memory, RattleType, Routine, Tables, Typed, Ura, Val, WpFn, WpFn-mono, a_type, bounded, closing, copy_shared, dcons, dnil, done, drop, ends_at, ent, entered, fjoin, fpack, fsplit, heard, inst_fn, layout, move, no, nothing, of_field, param, param_laws, prop, regoal, says, strip, suffices, tables_of, triple_of, u64-copy, u64-field, u64-laws, walk_Meets, ‵, ◌$◌, ◌⊑◌}
+use base.Logic.{SProp}
 use base.Fml.{ftrue}
-use prog.Memory.{Memory}
-use prog.Routine.{Routine}
-use prog.Wp.{Calls, Loops, WpFn, Tables}
-use contract.Monad.{Fun, fact}
-use contract.Running.{tables, tables_of}
-use sound.WpLaws.{WpFn-mono}
-use types.Logic.{Logic}
-use types.Kit.{‵, raw, ◌⊛◌, prop, ◌$◌, ◌∵◌, !, qed, move, drop, use1, split, fsplit, fjoin, fpack, regoal, suffices, done}
+use contract.Monad.{fact}
+use contract.Running.{tables}
+use types.Kit.{raw, ◌⊛◌, ◌∵◌, !, qed, use1, split}
 use types.Part.{agg}
 use types.Run.{enter, returns, of_opd, and_then, no_more}
 use types.ByLocal.{alloc_all, pass_all, free_all, look_at, get, sets}
-use denote.Exit.{no}
-use denote.RattleType.{RattleType, owns}
+use denote.RattleType.{owns}
 use denote.Builtin.{u64}
-use denote.Param.{param, bounded, layout}
-use denote.Param.Laws.{Laws, param_laws, of_field}
 use denote.Signature.{plain, types_at}
-use denote.Steps.{nothing, heard}
-use denote.Triple.Clauses.{Clauses, Ended, closing}
 use denote.Triple.Entry.{alive}
-use denote.Triple.Spec.{Meets, triple_of}
-use denote.Triple.Table.{entered}
-use denote.Triple.Walked.{says, Stays, stay_dropped, walk_of, ends_at, walk_Meets}
-use Rattle.std.specs.declared.alloc.Allocator.{Ghosts}
-use Rattle.std.proofs.alloc.Calls.{Goes-blank}
+use denote.Triple.Walked.{Stays, stay_dropped, walk_of}
 use Rattle.shared_words.proofs.StructSteps.{none, one, two, tells, none_made, two_made}
-use contract.BorrowLft.{◌⊑◌}
-use denote.Struct.Laws.{u64-laws, u64-copy}
-use denote.Struct.Field.{u64-field}
-use denote.Param.Shared.{copy_shared}
 use Rattle.shared_words.specs.contracts.in_place.Row as Row
 use Rattle.shared_words.specs.contracts.in_place.Hollow as Hollow
 use Rattle.std_alloc.specs.contracts.vec.Vec as Vec
 use Rattle.std_alloc.proofs.vec.Vec.TheLaws as vec_laws
-use denote.Laws.{Typed}
 use denote.Struct.Struct.{as_fields}
-use Rattle.atomic_table.specs.Seated.{strip}
 use Rattle.shared_words.proofs.HollowVecs.{carve}
 use Rattle.shared_words.specs.contracts.in_place.detach as F
 use Rattle.shared_words.specs.contracts.in_place.detach.Key.{name as #self}

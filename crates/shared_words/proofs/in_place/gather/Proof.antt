@@ -1,18 +1,8 @@
 -- The table's lifetime ends, and the words that it lent come back where they are.
-use Rattle.atomic_table.proofs.Names.{◌≡◌, ℕ, List, [], ◌∷◌, length, refl, lit<, Val, SProp, emp, Fml, ftrue, ‵, raw, ◌⊛◌, some, given, later, ◌$◌, ◌∵◌, !, qed, by, move, keep, drop, split, split3, fsplit, fjoin, pick, learn, use0, use1, await, stop, of_opd, lit, addr, no_more, and_then, first, blocks, exec, returns, enter, alloc_all, pass_all, free_all, look_at, get, through, sets, agg, tables, yes, owns, types_at, plain, Ptr, block_ptr, nothing, alive, Stays, stay_dropped, walk_of, Goes-dropped, fact, fact_i, u64, InBlock, env, at_ret}
-use types.Run.{from, store, assigns_last}
-use base.Fml.{fat}
-use base.Fraction.{full_share}
-use base.Logic.{via}
-use prog.Wp.{spot_of}
-use mir.Syntax.{Ty}
-use denote.Builtin.{u8}
+use Rattle.shared_words.proofs.Common.{Final, Fml, Goes-dropped, InBlock, List, Ptr, SProp, Stays, TableId, Ty, addr, agg, alive, alloc_all, and_then, assigns_last, at_ret, await, block_ptr, blocks, by, emp, enter, env, exec, fact, fact_i, fat, first, free_all, from, ftrue, full_share, get, given, hand_good, hand_of, hand_told, keep, later, learn, leaves, length, lit, lit<, look_at, no_more, of_opd, owns, pass_all, pick, plain, proved, qed, raw, refl, returns, sets, split, split3, spot_of, stay_dropped, stop, store, strip, table_lies, table_owns, tables, through, types_at, u64, u8, use0, use1, via, walk_of, yes, ℕ, !, [], ◌∵◌, ◌∷◌, ◌≡◌, ◌⊛◌}
+use Rattle.atomic_table.proofs.Names.{Val, ‵, some, ◌$◌, move, drop, fsplit, fjoin, nothing}
 use Rattle.std.proofs.VecSteps.Shapes.{after}
-use Rattle.atomic_table.proofs.Walks.{proved, leaves}
-use Rattle.atomic_table.specs.Table.{Final}
-use Rattle.atomic_table.specs.Seated.{TableId, strip, table_owns}
-use Rattle.atomic_table.proofs.Fields.{hand_of, hand_told, hand_good}
-use Rattle.atomic_table.proofs.Dealing.{table_lies, gathers}
+use Rattle.atomic_table.proofs.Dealing.{gathers}
 use Rattle.shared_words.specs.contracts.rule.CoreTableRuleU8ViewInitialWords.TheImpl as rule
 use Rattle.shared_words.specs.contracts.in_place.Row as row
 use Rattle.shared_words.specs.contracts.in_place.gather as f

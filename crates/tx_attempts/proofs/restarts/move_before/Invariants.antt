@@ -1,5 +1,5 @@
 use Rattle.std.proofs.Common.{◌≡◌, vec_capacity}
-use Rattle.tx_attempts.specs.Restarts.{before}
+use Rattle.tx_attempts.proofs.Common.{before}
 use Rattle.tx_attempts.proofs.restarts.move_before.Given as goal
 
 abbrev pub invariant-loop-again : goal.invariant-loop-again

@@ -1,5 +1,5 @@
 use Rattle.std.proofs.Common.{◌≡◌, take}
-use Rattle.tx_attempts.specs.Restarts.{count_undone}
+use Rattle.tx_attempts.proofs.Common.{count_undone}
 use Rattle.tx_attempts.proofs.undone.count_undone.Given as goal
 
 abbrev pub invariant-loop-again : goal.invariant-loop-again

@@ -1,5 +1,5 @@
 use Rattle.std.proofs.Common.{◌+◌, length, ap, sym, ◌∙◌, arith}
-use Rattle.itm_types.specs.declared.call.Ran.{Ran}
+use Rattle.tx_attempts.proofs.Common.{Ran}
 use Rattle.tx_attempts.proofs.UndoneCounts.{before_few, next_early, next_late}
 use Rattle.tx_attempts.proofs.undone.undone_before.Goals as goal
 use Rattle.tx_attempts.proofs.undone.undone_before.Goals.{then-again-kept, else-again-kept}

@@ -1,5 +1,5 @@
 use Rattle.std.proofs.Common.{◌≡◌, take}
-use Rattle.tx_attempts.specs.Restarts.{before, count_undone}
+use Rattle.tx_attempts.proofs.Common.{before, count_undone}
 use Rattle.tx_attempts.proofs.undone.undone_before.Given as goal
 
 abbrev pub invariant-loop-again : goal.invariant-loop-again

@@ -1,4 +1,4 @@
-use Rattle.tx_history.specs.Histories.{again_lines}
+use Rattle.tx_history.proofs.Common.{again_lines}
 use Rattle.tx_history.proofs.PagedTexts.{carries_then}
 use Rattle.tx_history.proofs.attempts.put_again.Goals as goal
 

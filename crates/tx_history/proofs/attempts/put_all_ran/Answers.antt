@@ -1,5 +1,4 @@
-use Rattle.tx_history.specs.Bounds.{RanFits}
-use Rattle.tx_history.specs.Histories.{ran_line}
+use Rattle.tx_history.proofs.Common.{RanFits, ran_line}
 use Rattle.tx_history.proofs.AppendedTexts.{spells_all, spells_next, spells_none}
 use Rattle.tx_history.proofs.attempts.put_all_ran.Goals as goal
 

@@ -1,4 +1,4 @@
-use Rattle.tx_history.specs.Histories.{attempt_lines}
+use Rattle.tx_history.proofs.Common.{attempt_lines}
 use Rattle.tx_history.proofs.PagedTexts.{carries_then}
 use Rattle.tx_history.proofs.attempts.put_attempt.Goals as goal
 

@@ -1,5 +1,4 @@
-use Rattle.tx_history.specs.Bounds.{AttemptFits}
-use Rattle.tx_history.specs.Histories.{attempt_lines}
+use Rattle.tx_history.proofs.Common.{AttemptFits, attempt_lines}
 use Rattle.tx_history.proofs.AppendedTexts.{spells_all, spells_next, spells_none}
 use Rattle.tx_history.proofs.attempts.put_attempts.Goals as goal
 

@@ -1,8 +1,5 @@
 use Rattle.std.proofs.Common.{All, take}
-use Rattle.std.specs.List.{flat_map}
-use Rattle.tx_history.specs.Bounds.{AttemptFits}
-use Rattle.tx_history.specs.Histories.{attempt_lines}
-use Rattle.tx_history.specs.Pages.{Spells}
+use Rattle.tx_history.proofs.Common.{AttemptFits, Spells, attempt_lines, flat_map}
 use Rattle.tx_history.proofs.attempts.put_attempts.Given as goal
 
 abbrev pub invariant-loop-attempt : goal.invariant-loop-attempt

@@ -1,5 +1,4 @@
-use Rattle.std.specs.Prelude.{codes}
-use Rattle.tx_history.specs.Histories.{call_line}
+use Rattle.tx_history.proofs.Common.{call_line, codes}
 use Rattle.tx_history.proofs.PagedTexts.{carries_then, carries_three}
 use Rattle.tx_history.proofs.attempts.put_call.Goals as goal
 

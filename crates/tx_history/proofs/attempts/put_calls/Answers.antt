@@ -1,5 +1,4 @@
-use Rattle.tx_history.specs.Bounds.{EntryFits}
-use Rattle.tx_history.specs.Histories.{call_line}
+use Rattle.tx_history.proofs.Common.{EntryFits, call_line}
 use Rattle.tx_history.proofs.AppendedTexts.{spells_all, spells_next, spells_none}
 use Rattle.tx_history.proofs.attempts.put_calls.Goals as goal
 

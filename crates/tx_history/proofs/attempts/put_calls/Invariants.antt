@@ -1,8 +1,5 @@
 use Rattle.std.proofs.Common.{All, take}
-use Rattle.std.specs.List.{flat_map}
-use Rattle.tx_history.specs.Bounds.{EntryFits}
-use Rattle.tx_history.specs.Histories.{call_line}
-use Rattle.tx_history.specs.Pages.{Spells}
+use Rattle.tx_history.proofs.Common.{EntryFits, Spells, call_line, flat_map}
 use Rattle.tx_history.proofs.attempts.put_calls.Given as goal
 
 abbrev pub invariant-loop-entry : goal.invariant-loop-entry

@@ -1,4 +1,4 @@
-use Rattle.tx_history.specs.Histories.{head_line}
+use Rattle.tx_history.proofs.Common.{head_line}
 use Rattle.tx_history.proofs.PagedTexts.{carries_then}
 use Rattle.tx_history.proofs.attempts.put_head.Goals as goal
 

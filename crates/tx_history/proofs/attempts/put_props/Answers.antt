@@ -1,7 +1,5 @@
-use Rattle.std.proofs.Common.{◌≡◌, false, refl}
-use Rattle.std.specs.Prelude.{codes}
-use Rattle.itm_types.specs.declared.call.Props.{Props}
-use Rattle.tx_history.specs.Histories.{props_end}
+use Rattle.std.proofs.Common.{◌≡◌, false, refl, codes}
+use Rattle.tx_history.proofs.Common.{Props, props_end}
 use Rattle.tx_history.proofs.PagedTexts.{carries_as, carries_then}
 use Rattle.tx_history.proofs.attempts.put_props.Goals as goal
 

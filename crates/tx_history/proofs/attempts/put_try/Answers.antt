@@ -1,5 +1,4 @@
-use Rattle.std.specs.Prelude.{codes}
-use Rattle.tx_history.specs.Histories.{try_text}
+use Rattle.tx_history.proofs.Common.{codes, try_text}
 use Rattle.tx_history.proofs.PagedTexts.{carries_both}
 use Rattle.tx_history.proofs.attempts.put_try.Goals as goal
 

@@ -1,4 +1,4 @@
-use Rattle.std.specs.Prelude.{codes}
+use Rattle.tx_history.proofs.Common.{codes}
 use Rattle.tx_history.proofs.PagedTexts.{carries_both, carries_then}
 use Rattle.tx_history.proofs.bodies.put_load.Goals as goal
 

@@ -1,7 +1,6 @@
 use Rattle.std.proofs.Common.{arith}
-use Rattle.std.proofs.lemmas.Grind.{common_steps}
+use Rattle.tx_history.proofs.Common.{Number, common_steps}
 use Rattle.tx_history.specs.Histories.{undo_action_text}
-use Rattle.tx_history.specs.declared.pieces.Piece.TheVariants.{Number}
 use Rattle.tx_history.proofs.PagedTexts.{carries_as}
 use Rattle.tx_history.proofs.bodies.put_undo_action.Goals as goal
 

@@ -1,5 +1,5 @@
 use Rattle.std.proofs.Common.{◌≡◌, ◌*◌, ◌++◌, take, drop, length}
-use Rattle.hex.specs.Hex.{encode_lower}
+use Rattle.tx_history.proofs.Common.{encode_lower}
 use Rattle.tx_history.proofs.digits.word_digits.Given as goal
 
 abbrev pub invariant-bytes : goal.invariant-bytes

@@ -1,4 +1,4 @@
-use Rattle.tx_history.specs.Histories.{history_text}
+use Rattle.tx_history.proofs.Common.{history_text}
 use Rattle.tx_history.proofs.PagedTexts.{carries_then}
 use Rattle.tx_history.proofs.history.put_history.Goals as goal
 

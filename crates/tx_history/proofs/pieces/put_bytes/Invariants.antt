@@ -1,5 +1,5 @@
 use Rattle.std.proofs.Common.{◌≤◌, ◌-◌, length, take}
-use Rattle.std.specs.Io.KnownBytes.{Appends}
+use Rattle.tx_history.proofs.Common.{Appends}
 use Rattle.tx_history.proofs.pieces.put_bytes.Given as goal
 
 abbrev pub invariant-loop-at : goal.invariant-loop-at

@@ -1,5 +1,4 @@
-use Rattle.std.specs.Prelude.{codes}
-use Rattle.tx_history.specs.Histories.{first_lines}
+use Rattle.tx_history.proofs.Common.{codes, first_lines}
 use Rattle.tx_history.proofs.PagedTexts.{carries_three}
 use Rattle.tx_history.proofs.rows.put_first.Goals as goal
 

@@ -1,6 +1,5 @@
 use Rattle.std.proofs.Common.{◌≡◌, ◌++◌}
-use Rattle.std.specs.Vec.Iter.{into_iter_items}
-use Rattle.tx_host.specs.Joins.{attempts_in, ends_in}
+use Rattle.tx_host.proofs.Common.{attempts_in, ends_in, into_iter_items}
 use Rattle.tx_host.proofs.gather.gather_all.Given as goal
 
 abbrev pub invariant-loop-done : goal.invariant-loop-done

@@ -1,11 +1,5 @@
-use Rattle.std.proofs.Common.{rules, arith, ◌≡◌, ℕ, ◌+◌, ◌<◌, ◌≤◌, true, false, true≢false, length, vec_len, sym, subst, refl, ◌∙◌}
-use Rattle.std.specs.Vec.Iter.{into_iter_items}
-use Rattle.shared_words.specs.Passes.{view_of}
-use Rattle.script_program.specs.Listing.{Listing}
-use Rattle.tx_host.specs.declared.join.Done.{Done}
-use Rattle.tx_host.specs.Starts.{Promised}
-use Rattle.tx_host.specs.Joins.{Joins}
-use Rattle.tx_host.specs.Rows.{HeldAmong}
+use Rattle.std.proofs.Common.{rules, arith, ◌≡◌, ℕ, ◌+◌, true, false, true≢false, length, vec_len, sym, subst, refl, ◌∙◌}
+use Rattle.tx_host.proofs.Common.{Done, HeldAmong, Joins, Listing, Promised, into_iter_items, view_of}
 use Rattle.tx_host.proofs.Passes.WorkerViews.{its_back, joined_left, made_its}
 use Rattle.tx_host.proofs.Passes.JoinedWorkers.{held_more, joins_more}
 use Rattle.tx_host.proofs.join.join_all.Goals as goal

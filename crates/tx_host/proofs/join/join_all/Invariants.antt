@@ -1,9 +1,5 @@
 use Rattle.std.proofs.Common.{◌≡◌, ◌+◌, ◌≤◌, true, false, vec_len, vec_capacity}
-use Rattle.std.specs.Vec.Iter.{into_iter_items, into_iter_len}
-use Rattle.shared_words.specs.Passes.{Owns, view_of}
-use Rattle.tx_host.specs.Starts.{Promised}
-use Rattle.tx_host.specs.Joins.{Joins}
-use Rattle.tx_host.specs.Rows.{HeldAmong}
+use Rattle.tx_host.proofs.Common.{HeldAmong, Joins, Owns, Promised, into_iter_items, into_iter_len, view_of}
 use Rattle.tx_host.proofs.join.join_all.Given as goal
 
 abbrev pub invariant-loop-handle : goal.invariant-loop-handle

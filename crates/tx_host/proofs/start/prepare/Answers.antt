@@ -1,8 +1,6 @@
 use Rattle.std.proofs.Common.{rules, arith, ◌≡◌, ◌+◌, ◌-◌, ◌<◌, ℕ, sym, subst, length, refl}
-use Rattle.shared_words.specs.Passes.{Owns, cells_of, view_of}
-use Rattle.script_program.specs.Listing.{Listing}
-use Rattle.tx_host.specs.declared.start.Ready.{Ready}
-use Rattle.tx_host.specs.Starts.{AllReady, IsReady}
+use Rattle.tx_host.proofs.Common.{AllReady, IsReady, Listing, Owns, Ready, view_of}
+use Rattle.shared_words.specs.Passes.{cells_of}
 use Rattle.tx_host.proofs.Numbers.{numbered_push}
 use Rattle.tx_host.proofs.Passes.Parts.{cut_same, cut_share, is_fresh}
 use Rattle.tx_host.proofs.start.prepare.Goals as goal

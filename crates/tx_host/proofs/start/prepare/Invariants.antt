@@ -1,7 +1,5 @@
 use Rattle.std.proofs.Common.{◌≡◌, ◌+◌, ◌≤◌, length, vec_len, vec_capacity}
-use Rattle.shared_words.specs.Passes.{Owns, view_of}
-use Rattle.script_program.specs.Listing.{threads_of}
-use Rattle.tx_host.specs.Starts.{AllReady}
+use Rattle.tx_host.proofs.Common.{AllReady, Owns, threads_of, view_of}
 use Rattle.tx_host.proofs.start.prepare.Given as goal
 
 abbrev pub invariant-loop-number : goal.invariant-loop-number

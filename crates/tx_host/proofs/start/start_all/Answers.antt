@@ -1,9 +1,5 @@
 use Rattle.std.proofs.Common.{rules, arith, ◌≡◌, ◌+◌, ℕ, List, sym, ap, subst, length, vec_len}
-use Rattle.std.specs.Vec.Iter.{into_iter_items}
-use Rattle.itm_types.specs.declared.limits.Limits.{Limits}
-use Rattle.shared_words.specs.Passes.{view_of}
-use Rattle.script_program.specs.Listing.{Listing}
-use Rattle.tx_host.specs.Starts.{Promised, AllReady}
+use Rattle.tx_host.proofs.Common.{AllReady, Limits, Listing, Promised, into_iter_items, view_of}
 use Rattle.tx_host.proofs.Numbers.{numbered_push}
 use Rattle.tx_host.proofs.Passes.Parts.{is_for, is_outside, is_flat, is_limited}
 use Rattle.tx_host.proofs.start.start_all.Goals as goal

@@ -1,7 +1,5 @@
 use Rattle.std.proofs.Common.{◌≡◌, ◌+◌, ◌≤◌, true, vec_len, vec_capacity}
-use Rattle.std.specs.Vec.Iter.{into_iter_items, into_iter_len}
-use Rattle.shared_words.specs.Passes.{view_of}
-use Rattle.tx_host.specs.Starts.{Promised, AllReady}
+use Rattle.tx_host.proofs.Common.{AllReady, Promised, into_iter_items, into_iter_len, view_of}
 use Rattle.tx_host.proofs.start.start_all.Given as goal
 
 abbrev pub invariant-loop-ready : goal.invariant-loop-ready

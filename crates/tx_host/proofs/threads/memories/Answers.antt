@@ -1,8 +1,5 @@
 use Rattle.std.proofs.Common.{◌≡◌, ℕ, ◌≤◌, length, subst, arith}
-use Rattle.itm_types.specs.Limits.{AreWithin}
-use Rattle.itm_types.specs.declared.limits.TheConstants.{MAX_ACTORS, MAX_ARENA}
-use Rattle.script_program.specs.Listing.{opening_of, threads_of}
-use Rattle.script_program.specs.Sizes.{IsSize}
+use Rattle.tx_host.proofs.Common.{AreWithin, IsSize, MAX_ACTORS, MAX_ARENA, opening_of, threads_of}
 use Rattle.tx_host.proofs.Histories.ToldLimits.{limited_listing}
 use Rattle.tx_host.proofs.threads.memories.Goals as goal
 

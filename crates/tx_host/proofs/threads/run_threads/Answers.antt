@@ -1,10 +1,8 @@
 use Rattle.std.proofs.Common.{rules, ◌≡◌, List, ℕ, ◌∙◌, ap, subst, sym, Err, IfErr, Result}
+use Rattle.tx_host.proofs.Common.{Report, bytes_of, view_of}
 use Rattle.std.proofs.lemmas.Result.{err_from_is_err_and}
-use Rattle.itm_types.specs.Memory.{bytes_of}
-use Rattle.shared_words.specs.Passes.{view_of}
 use Rattle.tx_host.specs.declared.report.HostFault.{HostFault}
 use Rattle.tx_host.specs.declared.report.HostFault.TheVariants.{Held}
-use Rattle.tx_host.specs.declared.report.Report.{Report}
 use Rattle.tx_host.specs.Reports.{StaysHeld}
 use Rattle.tx_host.proofs.Histories.LimitedReports.{limited_report}
 use Rattle.tx_host.proofs.Histories.WholeRuns.{ran}

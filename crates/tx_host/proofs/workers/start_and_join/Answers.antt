@@ -1,8 +1,5 @@
-use Rattle.std.proofs.Common.{rules, arith, ◌≡◌, ◌≤◌, ℕ, ◌∙◌, ap, subst, List, length, vec_len}
-use Rattle.shared_words.specs.declared.view.View.{View}
-use Rattle.shared_words.specs.Passes.{view_of}
-use Rattle.script_program.specs.Listing.{threads_of}
-use Rattle.tx_host.specs.Rows.{HeldAmong}
+use Rattle.std.proofs.Common.{rules, arith, ◌≡◌, ℕ, ◌∙◌, ap, subst, List, length, vec_len}
+use Rattle.tx_host.proofs.Common.{HeldAmong, View, threads_of, view_of}
 use Rattle.tx_host.proofs.Passes.JoinedWorkers.{gathers, held_more}
 use Rattle.tx_host.proofs.workers.start_and_join.Goals as goal
 

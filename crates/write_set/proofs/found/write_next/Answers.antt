@@ -1,6 +1,5 @@
 use Rattle.std.proofs.Common.{◌≡◌, None, sym, subst, take, ◌∙◌}
-use Rattle.write_set.specs.Indexed.{Indexed}
-use Rattle.write_set.specs.Rows.{lookup, put, reserved}
+use Rattle.write_set.proofs.Common.{Indexed, lookup, put, reserved}
 use Rattle.write_set.proofs.Overlays.{lookup-take, put_new}
 use Rattle.write_set.proofs.found.write_next.Goals as goal
 

@@ -1,9 +1,5 @@
 use Rattle.std.proofs.Common.{◌≡◌, sym, ap, ◌∙◌}
-use Rattle.std.specs.Int.Bits.{bit_or}
-use Rattle.std.proofs.lemmas.Option.{get_or_from_slice_get}
-use Rattle.word_pieces.specs.Masks.{merge}
-use Rattle.write_set.specs.declared.row.Row.{Row}
-use Rattle.write_set.specs.Rows.{row, row_at, set_row}
+use Rattle.write_set.proofs.Common.{Row, bit_or, get_or_from_slice_get, merge, row, row_at, set_row}
 use Rattle.write_set.proofs.OpenMarks.{none_so_far}
 use Rattle.write_set.proofs.Overlays.{put_old}
 use Rattle.write_set.proofs.found.write_over.Goals as goal

@@ -1,7 +1,5 @@
 use Rattle.std.proofs.Common.{◌≡◌, List, [], ◌∷◌, ◌++◌, ap, sym, ◌∙◌}
-use Rattle.itm_types.specs.declared.call.Ran.{Ran}
-use Rattle.tx_attempts.specs.declared.attempt.Again.{Again}
-use Rattle.history_reader.specs.Lines.{with_undone}
+use Rattle.history_reader.proofs.Common.{Again, Ran, with_undone}
 use Rattle.history_reader.proofs.BlocksAgain.{also, undone_is}
 use Rattle.history_reader.proofs.item_list.ItemList+Again.undo.Goals as goal
 

@@ -1,29 +1,16 @@
 -- `lying_at` takes the cells out of the vector where they lie, and leaves what room is behind them.
-use Rattle.itm_c.proofs.Steps.{◌≡◌, ℕ, ◌^◌, ◌<◌, List, [], ◌∷◌, ◌++◌, refl, ap, ◌∙◌, proved_at, full_share, emp, id⊢, ftrue, fsep, flft, Val, fact, fact_i, tables, ‵, raw, ◌⊛◌, some, later, prop, ◌$◌, ◌∵◌, !, qed, done, move, keep, drop, use0, use1, split, split3, join, fsplit, fjoin, feq_i, feq_l, pick, await, rewrite, regoal, suffices, agg, enter, of_opd, no_more, and_then, returns, alloc_all, pass_all, free_all, look_at, get, sets, env, yes, no, plain, nothing, heard, only, triple_of, Stays, walk_of, says, stay_dropped, Goes-dropped, ends_at}
+use Rattle.itm_c.proofs.Steps.{◌≡◌, ℕ, ◌^◌, ◌<◌, List, [], ◌∷◌, ◌++◌, refl, ap, ◌∙◌, proved_at, full_share, emp, id⊢, ftrue, fsep, flft, Val, fact, fact_i, tables, ‵, raw, ◌⊛◌, some, later, prop, ◌$◌, ◌∵◌, !, qed, done, move, keep, drop, use0, use1, split, split3, join, fsplit, fjoin, feq_i, feq_l, pick, await, rewrite, regoal, suffices, agg, enter, of_opd, no_more, and_then, returns, alloc_all, pass_all, free_all, look_at, get, sets, yes, no, plain, nothing, heard, only, triple_of, Stays, walk_of, says, stay_dropped, Goes-dropped, ends_at}
 use Rattle.std.proofs.Common.{◌*◌, ◌+◌, ◌-◌, Vec, arith}
-use mir.Syntax.{w64, ty_int, ty_ptr}
-use mir.Val.{vint}
-use prog.Wp.{WpFn}
-use contract.BorrowLft.{◌⊑◌, ⊑_refl}
-use types.Kit.{flt_i, flt_l}
-use denote.Builtin.{u64, usize}
-use denote.Param.Laws.{Laws, of_field}
-use denote.Param.Shared.{copy_shared}
-use denote.RattleType.{RattleType}
-use denote.RawPtr.{RawPtr, Ptr, ptr_val}
-use denote.Struct.Field.{u64-field}
-use denote.Struct.Laws.{u64-laws, u64-copy}
-use denote.Triple.Call.{calls_at}
+use Rattle.itm_c.proofs.Common.{Good, Laws, Ptr, RattleType, RawPtr, WpFn, calls_at, copy_shared, flt_i, flt_l, framed, ghosts, lodged, of_field, ptr_val, tells, u64, u64-copy, u64-field, u64-laws, vint, w64, ⊑_refl, ◌⊑◌}
+use mir.Syntax.{ty_int, ty_ptr}
+use denote.Builtin.{usize}
 use denote.Exit.{left as left_at}
 use denote.Struct.Struct.{as_fields}
 use types.ByLocal.{lands_as}
-use denote.Triple.Table.{framed}
-use Rattle.shared_words.proofs.StructSteps.{Good, tells, two, two_made}
+use Rattle.shared_words.proofs.StructSteps.{two, two_made}
 use Rattle.itm_c.proofs.Fitted.{fitted, pointer_good}
-use Rattle.std_alloc.specs.Vec.Ownership.{lodged}
 use Rattle.std_alloc.specs.contracts.vec.Vec as V
 use Rattle.std_alloc.specs.contracts.vec.lodged.Lodged as L
-use Rattle.std_alloc.specs.contracts.vec.lodged.LodgedAllocator.TheImpl.{ghosts}
 use Rattle.std_alloc.specs.contracts.vec.lodged.Vec+T+Lodged.dislodge as g
 use Rattle.std_alloc.proofs.vec.Vec.TheLaws as vec
 use Rattle.std_alloc.proofs.vec.lodged.Lodged.TheLaws as lodged_type

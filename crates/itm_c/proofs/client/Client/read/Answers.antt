@@ -1,13 +1,7 @@
-use Rattle.std.proofs.Common.{◌≡◌, false, ap, ◌∙◌, subst}
-use Rattle.std.specs.Prelude.{Some}
+use Rattle.std.proofs.Common.{◌≡◌, false, ap, ◌∙◌, subst, Some}
+use Rattle.itm_c.proofs.Common.{Answer, IsAnswered, Read, Reply, number_of_bytes, start_of}
 use Rattle.itm_types.specs.declared.access.ReadHint.TheVariants.{R}
-use Rattle.itm_types.specs.declared.call.Call.TheVariants.{Read}
 use Rattle.itm_types.specs.declared.call.Reply.TheVariants.{Bytes}
-use Rattle.norec_core.specs.declared.answer.Answer.{Answer}
-use Rattle.norec_core.specs.declared.answer.Answer.TheVariants.{Reply}
-use Rattle.call_rules.specs.CallResults.{IsAnswered}
-use Rattle.call_rules.specs.Standing.{start_of}
-use Rattle.itm_c.specs.Codes.{number_of_bytes}
 use Rattle.itm_c.proofs.Comings.{comes_of}
 use Rattle.itm_c.proofs.client.Client.read.Goals as goal
 

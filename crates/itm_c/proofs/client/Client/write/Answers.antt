@@ -1,9 +1,5 @@
-use Rattle.std.proofs.Common.{refl}
-use Rattle.std.specs.Prelude.{Some}
-use Rattle.itm_types.specs.declared.access.WriteHint.TheVariants.{W}
-use Rattle.itm_types.specs.declared.call.Call.TheVariants.{Write}
-use Rattle.itm_types.specs.declared.call.Reply.TheVariants.{Done}
-use Rattle.norec_core.specs.declared.answer.Answer.TheVariants.{Reply}
+use Rattle.std.proofs.Common.{refl, Some}
+use Rattle.itm_c.proofs.Common.{Done, Reply, W, Write}
 use Rattle.itm_c.proofs.Comings.{comes_of}
 use Rattle.itm_c.proofs.client.Client.write.Goals as goal
 

@@ -1,8 +1,5 @@
 use Rattle.std.proofs.Common.{false, subst}
-use Rattle.itm_types.specs.declared.access.WriteHint.TheVariants.{W}
-use Rattle.itm_types.specs.declared.call.Call.TheVariants.{Write}
-use Rattle.itm_types.specs.declared.datum.Datum.{Datum}
-use Rattle.itm_c.specs.Told.{Told}
+use Rattle.itm_c.proofs.Common.{Datum, Told, W, Write}
 use Rattle.itm_c.proofs.client.Client.write4.Goals as goal
 
 pub returns-clause-told : goal.returns-clause-told

@@ -1,10 +1,8 @@
 -- A handle crosses to another thread as what it holds does.
-use mir.Raw.{raw}
+use Rattle.itm_c.proofs.Common.{Ptr, bare as raw, lone, shape, to}
 use base.Shift.{Keyless}
-use denote.Memory.{lone}
-use denote.RawPtr.{Ptr}
 use denote.Struct.Struct.{exits_of}
-use denote.Struct.Owning.{shape, fields, to}
+use denote.Struct.Owning.{fields}
 use denote.Param.Send.{IsSend, AllSend, owning_send, struct_send, sendable}
 use Rattle.std.specs.Global.{Global}
 use Rattle.std.specs.Prelude.{Option, None, Some}

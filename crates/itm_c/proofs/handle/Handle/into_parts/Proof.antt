@@ -1,8 +1,6 @@
 -- `into_parts` hands the two fields on, and what the handle owns goes with them.
+use Rattle.itm_c.proofs.Common.{B, WpFn, box_in, box_out, box_typed, word}
 use Rattle.itm_c.proofs.Steps.{[], ◌∷◌, ◌++◌, refl, Option, IsSome, proved_at, ftrue, fsep, id⊢, List, Val, fact, tables, ‵, raw, ◌⊛◌, prop, ◌$◌, ◌∵◌, !, qed, done, move, drop, use1, split, join, fsplit, fjoin, rewrite, regoal, suffices, agg, sub, whole, enter, of_opd, stop, fld, no_more, and_then, returns, alloc_all, pass_all, free_all, look_at, get, get_in, sets, yes, plain, nothing, heard, Stays, walk_of, says, stay_dropped, Goes-dropped, ends_at}
-use prog.Wp.{WpFn}
-use Rattle.std_alloc.proofs.BoxSteps.Form.{B, word, box_typed}
-use Rattle.std_alloc.proofs.BoxSteps.Steps.{box_out, box_in}
 use Rattle.itm_c.proofs.KeptBoxes.{InBox, Held, Taken, Handed, box_of_handle, held_by}
 use Rattle.itm_c.specs.contracts.handle.Handle.into_parts as f
 use Rattle.itm_c.proofs.handle.Handle.into_parts.Statement.{statement}

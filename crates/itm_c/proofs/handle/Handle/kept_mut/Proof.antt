@@ -1,14 +1,10 @@
 -- `kept_mut` lends what lies behind the pointer, and the handle follows it.
+use Rattle.itm_c.proofs.Common.{B, after, box_out, cell_at, with_kept}
 use Rattle.itm_c.proofs.Steps.{[], ◌∷◌, refl, Option, IsSome, proved, full_share, id⊢, GName, ftrue, flft, named, List, Val, vptr, fact, tables, ‵, raw, ◌⊛◌, some, later, at_ret, ◌$◌, ◌∵◌, !, qed, done, move, keep, use1, split, split3, join, group, fsplit3, fjoin, pick, await, rewrite, suffices, frame, sub, whole, look_in, enter, of_opd, addr, load, stop, fld, first, blocks, exec, returns, alloc_all, pass_all, free_all, look_at, get, through, sets, sets_last, env, no, plain, nothing, heard, opens, Stays, walk_of, says, stay_dropped, ends_at, sem}
 use denote.Follow.{follows, Part, lends_Part}
-use denote.Memory.{cell_at}
 use denote.Ref.{MutRef, MutBor, mut_vals, mut_Tells}
 use denote.Signature.{mut_ref_to}
 use denote.Triple.Walked.{Goes-spent_ref}
-use Rattle.std.proofs.VecSteps.Shapes.{after}
-use Rattle.std_alloc.proofs.BoxSteps.Form.{B}
-use Rattle.std_alloc.proofs.BoxSteps.Steps.{box_out}
-use Rattle.itm_c.specs.HandleLends.{with_kept}
 use Rattle.itm_c.proofs.KeptBoxes.{InBox, Held, Handed, box_of_handle, held_by, Around, refilled}
 use Rattle.itm_c.specs.contracts.handle.Handle.kept_mut as f
 use Rattle.itm_c.proofs.handle.Handle.kept_mut.Statement.{statement}

@@ -1,8 +1,6 @@
 -- `of_parts` hands the two fields on, and the handle owns what the parts owned.
+use Rattle.itm_c.proofs.Common.{B, WpFn, box_in, box_out, box_typed, word}
 use Rattle.itm_c.proofs.Steps.{[], ◌∷◌, ◌++◌, refl, Some, proved_at, ftrue, fsep, emp, id⊢, List, Val, tables, ‵, raw, ◌⊛◌, prop, ◌$◌, ◌∵◌, !, qed, done, move, drop, use1, split, join, fsplit, fjoin, regoal, suffices, agg, sub, whole, enter, of_opd, stop, fld, no_more, and_then, returns, alloc_all, pass_all, free_all, look_at, get, get_in, sets, yes, plain, nothing, Stays, walk_of, says, stay_dropped, Goes-dropped, ends_at}
-use prog.Wp.{WpFn}
-use Rattle.std_alloc.proofs.BoxSteps.Form.{B, word, box_typed}
-use Rattle.std_alloc.proofs.BoxSteps.Steps.{box_out, box_in}
 use Rattle.itm_c.proofs.KeptBoxes.{InBox, Taken, Handed, box_of_parts}
 use Rattle.itm_c.specs.contracts.handle.Handle.of_parts as f
 use Rattle.itm_c.proofs.handle.Handle.of_parts.Statement.{statement}

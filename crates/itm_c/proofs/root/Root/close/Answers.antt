@@ -1,11 +1,8 @@
-use Rattle.std.proofs.Common.{◌≡◌, ℕ, List, ◌∷◌, length, drop, sym, ap, ◌∙◌, subst, arith}
-use Rattle.std.specs.Prelude.{slice_index}
-use Rattle.std.specs.Arc.{arc_value}
-use Rattle.std_alloc.specs.declared.vec.lodged.Lodged.{Lodged}
+use Rattle.std.proofs.Common.{◌≡◌, ℕ, List, ◌∷◌, length, drop, sym, ap, ◌∙◌, subst, arith, slice_index}
+use Rattle.itm_c.proofs.Common.{Lodged, Words, arc_value, view_of}
 use Rattle.shared_words.specs.ClosedWords.{clock_in, words_in}
 use Rattle.shared_words.specs.Good.{Ends}
-use Rattle.shared_words.specs.Passes.{view_of, cells_of, place_of}
-use Rattle.shared_words.specs.declared.words.Words.{Words}
+use Rattle.shared_words.specs.Passes.{cells_of, place_of}
 use Rattle.itm_c.proofs.root.Root.close.Goals as goal
 
 pub returns-in-Ok-clause-ok : goal.returns-in-Ok-clause-ok

@@ -1,5 +1,5 @@
 use Rattle.std.proofs.Common.{length, subst, sym}
-use Rattle.itm_model.specs.Pieces.{AreAmong}
+use Rattle.itm_model.proofs.Common.{AreAmong}
 use Rattle.itm_model.proofs.Journals.Overwrites.{in_table}
 use Rattle.itm_model.proofs.plain.Plain.again_with.Goals as goal
 

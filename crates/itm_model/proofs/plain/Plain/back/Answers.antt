@@ -1,12 +1,5 @@
 use Rattle.std.proofs.Common.{◌≡◌, List, [], ◌∷◌, ◌++◌, length, take, reverse, subst, ap, sym, ◌∙◌, arith}
-use Rattle.std.proofs.lemmas.List.{length-take-le, reverse-append}
-use Rattle.user_actions.specs.Actions.{ActionList}
-use Rattle.itm_model.specs.declared.journal.Old.{Old}
-use Rattle.itm_model.specs.declared.journal.Mark.{Mark}
-use Rattle.itm_model.specs.Pieces.{AreAmong, AreNewest, AreOnce}
-use Rattle.itm_model.specs.Undoable.{Undoable}
-use Rattle.itm_model.specs.Machine.{back}
-use Rattle.itm_model.specs.Undoing.{AreUnder}
+use Rattle.itm_model.proofs.Common.{ActionList, AreAmong, AreNewest, AreOnce, AreUnder, Mark, Old, Undoable, back, length-take-le, reverse-append}
 use Rattle.itm_model.proofs.Journals.Overwrites.{in_table, is_cut}
 use Rattle.itm_model.proofs.OpenBlocks.{AreUnder-more, under_last, back_is, back_nothing, fewer_blocks, state_of}
 use Rattle.itm_model.proofs.Journals.Rollbacks.{AreWithin-drop}

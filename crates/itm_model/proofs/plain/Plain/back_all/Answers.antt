@@ -1,6 +1,5 @@
 use Rattle.std.proofs.Common.{ap, sym, ◌∙◌}
-use Rattle.itm_model.specs.Undoable.{Undoable}
-use Rattle.itm_model.specs.Machine.{undone}
+use Rattle.itm_model.proofs.Common.{Undoable, undone}
 use Rattle.itm_model.proofs.OpenBlocks.{undone_nothing}
 use Rattle.itm_model.proofs.plain.Plain.back_all.Goals as goal
 

@@ -1,5 +1,5 @@
 use Rattle.std.proofs.Common.{◌≡◌, false, length}
-use Rattle.itm_model.specs.Machine.{undone}
+use Rattle.itm_model.proofs.Common.{undone}
 use Rattle.itm_model.proofs.plain.Plain.back_all.Given as goal
 
 abbrev pub invariant-loop-self : goal.invariant-loop-self

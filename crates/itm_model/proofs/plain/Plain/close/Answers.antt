@@ -1,10 +1,5 @@
 use Rattle.std.proofs.Common.{◌≡◌, ◌<◌, List, [], ◌∷◌, ◌++◌, length, take, drop, reverse, subst, ap, sym, ◌∙◌, arith}
-use Rattle.std.proofs.lemmas.List.{reverse-append}
-use Rattle.itm_model.specs.declared.journal.Mark.{Mark}
-use Rattle.itm_model.specs.Undoable.{Undoable}
-use Rattle.itm_model.specs.Machine.{closed}
-use Rattle.itm_model.specs.Pieces.{AreOnce, handed_on, top_of}
-use Rattle.itm_model.specs.Undoing.{AreUnder, IsSound, put_back}
+use Rattle.itm_model.proofs.Common.{AreOnce, AreUnder, IsSound, Mark, Undoable, closed, handed_on, put_back, reverse-append, top_of}
 use Rattle.itm_model.proofs.Journals.EntryBounds.{under_top}
 use Rattle.itm_model.proofs.OpenBlocks.{under_last, actions_stay, mode_stay, blocks_same, closed_is, state_of}
 use Rattle.itm_model.proofs.Journals.Overwrites.{IsHandedOn, in_table, is_handed_on}

@@ -1,8 +1,6 @@
 use Rattle.std.proofs.Common.{◌≡◌, ◌≤◌, ◌+◌, ◌||◌, nat_lt, length, ap, sym, ◌∙◌, rules}
-use Rattle.itm_types.specs.Slices.{slice}
+use Rattle.itm_model.proofs.Common.{Undoable, slice, written}
 use Rattle.itm_model.proofs.Journals.Rollbacks.{length-slice}
-use Rattle.itm_model.specs.Undoable.{Undoable}
-use Rattle.itm_model.specs.Machine.{written}
 use Rattle.itm_model.proofs.Journals.Overwrites.{IsWritten, is_written}
 use Rattle.itm_model.proofs.plain.Plain.copy_within.Goals as goal
 use Rattle.itm_model.proofs.plain.Plain.copy_within.Goals.{then-self, else-self}

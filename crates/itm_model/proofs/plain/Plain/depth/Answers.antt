@@ -1,6 +1,5 @@
 use Rattle.std.proofs.Common.{◌≡◌, length, ap, arith}
-use Rattle.itm_model.specs.Undoable.{Undoable}
-use Rattle.itm_model.specs.Undoing.{blocks_of}
+use Rattle.itm_model.proofs.Common.{Undoable, blocks_of}
 use Rattle.itm_model.proofs.OpenBlocks.{length-blocks_of}
 use Rattle.itm_model.proofs.plain.Plain.depth.Goals as goal
 

@@ -1,7 +1,5 @@
 use Rattle.std.proofs.Common.{nat_lt, length, ap, sym, ◌∙◌, arith}
-use Rattle.std.proofs.lemmas.Bool.{cond-true, lt-ltb}
-use Rattle.itm_model.specs.State.{Block}
-use Rattle.itm_model.specs.Undoable.{Undoable}
+use Rattle.itm_model.proofs.Common.{Block, Undoable, cond-true, lt-ltb}
 use Rattle.itm_model.proofs.OpenBlocks.{one_open}
 use Rattle.itm_model.proofs.plain.Plain.enter.Goals as goal
 

@@ -1,7 +1,5 @@
 use Rattle.std.proofs.Common.{true, ap, ◌∙◌}
-use Rattle.user_actions.specs.Actions.{ActionList}
-use Rattle.itm_model.specs.Undoable.{Undoable}
-use Rattle.itm_model.specs.Machine.{irrevocable_from}
+use Rattle.itm_model.proofs.Common.{ActionList, Undoable, irrevocable_from}
 use Rattle.itm_model.proofs.OpenBlocks.{made_irrevocable_is, state_of}
 use Rattle.itm_model.proofs.plain.Plain.go_irrevocable.Goals as goal
 

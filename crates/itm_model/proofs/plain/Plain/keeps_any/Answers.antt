@@ -1,11 +1,6 @@
 use Rattle.std.proofs.Common.{◌≡◌, ap, ◌∙◌, rules, tests}
-use Rattle.std.specs.List.{list_any}
-use Rattle.std.proofs.lemmas.Iterator.{YieldsList-from_slice}
-use Rattle.std.proofs.lemmas.Iterator.Search.{any_from_yields_List}
-use Rattle.itm_types.specs.declared.call.Props.{Props}
+use Rattle.itm_model.proofs.Common.{Mark, Props, Undoable, YieldsList-from_slice, any_from_yields_List, list_any}
 use Rattle.itm_model.specs.Machine.{keeps_any}
-use Rattle.itm_model.specs.Undoable.{Undoable}
-use Rattle.itm_model.specs.declared.journal.Mark.{Mark}
 use Rattle.itm_model.proofs.OpenBlocks.{any_has}
 use Rattle.itm_model.proofs.plain.Plain.keeps_any.Goals as goal
 

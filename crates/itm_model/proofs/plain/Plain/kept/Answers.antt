@@ -1,8 +1,5 @@
 use Rattle.std.proofs.Common.{◌≡◌, ◌≤◌, ◌+◌, ◌*◌, ℕ, length, reverse, refl, subst, sym, ◌∙◌}
-use Rattle.std.proofs.lemmas.List.{length-reverse}
-use Rattle.itm_model.specs.Pieces.{pieces_in}
-use Rattle.itm_model.specs.Undoable.{Undoable}
-use Rattle.itm_model.specs.Undoing.{blocks_of}
+use Rattle.itm_model.proofs.Common.{Undoable, blocks_of, length-reverse, pieces_in}
 use Rattle.itm_model.proofs.Journals.EntryBounds.{few_entries}
 use Rattle.itm_model.proofs.OpenBlocks.{length-blocks_of}
 use Rattle.itm_model.proofs.Journals.Overwrites.{in_table}

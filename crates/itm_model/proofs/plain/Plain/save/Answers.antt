@@ -1,7 +1,5 @@
 use Rattle.std.proofs.Common.{◌≡◌, ◌+◌, ◌≤◌, ℕ, length, reverse, ap, ◌∙◌, rules}
-use Rattle.itm_types.specs.Slices.{with_slice}
-use Rattle.itm_model.specs.Undoable.{Undoable}
-use Rattle.itm_model.specs.Machine.{saved_in_arena}
+use Rattle.itm_model.proofs.Common.{Undoable, saved_in_arena, with_slice}
 use Rattle.itm_model.proofs.Journals.Rollbacks.{length-with_slice}
 use Rattle.itm_model.proofs.OpenBlocks.{blocks_long}
 use Rattle.itm_model.proofs.plain.Plain.save.Goals as goal

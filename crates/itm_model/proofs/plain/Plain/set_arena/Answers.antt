@@ -1,6 +1,5 @@
 use Rattle.std.proofs.Common.{◌≡◌, ℕ, length, reverse, ap, sym, ◌∙◌}
-use Rattle.itm_model.specs.Undoable.{Undoable}
-use Rattle.itm_model.specs.Undoing.{put_back}
+use Rattle.itm_model.proofs.Common.{Undoable, put_back}
 use Rattle.itm_model.proofs.OpenBlocks.{blocks_long}
 use Rattle.itm_model.proofs.plain.Plain.set_arena.Goals as goal
 

@@ -1,8 +1,5 @@
 use Rattle.std.proofs.Common.{◌≡◌, List, [], length, take, reverse, subst, sym}
-use Rattle.itm_model.specs.declared.journal.Old.{Old}
-use Rattle.itm_model.specs.declared.journal.Mark.{Mark}
-use Rattle.itm_model.specs.Pieces.{AreAmong, AreNewest, AreOnce}
-use Rattle.itm_model.specs.Undoing.{AreUnder}
+use Rattle.itm_model.proofs.Common.{AreAmong, AreNewest, AreOnce, AreUnder, Mark, Old}
 use Rattle.itm_model.proofs.Journals.Overwrites.{in_table, is_cut}
 use Rattle.itm_model.proofs.plain.Plain.take_back.Goals as goal
 

@@ -1,7 +1,5 @@
 use Rattle.std.proofs.Common.{◌≡◌, ◌≤◌, ◌+◌, ◌||◌, nat_lt, length, ap, ◌∙◌, rules}
-use Rattle.itm_types.specs.Slices.{with_slice}
-use Rattle.itm_model.specs.Undoable.{Undoable}
-use Rattle.itm_model.specs.Machine.{written}
+use Rattle.itm_model.proofs.Common.{Undoable, with_slice, written}
 use Rattle.itm_model.proofs.Journals.Overwrites.{IsWritten, is_written}
 use Rattle.itm_model.proofs.plain.Plain.write.Goals as goal
 use Rattle.itm_model.proofs.plain.Plain.write.Goals.{then-self, else-self}

@@ -1,4 +1,4 @@
-use Rattle.shared_words.specs.Passes.{view_of}
+use Rattle.itm_runtime.proofs.Common.{view_of}
 use Rattle.call_rules.proofs.Calls.Rollbacks.{stands_undone}
 use Rattle.itm_runtime.proofs.thread.Thread.abort.Goals as goal
 

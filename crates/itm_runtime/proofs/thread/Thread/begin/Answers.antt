@@ -1,12 +1,7 @@
 use Rattle.std.proofs.Common.{◌≡◌, ◌∙◌, ℕ, subst, sym}
+use Rattle.itm_runtime.proofs.Common.{IsAnswered, Owns, Reply, Returns, Standing, answered, goes_on, left_standing, start_of, underway}
 use Rattle.itm_types.specs.declared.call.Reply.TheVariants.{Code}
-use Rattle.norec_core.specs.declared.answer.Answer.TheVariants.{Reply}
 use Rattle.itm_types.specs.declared.call.Call.TheVariants.{Begin}
-use Rattle.shared_words.specs.Passes.{Owns}
-use Rattle.call_rules.specs.CallResults.{IsAnswered, Returns}
-use Rattle.call_rules.specs.Standing.{Standing, start_of}
-use Rattle.call_rules.proofs.Calls.Results.{answered, left_standing}
-use Rattle.call_rules.proofs.Calls.Underway.{goes_on, underway}
 use Rattle.itm_runtime.proofs.thread.Thread.begin.Goals as goal
 
 pub returns-in-Entered : goal.returns-in-Entered

@@ -1,4 +1,4 @@
-use Rattle.call_rules.proofs.Calls.Results.{answered, due, left_standing}
+use Rattle.itm_runtime.proofs.Common.{answered, due, left_standing}
 use Rattle.itm_runtime.proofs.thread.Thread.begin_slow.Goals as goal
 
 pub finish-requires-clause-due : goal.finish-requires-clause-due

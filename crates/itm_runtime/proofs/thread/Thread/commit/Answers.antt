@@ -1,11 +1,6 @@
 use Rattle.std.proofs.Common.{◌≡◌, ◌∙◌, false, refl, subst, sym}
-use Rattle.itm_types.specs.declared.call.Call.TheVariants.{Commit}
-use Rattle.shared_words.specs.Passes.{Owns}
-use Rattle.call_rules.specs.CallResults.{IsAnswered}
-use Rattle.call_rules.specs.Standing.{Standing, start_of}
+use Rattle.itm_runtime.proofs.Common.{Commit, IsAnswered, Owns, Standing, answered, goes_on, left_standing, start_of, underway}
 use Rattle.call_rules.proofs.Calls.Restarts.{commit_whole}
-use Rattle.call_rules.proofs.Calls.Results.{answered, left_standing}
-use Rattle.call_rules.proofs.Calls.Underway.{goes_on, underway}
 use Rattle.itm_runtime.proofs.thread.Thread.commit.Goals as goal
 
 pub returns-in-Wrote-clause-answered : goal.returns-in-Wrote-clause-answered

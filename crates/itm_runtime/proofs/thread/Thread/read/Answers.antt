@@ -1,4 +1,4 @@
-use Rattle.call_rules.proofs.Calls.Results.{answered, due, left_standing}
+use Rattle.itm_runtime.proofs.Common.{answered, due, left_standing}
 use Rattle.itm_runtime.proofs.thread.Thread.read.Goals as goal
 
 pub finish_read-requires-clause-due : goal.finish_read-requires-clause-due

@@ -1,8 +1,4 @@
-use Rattle.itm_types.specs.declared.access.ReadHint.TheVariants.{R}
-use Rattle.itm_types.specs.declared.access.Width.TheVariants.{U8}
-use Rattle.itm_types.specs.declared.call.Call.TheVariants.{Read}
-use Rattle.shared_words.specs.Passes.{view_of}
-use Rattle.itm_runtime.specs.Stops.{answer_to_read}
+use Rattle.itm_runtime.proofs.Common.{R, Read, U8, answer_to_read, view_of}
 use Rattle.itm_runtime.proofs.NumberAnswers.{read_number, told_of}
 use Rattle.itm_runtime.proofs.thread.Thread.read_number.Goals as goal
 

@@ -1,14 +1,7 @@
 use Rattle.std.proofs.Common.{◌≡◌, ◌∙◌, false, subst, sym}
-use Rattle.itm_types.specs.declared.access.ReadHint.TheVariants.{R}
-use Rattle.itm_types.specs.declared.access.Width.TheVariants.{U8}
-use Rattle.itm_types.specs.declared.call.Call.TheVariants.{Read}
-use Rattle.shared_words.specs.Passes.{Owns}
-use Rattle.call_rules.specs.CallResults.{Tells}
-use Rattle.call_rules.specs.Standing.{Standing}
-use Rattle.itm_runtime.specs.Stops.{answer_to_read}
+use Rattle.itm_runtime.proofs.Common.{Owns, R, Read, Standing, Tells, U8, answer_to_read, answered, goes_on, left_standing}
 use Rattle.itm_runtime.proofs.NumberAnswers.{told_of}
-use Rattle.call_rules.proofs.Calls.Results.{answered, left_standing}
-use Rattle.call_rules.proofs.Calls.Underway.{goes_on, step_done, step_seen}
+use Rattle.call_rules.proofs.Calls.Underway.{step_done, step_seen}
 use Rattle.itm_runtime.proofs.thread.Thread.read_u64.Goals as goal
 
 pub returns-in-Number : goal.returns-in-Number

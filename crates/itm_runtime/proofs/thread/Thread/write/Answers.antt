@@ -1,11 +1,6 @@
 use Rattle.std.proofs.Common.{◌≡◌, ◌∙◌, ap, false, subst}
-use Rattle.itm_types.specs.declared.call.Call.TheVariants.{Write}
-use Rattle.itm_types.specs.declared.datum.Datum.{Datum}
-use Rattle.norec_core.specs.Core.{Core}
+use Rattle.itm_runtime.proofs.Common.{Core, Datum, Returns, Standing, Write, answered, due, left_standing}
 use Rattle.shared_words.specs.declared.pass.Pass.{Pass}
-use Rattle.call_rules.specs.CallResults.{Returns}
-use Rattle.call_rules.specs.Standing.{Standing}
-use Rattle.call_rules.proofs.Calls.Results.{answered, due, left_standing}
 use Rattle.itm_runtime.proofs.thread.Thread.write.Goals as goal
 
 abbrev standing : Pass → Core → Standing

@@ -1,11 +1,7 @@
 use Rattle.std.proofs.Common.{false, subst}
-use Rattle.itm_types.specs.declared.access.WriteHint.TheVariants.{W}
-use Rattle.itm_types.specs.declared.call.Call.TheVariants.{Write}
-use Rattle.itm_types.specs.declared.datum.Datum.{Datum}
-use Rattle.shared_words.specs.Passes.{view_of}
-use Rattle.call_rules.specs.CallResults.{IsAnswered, IsThreadStarved}
-use Rattle.call_rules.specs.Standing.{start_of}
-use Rattle.itm_runtime.specs.Stops.{answer_to_write, done_or, number}
+use Rattle.itm_runtime.proofs.Common.{Datum, IsAnswered, W, Write, answer_to_write, number, start_of, view_of}
+use Rattle.call_rules.specs.CallResults.{IsThreadStarved}
+use Rattle.itm_runtime.specs.Stops.{done_or}
 use Rattle.itm_runtime.proofs.NumberAnswers.{told_of, write_done}
 use Rattle.itm_runtime.proofs.thread.Thread.write_told.Goals as goal
 

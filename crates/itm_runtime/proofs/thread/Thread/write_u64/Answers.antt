@@ -1,6 +1,4 @@
-use Rattle.itm_types.specs.declared.call.Reply.TheVariants.{Done}
-use Rattle.norec_core.specs.declared.answer.Answer.TheVariants.{Reply}
-use Rattle.call_rules.proofs.Calls.Results.{answered, at_once, left_standing}
+use Rattle.itm_runtime.proofs.Common.{Done, Reply, answered, at_once, left_standing}
 use Rattle.itm_runtime.proofs.thread.Thread.write_u64.Goals as goal
 
 pub returns-then-put : goal.returns-then-put

@@ -1,10 +1,5 @@
 use Rattle.std.proofs.Common.{false, rules, subst}
-use Rattle.itm_types.specs.declared.access.WriteHint.TheVariants.{W}
-use Rattle.itm_types.specs.declared.call.Call.TheVariants.{Write}
-use Rattle.norec_core.specs.declared.answer.Answer.{Answer}
-use Rattle.shared_words.specs.Passes.{view_of}
-use Rattle.call_rules.specs.CallResults.{IsAnswered}
-use Rattle.call_rules.specs.Standing.{start_of}
+use Rattle.itm_runtime.proofs.Common.{Answer, IsAnswered, W, Write, start_of, view_of}
 use Rattle.itm_runtime.proofs.NumberAnswers.{write_done}
 use Rattle.itm_runtime.proofs.thread.Thread.write_value_slow.Goals as goal
 

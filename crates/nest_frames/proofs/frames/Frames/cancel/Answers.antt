@@ -1,7 +1,5 @@
 use Rattle.std.proofs.Common.{drop, ap, ◌∙◌}
-use Rattle.undo_log.specs.Rollback.{Undo}
-use Rattle.nest_frames.specs.Nest.{Nest}
-use Rattle.nest_frames.specs.Moments.{frames_of}
+use Rattle.nest_frames.proofs.Common.{Nest, Undo, frames_of}
 use Rattle.nest_frames.proofs.OpenBlocks.{moment_popped, frames_cancelled}
 use Rattle.nest_frames.proofs.frames.Frames.cancel.Goals as goal
 

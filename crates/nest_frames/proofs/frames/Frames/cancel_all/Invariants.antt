@@ -1,5 +1,5 @@
 use Rattle.std.proofs.Common.{◌≡◌, length}
-use Rattle.nest_frames.specs.Nest.{actions_back, arena_back, arena_restored}
+use Rattle.nest_frames.proofs.Common.{actions_back, arena_back, arena_restored}
 use Rattle.nest_frames.proofs.frames.Frames.cancel_all.Given as goal
 
 abbrev pub invariant-loop-self : goal.invariant-loop-self

@@ -1,6 +1,5 @@
-use Rattle.std.proofs.Common.{ap, ◌∙◌}
-use Rattle.std.proofs.Common.{take}
-use Rattle.nest_frames.specs.Nest.{Nest}
+use Rattle.std.proofs.Common.{ap, ◌∙◌, take}
+use Rattle.nest_frames.proofs.Common.{Nest}
 use Rattle.nest_frames.proofs.OpenBlocks.{nest_written}
 use Rattle.nest_frames.proofs.frames.Frames.cut.Goals as goal
 

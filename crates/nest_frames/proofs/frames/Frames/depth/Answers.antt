@@ -1,6 +1,5 @@
 use Rattle.std.proofs.Common.{◌≡◌, [], length, ap, subst, ◌∙◌, arith}
-use Rattle.write_set.specs.Marks.{unwritten}
-use Rattle.nest_frames.specs.Nest.{Nest}
+use Rattle.nest_frames.proofs.Common.{Nest, unwritten}
 use Rattle.nest_frames.proofs.OpenBlocks.{length-frames_of, no_frames}
 use Rattle.nest_frames.proofs.frames.Frames.depth.Goals as goal
 

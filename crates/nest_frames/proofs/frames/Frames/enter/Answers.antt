@@ -1,5 +1,5 @@
 use Rattle.std.proofs.Common.{length, ap, arith}
-use Rattle.nest_frames.specs.Nest.{Nest}
+use Rattle.nest_frames.proofs.Common.{Nest}
 use Rattle.nest_frames.proofs.OpenBlocks.{length-frames_of}
 use Rattle.nest_frames.proofs.frames.Frames.enter.Goals as goal
 

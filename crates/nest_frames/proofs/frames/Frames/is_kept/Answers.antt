@@ -1,9 +1,5 @@
 use Rattle.std.proofs.Common.{true, sym, ap, ◌∙◌, rules, tests}
-use Rattle.std.proofs.lemmas.Iterator.{YieldsList-from_slice}
-use Rattle.std.proofs.lemmas.Iterator.Search.{any_from_yields_List}
-use Rattle.itm_types.specs.declared.call.Props.{Props}
-use Rattle.nest_frames.specs.declared.moment.Moment.{Moment}
-use Rattle.nest_frames.specs.Nest.{Nest, is_kept}
+use Rattle.nest_frames.proofs.Common.{Moment, Nest, Props, YieldsList-from_slice, any_from_yields_List, is_kept}
 use Rattle.nest_frames.proofs.OpenBlocks.{any_of}
 use Rattle.nest_frames.proofs.frames.Frames.is_kept.Goals as goal
 

@@ -1,8 +1,5 @@
 use Rattle.std.proofs.Common.{◌≡◌, ◌<◌, List, length, ap, sym, subst, ◌∙◌, arith}
-use Rattle.undo_log.specs.Rollback.{Undo, kept_of}
-use Rattle.write_set.specs.Marks.{Written}
-use Rattle.nest_frames.specs.Nest.{Frame, Nest, closed, log_of}
-use Rattle.nest_frames.specs.Moments.{frames_of, IsSound}
+use Rattle.nest_frames.proofs.Common.{Frame, IsSound, Nest, Undo, Written, closed, frames_of, kept_of, log_of}
 use Rattle.nest_frames.proofs.OpenBlocks.{moment_popped, length-frames_of, frames_closed, IsSound-closed, kept_of-closed, actions_inner}
 use Rattle.nest_frames.proofs.frames.Frames.leave.Goals as goal
 

@@ -1,5 +1,5 @@
 use Rattle.std.proofs.Common.{length, subst, ◌≡◌}
-use Rattle.nest_frames.specs.Nest.{Nest, rows_of}
+use Rattle.nest_frames.proofs.Common.{Nest, rows_of}
 use Rattle.nest_frames.proofs.NewRows.{inner-at_begin}
 use Rattle.nest_frames.proofs.frames.Frames.len.Goals as goal
 

@@ -1,7 +1,5 @@
 use Rattle.std.proofs.Common.{◌≡◌, ◌<◌, ◌≤◌, List, length, ap, ◌∙◌, arith, length-append}
-use Rattle.undo_log.specs.Rollback.{Old, found, kept_of}
-use Rattle.nest_frames.specs.Nest.{Frame, Nest, log_of, logged}
-use Rattle.nest_frames.specs.Moments.{frames_of}
+use Rattle.nest_frames.proofs.Common.{Frame, Nest, Old, found, frames_of, kept_of, log_of, logged}
 use Rattle.nest_frames.proofs.OpenBlocks.{frames_logged, length-frames_of, IsSound-logged, kept_of-logged}
 use Rattle.nest_frames.proofs.frames.Frames.log.Goals as goal
 

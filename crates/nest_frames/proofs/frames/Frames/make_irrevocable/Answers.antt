@@ -1,6 +1,5 @@
 use Rattle.std.proofs.Common.{ap, map, ◌∙◌, []}
-use Rattle.write_set.specs.Marks.{unwritten}
-use Rattle.nest_frames.specs.Nest.{Nest, made_irrevocable}
+use Rattle.nest_frames.proofs.Common.{Nest, made_irrevocable, unwritten}
 use Rattle.nest_frames.proofs.ForgottenMoments.{nest_so, sound_so}
 use Rattle.nest_frames.proofs.frames.Frames.make_irrevocable.Goals as goal
 

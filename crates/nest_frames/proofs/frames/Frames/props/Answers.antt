@@ -1,7 +1,5 @@
-use Rattle.std.proofs.Common.{◌-◌, ◌<◌, List, length, map, ap, sym, subst, ◌∙◌, arith, Some}
-use Rattle.std.specs.Prelude.{get_or, slice_get}
-use Rattle.nest_frames.specs.declared.moment.Moment.{Moment}
-use Rattle.nest_frames.specs.Nest.{Frame, Nest}
+use Rattle.std.proofs.Common.{◌-◌, ◌<◌, List, length, map, ap, sym, subst, ◌∙◌, arith, Some, get_or, slice_get}
+use Rattle.nest_frames.proofs.Common.{Frame, Moment, Nest}
 use Rattle.nest_frames.proofs.OpenBlocks.{length-frames_of, props_at}
 use Rattle.nest_frames.proofs.frames.Frames.props.Goals as goal
 

@@ -1,8 +1,5 @@
 use Rattle.std.proofs.Common.{sym, ap, subst, ◌∙◌}
-use Rattle.undo_log.specs.Rollback.{Undo}
-use Rattle.write_set.specs.Marks.{Written}
-use Rattle.nest_frames.specs.Nest.{Nest, renewed}
-use Rattle.nest_frames.specs.Moments.{frames_of, IsSound}
+use Rattle.nest_frames.proofs.Common.{IsSound, Nest, Undo, Written, frames_of, renewed}
 use Rattle.nest_frames.proofs.OpenBlocks.{moment_last, frames_renewed, IsSound-renewed}
 use Rattle.nest_frames.proofs.frames.Frames.renew.Goals as goal
 

@@ -1,8 +1,5 @@
 use Rattle.std.proofs.Common.{◌≡◌, ◌<◌, length, None, IsSome, ap, sym, subst, ◌∙◌}
-use Rattle.std.proofs.lemmas.Bool.{false≢true}
-use Rattle.write_set.specs.Marks.{write, IsNew}
-use Rattle.write_set.specs.Rows.{lookup}
-use Rattle.nest_frames.specs.Nest.{Nest, rows_of}
+use Rattle.nest_frames.proofs.Common.{IsNew, Nest, false≢true, lookup, rows_of, write}
 use Rattle.nest_frames.proofs.NewRows.{IsNew-at_begin}
 use Rattle.nest_frames.proofs.OpenBlocks.{nest_written}
 use Rattle.nest_frames.proofs.frames.Frames.write.Goals as goal

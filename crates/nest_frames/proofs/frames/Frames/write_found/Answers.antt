@@ -1,7 +1,5 @@
 use Rattle.std.proofs.Common.{◌≡◌, ◌<◌, inl, inr, length, ap, arith, ◌∙◌}
-use Rattle.std.proofs.lemmas.Bool.{cases_Bool}
-use Rattle.write_set.specs.Marks.{Written, write}
-use Rattle.nest_frames.specs.Nest.{Nest}
+use Rattle.nest_frames.proofs.Common.{Nest, Written, cases_Bool, write}
 use Rattle.nest_frames.proofs.OpenBlocks.{nest_written, length-frames_of, IsSound-written}
 use Rattle.nest_frames.proofs.frames.Frames.write_found.Goals as goal
 

@@ -1,8 +1,5 @@
 use Rattle.std.proofs.Common.{◌≡◌, ◌+◌, ◌<◌, ◌≤◌, suc, arith, length, map, take, drop, ◌++◌, List, ap, sym, subst, ◌∙◌, slice_index_or, slice_set}
-use Rattle.std.specs.List.{refill}
-use Rattle.std.proofs.lemmas.List.{length-map}
-use Rattle.nest_frames.specs.declared.moment.Moment.{Moment}
-use Rattle.nest_frames.specs.Moments.{forgotten, Begins}
+use Rattle.nest_frames.proofs.Common.{Begins, Moment, forgotten, length-map, refill}
 use Rattle.nest_frames.proofs.ForgottenMoments.{all_forgotten, next_forgotten}
 use Rattle.nest_frames.proofs.moments.Moments.forget.Goals as goal
 

@@ -1,5 +1,5 @@
 use Rattle.std.proofs.Common.{◌≡◌, ◌++◌, map, take, drop}
-use Rattle.nest_frames.specs.Moments.{forgotten}
+use Rattle.nest_frames.proofs.Common.{forgotten}
 use Rattle.nest_frames.proofs.moments.Moments.forget.Given as goal
 
 abbrev pub invariant-loop-moment : goal.invariant-loop-moment

@@ -1,6 +1,5 @@
 use Rattle.std.proofs.Common.{length, ap, arith, length-append}
-use Rattle.std.specs.Option.{option_to_list}
-use Rattle.nest_frames.specs.declared.moment.Moment.{Moment}
+use Rattle.nest_frames.proofs.Common.{Moment, option_to_list}
 use Rattle.nest_frames.proofs.moments.Moments.pop.Goals as goal
 
 pub invariant_of-self : goal.invariant_of-self

@@ -1,6 +1,5 @@
 use Rattle.std.proofs.Common.{◌∷◌, [], length, ap, arith, length-append}
-use Rattle.nest_frames.specs.declared.moment.Moment.{Moment}
-use Rattle.nest_frames.specs.Moments.{Begins}
+use Rattle.nest_frames.proofs.Common.{Begins, Moment}
 use Rattle.nest_frames.proofs.moments.Moments.push.Goals as goal
 
 pub push_reserved-requires : goal.push_reserved-requires

@@ -1,14 +1,7 @@
 use Rattle.std.proofs.Common.{◌+◌, false, subst, sym}
-use Rattle.itm_types.specs.declared.call.Call.TheVariants.{Read}
+use Rattle.norec_engine.proofs.Common.{Asks, CallTurns, Data, IsCalled, Read, Wait, engine_in, phase_of}
 use Rattle.itm_types.specs.declared.step.Step.TheVariants as steps
-use Rattle.norec_core.specs.Moves.{IsCalled}
-use Rattle.norec_core.specs.declared.answer.Next.TheVariants.{Step as Asks}
-use Rattle.norec_data.specs.declared.data.Data.{Data}
 use Rattle.norec_data.specs.declared.pending.Pending.TheVariants as waits
-use Rattle.norec_data.specs.declared.turn.Turn.TheVariants.{Wait}
-use Rattle.norec_data.specs.View.{phase_of}
-use Rattle.norec_revocable.specs.Moves.{CallTurns}
-use Rattle.norec_engine.specs.Modes.{engine_in}
 use Rattle.norec_engine.proofs.WholeReads.{read_called, read_sound}
 use Rattle.norec_engine.proofs.engine.Engine.ask_word.Goals as goal
 

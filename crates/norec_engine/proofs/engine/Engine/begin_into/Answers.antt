@@ -1,6 +1,5 @@
 use Rattle.std.proofs.Common.{refl}
-use Rattle.std.proofs.lemmas.Result.{err_from_is_err_and}
-use Rattle.itm_types.specs.declared.call.Call.TheVariants.{Begin}
+use Rattle.norec_engine.proofs.Common.{Begin, err_from_is_err_and}
 use Rattle.norec_engine.proofs.EitherTurns.{called_in, idle_sound, left_sound, sound_call, starved_in}
 use Rattle.norec_engine.proofs.engine.Engine.begin_into.Goals as goal
 

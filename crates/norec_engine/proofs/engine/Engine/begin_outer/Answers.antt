@@ -1,13 +1,5 @@
 use Rattle.std.proofs.Common.{subst, sym}
-use Rattle.norec_data.specs.declared.data.Data.{Data}
-use Rattle.norec_data.specs.declared.pending.Pending.{Pending}
-use Rattle.itm_types.specs.declared.call.Call.TheVariants.{Begin}
-use Rattle.itm_types.specs.declared.step.Step.TheVariants.{Load}
-use Rattle.norec_core.specs.declared.answer.Next.TheVariants.{Step as Asks}
-use Rattle.norec_core.specs.Moves.{IsCalled}
-use Rattle.norec_data.specs.Turns.{counted}
-use Rattle.norec_data.specs.View.{phase_of}
-use Rattle.norec_engine.specs.Modes.{engine_in, IsSoundIn}
+use Rattle.norec_engine.proofs.Common.{Asks, Begin, Data, IsCalled, IsSoundIn, Load, Pending, counted, engine_in, phase_of}
 use Rattle.norec_engine.proofs.BlockSteps.{outer_called, outer_served, outer_sound, outer_stays, outer_waits, outside}
 use Rattle.norec_engine.proofs.engine.Engine.begin_outer.Goals as goal
 

@@ -1,5 +1,5 @@
-use Rattle.std.proofs.lemmas.Result.{err_from_is_err_and}
 use Rattle.std.proofs.Common.{false, refl}
+use Rattle.norec_engine.proofs.Common.{err_from_is_err_and}
 use Rattle.norec_engine.proofs.EitherTurns.{called_in, idle_sound, left_sound, sound_call, starved_in}
 use Rattle.norec_engine.proofs.engine.Engine.call_other.Goals as goal
 

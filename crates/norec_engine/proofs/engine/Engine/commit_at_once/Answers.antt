@@ -1,9 +1,5 @@
 use Rattle.std.proofs.Common.{◌≤◌, length, refl, subst, sym, true}
-use Rattle.norec_core.specs.Core.{Core}
-use Rattle.norec_core.specs.Moves.{IsResumed}
-use Rattle.norec_core.specs.declared.answer.Answer.TheVariants.{Committed}
-use Rattle.norec_core.specs.declared.answer.Next.TheVariants.{Answer as Answers}
-use Rattle.norec_engine.specs.BlockSteps.{WaitsForClock, storing}
+use Rattle.norec_engine.proofs.Common.{Answers, Committed, Core, IsResumed, WaitsForClock, storing}
 use Rattle.norec_engine.proofs.engine.Engine.commit_at_once.Goals as goal
 
 pub rows_stored-requires : goal.rows_stored-requires

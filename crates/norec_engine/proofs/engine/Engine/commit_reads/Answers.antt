@@ -1,9 +1,6 @@
 use Rattle.std.proofs.Common.{◌/◌, false, refl}
-use Rattle.itm_types.specs.declared.call.Call.TheVariants.{Commit}
-use Rattle.norec_core.specs.declared.answer.Answer.TheVariants.{Committed}
-use Rattle.norec_core.specs.declared.answer.Next.TheVariants.{Answer as Answers}
+use Rattle.norec_engine.proofs.Common.{Answers, CommitCall as Commit, Committed, End}
 use Rattle.norec_data.specs.declared.end.CallEnd.TheVariants.{ReadOnly}
-use Rattle.norec_data.specs.declared.turn.Turn.TheVariants.{End}
 use Rattle.norec_engine.proofs.IdleEngines.{idle_at}
 use Rattle.norec_engine.proofs.EitherTurns.{called_in, revocable_call}
 use Rattle.norec_engine.proofs.engine.Engine.commit_reads.Goals as goal

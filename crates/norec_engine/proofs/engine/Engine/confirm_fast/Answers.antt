@@ -1,5 +1,5 @@
 use Rattle.std.proofs.Common.{rules}
-use Rattle.norec_core.specs.Phases.{Idle}
+use Rattle.norec_engine.proofs.Common.{Idle}
 use Rattle.norec_engine.proofs.SettledEngines.{settled_in}
 use Rattle.norec_engine.proofs.engine.Engine.confirm_fast.Goals as goal
 

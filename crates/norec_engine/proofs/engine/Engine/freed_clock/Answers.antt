@@ -1,10 +1,5 @@
 use Rattle.std.proofs.Common.{◌≡◌, ◌+◌, [], length, ap, refl, subst, sym}
-use Rattle.itm_types.specs.declared.step.Step.TheVariants.{Store}
-use Rattle.norec_core.specs.Core.{Core}
-use Rattle.norec_core.specs.Order.{step_in}
-use Rattle.norec_core.specs.declared.call_parts.Taking.TheVariants.{Commit}
-use Rattle.norec_revocable.proofs.StoredRows.{last_stage}
-use Rattle.norec_engine.specs.BlockSteps.{next_step}
+use Rattle.norec_engine.proofs.Common.{Commit, Core, Store, last_stage, next_step, step_in}
 use Rattle.norec_engine.proofs.RowSteps.{exchanges}
 use Rattle.norec_engine.proofs.engine.Engine.freed_clock.Goals as goal
 

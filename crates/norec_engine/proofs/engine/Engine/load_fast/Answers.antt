@@ -1,13 +1,5 @@
 use Rattle.std.proofs.Common.{◌≡◌, rules, false, List, None, sym, ap, subst, ◌∙◌}
-use Rattle.write_set.specs.declared.row.Row.{Row}
-use Rattle.write_set.specs.Rows.{lookup}
-use Rattle.norec_core.specs.Core.{Core}
-use Rattle.norec_core.specs.Proceeds.{Joins}
-use Rattle.norec_data.specs.declared.data.Data.{Data}
-use Rattle.norec_data.specs.Turns.{counted}
-use Rattle.norec_data.specs.View.{phase_of, rows_before}
-use Rattle.norec_revocable.specs.Between.{IsWord}
-use Rattle.norec_engine.specs.Modes.{engine_in}
+use Rattle.norec_engine.proofs.Common.{Core, Data, IsWord, Joins, Row, counted, engine_in, lookup, phase_of, rows_before}
 use Rattle.norec_engine.proofs.SettledEngines.{counts_in, settled_in}
 use Rattle.norec_engine.proofs.WholeReads.{confirms, joins_none, mode_is, rows_loaded, same_load, same_wait, stage_is}
 use Rattle.norec_engine.proofs.engine.Engine.load_fast.Goals as goal

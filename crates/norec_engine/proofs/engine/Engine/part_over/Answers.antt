@@ -1,8 +1,6 @@
 use Rattle.std.proofs.Common.{◌<◌, ◌∙◌, Some, length, ap, subst, sym}
-use Rattle.write_set.specs.declared.row.Row.{Row}
-use Rattle.norec_core.specs.Core.{Core}
-use Rattle.norec_core.specs.Rows.{value_into, write_at}
-use Rattle.norec_core.proofs.Accesses.Overlays.{write_at_of}
+use Rattle.norec_engine.proofs.Common.{Core, Row, write_at, write_at_of}
+use Rattle.norec_core.specs.Rows.{value_into}
 use Rattle.norec_engine.proofs.RowSteps.{exchanges}
 use Rattle.norec_engine.proofs.engine.Engine.part_over.Goals as goal
 

@@ -1,4 +1,4 @@
-use Rattle.norec_data.specs.View.{phase_of}
+use Rattle.norec_engine.proofs.Common.{phase_of}
 use Rattle.norec_engine.proofs.EitherTurns.{left_sound, resumed_in, sound_step}
 use Rattle.norec_engine.proofs.engine.Engine.resume_into.Goals as goal
 

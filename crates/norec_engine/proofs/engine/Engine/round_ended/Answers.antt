@@ -1,4 +1,4 @@
-use Rattle.norec_core.specs.Phases.{RoundEnd}
+use Rattle.norec_engine.proofs.Common.{RoundEnd}
 use Rattle.norec_data.specs.declared.pending.Pending.TheVariants as waits
 use Rattle.norec_engine.proofs.RoundSteps.{left_here, resumed_here, end_waits}
 use Rattle.norec_engine.proofs.engine.Engine.round_ended.Goals as goal

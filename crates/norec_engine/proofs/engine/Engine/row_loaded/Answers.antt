@@ -1,5 +1,4 @@
-use Rattle.norec_core.specs.Aims.{Aim}
-use Rattle.norec_core.specs.Phases.{RoundRow}
+use Rattle.norec_engine.proofs.Common.{Aim, RoundRow}
 use Rattle.norec_data.specs.declared.pending.Pending.TheVariants as waits
 use Rattle.norec_engine.proofs.RoundSteps.{left_here, resumed_here}
 use Rattle.norec_engine.proofs.engine.Engine.row_loaded.Goals as goal

@@ -1,15 +1,8 @@
 use Rattle.std.proofs.Common.{◌≡◌, ◌≢◌, ◌+◌, ◌<◌, ◌∙◌, [], None, length, ap, refl, subst, sym, arith}
-use Rattle.itm_types.specs.declared.step.Step.TheVariants.{Load, Store}
+use Rattle.norec_engine.proofs.Common.{Commit, Core, IsWhole, Load, Row, Store, next_step, part_stage, step_in, whole_stage, write_at, write_at_of}
 use Rattle.word_pieces.specs.Masks.{whole}
-use Rattle.write_set.specs.declared.row.Row.{Row}
-use Rattle.norec_core.specs.Core.{Core}
-use Rattle.norec_core.specs.Order.{step_in}
-use Rattle.norec_core.specs.Rows.{write_at}
-use Rattle.norec_core.specs.declared.call_parts.Taking.TheVariants.{Commit}
-use Rattle.norec_core.proofs.Accesses.Overlays.{AllWritesWithin-at, write_at_of}
+use Rattle.norec_core.proofs.Accesses.Overlays.{AllWritesWithin-at}
 use Rattle.norec_revocable.proofs.Phases.{loads_as, stores_as}
-use Rattle.norec_revocable.proofs.StoredRows.{part_stage, whole_stage}
-use Rattle.norec_engine.specs.BlockSteps.{IsWhole, next_step}
 use Rattle.norec_engine.proofs.RowSteps.{exchanges}
 use Rattle.norec_engine.proofs.engine.Engine.row_to_store.Goals as goal
 

@@ -1,5 +1,5 @@
 use Rattle.std.proofs.Common.{refl, subst}
-use Rattle.norec_engine.specs.BlockSteps.{StoresRows}
+use Rattle.norec_engine.proofs.Common.{StoresRows}
 use Rattle.norec_engine.proofs.RowSteps.{asking_fields, exchanges, stores_rows}
 use Rattle.norec_engine.proofs.engine.Engine.rows.Goals as goal
 

@@ -1,13 +1,8 @@
 use Rattle.std.proofs.Common.{◌≤◌, ◌/◌, Bool, length, refl, subst, sym, true}
-use Rattle.norec_core.specs.Core.{Core}
-use Rattle.norec_core.specs.Moves.{IsResumed}
+use Rattle.norec_engine.proofs.Common.{Answers, Committed, Core, End, IsResumed, IsSoundIn, engine_in}
 use Rattle.norec_core.specs.Phases as at
-use Rattle.norec_core.specs.declared.answer.Answer.TheVariants.{Committed}
-use Rattle.norec_core.specs.declared.answer.Next.TheVariants.{Answer as Answers}
 use Rattle.norec_data.specs.declared.end.CallEnd.TheVariants as ends
 use Rattle.norec_data.specs.declared.pending.Pending.TheVariants as waits
-use Rattle.norec_data.specs.declared.turn.Turn.TheVariants.{End}
-use Rattle.norec_engine.specs.Modes.{engine_in, IsSoundIn}
 use Rattle.norec_engine.proofs.BlockSteps.{exchange_at, freed_turns, mode}
 use Rattle.norec_engine.proofs.EitherTurns.{resumed_in, revocable_step}
 use Rattle.norec_engine.proofs.RowSteps.{shown_taking, stored_as}

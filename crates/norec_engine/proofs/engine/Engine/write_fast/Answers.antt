@@ -1,5 +1,5 @@
 use Rattle.std.proofs.Common.{false, sym}
-use Rattle.itm_types.specs.declared.call.Call.TheVariants.{Write}
+use Rattle.norec_engine.proofs.Common.{Write}
 use Rattle.norec_engine.proofs.EitherTurns.{called_in, revocable_call}
 use Rattle.norec_engine.proofs.engine.Engine.write_fast.Goals as goal
 

@@ -1,10 +1,6 @@
 use Rattle.std.proofs.Common.{◌≡◌, Bool, true, false, None, length, refl, sym, ap, ◌∙◌}
-use Rattle.norec_core.specs.Core.{Core}
-use Rattle.norec_data.specs.declared.data.Data.{Data}
-use Rattle.norec_data.specs.declared.pending.Pending.{Pending}
+use Rattle.norec_engine.proofs.Common.{Core, Data, Pending, engine_in, phase_of}
 use Rattle.norec_data.specs.declared.pending.Pending.TheVariants as waits
-use Rattle.norec_data.specs.View.{phase_of}
-use Rattle.norec_engine.specs.Modes.{engine_in}
 use Rattle.norec_engine.proofs.engine.Engine.written.Goals as goal
 
 -- between two calls the rows are those of the write set

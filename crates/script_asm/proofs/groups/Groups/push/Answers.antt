@@ -1,5 +1,5 @@
 use Rattle.std.proofs.Common.{ap, ◌∙◌, arith}
-use Rattle.script_asm.specs.Groups.{never_count}
+use Rattle.script_asm.proofs.Common.{never_count}
 use Rattle.script_asm.proofs.NeverGroups.{few_never}
 use Rattle.script_asm.proofs.groups.Groups.push.Goals as goal
 

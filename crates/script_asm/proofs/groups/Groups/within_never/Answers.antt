@@ -1,5 +1,5 @@
 use Rattle.std.proofs.Common.{ap, ◌∙◌, ltb}
-use Rattle.script_asm.specs.Groups.{never_count}
+use Rattle.script_asm.proofs.Common.{never_count}
 use Rattle.script_asm.proofs.NeverGroups.{some_never}
 use Rattle.script_asm.proofs.groups.Groups.within_never.Goals as goal
 

@@ -1,6 +1,5 @@
 use Rattle.std.proofs.Common.{◌≤◌, length, take, ap, sym, ◌∙◌, arith}
-use Rattle.script_vm.specs.Registers.{bytes_at, low, datum}
-use Rattle.itm_types.specs.Access.{size_of}
+use Rattle.script_vm.proofs.Common.{bytes_at, datum, low, size_of}
 use Rattle.script_vm.proofs.LowBytes.{same_datum, low_is}
 use Rattle.script_vm.proofs.registers.Registers.datum.Goals as goal
 

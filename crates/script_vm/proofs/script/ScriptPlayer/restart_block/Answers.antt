@@ -1,5 +1,5 @@
 use Rattle.std.proofs.Common.{◌≡◌, subst, ◌∙◌}
-use Rattle.script_vm.specs.Threads.{Thread, at_block, depth_of}
+use Rattle.script_vm.proofs.Common.{Thread, at_block, depth_of}
 use Rattle.script_vm.proofs.InnerRestarts.{entered_again}
 use Rattle.script_vm.proofs.script.ScriptPlayer.restart_block.Goals as goal
 

@@ -1,11 +1,7 @@
 -- A `&` to it holds nothing. Assumes `Logic`.
-use base.Fraction.{full_share}
-use denote.RattleType.{RattleType}
-use denote.Memory.{part_at}
-use denote.Param.Laws.{Laws}
+use Rattle.shared_words.proofs.Common.{Ghosts, Laws, RattleType, full_share, part_at}
 use denote.SharingLaws.{nothing_shr_laws}
 use denote.Struct.Lending.{Lends-nothing}
-use Rattle.std.specs.declared.alloc.Allocator.{Ghosts}
 use Rattle.shared_words.specs.contracts.in_place.Hollow as C
 use Rattle.shared_words.proofs.in_place.Hollow.TheLaw.Statement.{statement}
 

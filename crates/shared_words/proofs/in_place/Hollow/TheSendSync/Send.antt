@@ -1,6 +1,4 @@
-use denote.RattleType.{RattleType}
-use denote.Param.Send.{IsSend, Frees}
-use Rattle.std.specs.declared.alloc.Allocator.{Ghosts}
+use Rattle.shared_words.proofs.Common.{Frees, Ghosts, IsSend, RattleType}
 use Rattle.shared_words.proofs.HollowVecs.{hollow-send}
 use Rattle.shared_words.specs.contracts.in_place.Hollow as C
 

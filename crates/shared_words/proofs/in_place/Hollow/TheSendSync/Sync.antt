@@ -1,6 +1,5 @@
-use denote.RattleType.{RattleType}
+use Rattle.shared_words.proofs.Common.{Ghosts, RattleType}
 use denote.Param.Send.{IsSync}
-use Rattle.std.specs.declared.alloc.Allocator.{Ghosts}
 use Rattle.shared_words.specs.contracts.in_place.Hollow as C
 
 pub sync : (A : RattleType) (g : Ghosts A.Denot) → IsSync (C.the_row A g)

@@ -1,9 +1,5 @@
 use Rattle.std.proofs.Common.{ℕ, ◌^◌, ◌<◌, arith, ◌∙◌, subst, get_or, bit_xor}
-use Rattle.itm_types.specs.declared.step.Step.TheVariants.{Store}
-use Rattle.shared_words.specs.Passes.{view_of}
-use Rattle.shared_words.specs.Steps.{StepTells}
-use Rattle.shared_words.specs.Moves.{Moves}
-use Rattle.shared_words.specs.Views.{held_cells}
+use Rattle.shared_words.proofs.Common.{Moves, StepTells, Store, held_cells, view_of}
 use Rattle.shared_words.proofs.ViewsFit.{over_step}
 use Rattle.shared_words.proofs.TableSteps.{allows_change, changed, store_high, store_holds}
 use Rattle.shared_words.proofs.words.Words.change.Goals as goal

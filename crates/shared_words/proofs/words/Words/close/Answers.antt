@@ -1,8 +1,6 @@
 use Rattle.std.proofs.Common.{◌≡◌, ◌+◌, ◌*◌, List, ℕ, take, refl, arith, sym, ap, ◌∙◌, subst}
-use Rattle.itm_types.specs.Memory.{bytes_of}
-use Rattle.shared_words.specs.Good.{Ends, EndsInHold}
-use Rattle.shared_words.specs.Passes.{view_of}
-use Rattle.shared_words.specs.ClosedWords.{words_in}
+use Rattle.shared_words.proofs.Common.{Ends, bytes_of, view_of, words_in}
+use Rattle.shared_words.specs.Good.{EndsInHold}
 use Rattle.shared_words.proofs.LaidWords.{laid_all, lays_more}
 use Rattle.shared_words.proofs.words.Words.close.Goals as goal
 

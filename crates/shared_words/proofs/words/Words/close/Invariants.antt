@@ -1,6 +1,5 @@
 use Rattle.std.proofs.Common.{◌≡◌, ◌*◌, take}
-use Rattle.itm_types.specs.Memory.{bytes_of}
-use Rattle.shared_words.specs.ClosedWords.{words_in}
+use Rattle.shared_words.proofs.Common.{bytes_of, words_in}
 use Rattle.shared_words.proofs.words.Words.close.Given as goal
 
 abbrev pub invariant-loop-i : goal.invariant-loop-i

@@ -1,7 +1,5 @@
 use Rattle.std.proofs.Common.{◌≡◌, List, ℕ, drop, length, subst, arith, sym, ◌∙◌, ap}
-use Rattle.shared_words.specs.declared.view.View.{View}
-use Rattle.shared_words.specs.Good.{Good}
-use Rattle.shared_words.specs.Passes.{view_of}
+use Rattle.shared_words.proofs.Common.{Good, View, view_of}
 use Rattle.shared_words.proofs.ClockFirst.{clock_with_words}
 use Rattle.shared_words.proofs.PassViews.{ends_of, held_of}
 use Rattle.shared_words.proofs.words.Words.close_in_place.Goals as goal

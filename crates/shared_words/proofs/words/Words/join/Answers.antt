@@ -1,12 +1,7 @@
 use Rattle.std.proofs.Common.{◌≡◌, ◌≤◌, ℕ, arith, sym, ap, ◌∙◌, subst}
-use Rattle.shared_words.specs.declared.view.View.{View}
-use Rattle.shared_words.specs.Commits.{StartsWith}
-use Rattle.shared_words.specs.Views.{both, times}
-use Rattle.shared_words.specs.Steps.{Joined}
+use Rattle.shared_words.proofs.Common.{Held, Joined, StartsWith, View, both, cells_of, times, view_of}
 use Rattle.shared_words.proofs.PassViews.{joined}
-use Rattle.shared_words.specs.Passes.{view_of, cells_of}
 use Rattle.shared_words.proofs.ViewsFit.{over_join}
-use Rattle.shared_words.specs.Rule.{Held}
 use Rattle.shared_words.proofs.TableSteps.{joins, allows_settle}
 use Rattle.shared_words.proofs.words.Words.join.Goals as goal
 

@@ -1,6 +1,5 @@
 use Rattle.std.proofs.Common.{◌≡◌, ◌+◌, ◌∷◌, ℕ, List, length, drop, slice_index, arith, ap, ◌∙◌, ⊎_elim}
-use Rattle.itm_types.specs.Memory.{bytes_of}
-use Rattle.shared_words.specs.Passes.{cells_of, view_of}
+use Rattle.shared_words.proofs.Common.{bytes_of, cells_of, view_of}
 use Rattle.itm_types.proofs.Words.{length-bytes_of}
 use Rattle.shared_words.proofs.words.Words.new.Goals as goal
 

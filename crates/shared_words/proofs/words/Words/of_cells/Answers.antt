@@ -1,8 +1,5 @@
 use Rattle.std.proofs.Common.{◌≡◌, ◌∷◌, ◌+◌, [], List, ℕ, length, drop, get_or, rules, ◌<◌, ◌^◌, sym, ap, ◌∙◌, subst, arith}
-use Rattle.shared_words.specs.Good.{Good}
-use Rattle.shared_words.specs.Views.{opening}
-use Rattle.shared_words.specs.Passes.{IsOver}
-use Rattle.shared_words.specs.Rule.{Held}
+use Rattle.shared_words.proofs.Common.{Good, Held, IsOver, opening}
 use Rattle.shared_words.proofs.PassViews.{opens}
 use Rattle.shared_words.proofs.ClockFirst.{clock_first, words_behind, rest_fits}
 use Rattle.shared_words.proofs.words.Words.of_cells.Goals as goal

@@ -1,7 +1,5 @@
 use Rattle.std.proofs.Common.{◌≡◌, ◌+◌, ◌≤◌}
-use Rattle.transactions.specs.Lent.{IsKept, looks_of}
-use Rattle.transactions.specs.Runs.{KeepsBody, KeepsLent}
-use Rattle.transactions.specs.Tries.{AreCancelled}
+use Rattle.transactions.proofs.Common.{AreCancelled, IsKept, KeepsBody, KeepsLent, looks_of}
 use Rattle.transactions.proofs.client.Client.retry.Given as goal
 
 abbrev pub invariant-loop : goal.invariant-loop

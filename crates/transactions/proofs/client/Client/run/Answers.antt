@@ -1,11 +1,9 @@
 use Rattle.std.proofs.Common.{◌≡◌, ◌∙◌, ℕ, ap, arith, refl, subst}
-use Rattle.shared_words.specs.Passes.{view_of}
+use Rattle.transactions.proofs.Common.{AreTries, view_of, went_on}
 use Rattle.call_rules.specs.Served.{mine_if}
 use Rattle.transactions.specs.declared.tried.Tried.TheVariants.{Conflict, Busy}
-use Rattle.transactions.specs.Tries.{AreTries}
 use Rattle.transactions.proofs.Came.{cancelled_goes}
 use Rattle.transactions.proofs.Chains.{late_try, seen_more, tried_failed, try_more}
-use Rattle.call_rules.proofs.LaterViews.{went_on}
 use Rattle.transactions.proofs.client.Client.run.Goals as goal
 use Rattle.transactions.proofs.client.Client.run.Goals.{in-Conflict, in-Busy}
 

@@ -1,7 +1,5 @@
 use Rattle.std.proofs.Common.{◌≡◌, ◌+◌, ◌≤◌}
-use Rattle.transactions.specs.Lent.{IsKept, looks_of}
-use Rattle.transactions.specs.Runs.{KeepsLent}
-use Rattle.transactions.specs.Tries.{AreTries}
+use Rattle.transactions.proofs.Common.{AreTries, IsKept, KeepsLent, looks_of}
 use Rattle.transactions.proofs.client.Client.run.Given as goal
 
 abbrev pub invariant-loop : goal.invariant-loop

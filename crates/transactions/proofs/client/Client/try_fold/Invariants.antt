@@ -1,5 +1,6 @@
 use Rattle.std.proofs.Common.{◌≡◌, ◌≤◌}
-use Rattle.transactions.specs.Folds.{Folds, KeepsWords}
+use Rattle.transactions.proofs.Common.{Folds}
+use Rattle.transactions.specs.Folds.{KeepsWords}
 use Rattle.transactions.proofs.client.Client.try_fold.Given as goal
 
 abbrev pub invariant-loop-number : goal.invariant-loop-number

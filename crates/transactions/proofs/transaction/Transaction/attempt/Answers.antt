@@ -1,12 +1,5 @@
 use Rattle.std.proofs.Common.{◌∙◌, inl, inr, ap, Result, Ok, Err, refl, subst, sym, arith}
-use Rattle.std.specs.Fn.{CalledAtMut}
-use Rattle.shared_words.specs.Passes.{view_of}
-use Rattle.shared_words.specs.declared.pass.Pass.{Pass}
-use Rattle.call_rules.specs.Served.{Went}
-use Rattle.transactions.specs.declared.stopped.Stopped.{Stopped}
-use Rattle.transactions.specs.declared.stopped.Stopped.TheVariants.{Engine, Cancelled}
-use Rattle.transactions.specs.Runs.{mine_then, stop_told}
-use Rattle.call_rules.proofs.LaterViews.{went_on}
+use Rattle.transactions.proofs.Common.{CalledAtMut, Cancelled, Engine, Pass, Stopped, Went, mine_then, stop_told, view_of, went_on}
 use Rattle.transactions.proofs.Looks.{or_not, or_so, stopped_looks}
 use Rattle.transactions.proofs.Tries.{cancelled_mine, stopped_mine}
 use Rattle.transactions.proofs.transaction.Transaction.attempt.Goals as goal

@@ -1,6 +1,5 @@
 use Rattle.std.proofs.Common.{◌∙◌, ap, arith, rules}
-use Rattle.transactions.specs.Lent.{Lent}
-use Rattle.transactions.specs.Blocks.{TellsBlock}
+use Rattle.transactions.proofs.Common.{Lent, TellsBlock}
 use Rattle.transactions.proofs.BlockOutcomes.{before_twice, kept_twice}
 use Rattle.transactions.proofs.BlockRuns.{again_back, rebased_block, runs_to, undone_on, within_on}
 use Rattle.transactions.proofs.PlainBlocks.{plain_in}

@@ -1,7 +1,5 @@
 use Rattle.std.proofs.Common.{◌≡◌, ◌^◌, ◌-◌}
-use Rattle.transactions.specs.Lent.{IsKept}
-use Rattle.transactions.specs.Blocks.{IsAsBefore, KeepsBlocks}
-use Rattle.transactions.specs.Runs.{KeepsBody, KeepsLent}
+use Rattle.transactions.proofs.Common.{IsAsBefore, IsKept, KeepsBlocks, KeepsBody, KeepsLent}
 use Rattle.transactions.proofs.transaction.Transaction.block.Given as goal
 
 abbrev pub invariant-loop-told : goal.invariant-loop-told

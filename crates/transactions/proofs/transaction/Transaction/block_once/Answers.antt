@@ -1,7 +1,5 @@
 use Rattle.std.proofs.Common.{◌∙◌, inl, ap, Result, Ok, Err, refl, subst}
-use Rattle.std.specs.Fn.{CalledAtMut}
-use Rattle.transactions.specs.declared.stopped.Stopped.{Stopped}
-use Rattle.transactions.specs.declared.stopped.Stopped.TheVariants.{Engine, Cancelled}
+use Rattle.transactions.proofs.Common.{CalledAtMut, Cancelled, Engine, Stopped}
 use Rattle.transactions.proofs.transaction.Transaction.block_once.Goals as goal
 
 pub returns-in-Ok-clause-tells : goal.returns-in-Ok-clause-tells

@@ -1,16 +1,5 @@
 use Rattle.std.proofs.Common.{◌≡◌, ◌∙◌, inl, ap, false, refl, subst, sym}
-use Rattle.itm_types.specs.declared.call.Call.TheVariants.{Commit}
-use Rattle.norec_core.specs.declared.answer.Answer.{Answer}
-use Rattle.norec_core.specs.Core.{Core}
-use Rattle.shared_words.specs.InGlobal.{Words}
-use Rattle.shared_words.specs.Passes.{Owns, view_of}
-use Rattle.shared_words.specs.declared.pass.Pass.{Pass}
-use Rattle.call_rules.specs.CallResults.{IsAnswered}
-use Rattle.call_rules.specs.Served.{Went}
-use Rattle.call_rules.specs.Standing.{Standing, start_of}
-use Rattle.call_rules.specs.Ties.{Stands}
-use Rattle.transactions.specs.Lent.{Lent, mine_of}
-use Rattle.transactions.specs.Runs.{LeftBy, commit_told}
+use Rattle.transactions.proofs.Common.{Answer, Commit, Core, IsAnswered, LeftBy, Lent, Owns, Pass, Standing, Stands, Went, Words, commit_told, mine_of, start_of, view_of}
 use Rattle.transactions.proofs.Tries.{again_told, gave_up}
 use Rattle.transactions.proofs.Modes.{keeps_commit, mine_stays, stays_revocable}
 use Rattle.transactions.proofs.transaction.Transaction.ended.Goals as goal

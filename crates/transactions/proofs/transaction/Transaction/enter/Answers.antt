@@ -1,15 +1,5 @@
 use Rattle.std.proofs.Common.{◌≡◌, ap, false, rules, subst}
-use Rattle.itm_types.specs.declared.call.Call.TheVariants.{Begin}
-use Rattle.itm_types.specs.declared.call.Props.{Props}
-use Rattle.norec_core.specs.declared.answer.Answer.{Answer}
-use Rattle.norec_core.specs.Core.{Core}
-use Rattle.shared_words.specs.InGlobal.{Words}
-use Rattle.shared_words.specs.Passes.{view_of}
-use Rattle.shared_words.specs.declared.pass.Pass.{Pass}
-use Rattle.call_rules.specs.CallResults.{IsAnswered}
-use Rattle.call_rules.specs.Standing.{start_of}
-use Rattle.transactions.specs.Lent.{Lent}
-use Rattle.transactions.specs.Runs.{usual}
+use Rattle.transactions.proofs.Common.{Answer, Begin, Core, IsAnswered, Lent, Pass, Props, Words, start_of, usual, view_of}
 use Rattle.transactions.proofs.InnerBlocks.{begin_coded}
 use Rattle.transactions.proofs.transaction.Transaction.enter.Goals as goal
 

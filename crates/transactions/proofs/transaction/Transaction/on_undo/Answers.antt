@@ -1,9 +1,5 @@
 use Rattle.std.proofs.Common.{false, rules, subst}
-use Rattle.itm_types.specs.declared.call.Call.TheVariants.{UndoAction}
-use Rattle.norec_core.specs.declared.answer.Answer.{Answer}
-use Rattle.shared_words.specs.Passes.{view_of}
-use Rattle.call_rules.specs.CallResults.{IsAnswered}
-use Rattle.call_rules.specs.Standing.{start_of}
+use Rattle.transactions.proofs.Common.{Answer, IsAnswered, UndoAction, start_of, view_of}
 use Rattle.transactions.proofs.Kept.{undo_done}
 use Rattle.transactions.proofs.transaction.Transaction.on_undo.Goals as goal
 

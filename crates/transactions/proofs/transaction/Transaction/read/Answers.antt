@@ -1,11 +1,6 @@
 use Rattle.std.proofs.Common.{◌∙◌, Some, ap, false, rules, subst, sym}
-use Rattle.itm_types.specs.declared.access.ReadHint.TheVariants.{R}
-use Rattle.itm_types.specs.declared.call.Call.TheVariants.{Read}
-use Rattle.shared_words.specs.Passes.{view_of}
-use Rattle.call_rules.specs.CallResults.{IsAnswered}
-use Rattle.call_rules.specs.Standing.{start_of}
+use Rattle.transactions.proofs.Common.{HasValue, IsAnswered, R, Read, start_of, view_of}
 use Rattle.itm_runtime.proofs.NumberAnswers.{told_of}
-use Rattle.transactions.specs.Widths.{HasValue}
 use Rattle.transactions.proofs.WidthReads.{read_value}
 use Rattle.transactions.proofs.Within.{lent_within}
 use Rattle.transactions.proofs.transaction.Transaction.read.Goals as goal

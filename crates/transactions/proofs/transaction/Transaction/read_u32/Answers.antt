@@ -1,10 +1,6 @@
 use Rattle.std.proofs.Common.{◌∙◌, ℕ, List, Some, subst, sym}
-use Rattle.itm_types.specs.declared.access.ReadHint.TheVariants.{R}
+use Rattle.transactions.proofs.Common.{R, Read, Reply, Tells, bytes_reply}
 use Rattle.itm_types.specs.declared.access.Width.TheVariants.{U4}
-use Rattle.itm_types.specs.declared.call.Call.TheVariants.{Read}
-use Rattle.itm_model.specs.Machine.{bytes_reply}
-use Rattle.norec_core.specs.declared.answer.Answer.TheVariants.{Reply}
-use Rattle.call_rules.specs.CallResults.{Tells}
 use Rattle.transactions.proofs.transaction.Transaction.read_u32.Goals as goal
 
 pub returns-clause-tells : goal.returns-clause-tells

@@ -1,12 +1,5 @@
 use Rattle.std.proofs.Common.{◌≡◌, false, subst}
-use Rattle.itm_types.specs.declared.call.Call.TheVariants.{Abort}
-use Rattle.norec_core.specs.declared.answer.Answer.{Answer}
-use Rattle.norec_core.specs.Core.{Core}
-use Rattle.shared_words.specs.InGlobal.{Words}
-use Rattle.shared_words.specs.Passes.{Owns, view_of}
-use Rattle.shared_words.specs.declared.pass.Pass.{Pass}
-use Rattle.call_rules.specs.CallResults.{IsAnswered}
-use Rattle.call_rules.specs.Standing.{Standing, start_of}
+use Rattle.transactions.proofs.Common.{Abort, Answer, Core, IsAnswered, Owns, Pass, Standing, Words, start_of, view_of}
 use Rattle.transactions.proofs.Modes.{keeps_abort, stays_revocable}
 use Rattle.transactions.proofs.transaction.Transaction.take_back.Goals as goal
 

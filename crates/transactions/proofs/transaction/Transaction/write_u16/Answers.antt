@@ -1,9 +1,5 @@
 use Rattle.std.proofs.Common.{◌∙◌, subst}
-use Rattle.itm_types.specs.declared.access.WriteHint.TheVariants.{W}
-use Rattle.itm_types.specs.declared.call.Call.TheVariants.{Write}
-use Rattle.itm_types.specs.declared.datum.Datum.{Datum}
-use Rattle.call_rules.specs.CallResults.{Tells}
-use Rattle.itm_runtime.specs.Stops.{answer_to_write}
+use Rattle.transactions.proofs.Common.{Datum, Tells, W, Write, answer_to_write}
 use Rattle.transactions.specs.Widths.{number_16}
 use Rattle.transactions.proofs.WidthReads.{datum_is}
 use Rattle.transactions.proofs.transaction.Transaction.write_u16.Goals as goal

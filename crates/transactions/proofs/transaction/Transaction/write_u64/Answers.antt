@@ -1,6 +1,5 @@
-use Rattle.itm_types.specs.declared.access.WriteHint.TheVariants.{W}
-use Rattle.itm_types.specs.declared.call.Call.TheVariants.{Write}
-use Rattle.itm_runtime.specs.Stops.{answer_to_write, number}
+use Rattle.transactions.proofs.Common.{W, Write, answer_to_write}
+use Rattle.itm_runtime.specs.Stops.{number}
 use Rattle.transactions.proofs.Kept.{kept_by_write}
 use Rattle.transactions.proofs.Within.{lent_within}
 use Rattle.transactions.proofs.transaction.Transaction.write_u64.Goals as goal

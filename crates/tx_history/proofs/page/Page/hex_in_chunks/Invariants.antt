@@ -1,6 +1,5 @@
 use Rattle.std.proofs.Common.{◌≤◌, ◌-◌, length, take}
-use Rattle.hex.specs.Hex.{encode_lower}
-use Rattle.tx_history.specs.Pages.{Carries}
+use Rattle.tx_history.proofs.Common.{Carries, encode_lower}
 use Rattle.tx_history.proofs.page.Page.hex_in_chunks.Given as goal
 
 abbrev pub invariant-loop-at : goal.invariant-loop-at

@@ -1,5 +1,4 @@
-use Rattle.tx_history.specs.Bounds.{PieceFits}
-use Rattle.tx_history.specs.Spelling.{spelled}
+use Rattle.tx_history.proofs.Common.{PieceFits, spelled}
 use Rattle.tx_history.proofs.AppendedTexts.{spells_all, spells_next, spells_none}
 use Rattle.tx_history.proofs.page.Page.put.Goals as goal
 

@@ -1,8 +1,5 @@
 use Rattle.std.proofs.Common.{All, take}
-use Rattle.std.specs.List.{flat_map}
-use Rattle.tx_history.specs.Bounds.{PieceFits}
-use Rattle.tx_history.specs.Pages.{Spells}
-use Rattle.tx_history.specs.Spelling.{spelled}
+use Rattle.tx_history.proofs.Common.{PieceFits, Spells, flat_map, spelled}
 use Rattle.tx_history.proofs.page.Page.put.Given as goal
 
 abbrev pub invariant-loop-piece : goal.invariant-loop-piece

@@ -1,8 +1,5 @@
 use Rattle.std.proofs.Common.{◌++◌, ◌∷◌, [], ap, sym, ◌∙◌}
-use Rattle.tx_attempts.specs.declared.attempt.Attempt.{Attempt}
-use Rattle.tx_runs.specs.declared.player_run.Current.{Current}
-use Rattle.tx_runs.specs.PlayerRuns.{stage_of}
-use Rattle.tx_runs.specs.Tallies.{over_as}
+use Rattle.tx_runs.proofs.Common.{Attempt, Current, over_as, stage_of}
 use Rattle.tx_runs.proofs.player_run.PlayerRun.stop.Goals as goal
 
 pub returns-in-Within-clause-over : goal.returns-in-Within-clause-over

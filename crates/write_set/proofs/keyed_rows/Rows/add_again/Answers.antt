@@ -1,6 +1,5 @@
 use Rattle.std.proofs.Common.{◌≡◌, ◌<◌, ◌^◌, ◌++◌, ◌⊎◌, inl, inr, ℕ, [], ◌∷◌, None, take, ap, subst, arith, ◌∙◌}
-use Rattle.write_set.specs.Indexed.{Indexed}
-use Rattle.write_set.specs.Rows.{lookup, AreRows}
+use Rattle.write_set.proofs.Common.{AreRows, Indexed, lookup}
 use Rattle.write_set.proofs.Held.{front, got_within, held-again, none_behind, rows_again}
 use Rattle.write_set.proofs.keyed_rows.Rows.add_again.Goals.{then-place-ge-FEW_ROWS, else-place-ge-FEW_ROWS}
 use Rattle.write_set.proofs.keyed_rows.Rows.add_again.Goals as goal

@@ -1,8 +1,5 @@
-use Rattle.std.proofs.Common.{◌≡◌, ◌<◌, length, slice_get, None, Some, subst}
-use Rattle.std.specs.Prelude.{IfNone, IfSome}
-use Rattle.std.specs.Map.{keys_of}
-use Rattle.write_set.specs.Indexed.{Indexed}
-use Rattle.write_set.specs.Rows.{lookup, AreRows}
+use Rattle.std.proofs.Common.{◌≡◌, ◌<◌, length, slice_get, None, Some, subst, IfNone, IfSome}
+use Rattle.write_set.proofs.Common.{AreRows, Indexed, keys_of, lookup}
 use Rattle.write_set.proofs.Held.{found_here, front, none_here}
 use Rattle.write_set.proofs.keyed_rows.Rows.find.Goals as goal
 

@@ -1,5 +1,5 @@
 use Rattle.std.proofs.Common.{◌<◌, length, subst, sym, arith}
-use Rattle.write_set.specs.Indexed.{Indexed}
+use Rattle.write_set.proofs.Common.{Indexed}
 use Rattle.write_set.proofs.Held.{count, got_within, held-next}
 use Rattle.write_set.proofs.keyed_rows.Rows.index_next.Goals as goal
 

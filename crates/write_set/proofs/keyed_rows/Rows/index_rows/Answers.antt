@@ -1,5 +1,5 @@
 use Rattle.std.proofs.Common.{◌≡◌, length, refl, ap, sym, arith, ◌∙◌}
-use Rattle.write_set.specs.Indexed.{Indexed}
+use Rattle.write_set.proofs.Common.{Indexed}
 use Rattle.write_set.proofs.Held.{count}
 use Rattle.write_set.proofs.keyed_rows.Rows.index_rows.Goals as goal
 

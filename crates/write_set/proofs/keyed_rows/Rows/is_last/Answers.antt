@@ -1,5 +1,5 @@
 use Rattle.std.proofs.Common.{◌≡◌, ◌-◌, ℕ, slice_get, Some, subst}
-use Rattle.std.proofs.lemmas.Bool.{eqb-true}
+use Rattle.write_set.proofs.Common.{eqb-true}
 use Rattle.write_set.proofs.Places.{indexed}
 use Rattle.write_set.proofs.keyed_rows.Rows.is_last.Goals as goal
 

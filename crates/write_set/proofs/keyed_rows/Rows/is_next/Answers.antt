@@ -1,7 +1,5 @@
 use Rattle.std.proofs.Common.{◌≡◌, ℕ, None, take, subst, arith}
-use Rattle.std.proofs.lemmas.Bool.{eqb-true}
-use Rattle.write_set.specs.Indexed.{Indexed}
-use Rattle.write_set.specs.Rows.{lookup}
+use Rattle.write_set.proofs.Common.{Indexed, eqb-true, lookup}
 use Rattle.write_set.proofs.Held.{got_within, none_behind}
 use Rattle.write_set.proofs.keyed_rows.Rows.is_next.Goals as goal
 

@@ -1,6 +1,5 @@
 use Rattle.std.proofs.Common.{subst}
-use Rattle.write_set.specs.Indexed.{Indexed}
-use Rattle.write_set.specs.Rows.{AreRows}
+use Rattle.write_set.proofs.Common.{AreRows, Indexed}
 use Rattle.write_set.proofs.Held.{front}
 use Rattle.write_set.proofs.keyed_rows.Rows.len.Goals as goal
 

@@ -1,8 +1,5 @@
 use Rattle.std.proofs.Common.{◌≡◌, ◌<◌, length, slice_get, None, Some, sym, ap, subst, arith, ◌∙◌}
-use Rattle.std.proofs.lemmas.Option.{same_Some}
-use Rattle.write_set.specs.declared.row.Row.{Row}
-use Rattle.write_set.specs.Indexed.{Indexed}
-use Rattle.write_set.specs.Rows.{lookup, IsFirst}
+use Rattle.write_set.proofs.Common.{Indexed, IsFirst, Row, lookup, same_Some}
 use Rattle.write_set.proofs.Held.{count, first_at, got_within, none_told, told_at}
 use Rattle.write_set.proofs.keyed_rows.Rows.place_at.Goals.{else-place-self-via-then-place-self+else-index-word, else-place-self-via-else-place-self}
 use Rattle.write_set.proofs.keyed_rows.Rows.place_at.Goals as goal

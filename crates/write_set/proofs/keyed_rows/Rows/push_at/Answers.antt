@@ -1,11 +1,7 @@
 use Rattle.std.proofs.Common.{◌≡◌, ◌<◌, ◌^◌, ◌+◌, List, None, Some, length, nat_eq, slice_get, subst, sym, arith}
-use Rattle.std.specs.List.{IsDistinct}
+use Rattle.write_set.proofs.Common.{AreHeld, Indexed, IsDistinct, Puts, Row, lookup, set_value_at}
 use Rattle.std.proofs.lemmas.Cmp.{nat_eq_equiv}
-use Rattle.indexmap.specs.IndexMap.{set_value_at}
 use Rattle.indexmap.proofs.CallerLemmas.{keys-with_value_at, updates-with_value_at}
-use Rattle.write_set.specs.declared.row.Row.{Row}
-use Rattle.write_set.specs.Indexed.{AreHeld, Indexed, Puts}
-use Rattle.write_set.specs.Rows.{lookup}
 use Rattle.write_set.proofs.Held.{count, got_both, held-put}
 use Rattle.write_set.proofs.keyed_rows.Rows.push_at.Goals as goal
 

@@ -1,7 +1,5 @@
 use Rattle.std.proofs.Common.{◌≡◌, ◌<◌, ◌^◌, ◌+◌, ◌++◌, ◌∷◌, [], ℕ, List, None, length, take, subst, sym, arith}
-use Rattle.write_set.specs.declared.row.Row.{Row}
-use Rattle.write_set.specs.Indexed.{AreHeld, Indexed}
-use Rattle.write_set.specs.Rows.{lookup}
+use Rattle.write_set.proofs.Common.{AreHeld, Indexed, Row, lookup}
 use Rattle.write_set.proofs.Held.{count, held-push}
 use Rattle.write_set.proofs.keyed_rows.Rows.push_few.Goals as goal
 

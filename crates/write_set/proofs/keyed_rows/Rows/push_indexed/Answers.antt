@@ -1,7 +1,5 @@
 use Rattle.std.proofs.Common.{◌≡◌, ◌<◌, ◌≤◌, ◌^◌, ◌+◌, ◌++◌, ◌∷◌, [], List, None, length, take, subst, sym, arith}
-use Rattle.write_set.specs.declared.row.Row.{Row}
-use Rattle.write_set.specs.Indexed.{AreHeld, Index, Indexed}
-use Rattle.write_set.specs.Rows.{lookup}
+use Rattle.write_set.proofs.Common.{AreHeld, Index, Indexed, Row, lookup}
 use Rattle.write_set.proofs.Held.{count, held-behind, held-put}
 use Rattle.write_set.proofs.keyed_rows.Rows.push_indexed.Goals as goal
 

@@ -1,5 +1,5 @@
 use Rattle.std.proofs.Common.{◌≡◌, ℕ, None, add-one, sym, subst, take}
-use Rattle.write_set.specs.Rows.{lookup}
+use Rattle.write_set.proofs.Common.{lookup}
 use Rattle.write_set.proofs.Places.{none_past}
 use Rattle.write_set.proofs.keyed_rows.Rows.scan.Goals as goal
 

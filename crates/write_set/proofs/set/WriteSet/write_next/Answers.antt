@@ -1,7 +1,5 @@
 use Rattle.std.proofs.Common.{◌≡◌, inl, inr, take, refl, sym, ap, subst, ◌∙◌}
-use Rattle.std.proofs.lemmas.Bool.{cases_Bool}
-use Rattle.write_set.specs.Marks.{Written, AreMarks, KeepsMarks, with_row_of, write}
-use Rattle.write_set.specs.Rows.{lookup, put, reserved, AreRows}
+use Rattle.write_set.proofs.Common.{AreMarks, AreRows, KeepsMarks, Written, cases_Bool, lookup, put, reserved, with_row_of, write}
 use Rattle.write_set.proofs.OpenMarks.{AreMarks-write, KeepsMarks-write}
 use Rattle.write_set.proofs.set.WriteSet.write_next.Goals as goal
 
