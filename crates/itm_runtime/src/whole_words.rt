@@ -63,8 +63,8 @@ pub(crate) fn look<A: Allocator>(
     }
 }
 
-/// The same, where few words are written. (Apart: their rows are looked at one by one, which is much code. That there are few is
-/// said once more for the compiler, which then leaves out what looks among many.)
+/// The same, where few words are written. (Apart: their rows are looked at one by one, which is much code. Without proofs, the test
+/// leaves out what looks among many.)
 #[inline(never)]
 fn look_beside_writes<A: Allocator>(
     words: &Words<A>,

@@ -75,7 +75,7 @@ pub fn begin_at_once(state: &mut Data, props: Props, again: bool, seen: u64) -> 
     ensures turns { (room : ℕ) → BeginTurns state.old props room again seen result state.new }
     ensures end { result ≡ if again then CallEnd.EnteredAgain else CallEnd.Entered }
 {
-    // (what begins a block within others is not compiled here)
+    // (without proofs, this leaves out what begins a block within others)
     if state.is_open() {
         unreachable!();
     }

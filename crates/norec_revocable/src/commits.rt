@@ -210,7 +210,7 @@ pub fn freed(state: &mut Data) -> Turn
     ensures goes { StepGoesTo state.old phases.Free 0 result state.new }
     ensures end { result ≡ Turn.End CallEnd.Committed }
 {
-    // (what ends a block within others is not compiled here)
+    // (without proofs, this leaves out what ends a block within others)
     if !state.is_outermost() {
         unreachable!();
     }
