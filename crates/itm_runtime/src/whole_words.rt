@@ -53,18 +53,14 @@ pub(crate) fn look<A: Allocator>(
     requires stands { Stands (view_of pass.old) engine.old }
     ensures { LooksSo words.now pass.old engine.old (Call.Read ReadHint.R Width.U8 at) result pass.new engine.new }
 {
-    let written = engine.written();
-    if written == 0 {
-        look_here(words, pass, engine, at)
-    } else if written <= FEW_ROWS {
-        look_beside_writes(words, pass, engine, at)
-    } else {
-        look_among_writes(words, pass, engine, at)
+    if engine.written() > 0 {
+        return look_beside_writes(words, pass, engine, at);
     }
+    look_here(words, pass, engine, at)
 }
 
-/// The same, where few words are written. (Apart: their rows are looked at one by one, which is much code. Without proofs, the test
-/// leaves out what looks among many.)
+/// The same, where few words are written. (Apart: their rows are looked at one by one, which is much code. Behind the test a
+/// compiler leaves out what looks among many.)
 #[inline(never)]
 fn look_beside_writes<A: Allocator>(
     words: &Words<A>,
@@ -74,11 +70,10 @@ fn look_beside_writes<A: Allocator>(
 ) -> Looked
     requires own { Owns words.now pass.old }
     requires stands { Stands (view_of pass.old) engine.old }
-    requires few { length engine.old.writes ≤ FEW_ROWS }
     ensures { LooksSo words.now pass.old engine.old (Call.Read ReadHint.R Width.U8 at) result pass.new engine.new }
 {
     if engine.written() > FEW_ROWS {
-        unreachable!();
+        return look_among_writes(words, pass, engine, at);
     }
     look_here(words, pass, engine, at)
 }

@@ -117,6 +117,7 @@ impl Frames {
     }
 
     /// What is written of the word.
+    #[inline(always)]
     pub fn get(&self, word: u32) -> Option<Row>
         ensures row { result ≡ lookup word self.now.writes.rows }
 

@@ -20,7 +20,7 @@ use crate::engine::Engine;
 use crate::turns::{next_step, take};
 use itm_types::{Call, Datum, ReadHint, Reply, Step, Width, WriteHint};
 use norec_core::Answer;
-use norec_data::{CallEnd, Pending, Turn, access_refusal};
+use norec_data::{CallEnd, Pending, Turn};
 use norec_revocable::{
     ask_word, begin_word, confirmed_new, known_number, loaded, read_at_once, word_to_read, write,
     write_found, write_next, write_served,
@@ -167,7 +167,10 @@ impl Engine {
         if self.irrevocable || at % 8 + size > 8 {
             return false;
         }
-        access_refusal(&self.state, at, size).is_none()
+        if !self.state.is_open() || at / 8 >= u64::from(self.state.words) {
+            return false;
+        }
+        true
     }
 
     /// `call_into` of such a write, where there is memory for it: it is done.

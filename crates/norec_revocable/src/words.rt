@@ -13,7 +13,7 @@ ghost use Rattle.norec_revocable.specs.Moves.{CallTurns};
 
 use crate::read::{set_value, start};
 use itm_types::{Call, LogRow, MAX_WORDS, ReadHint, Value, Width};
-use norec_data::{Data, Pending, Turn, access_refusal};
+use norec_data::{Data, Pending, Turn};
 
 /// A read comes. Where it is one of a whole word that is neither written nor logged, and there is room to log it, it
 /// waits for this word; else nothing is done.
@@ -87,7 +87,7 @@ fn new_word(state: &Data, width: Width, at: u64) -> Option<u32>
     requires { state.now.words ≤ MAX_WORDS }
     ensures { IfSome result (IsNewWord (core state.now phases.Idle) width at) }
 {
-    if width.size() != 8 || at % 8 != 0 || access_refusal(state, at, 8).is_some() {
+    if width.size() != 8 || at % 8 != 0 || !state.is_open() || at / 8 >= u64::from(state.words) {
         return None;
     }
     let word = (at / 8) as u32;
