@@ -1,25 +1,10 @@
 -- A transfer's calls, by what each of them tells.
 use Rattle.std.proofs.Common.{◌≡◌, ℕ, ◌-◌, ◌<◌, ◌≤◌, ◌^◌, [], ◌∷◌, Result, Ok, Err, false, ap, refl, subst, sym}
-use Rattle.itm_types.specs.declared.access.ReadHint.TheVariants.{R}
-use Rattle.itm_types.specs.declared.access.WriteHint.TheVariants.{W}
-use Rattle.itm_types.specs.declared.access.Width.TheVariants.{U8}
-use Rattle.itm_types.specs.declared.call.Call.{Call}
-use Rattle.itm_types.specs.declared.call.Call.TheVariants.{CommitAction, Read, Write}
-use Rattle.itm_types.specs.declared.call.Reply.{Reply as Replied}
-use Rattle.itm_types.specs.declared.call.Reply.TheVariants.{Done}
-use Rattle.itm_model.specs.Machine.{bytes_reply}
+use Rattle.bank.proofs.Common.{Call, Calls, CommitAction, Done, HasPaidIn, IsMade, R, RECEIPT, Read, Replied, Standing, Stop, Transfer, U8, W, Words, Write, answer_to_read, block_of, bytes_of_number, bytes_reply, deeds_of_payment, number, start_of}
 use Rattle.norec_core.specs.declared.answer.Answer.TheVariants.{Reply}
-use Rattle.shared_words.specs.InGlobal.{Words}
 use Rattle.call_rules.specs.CallResults.{IsAnswered, Tells}
-use Rattle.call_rules.specs.Standing.{Standing, start_of}
-use Rattle.itm_runtime.specs.Stops.{answer_to_read, bytes_of_number, number}
-use Rattle.itm_runtime.specs.declared.stop.Stop.{Stop}
 use Rattle.typed_cells.specs.Reads.{read_as}
-use Rattle.bank.specs.declared.transfer.Transfer.{Transfer}
-use Rattle.bank.specs.declared.transfer.TheConstants.{RECEIPT}
-use Rattle.transactions.specs.Plain.{Calls, block_of}
 use Rattle.transactions.proofs.Deeds.{makes_then}
-use Rattle.bank.specs.Transfers.{HasPaidIn, IsMade, deeds_of_payment}
 
 -- the call was answered by this reply
 abbrev pub Replies : Words → Standing → Call → Replied → Standing → Type 0

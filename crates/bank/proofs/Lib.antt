@@ -1,3 +1,4 @@
+pub mod Common
 mod Calls
 mod Moves
 mod Payments

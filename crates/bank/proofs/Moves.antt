@@ -1,65 +1,17 @@
 -- A transfer's calls on the plain machine move the amount.
-use Rattle.std.proofs.Common.{◌≡◌, ◌∙◌, ℕ, ◌+◌, ◌-◌, true, List, [], ◌∷◌, Option, None, Some, Result, Ok, IfOk, ap, refl, subst, sym}
-use Rattle.std.specs.Borrow.{MutBor}
-use Rattle.std.specs.Fn.{Called, CalledAtMut, Mut}
+use Rattle.std.proofs.Common.{◌≡◌, ◌∙◌, ℕ, ◌+◌, ◌-◌, true, List, [], ◌∷◌, Result, Ok, IfOk, ap, refl, subst}
+use Rattle.bank.proofs.Common.{Begin, Call, Called, CalledAtMut, CanMove, Code, Commit, CommitAction, Done, HasMoved, IsMade, IsPlain, IsPlainRun, KeepsBody, Lent, Makings, Mut, MutBor, R, RECEIPT, Read, Replied as Reply, Standing, Stopped, Transfer, U8, Unmade, W, Words, Write, after, begun_at, bytes_of_number, bytes_reply, closed, deeds_of_transfer, effect, number, refusal, usual, with_action, written}
 use Rattle.std.proofs.lemmas.Result.{IfOk-weaker}
-use Rattle.itm_types.specs.declared.access.ReadHint.TheVariants.{R}
-use Rattle.itm_types.specs.declared.access.WriteHint.TheVariants.{W}
-use Rattle.itm_types.specs.declared.access.Width.TheVariants.{U8}
 use Rattle.itm_types.specs.declared.call.Action.{Action}
 use Rattle.itm_types.specs.declared.call.ActionKind.TheVariants as kinds
-use Rattle.itm_types.specs.declared.call.Call.{Call}
-use Rattle.itm_types.specs.declared.call.Call.TheVariants.{Begin, Commit, CommitAction, Read, Write}
-use Rattle.itm_types.specs.declared.call.Refusal.{Refusal}
-use Rattle.itm_types.specs.declared.call.Reply.{Reply}
-use Rattle.itm_types.specs.declared.call.Reply.TheVariants.{Done, Bytes, Code, Refused}
 use Rattle.itm_types.specs.declared.datum.Datum.{Datum}
 use Rattle.itm_types.specs.Slices.{slice}
-use Rattle.itm_model.specs.Machine.{after, after_unless, bytes_reply, closed, effect, refusal, reply_unless, with_action, written}
 use Rattle.itm_model.specs.Runs.{replies, state_after}
 use Rattle.itm_model.specs.State.{State}
-use Rattle.shared_words.specs.InGlobal.{Words}
 use Rattle.shared_words.specs.Passes.{view_of}
-use Rattle.call_rules.specs.Standing.{Standing}
-use Rattle.itm_runtime.specs.Stops.{bytes_of_number, number}
-use Rattle.transactions.specs.Plain.{IsPlain, IsPlainRun, Makings, begun_at}
-use Rattle.transactions.specs.Lent.{Lent}
-use Rattle.transactions.specs.Runs.{KeepsBody, usual}
 use Rattle.transactions.specs.declared.failed.Failed.{Failed}
-use Rattle.transactions.specs.declared.stopped.Stopped.{Stopped}
 use Rattle.transactions.specs.declared.tried.Done.{Done as Value}
-use Rattle.bank.specs.declared.transfer.Transfer.{Transfer}
-use Rattle.bank.specs.declared.transfer.Unmade.{Unmade}
-use Rattle.bank.specs.declared.transfer.TheConstants.{RECEIPT}
-use Rattle.bank.specs.Transfers.{CanMove, HasMoved, IsMade, deeds_of_transfer}
-
-abbrev bytes_in : Reply → List ℕ
-bytes_in (Bytes value) = value.items
-bytes_in r = []
-
-abbrev serves : Reply → Type 0
-serves (Refused refusal) = ⊥
-serves r = Unit {0}
-
-abbrev first_of : Reply → List Reply → Reply
-first_of other [] = other
-first_of other (r ∷ rs) = r
-
-abbrev rest_of : List Reply → List Reply
-rest_of [] = []
-rest_of (r ∷ rs) = rs
-
-read_by : (o : Option Refusal) (xs ys : List ℕ) (s : State) → bytes_reply xs ≡ reply_unless o (bytes_reply ys) → (ys ≡ xs) × (after_unless o s s ≡ s)
-read_by None xs ys s e = (sym (ap bytes_in e), refl)
-read_by (Some why) xs ys s e = absurd (subst serves e tt)
-
-done_by : (o : Option Refusal) (s t : State) → Done ≡ reply_unless o Done → after_unless o s t ≡ t
-done_by None s t e = refl
-done_by (Some why) s t e = absurd (subst serves e tt)
-
-code_by : (o : Option Refusal) (s t : State) → Code 5 ≡ reply_unless o (Code 5) → after_unless o s t ≡ t
-code_by None s t e = refl
-code_by (Some why) s t e = absurd (subst serves e tt)
+use Rattle.transactions.proofs.FirstReplies.{done_by, first_of, read_by, rest_of}
 
 module _ (d : ℕ) (s : State) (calls : List Call) (rs : List Reply) where
   pub read_first : (at : ℕ) (xs : List ℕ) → bytes_reply xs ∷ rs ≡ replies d s (Read R U8 at ∷ calls) → (slice s.memory at 8 ≡ xs) × (rs ≡ replies d s calls) × (state_after d s (Read R U8 at ∷ calls) ≡ state_after d s calls)
@@ -69,22 +21,22 @@ module _ (d : ℕ) (s : State) (calls : List Call) (rs : List Reply) where
 
   pub write_first : (at : ℕ) (value : Datum) → Done ∷ rs ≡ replies d s (Write W at value ∷ calls) → (rs ≡ replies d (written s at value.bytes.items) calls) × (state_after d s (Write W at value ∷ calls) ≡ state_after d (written s at value.bytes.items) calls)
   write_first at value e =
-      let by = done_by (refusal d s (Write W at value)) s (written s at value.bytes.items) (ap (first_of (Code 0)) e) in
+      let by = done_by Done (refusal d s (Write W at value)) s (written s at value.bytes.items) tt (ap (first_of (Code 0)) e) in
       (ap rest_of e ∙ ap (λ (t : State). replies d t calls) by, ap (λ (t : State). state_after d t calls) by)
 
   pub action_first : (action : Action) → Done ∷ rs ≡ replies d s (CommitAction action ∷ calls) → (rs ≡ replies d (with_action s kinds.Commit action) calls) × (state_after d s (CommitAction action ∷ calls) ≡ state_after d (with_action s kinds.Commit action) calls)
   action_first action e =
-      let by = done_by (refusal d s (CommitAction action)) s (with_action s kinds.Commit action) (ap (first_of (Code 0)) e) in
+      let by = done_by Done (refusal d s (CommitAction action)) s (with_action s kinds.Commit action) tt (ap (first_of (Code 0)) e) in
       (ap rest_of e ∙ ap (λ (t : State). replies d t calls) by, ap (λ (t : State). state_after d t calls) by)
 
   pub begin_first : Code 5 ∷ rs ≡ replies d s (Begin usual 0 ∷ calls) → (rs ≡ replies d (effect s (Begin usual 0)) calls) × (state_after d s (Begin usual 0 ∷ calls) ≡ state_after d (effect s (Begin usual 0)) calls)
   begin_first e =
-      let by = code_by (refusal d s (Begin usual 0)) s (effect s (Begin usual 0)) (ap (first_of Done) e) in
+      let by = done_by (Code 5) (refusal d s (Begin usual 0)) s (effect s (Begin usual 0)) tt (ap (first_of Done) e) in
       (ap rest_of e ∙ ap (λ (t : State). replies d t calls) by, ap (λ (t : State). state_after d t calls) by)
 
   pub commit_first : Done ∷ rs ≡ replies d s (Commit ∷ calls) → (rs ≡ replies d (closed s) calls) × (state_after d s (Commit ∷ calls) ≡ state_after d (closed s) calls)
   commit_first e =
-      let by = done_by (refusal d s Commit) s (closed s) (ap (first_of (Code 0)) e) in
+      let by = done_by Done (refusal d s Commit) s (closed s) tt (ap (first_of (Code 0)) e) in
       (ap rest_of e ∙ ap (λ (t : State). replies d t calls) by, ap (λ (t : State). state_after d t calls) by)
 
 pub has_moved : (d : ℕ) (arena : List ℕ) (t : Transfer) (had has : ℕ) (gone : List Action) (done : Value (Unit {0})) (new : Standing) → CanMove t.amount had has → IsPlain d arena (deeds_of_transfer t had has gone) done.at done.wrote new → HasMoved t done new

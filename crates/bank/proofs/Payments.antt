@@ -1,17 +1,7 @@
 -- The second account's part as a block.
 use Rattle.std.proofs.Common.{◌≡◌, ◌∙◌, ℕ, Result, Ok, ap, subst}
-use Rattle.std.specs.Borrow.{MutBor}
-use Rattle.std.specs.Fn.{Called, CalledAtMut, Mut}
-use Rattle.transactions.specs.Plain.{IsPlainBlock, IsPlainIn, Makings}
-use Rattle.shared_words.specs.InGlobal.{Words}
-use Rattle.call_rules.specs.Standing.{Standing}
-use Rattle.itm_runtime.specs.declared.stop.Stop.{Stop}
+use Rattle.bank.proofs.Common.{Called, CalledAtMut, EndsNoBlock, HasPaidIn, IsPaidIn, IsPlainBlock, IsPlainIn, KeepsBody, Lent, Makings, Mut, MutBor, Standing, Stop, Stopped, Unmade, Words, deeds_of_payment}
 use Rattle.transactions.specs.Blocks.{KeepsBlocks, StaysWithin}
-use Rattle.transactions.specs.Lent.{Lent}
-use Rattle.transactions.specs.Runs.{KeepsBody}
-use Rattle.transactions.specs.declared.stopped.Stopped.{Stopped}
-use Rattle.bank.specs.declared.transfer.Unmade.{Unmade}
-use Rattle.bank.specs.Transfers.{EndsNoBlock, HasPaidIn, IsPaidIn, deeds_of_payment}
 
 module _ {F : Type 0} (fn : Mut F (MutBor Lent × Unit {0}) (Result (Unit {0}) (Stopped Unmade) × (MutBor Lent × Unit {0}))) where
   pub keeps_blocks : ((f : F) (shown left : MutBor Lent) (r : Result (Unit {0}) (Stopped Unmade)) (f' : F) → Called fn f (shown, tt) (r, (left, tt)) f' → EndsNoBlock shown.now left.now) → KeepsBlocks fn

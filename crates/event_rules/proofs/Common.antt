@@ -1,90 +1,81 @@
 -- The names that more than one proof cites, passed on from one place. Declares nothing.
-pub use Rattle.itm_model.specs.Machine.{after, is_open, opened, reply}
+pub use Rattle.event_rules.specs.Invariant.{AreRunning, IsDatedActor, IsDatedWorld, IsTry, IsWorld}
+pub use Rattle.event_rules.specs.Moments.{HasStepped, HasWorked}
+pub use Rattle.itm_model.specs.Machine.{after, is_open, opened, reply, undone}
 pub use Rattle.itm_model.specs.State.{State}
 pub use Rattle.itm_types.proofs.WordLists.{words_of-bytes_of}
-pub use Rattle.itm_types.proofs.Words.{slice_get-set_same}
-pub use Rattle.itm_types.specs.Calls.{is_abort, is_begin}
+pub use Rattle.itm_types.proofs.Words.{length-bytes_of, slice_get-set_other, slice_get-set_same}
+pub use Rattle.itm_types.specs.Calls.{abort_of, is_abort, is_begin, is_commit, registered_by}
 pub use Rattle.itm_types.specs.Memory.{Agrees, AllFit, bytes_of, IsMemory, words_of}
 pub use Rattle.itm_types.specs.declared.call.Call.{Call}
-pub use Rattle.itm_types.specs.declared.call.Call.TheVariants.{Begin, Commit, Mode}
+pub use Rattle.itm_types.specs.declared.call.Call.TheVariants.{Abort, Begin, Commit, Mode}
 pub use Rattle.itm_types.specs.declared.call.Props.{Props}
 pub use Rattle.itm_types.specs.declared.call.Ran.{Ran}
 pub use Rattle.itm_types.specs.declared.call.Reply.{Reply as Replied}
-pub use Rattle.itm_types.specs.declared.call.Reply.TheVariants.{Done}
+pub use Rattle.itm_types.specs.declared.call.Reply.TheVariants.{Bytes, Code, Done, Refused}
 pub use Rattle.itm_types.specs.declared.limits.Limits.{Limits}
-pub use Rattle.itm_types.specs.declared.limits.TheConstants.{MAX_ACTORS}
+pub use Rattle.itm_types.specs.declared.limits.TheConstants.{MAX_ACTORS, MAX_COMMITS}
+pub use Rattle.itm_types.specs.declared.row.LogRow.{LogRow}
 pub use Rattle.itm_types.specs.declared.step.Step.{Step}
 pub use Rattle.itm_types.specs.declared.step.Step.TheVariants.{Cas, Load, Store}
-pub use Rattle.nest_frames.specs.Nest.{Frame}
-pub use Rattle.norec_core.proofs.Engines.Blocks.{none_inside}
-pub use Rattle.norec_core.proofs.Engines.KeptFields.{handed_is}
-pub use Rattle.norec_core.proofs.Replies.ActionCounts.{LeavesActions}
-pub use Rattle.norec_core.proofs.Replies.AnsweredEngines.{frees, rests}
-pub use Rattle.norec_core.proofs.Replies.ReplyCases.{reply_cases}
-pub use Rattle.norec_core.specs.Core.{came, Core, handed_to, in_transaction, irrevocable_room, is_inside, may_go, opening, rolled_back, word_loaded}
-pub use Rattle.norec_core.specs.Effects.{room_left}
+pub use Rattle.nest_frames.specs.Nest.{Frame, renewed as blocks_renewed}
+pub use Rattle.norec_core.proofs.Engines.Blocks.{inside_all, none_inside}
+pub use Rattle.norec_core.proofs.Engines.HeldStores.{got_handed as got_stored, got_now, got_or, IsLoaded, none_got, shut_revocable}
+pub use Rattle.norec_core.proofs.Engines.KeptFields.{came_restarted, handed_is, IsHanded, most_same}
+pub use Rattle.norec_core.proofs.Replies.ActionCounts.{cancel_runs, LeavesActions, registers}
+pub use Rattle.norec_core.proofs.Replies.AnsweredEngines.{frees, replied_outside, rests, runs_on, told_plainly}
+pub use Rattle.norec_core.proofs.Replies.ReplyCases.{replied_so, reply_cases, Ways}
+pub use Rattle.norec_core.specs.Core.{came, Core, handed_to, in_transaction, irrevocable_room, is_inside, is_within, may_go, opening, rolled_back, word_loaded}
+pub use Rattle.norec_core.specs.Effects.{blocks_after, recoded, room_left}
+pub use Rattle.norec_core.specs.Held.{answers, ComesTo, IsFound, leaves, memory_after}
 pub use Rattle.norec_core.specs.Moves.{IsResumed}
-pub use Rattle.norec_core.specs.Order.{asked, asked_from, stage_from}
+pub use Rattle.norec_core.specs.Order.{asked, asked_from, asked_in, snapshot_from, stage_after, stage_at, stage_from}
 pub use Rattle.norec_core.specs.Phases.{Idle, Phase}
-pub use Rattle.norec_core.specs.Proceeds.{AsksFor, backed, Conflicts, ConflictsIn, Ends, Enters, Got, IsAtOnce, IsBegin, IsLawful, IsLost, IsSettled, Proceeds, Replies, WantsClock}
-pub use Rattle.norec_core.specs.Restarts.{IsRestart}
-pub use Rattle.norec_core.specs.Rows.{write_at}
+pub use Rattle.norec_core.specs.Proceeds.{AreRead, AsksFor, backed, Conflicts, ConflictsIn, Ends, Enters, GoesBack, Got, IsAtOnce, IsBegin, IsLawful, IsLost, IsSettled, IsWithin, Joins, MayStarve, MayStarveIn, most, Proceeds, Replies, RepliesHeld, Settles, StaysOn, WantsClock}
+pub use Rattle.norec_core.specs.Restarts.{IsRestart, Restarts}
+pub use Rattle.norec_core.specs.Rows.{IsLog, write_at}
 pub use Rattle.norec_core.specs.Stands.{stands_for, state_in}
 pub use Rattle.norec_core.specs.Undoing.{after_undoing}
 pub use Rattle.norec_core.specs.declared.answer.Answer.{Answer}
 pub use Rattle.norec_core.specs.declared.answer.Answer.TheVariants.{Busy, Committed, Conflict, Full, Reply, Restarted}
 pub use Rattle.norec_core.specs.declared.answer.Next.{Next}
 pub use Rattle.norec_core.specs.declared.answer.Next.TheVariants.{Answer as Answers, Step as Asks}
-pub use Rattle.world_rules.specs.ActionRoom.{AsksAs, goes_in, HasRoomFor, is_held, IsActing, IsPromised, MayRunOn, NoCancel, wanted}
-pub use Rattle.world_rules.specs.Actors.{AreActors, limits_of}
-pub use Rattle.world_rules.specs.Cells.{Cells, cells_after, found}
-pub use Rattle.world_rules.specs.ClockHolder.{ClocksOn, HoldsOn}
-pub use Rattle.world_rules.specs.Commits.{CommitsInOrder}
-pub use Rattle.world_rules.specs.Dates.{AreDated}
-pub use Rattle.world_rules.specs.Events.{IsEvent}
-pub use Rattle.world_rules.specs.Headline.{AreCounted, AreOfActors, AreOpaque, bytes_at, first_of}
-pub use Rattle.world_rules.specs.HeldAttempts.{IsHeld, StandsIn}
-pub use Rattle.event_rules.specs.Invariant.{IsWorld}
-pub use Rattle.world_rules.specs.LocalWork.{Starves}
-pub use Rattle.world_rules.specs.LogAgreement.{AreLaid, Loaded, Sees}
-pub use Rattle.world_rules.specs.Memories.{words_at}
-pub use Rattle.event_rules.specs.Moments.{HasStepped, HasWorked}
-pub use Rattle.world_rules.specs.PlayerRooms.{ComesTo, EndsWithin, TellsRoom}
-pub use Rattle.world_rules.specs.Records.{Asks as AsksOf, ReadsAt, Records, status_after, TakesTo, Tells, told}
-pub use Rattle.world_rules.specs.Rows.{AreFrom, AreOpen, AreUnfinished, Rows}
-pub use Rattle.world_rules.specs.Runs.{IsBeforeTry, IsRun, RunsFrom, StillRuns}
-pub use Rattle.world_rules.specs.Sound.{AnswerFits, BeginsAt, Falls, HasRow, IsAnswered, IsAsked, IsDone, IsDue, IsNoMore, IsReady, IsSettledBy, IsSound, IsTied, IsWaiting, rank, RestsAs, StatusIs}
-pub use Rattle.world_rules.specs.Stages.{active_of, AllOf, begun_in, cancels_in, count_in, count_of, ends_in, KeepsOthers, moved_to, open_in, pending_of, points_in, with_open, with_room}
-pub use Rattle.world_rules.specs.Starts.{IsFirst, first_engine}
-pub use Rattle.world_rules.specs.Status.{ending_of, is_ready, is_waiting, waiting_step}
-pub use Rattle.world_rules.specs.Tied.{AreTied}
-pub use Rattle.world_rules.specs.Tries.{begins, between, Continues, current_of, EndsAt, GoesOnAfter, IsBetween, outrun, over, Prior, prior_of, runs, shut_out, Tries, TriesAgain, turned_away}
-pub use Rattle.world_rules.specs.World.{attempts_of, counted, ending_in, event_result, observed, waits_at, World}
-pub use Rattle.world_rules.specs.WorldEvents.{Goes, HasRead}
-pub use Rattle.world_rules.specs.Actor.{Actor}
-pub use Rattle.world_rules.specs.declared.actor.Status.{Status}
-pub use Rattle.world_rules.specs.declared.actor.Status.TheVariants.{Ended, Ready, Waits}
+pub use Rattle.run_rules.proofs.EngineReplies.{cancelled, cancels, engine_may, plain_reply}
+pub use Rattle.run_rules.proofs.EngineStates.{stands_arena, stands_open}
+pub use Rattle.run_rules.proofs.IrrevocableCalls.{abort_runs, answered_idle, asks_no_room, goes_no_action, goes_no_cancel, goes_same, left_least, plain_goes, room_by_call, starves_used}
+pub use Rattle.run_rules.proofs.OpenCounts.{cut_told, due_told, open_deep, told_on}
+pub use Rattle.run_rules.proofs.OutermostBegins.{begin_goes, begin_may, begin_opens, call_begins, may_begin, served_outside}
+pub use Rattle.run_rules.proofs.RestartsLeft.{left_inside, left_most, left_outside}
+pub use Rattle.run_rules.proofs.Tries.{alone_led, begin_call, by_wrote, closing_after, closing_left, IsMadeAlone, lacks_clock, not_closed, try_closes, try_of_room, try_stops}
+pub use Rattle.run_rules.proofs.TriesStep.{asks_on, came_on, handed_on, positioned_on}
+pub use Rattle.tx_attempts.proofs.LaterClocks.{outrun_both as both_outrun, outrun_later, outrun_more, outrun_none}
+pub use Rattle.tx_attempts.proofs.ToldRuns.{telling}
 pub use Rattle.tx_attempts.specs.Alone.{state_then}
-pub use Rattle.tx_attempts.specs.Attempts.{alone, alone_whole, ClosedBy, is_committed, of_thread}
+pub use Rattle.tx_attempts.specs.Attempts.{alone, alone_whole, ClosedBy, committed_at, is_at, is_committed, memory_left, of_thread}
 pub use Rattle.tx_attempts.specs.Counts.{count_at, count_committed, one_where}
-pub use Rattle.tx_attempts.specs.Kept.{reserved, spent}
-pub use Rattle.tx_attempts.specs.Opacity.{after_try, Between, IsRunOf, IsTryAt}
-pub use Rattle.tx_attempts.specs.Restarts.{breaks_of}
+pub use Rattle.tx_attempts.specs.Kept.{Kept, reserved, spent}
+pub use Rattle.tx_attempts.specs.Opacity.{after_try, answered_all, begin_code, Between, EndsAs, IsRunOf, IsTryAt, LacksClock, ran_of, takes_clock}
+pub use Rattle.tx_attempts.specs.Outrun.{AreOutrun}
+pub use Rattle.tx_attempts.specs.Restarts.{before as earlier, breaks_of, count_undone, open_after, open_in as open_calls, ran_on}
 pub use Rattle.tx_attempts.specs.declared.attempt.Attempt.{Attempt}
 pub use Rattle.tx_attempts.specs.declared.attempt.CallRecord.{CallRecord}
 pub use Rattle.tx_attempts.specs.declared.attempt.Outcome.{Outcome}
-pub use Rattle.tx_player.specs.Depth.{depth_after}
+pub use Rattle.tx_player.specs.Depth.{depth_after, depth_by}
 pub use Rattle.tx_player.specs.Rules.{Obeys, Rules}
-pub use Rattle.tx_runs.specs.OpenAttempts.{promised}
-pub use Rattle.tx_runs.proofs.EngineReplies.{cancels, plain_reply}
-pub use Rattle.tx_runs.proofs.IrrevocableCalls.{goes_same}
-pub use Rattle.tx_runs.proofs.RunLists.{run_with}
-pub use Rattle.tx_runs.proofs.Tries.{alone_led, begin_call, by_wrote, IsMadeAlone, try_stops}
+pub use Rattle.tx_runs.proofs.Begins.{before_led, before_past, before_same, begin_here}
+pub use Rattle.tx_runs.proofs.OpenRooms.{none_asked, opens_most, promised_held, promised_none, reserved_more}
+pub use Rattle.tx_runs.proofs.RunLists.{of_thread_more, of_thread_own, run_still, run_with, there_is}
+pub use Rattle.tx_runs.proofs.TookIn.{OpensBy}
 pub use Rattle.tx_runs.specs.Nesting.{IsDeep, IsNested, whole}
+pub use Rattle.tx_runs.specs.OpenAttempts.{BeganBy, promised, told_in}
+pub use Rattle.tx_runs.specs.OpenTries.{IsOpenTry, ReadsFrom}
 pub use Rattle.tx_runs.specs.Outcomes.{is_done}
-pub use Rattle.tx_runs.specs.PlayerRuns.{stage_of, tally_of}
-pub use Rattle.tx_runs.specs.Runs.{run_after}
-pub use Rattle.tx_runs.specs.Tallies.{begins_again, begun, closed, ending_as, over_as, sent_back, Stage, Stand, stand_of, Taken, Tally, tried, with_call, within}
+pub use Rattle.tx_runs.specs.PlayerRuns.{KeepsPlaces, MayGoBack, MayTakeIn, stage_of, tally_of}
+pub use Rattle.tx_runs.specs.Ranks.{Falls as LessLeft, rank as rank_of, restarts_left}
+pub use Rattle.tx_runs.specs.Restarts.{RestartAtMost}
+pub use Rattle.tx_runs.specs.Runs.{begins_at, run_after}
+pub use Rattle.tx_runs.specs.Savepoints.{again_of, cut_back, savepoints_after}
+pub use Rattle.tx_runs.specs.Tallies.{begins_again, begun, closed, ending_as, outside, over_as, sent_back, Stage, Stand, stand_of, Taken, Tally, tried, with_call, within}
 pub use Rattle.tx_runs.specs.declared.ending.End.{End}
 pub use Rattle.tx_runs.specs.declared.ending.End.TheVariants.{Finished, GaveUp, NoMemory}
 pub use Rattle.tx_runs.specs.declared.player_run.Current.{Current}
@@ -92,8 +83,41 @@ pub use Rattle.tx_runs.specs.declared.player_run.Current.TheVariants.{Begins, Ou
 pub use Rattle.tx_runs.specs.declared.player_run.PlayerRun.{PlayerRun}
 pub use Rattle.tx_runs.specs.declared.savepoint.Savepoint.{Savepoint}
 pub use Rattle.user_actions.specs.Actions.{Actions, total}
-pub use Rattle.std.proofs.lemmas.Bool.{both_ways, cases_Bool, cond-false, cond-true, cond_both, false_from_ne_true, le-ltb, ne_eqb}
-pub use Rattle.std.proofs.lemmas.List.{append-nil}
+pub use Rattle.world_rules.proofs.Commits.Memories.{bytes_stay, bytes_still, found_later, none_next}
+pub use Rattle.world_rules.proofs.Events.Measures.{event_less, less_less, same_less}
+pub use Rattle.world_rules.proofs.Events.Worlds.{going_in, lawful_at, odd_or_even, set_place, waiting_going}
+pub use Rattle.world_rules.proofs.Tries.LaterTries.{continues_as, continues_back, continues_on, continues_same, current_open, current_shut, extends_calls, extends_to, extends_twice, goes_for, stays, stays_between, stays_open, tries_from, tries_later}
+pub use Rattle.world_rules.proofs.Tries.Stages.{asked_at, asked_began, asked_begun, asked_open, asked_points, back_player, begun_shut, busy_player, conflict_player, is_cut, is_tried, moved_begun, moved_cancels, moved_count, moved_ends, moved_open, moved_points, moved_stage, none_begun, open_by, open_only, others_place, others_same, others_twice, reply_player, row_is_of, row_open, row_same, row_shut, row_unfinished, sent_same, stage_begun, stage_open, stage_out, stand_at, taken_at, taken_of, tally_at, told_active, told_again, told_nth, told_pending, told_player, told_stage, tried_as, tried_at, within_at}
+pub use Rattle.world_rules.proofs.Tries.ToldTries.{told_kept, told_tries}
+pub use Rattle.world_rules.specs.ActionRoom.{AsksAs, BacksIn, BeganIn, BeganWith, counted, goes_in, HasFew, HasFirst, HasPlace, HasRoomFor, is_held, IsActing, IsPromised, may_go_back, MayRun, MayRunOn, NestsAs, NestsBy, NestsReady, NoCancel, opened_by, PromisesAs, RenewsAs, StartsEmpty, wanted}
+pub use Rattle.world_rules.specs.Actor.{Actor}
+pub use Rattle.world_rules.specs.Actors.{AreActors, IsActor, limits_of}
+pub use Rattle.world_rules.specs.Cells.{Cells, cells_after, found}
+pub use Rattle.world_rules.specs.ClockHolder.{ClocksOn, HoldsOn}
+pub use Rattle.world_rules.specs.Commits.{CommitsInOrder}
+pub use Rattle.world_rules.specs.Dates.{AreDated, IsDated, led_by, tried_by, tried_in, up_to_last}
+pub use Rattle.world_rules.specs.Events.{IsEvent}
+pub use Rattle.world_rules.specs.Headline.{AreCounted, AreOfActors, AreOpaque, bytes_at, first_of}
+pub use Rattle.world_rules.specs.HeldAttempts.{IsHeld, StandsIn}
+pub use Rattle.world_rules.specs.LocalWork.{Acts, ActsOn, calls, finishes, HasUsedUp, SameActor, Starves, starves, Stays, TakesIn, Works}
+pub use Rattle.world_rules.specs.LogAgreement.{AreLaid, Loaded, Sees}
+pub use Rattle.world_rules.specs.Memories.{words_at}
+pub use Rattle.world_rules.specs.PlayerRooms.{EndsWithin, going_room, TellsRoom}
+pub use Rattle.world_rules.specs.Progress.{asks_further, is_step, TellsCall, TellsCalls}
+pub use Rattle.world_rules.specs.Records.{Asks as AsksOf, ReadsAt, Records, status_after, TakesTo, Tells, told}
+pub use Rattle.world_rules.specs.Rows.{AreEnded, AreFrom, AreOpen, AreUnfinished, Rows}
+pub use Rattle.world_rules.specs.Runs.{IsBeforeTry, IsInTry, IsRun, RunsFrom, StillRuns}
+pub use Rattle.world_rules.specs.Sound.{AnswerFits, BeginsAt, Falls, GoesOn, HasLess, HasPoints, HasRow, IsAnswered, IsAsked, IsDone, IsDue, IsInCall, IsKept, IsNoMore, IsReady, IsSettledBy, IsSound, IsTied, IsWaiting, LeavesRestarts, rank, rank_now, RestsAs, StatusIs, steps_left}
+pub use Rattle.world_rules.specs.Stages.{active_of, AllOf, begun_in, calls_of, cancels_in, count_all, count_in, count_of, ends_in, KeepsOthers, moved_to, open_in, opens, pending_of, points_in, with_open, with_room}
+pub use Rattle.world_rules.specs.Starts.{first_engine, IsFirst}
+pub use Rattle.world_rules.specs.Status.{ending_of, is_ready, is_waiting, waiting_step}
+pub use Rattle.world_rules.specs.Tied.{AreTied}
+pub use Rattle.world_rules.specs.Tries.{begins, between, Continues, current_of, EndsAt, Extends, GoesOnAfter, HasStopped, IsBetween, IsSame, outrun, over, Prior, prior_of, runs, shut_out, Tries, TriesAgain, turned_away}
+pub use Rattle.world_rules.specs.World.{attempts_of, ending_at, ending_in, event_result, observed, waits_at, World}
+pub use Rattle.world_rules.specs.WorldEvents.{ActorGoes, Goes, HasRead}
+pub use Rattle.world_rules.specs.declared.actor.Status.{Status}
+pub use Rattle.world_rules.specs.declared.actor.Status.TheVariants.{Ended, Ready, Waits}
+pub use Rattle.std.proofs.lemmas.Bool.{and_parts, and_right, both_ways, cases_Bool, cases_eq, cond-false, cond-true, cond_both, eqb-false, false_from_ne_true, le-ltb, lt-ltb, ltb-false, ltb-true, ne_eqb, not_from_true}
+pub use Rattle.std.proofs.lemmas.List.{append-nil, length-append, length-take}
 pub use Rattle.std.proofs.lemmas.Option.{none-some, same_Some, slice_get-get_or, slice_get_within}
 pub use Rattle.std.specs.List.{AllByRecursion, slice_index_or}
-pub use Rattle.std.specs.Option.{option_and_then}

@@ -1,7 +1,6 @@
 -- A history of the first two versions gets the verdict that it got before there were others.
 use Rattle.std.proofs.Common.{◌≡◌, ◌⊎◌, inl, inr, ℕ, zero, suc, ◌+◌, ◌*◌, not, ◌&&◌, ◌||◌, ◌==◌, cond, List, [], ◌∷◌, length, Option, None, Some, refl, ap, ◌∙◌, bytes_eq, nat_le}
-use Rattle.history_checker.proofs.Common.{Attempt, Bad, History, Legal, One, Spot, Two, alone, at_fault, at_place, committed_fault, count_committed, count_holding, depth_of, ends_free, ends_held, fault_at, fault_in, first_fault, first_of, head_row, is_away, is_committed, is_holding, is_unfinished, is_waiting, memory_at, one_where, others_fault, position_fault, told_row, verdict_of, verdict_on}
-use Rattle.tx_attempts.specs.Attempts.{memory_after}
+use Rattle.history_checker.proofs.Common.{Attempt, Bad, History, Legal, One, Spot, Two, alone, at_fault, at_place, committed_fault, count_committed, count_holding, depth_of, ends_free, ends_held, fault_at, fault_in, first_fault, first_of, head_row, is_away, is_committed, is_holding, is_unfinished, is_waiting, memory_after, memory_at, one_where, others_fault, position_fault, told_row, verdict_of, verdict_on}
 use Rattle.history_checker.specs.declared.verdict.BadKind.TheVariants as kind
 use Rattle.history_checker.specs.EarlyVerdicts.{early_away, early_committed, early_count, early_fault, early_free, early_held, early_holding, early_memory, early_on, early_others, early_verdict}
 

@@ -1,10 +1,7 @@
 -- The order of seats, as they are sorted.
-use Rattle.std.proofs.Common.{◌≡◌, ◌+◌, Bool, true, false, ◌&&◌, ◌||◌, cond, List, get_or, Ordering, Less, Equal, Greater, nat_cmp, is_lt, refl, sym, ap, ◌∙◌}
-use Rattle.std.specs.Prelude.{◌==◌, nat_lt, not}
-use Rattle.std.specs.List.Sorted.{IsSortedBy}
+use Rattle.std.proofs.Common.{◌≡◌, ◌+◌, Bool, true, false, ◌&&◌, ◌||◌, cond, List, get_or, Ordering, Less, Equal, Greater, nat_cmp, is_lt, refl, sym, ap, ◌∙◌, ◌==◌, nat_lt, not}
+use Rattle.history_picture.proofs.Common.{IsSortedBy, Seat, comes_before}
 use Rattle.std.specs.Ordering.{bool_cmp, ordering_then}
-use Rattle.history_picture.specs.declared.seats.Seat.{Seat}
-use Rattle.history_picture.specs.Seats.{comes_before}
 
 by_number : (lt eq : Bool) (o : Ordering) → is_lt (ordering_then (cond lt Less (cond eq Equal Greater)) o) ≡ (lt || (eq && is_lt o))
 by_number true eq o = refl

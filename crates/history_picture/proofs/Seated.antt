@@ -1,9 +1,7 @@
 -- Seats, one after the other.
 use Rattle.std.proofs.Common.{◌≡◌, ℕ, zero, suc, ◌+◌, ◌<◌, ◌≤◌, List, [], ◌∷◌, ◌++◌, length, take, get_or, sym, ap, ◌∙◌, arith, add-one}
+use Rattle.history_picture.proofs.Common.{Attempt, Seat, seat_of, seats_from}
 use Rattle.std.proofs.lemmas.Grind.{common_steps}
-use Rattle.tx_attempts.specs.declared.attempt.Attempt.{Attempt}
-use Rattle.history_picture.specs.declared.seats.Seat.{Seat}
-use Rattle.history_picture.specs.Seats.{seat_of, seats_from}
 
 seated : (n : ℕ) (xs : List Attempt) (i : ℕ) (d : Attempt) → i < length xs → seats_from n (take (suc i) xs) ≡ seats_from n (take i xs) ++ seat_of (n + i) (get_or xs i d) ∷ []
 seated n [] i d h = absurd (omega (arith, h))

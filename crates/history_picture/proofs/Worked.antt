@@ -1,11 +1,8 @@
 -- Cases that were worked out by hand.
-use Rattle.std.proofs.Common.{◌≡◌, [], true, false, None, Some, refl, arith}
-use Rattle.std.specs.Prelude.{codes}
+use Rattle.std.proofs.Common.{◌≡◌, [], true, false, None, Some, refl, arith, codes}
+use Rattle.history_picture.proofs.Common.{call_at, comes_before, flaw_text, judgement_text, mark_text, threads_below}
 use Rattle.std.proofs.lemmas.Fmt.{decimal_digit}
 use Rattle.history_picture.specs.declared.note.Judgement.TheVariants.{Legal}
-use Rattle.history_picture.specs.Columns.{threads_below}
-use Rattle.history_picture.specs.Picture.{call_at, flaw_text, judgement_text, mark_text}
-use Rattle.history_picture.specs.Seats.{comes_before}
 
 -- a thread with no attempt has no lane
 no_lane : threads_below [] 3 ≡ []

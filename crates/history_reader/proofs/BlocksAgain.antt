@@ -1,8 +1,7 @@
 -- Blocks that ran again among calls: where they stand once one more call or block is told, and their lines.
 use Rattle.std.proofs.Common.{◌≡◌, ℕ, zero, suc, ◌+◌, ◌-◌, ◌<◌, ◌≤◌, List, [], ◌∷◌, ◌++◌, length, take, drop, Option, None, Some, refl, sym, ap, subst, ◌∙◌, arith, append_assoc, append-nil, length-drop, zero-add, All}
-use Rattle.history_reader.proofs.Common.{Again, All-append, All-cons, All-head, All-nil, All-tail, AreAgain, CallRecord, IsAgain, IsInnerBegin, IsTold, IsUndone, Ran, again_lines, call_line, call_lines, flat_map, restart_line, slice_get, slice_get_within, take-append-le, undone_line, with_undone}
+use Rattle.history_reader.proofs.Common.{Again, All-append, All-cons, All-head, All-nil, All-tail, AreAgain, CallRecord, IsAgain, IsInnerBegin, IsTold, IsUndone, Ran, again_lines, call_line, call_lines, drop-append-le, drop_all, flat_map, restart_line, slice_get, slice_get_within, take-append-le, take_all, undone_line, with_undone}
 use Rattle.std.proofs.lemmas.Grind.{flat_map-append}
-use Rattle.std.proofs.lemmas.List.{take_all, drop_all, drop-append-le}
 
 -- ## By the calls up to their begins
 

@@ -1,12 +1,11 @@
 -- A line of the first two versions says what it said before there were others.
-use Rattle.std.proofs.Common.{◌≡◌, ℕ, Bool, true, false, cond, List, [], ◌∷◌, ◌++◌, length, Result, Ok, Err, refl, ap, subst, ◌∙◌, inl, inr, codes, bytes_eq}
-use Rattle.history_reader.proofs.Common.{AsmKind, Behind, CallRecord, Head, One, Place, State, Two, Version, again_or_later, arena_of, behind_call, between_line, call_of, call_or_later, chosen, early_line, end_line, ended, exactly, fields, final_line, final_of, head_of, later_line, meaning, memory_limit, memory_line, memory_of, next, none, placed, ran_of, restart_of, restart_said as restart_line, thread_limit, told, undone_of, with_undone, ◌>>=◌}
+use Rattle.std.proofs.Common.{◌≡◌, ℕ, Bool, true, false, cond, List, [], ◌∷◌, ◌++◌, length, Result, Ok, Err, refl, ap, ◌∙◌, codes, bytes_eq}
+use Rattle.history_reader.proofs.Common.{AsmKind, Behind, CallRecord, Head, IfOk, One, Place, State, Two, Version, after_if, again_or_later, arena_of, behind_call, between_line, call_of, call_or_later, choice_if, early_behind, early_call, early_head, early_later, early_line, early_memory, early_placed, end_line, exactly, fields, final_line, final_of, head_of, later_line, meaning, memory_limit, memory_line, memory_of, next, none, placed, ran_of, restart_of, restart_said as restart_line, thread_limit, told, undone_of, ◌>>=◌}
 use Rattle.script_fields.specs.declared.fault.AsmKind.TheVariants as operands
 use Rattle.history_reader.specs.declared.state.Behind.TheVariants as behinds
 use Rattle.history_reader.specs.declared.state.Place.TheVariants as places
-use Rattle.history_reader.specs.EarlyLines.{early_behind, early_call, early_head, early_later, early_memory, early_placed}
 use Rattle.history_reader.specs.Lines.{arena_line, call_line, head_line, ran_line, undone_line}
-use Rattle.history_reader.proofs.Exactness.Fields.{bind_ok}
+use Rattle.history_reader.proofs.Exactness.Fields.{told_if}
 
 -- the version that may tell that a block ran again, or not
 abbrev pub early : Bool → Version
@@ -93,12 +92,7 @@ line_by_place : (again : Bool) (p : Place) (s : State) (line : List ℕ) → s.p
 unfolding meaning
 line_by_place again places.AtHeader s line at f = absurd f
 line_by_place again places.AtDepth s line at f = absurd f
-line_by_place again places.AtMemory s line at f = rw at refl
-line_by_place again places.Between s line at f = rw at refl
-line_by_place again (places.AtArena h) s line at f = rw at refl
-line_by_place again (places.InCalls h b) s line at f = rw at refl
-line_by_place again (places.InRan h) s line at f = rw at refl
-line_by_place again (places.AtEnd clock) s line at f = rw at refl
+line_by_place again p s line at f = rw at refl
 
 pub line_same : (again : Bool) (s : State) (line : List ℕ) → IsEarly again s → meaning s line ≡ early_line again s line
 line_same again s line h =
@@ -107,116 +101,32 @@ line_same again s line h =
 
 -- ## It leaves a state of such a version
 
-memory_kept : (again : Bool) (s t : State) (word : List ℕ) (fs : List (List ℕ)) → s.version ≡ early again → early_memory s word fs ≡ Ok t → IsEarly again t
-unfolding early_memory
-memory_kept again s t word fs v e =
-    let x = bind_ok (exactly (codes "memory") word) (λ _. memory_of 65536 fs >>= λ bytes. Ok (record s { place = places.Between; memory = bytes })) t e in
-    let y = bind_ok (memory_of 65536 fs) (λ bytes. Ok (record s { place = places.Between; memory = bytes })) t x.2 in
-    let is : record s { place = places.Between; memory = y.0 } ≡ t = cc in
-    subst (IsEarly again) is (record { version = v; place = tt })
-
-head_kept : (again : Bool) (s t : State) (fs : List (List ℕ)) → s.version ≡ early again → early_head s fs ≡ Ok t → IsEarly again t
-unfolding early_head
-head_kept again s t fs v e =
-    let x = bind_ok (head_of 31 fs) (λ h. Ok (record s { place = places.AtArena h })) t e in
-    let is : record s { place = places.AtArena x.0 } ≡ t = cc in
-    subst (IsEarly again) is (record { version = v; place = tt })
-
-final_kept : (again : Bool) (s t : State) (fs : List (List ℕ)) → s.version ≡ early again → final_line s fs ≡ Ok t → IsEarly again t
-unfolding final_line
-final_kept again s t fs v e =
-    let x = bind_ok (final_of _ fs) (λ x. Ok (record s { place = places.AtEnd x.0; bytes = x.1 })) t e in
-    let is : record s { place = places.AtEnd x.0.0; bytes = x.0.1 } ≡ t = cc in
-    subst (IsEarly again) is (record { version = v; place = tt })
-
-arena_kept : (again : Bool) (s t : State) (h : Head) (word : List ℕ) (fs : List (List ℕ)) → s.version ≡ early again → arena_line s h word fs ≡ Ok t → IsEarly again t
-unfolding arena_line
-arena_kept again s t h word fs v e =
-    let x = bind_ok (exactly (codes "arena") word) (λ _. arena_of fs >>= λ bytes. Ok (record s { place = places.InCalls h behinds.Call; arena = bytes })) t e in
-    let y = bind_ok (arena_of fs) (λ bytes. Ok (record s { place = places.InCalls h behinds.Call; arena = bytes })) t x.2 in
-    let is : record s { place = places.InCalls h behinds.Call; arena = y.0 } ≡ t = cc in
-    subst (IsEarly again) is (record { version = v; place = arena_behind again })
-
-call_kept : (again : Bool) (s t : State) (h : Head) (fs : List (List ℕ)) → s.version ≡ early again → early_call again s h fs ≡ Ok t → IsEarly again t
-unfolding early_call
-call_kept again s t h fs v e =
-    let x = bind_ok (call_of fs) (λ entry. Ok (record s { place = places.InCalls h (early_behind again entry); calls = s.calls ++ entry ∷ [] })) t e in
-    let is : record s { place = places.InCalls h (early_behind again x.0); calls = s.calls ++ x.0 ∷ [] } ≡ t = cc in
-    subst (IsEarly again) is (record { version = v; place = call_behind again x.0 })
-
-later_kept : (again : Bool) (s t : State) (h : Head) (word : List ℕ) (fs : List (List ℕ)) → s.version ≡ early again → later_line s h word fs ≡ Ok t → IsEarly again t
+later_kept : (again : Bool) (s : State) (h : Head) (word : List ℕ) (fs : List (List ℕ)) → s.version ≡ early again → IfOk (later_line s h word fs) (IsEarly again)
 unfolding later_line ran_line end_line
-later_kept again s t h word fs v e =
-    elim (chosen (bytes_eq word (codes "ran")) (ran_line s h fs) (cond (bytes_eq word (codes "end")) (end_line s h fs) (Err operands.Operand)) (Ok t) e) [
-      | inl ran ↦
-          let x = bind_ok (ran_of fs) (λ r. Ok (record s { place = places.InRan h; ran = s.ran ++ r ∷ [] })) t ran.1 in
-          let is : record s { place = places.InRan h; ran = s.ran ++ x.0 ∷ [] } ≡ t = cc in
-          subst (IsEarly again) is (record { version = v; place = tt })
-      | inr other ↦ elim (chosen (bytes_eq word (codes "end")) (end_line s h fs) (Err operands.Operand) (Ok t) other.1) [
-        | inl last ↦
-            let x = bind_ok (none fs) (λ _. Ok (ended s h)) t last.1 in
-            let is : ended s h ≡ t = cc in
-            subst (IsEarly again) is (record { version = v; place = tt })
-        | inr neither ↦ absurd cc
-      ]
-    ]
+later_kept again s h word fs v =
+    choice_if _ (bytes_eq word (codes "ran")) (ran_line s h fs) _ (λ ran. after_if _ (ran_of fs) _ (λ r. record { version = v; place = tt })) (λ other.
+    choice_if _ (bytes_eq word (codes "end")) (end_line s h fs) (Err operands.Operand) (λ last. after_if _ (none fs) _ (λ u. record { version = v; place = tt })) (λ neither. tt))
 
-restart_kept : (s t : State) (h : Head) (fs : List (List ℕ)) → s.version ≡ Two → restart_line s h fs ≡ Ok t → IsEarly true t
-unfolding restart_line
-restart_kept s t h fs v e =
-    let after : List ℕ → State = λ bytes. record s { place = places.InCalls h behinds.Restart; restarts = s.restarts ++ record { kept = length s.calls; arena = bytes; undone = [] } ∷ [] } in
-    let x = bind_ok (restart_of (length s.arena) fs) (λ bytes. Ok (after bytes)) t e in
-    let is : after x.0 ≡ t = cc in
-    subst (IsEarly true) is (record { version = v; place = tt })
+other_kept : (again : Bool) (b : Behind) (s : State) (h : Head) (word : List ℕ) (fs : List (List ℕ)) → IsEarly again s → IfOk (early_later again b s h word fs) (IsEarly again)
+unfolding again_or_later restart_line undone_line
+other_kept false b s h word fs k = later_kept false s h word fs k.version
+other_kept true behinds.Call s h word fs k = later_kept true s h word fs k.version
+other_kept true behinds.Begin s h word fs k =
+    choice_if _ (bytes_eq word (codes "restart")) (restart_line s h fs) (later_line s h word fs) (λ first. after_if _ (restart_of (length s.arena) fs) _ (λ bytes. record { version = k.version; place = tt })) (λ other. later_kept true s h word fs k.version)
+other_kept true behinds.Restart s h word fs k =
+    choice_if _ (bytes_eq word (codes "undone")) (undone_line s fs) (later_line s h word fs) (λ first. after_if _ (undone_of fs) _ (λ r. record { version = k.version; place = k.place })) (λ other. later_kept true s h word fs k.version)
 
-undone_kept : (s t : State) (fs : List (List ℕ)) → IsEarly true s → undone_line s fs ≡ Ok t → IsEarly true t
-unfolding undone_line
-undone_kept s t fs h e =
-    let x = bind_ok (undone_of fs) (λ r. Ok (record s { restarts = with_undone s.restarts r })) t e in
-    let is : record s { restarts = with_undone s.restarts x.0 } ≡ t = cc in
-    subst (IsEarly true) is (record { version = h.version; place = h.place })
+placed_kept : (again : Bool) (p : Place) (s : State) (word : List ℕ) (fs : List (List ℕ)) → IsEarly again s → IfOk (early_placed again p s word fs) (IsEarly again)
+unfolding early_memory early_head final_line arena_line early_call
+placed_kept again places.AtMemory s word fs h = after_if _ (exactly (codes "memory") word) _ (λ u. after_if _ (memory_of 65536 fs) _ (λ bytes. record { version = h.version; place = tt }))
+placed_kept again places.Between s word fs h =
+    choice_if _ (bytes_eq word (codes "attempt")) (early_head s fs) _ (λ first. after_if _ (head_of 31 fs) _ (λ head. record { version = h.version; place = tt })) (λ other.
+    choice_if _ (bytes_eq word (codes "final")) (final_line s fs) (Err operands.Operand) (λ last. after_if _ (final_of (length s.memory) fs) _ (λ x. record { version = h.version; place = tt })) (λ neither. tt))
+placed_kept again (places.AtArena head) s word fs h = after_if _ (exactly (codes "arena") word) _ (λ u. after_if _ (arena_of fs) _ (λ bytes. record { version = h.version; place = arena_behind again }))
+placed_kept again (places.InCalls head b) s word fs h =
+    choice_if _ (bytes_eq word (codes "call")) (early_call again s head fs) (early_later again b s head word fs) (λ call. after_if _ (call_of fs) _ (λ e. record { version = h.version; place = call_behind again e })) (λ other. other_kept again b s head word fs h)
+placed_kept again (places.InRan head) s word fs h = later_kept again s head word fs h.version
+placed_kept again p s word fs h = tt
 
-other_kept : (again : Bool) (b : Behind) (s t : State) (h : Head) (word : List ℕ) (fs : List (List ℕ)) → IsEarly again s → early_later again b s h word fs ≡ Ok t → IsEarly again t
-unfolding again_or_later
-other_kept false b s t h word fs k e = later_kept false s t h word fs k.version e
-other_kept true behinds.Call s t h word fs k e = later_kept true s t h word fs k.version e
-other_kept true behinds.Begin s t h word fs k e =
-    elim (chosen (bytes_eq word (codes "restart")) (restart_line s h fs) (later_line s h word fs) (Ok t) e) [
-      | inl first ↦ restart_kept s t h fs k.version first.1
-      | inr other ↦ later_kept true s t h word fs k.version other.1
-    ]
-other_kept true behinds.Restart s t h word fs k e =
-    elim (chosen (bytes_eq word (codes "undone")) (undone_line s fs) (later_line s h word fs) (Ok t) e) [
-      | inl first ↦ undone_kept s t fs k first.1
-      | inr other ↦ later_kept true s t h word fs k.version other.1
-    ]
-
-placed_kept : (again : Bool) (p : Place) (s t : State) (word : List ℕ) (fs : List (List ℕ)) → IsEarly again s → early_placed again p s word fs ≡ Ok t → IsEarly again t
-placed_kept again places.AtHeader s t word fs h e = absurd cc
-placed_kept again places.AtDepth s t word fs h e = absurd cc
-placed_kept again places.AtMemory s t word fs h e = memory_kept again s t word fs h.version e
-placed_kept again places.Between s t word fs h e =
-    elim (chosen (bytes_eq word (codes "attempt")) (early_head s fs) (cond (bytes_eq word (codes "final")) (final_line s fs) (Err operands.Operand)) (Ok t) e) [
-      | inl first ↦ head_kept again s t fs h.version first.1
-      | inr other ↦ elim (chosen (bytes_eq word (codes "final")) (final_line s fs) (Err operands.Operand) (Ok t) other.1) [
-        | inl last ↦ final_kept again s t fs h.version last.1
-        | inr neither ↦ absurd cc
-      ]
-    ]
-placed_kept again (places.AtArena head) s t word fs h e = arena_kept again s t head word fs h.version e
-placed_kept again (places.InCalls head b) s t word fs h e =
-    elim (chosen (bytes_eq word (codes "call")) (early_call again s head fs) (early_later again b s head word fs) (Ok t) e) [
-      | inl call ↦ call_kept again s t head fs h.version call.1
-      | inr other ↦ other_kept again b s t head word fs h other.1
-    ]
-placed_kept again (places.InRan head) s t word fs h e = later_kept again s t head word fs h.version e
-placed_kept again (places.AtEnd clock) s t word fs h e = absurd cc
-
-told_ok : (r : Result State AsmKind) (t : State) → told r ≡ Ok t → r ≡ Ok t
-told_ok (Ok x) t e = cc
-told_ok (Err k) t e = absurd cc
-
-pub line_kept : (again : Bool) (s t : State) (line : List ℕ) → IsEarly again s → early_line again s line ≡ Ok t → IsEarly again t
-line_kept again s t line h e =
-    let x = bind_ok (next (fields line)) (λ x. early_placed again s.place s x.0 x.1) t (told_ok (next (fields line) >>= λ x. early_placed again s.place s x.0 x.1) t e) in
-    placed_kept again s.place s t x.0.0 x.0.1 h x.2
+pub line_kept : (again : Bool) (s : State) (line : List ℕ) → IsEarly again s → IfOk (early_line again s line) (IsEarly again)
+line_kept again s line h = told_if _ (next (fields line) >>= λ x. early_placed again s.place s x.0 x.1) (after_if _ (next (fields line)) _ (λ x. placed_kept again s.place s x.0 x.1 h))

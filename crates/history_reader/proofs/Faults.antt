@@ -1,19 +1,12 @@
 -- Lines that are at fault.
 use Rattle.std.proofs.Common.{◌≡◌, ℕ, ◌<◌, Result, Ok, Err, refl, ap, subst, sym}
-use Rattle.history_reader.proofs.Common.{AsmKind, ReadKind, State, Steps, told}
+use Rattle.history_reader.proofs.Common.{AsmKind, ReadKind, State, Steps, line_kind, told}
 use Rattle.script_fields.specs.declared.fault.AsmKind.TheVariants as operands
 use Rattle.history_reader.specs.declared.fault.ReadKind.TheVariants as kinds
-use Rattle.history_reader.specs.Faults.{line_kind}
 
 stops_at : (amount : State → ℕ) (k : AsmKind) (new : State) → Steps amount (Err (line_kind k)) new (told (Err k))
-stops_at amount operands.Character new = refl
-stops_at amount operands.Unknown new = refl
-stops_at amount operands.Operand new = refl
 stops_at amount operands.Range new = refl
-stops_at amount operands.Misplaced new = refl
-stops_at amount operands.Unbalanced new = refl
-stops_at amount operands.TooLong new = refl
-stops_at amount operands.Memory new = refl
+stops_at amount k new = refl
 
 -- a line that is at fault stops the reading
 pub stops : (amount : State → ℕ) (k : AsmKind) (kind : ReadKind) (new : State) (read : Result State AsmKind) → kind ≡ line_kind k → read ≡ Err k → Steps amount (Err kind) new (told read)

@@ -1,13 +1,9 @@
 -- Digits as bytes, and values of a width.
-use Rattle.std.proofs.Common.{◌≡◌, ℕ, ◌*◌, ◌<◌, ◌/◌, ◌%◌, true, eqb, not, ◌&&◌, leb, List, length, take, replicate, Result, Ok, Err, refl, ◌∙◌, arith, inl, inr, MatchResult}
-use Rattle.history_reader.proofs.Common.{Datum, FromHexError, and_parts, decode_of-hex, decoded, eqb-false, is_lower_digit, is_lower_hex, le-leb, leb-true, list_all, low, lt-leb, not-true, or_cases, size_of, take-append-le}
-use Rattle.std.proofs.lemmas.Grind.{common_steps}
+use Rattle.std.proofs.Common.{◌≡◌, ℕ, ◌*◌, ◌<◌, ◌/◌, ◌%◌, true, eqb, not, ◌&&◌, leb, List, length, replicate, Result, Ok, Err, refl, ◌∙◌, arith, inl, inr, MatchResult}
+use Rattle.history_reader.proofs.Common.{Datum, and_parts, decode_of-hex, decode_sized, decoded, decoded_into, eqb-false, is_hex, is_hex_digit, is_lower_digit, is_lower_hex, le-leb, leb-true, list_all, list_all-weaker, low, lt-leb, not-true, or_cases, size_of, take-append-le, take_all}
+use Rattle.hex.specs.declared.error.FromHexError.{FromHexError}
 use mathlib.Core.HLevel.{is_prop→PathP}
 use native.Mathlib.Nat.{ℕ_set}
-use Rattle.hex.specs.Hex.{is_hex_digit, decode_sized}
-use Rattle.script_fields.specs.Operands.{is_hex}
-use Rattle.script_fields.proofs.HexDigits.{decoded_into}
-use Rattle.script_fields.proofs.SpelledNumbers.{list_all-weaker}
 
 -- values of one type that have the same bytes are the same
 pub same_datum : (d e : Datum) → d.width ≡ e.width → d.bytes.items ≡ e.bytes.items → d ≡ e
@@ -17,12 +13,9 @@ same_datum d e w b = λ i. record {
   sized = is_prop→PathP (λ j. length (b j) ≡ size_of (w j)) (λ j. ℕ_set (length (b j)) (size_of (w j))) d.sized e.sized i;
 }
 
-whole : (n : ℕ) (bytes : List ℕ) → length bytes ≡ n → take n bytes ≡ bytes
-whole n bytes h = grind (arith, common_steps)
-
 -- bytes that are as many as the type has are the value's
 pub low_is : (n : ℕ) (bytes : List ℕ) → length bytes ≡ n → low n bytes ≡ bytes
-low_is n bytes h = take-append-le n bytes (replicate n 0) (omega arith) ∙ whole n bytes h
+low_is n bytes h = take-append-le n bytes (replicate n 0) (omega arith) ∙ take_all n bytes (omega arith)
 
 -- ## Digits in lower case
 

@@ -1,15 +1,11 @@
 -- Cells that lie in a vector's block, with no block of their own. Assumes `Logic`.
 use Rattle.itm_c.proofs.Steps.{◌≡◌, ℕ, ◌^◌, ◌<◌, List, [], ◌∷◌, refl, sym, ftrue, ‵, ◌$◌, ◌∵◌, !, qed, done, move, keep, drop, use0, fsplit, fsplit3, fjoin, rewrite, nothing, Fml, Logic, sem, ent}
 use Rattle.std.proofs.Common.{◌*◌, ◌+◌, ◌-◌, ◌≤◌, true, suc, zero, arith}
-use Rattle.itm_c.proofs.Common.{Good, Ptr, RawPtr, Ura, bare, block_ptr, block_with_items, flt_i, flt_l, has_block, lodged, lone, null_ptr, owns_if, ptr_val, u64}
+use Rattle.itm_c.proofs.Common.{Good, Ptr, RawPtr, Ty, Ura, bare, block_ptr, block_with_items, by, flt_i, flt_l, has_block, lit<, lodged, lone, null_ptr, owns_if, ptr_val, ty_array, u64, vec_owns}
 use Rattle.std.proofs.lemmas.Bool.{ne_eqb, not_from_false}
-use mir.Syntax.{Ty, ty_array}
 use base.Fml.{froom, flt, ffalse}
 use base.Logic.{never_e}
-use lib.Dec.{lit<}
-use types.Kit.{by}
 use Rattle.std_alloc.proofs.RawLayout.{as_raw}
-use Rattle.std_alloc.specs.Vec.Ownership.{vec_owns}
 
 module _ {M : Type 1} {𝓤 : Ura M} (𝓛 : Logic 𝓤) (t : Ty → Ptr → Fml) where
   -- what room is behind them stays behind

@@ -1,9 +1,6 @@
 -- The box of what a handle holds, and the two structs that own as much as it does.
-use Rattle.itm_c.proofs.Common.{Bx, D, R, RattleType, Ura, bare, block_ptr, box_in, cell_at, dnil, token, with_kept, word, τ}
+use Rattle.itm_c.proofs.Common.{Bx, D, R, RattleType, Ura, bare, block_ptr, box_in, cell_at, dnil, handle, impl, mem, part_at, part_of, tnil, token, with_kept, word, τ}
 use Rattle.itm_c.proofs.Steps.{◌≡◌, ℕ, List, [], ◌∷◌, refl, Option, None, Some, IsSome, full_share, ent, sep, id⊢, Fml, fsep, Val, Logic, sem, ‵, ◌$◌, ◌∵◌, !, qed, done, move, use1, fsplit, fjoin, fpack}
-use mir.Syntax.{impl, tnil}
-use denote.Memory.{mem, part_at, part_of}
-use Rattle.std_alloc.proofs.BoxSteps.Form.{handle}
 use Rattle.std_heap.specs.contracts.Global as Heap
 use Rattle.std_heap.specs.contracts.GlobalAllocator.TheImpl.{ghosts, dict}
 use Rattle.std_heap.proofs.Global.TheLaws as heap

@@ -1,19 +1,7 @@
 -- Numbers and their bytes.
 use Rattle.std.proofs.Common.{◌≡◌, ℕ, ◌+◌, ◌^◌, ◌<◌, List, [], ◌∷◌, ◌++◌, length, take, drop, replicate, refl, sym, ap, ◌∙◌, subst, arith, min}
-use Rattle.itm_c.proofs.Common.{Datum, number_of_bytes}
+use Rattle.itm_c.proofs.Common.{bytes_of_number, number_of_bytes}
 use Rattle.std.proofs.lemmas.Nat.{from_le_bytes-to_le_bytes_8}
-use mathlib.Core.HLevel.{is_prop→PathP}
-use native.Mathlib.Nat.{ℕ_set}
-use Rattle.itm_types.specs.Access.{size_of}
-use Rattle.itm_runtime.specs.Stops.{bytes_of_number}
-
--- a value is told by its width and its bytes
-pub same_datum : (d e : Datum) → d.width ≡ e.width → d.bytes.items ≡ e.bytes.items → d ≡ e
-same_datum d e w b = λ i. record {
-  width = w i;
-  bytes = record { items = b i };
-  sized = is_prop→PathP (λ j. length (b j) ≡ size_of (w j)) (λ j. ℕ_set (length (b j)) (size_of (w j))) d.sized e.sized i;
-}
 
 -- a number's 8 bytes are that number's
 pub number_back : (n : ℕ) → n < 2 ^ 64 → n ≡ number_of_bytes (bytes_of_number n)

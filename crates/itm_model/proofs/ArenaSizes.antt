@@ -1,13 +1,10 @@
 -- A call leaves the arena as long as it was.
 use Rattle.std.proofs.Common.{◌≡◌, ℕ, ◌+◌, ◌≤◌, Bool, true, false, if◌then◌else◌, List, [], ◌∷◌, length, Option, None, Some, refl, ◌∙◌, arith}
-use Rattle.itm_model.proofs.Common.{Abort, Begin, Block, Call, Commit, CommitAction, Copy, CopyPair, Fill, In, InTransaction, Load, Log, LogBytes, Mode, Out, OutOfArena, OutOfRange, Props, Read, Save, Saved, State, UndoAction, Within, Write, after, back, back_from, irrevocable_from, opened, slice, undone, undone_from}
-use Rattle.std.proofs.lemmas.Bool.{leb-true}
+use Rattle.itm_model.proofs.Common.{Abort, Begin, Block, Call, Commit, CommitAction, Copy, CopyPair, Fill, In, InTransaction, Load, Log, LogBytes, Mode, Out, OutOfArena, OutOfRange, Props, Read, Save, Saved, State, UndoAction, Within, Write, after, after_unless, back, back_from, effect, entered, irrevocable_from, is_open, leb-true, length-restored, made_irrevocable, opened, or_else, pushed, ranges, refusal, rolled_back, slice, source_bytes, source_range, standing, target_range, target_written, undone, undone_from, unless, with_action}
 use Rattle.itm_types.specs.Access.{size_of}
 use Rattle.itm_types.specs.declared.call.ActionKind.TheVariants as kinds
 use Rattle.itm_types.specs.declared.call.Refusal.{Refusal}
-use Rattle.itm_types.proofs.KeptBytes.{length-restored}
 use Rattle.itm_model.specs.Places.{in_range}
-use Rattle.itm_model.specs.Machine.{after_unless, effect, entered, is_open, made_irrevocable, or_else, pushed, ranges, refusal, rolled_back, source_bytes, source_range, standing, target_range, target_written, unless, with_action}
 use Rattle.itm_model.proofs.Journals.Rollbacks.{length-slice, length-with_slice}
 
 -- as many bytes in the arena

@@ -1,10 +1,7 @@
 -- Laws of the open blocks, as calls change what they stand on.
 use Rattle.std.proofs.Common.{◌≡◌, ℕ, suc, Bool, true, false, true≢false, ◌||◌, ◌+◌, ◌-◌, ◌≤◌, ◌<◌, List, [], ◌∷◌, ◌++◌, length, take, drop, reverse, subst, refl, ap, sym, ◌∙◌, arith, length-append, Option, None, option_map, map}
-use Rattle.itm_model.proofs.Common.{Actions, AreUnder, AreWithin, Block, Logged, Mark, Old, Props, Restores, Saved, State, also_kept, back, back_from, blocks_of, closed, drop-append-le, irrevocable_from, kept_of, length-reverse, length-take-le, list_any, merged, put_back, restored, reverse-append, take-append-drop, undone, undone_from}
+use Rattle.itm_model.proofs.Common.{Actions, AreUnder, AreWithin, Block, Logged, Mark, Old, Props, Restores, Saved, State, also_kept, back, back_from, block_of, blocks_from, blocks_of, closed, committed, cut_back, drop-append-le, handed, irrevocable_from, kept_of, length-reverse, length-take-le, list_any, logged_in, merged, put_back, restored, reverse-append, saved_in, saved_of, take-append-drop, undone, undone_from}
 use Rattle.std.proofs.lemmas.List.Sorted.{list_any-IsPermutation, IsPermutation-reverse}
-use Rattle.user_actions.specs.Actions.{committed, cut_back}
-use Rattle.itm_model.specs.Machine.{handed, logged_in}
-use Rattle.itm_model.specs.Undoing.{saved_in, saved_of, block_of, blocks_from}
 use Rattle.itm_model.proofs.Journals.Rollbacks.{take-take, length-put_back}
 use Rattle.itm_model.proofs.Journals.KeptLogs.{kept_of-append, kept_of-same, restored_kept}
 

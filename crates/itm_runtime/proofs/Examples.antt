@@ -1,7 +1,6 @@
 -- Worked cases of the definitions in `Stops.antt`.
 use Rattle.std.proofs.Common.{◌≡◌, [], ◌∷◌, None, Some, Ok, Err, refl}
-use Rattle.itm_runtime.proofs.Common.{Bytes, Conflict, Done, OutOfRange, Reply, answer_to_read, answer_to_write, number}
-use Rattle.itm_types.specs.declared.call.Reply.TheVariants.{Refused}
+use Rattle.itm_runtime.proofs.Common.{Bytes, Conflict, Done, OutOfRange, Refused, Reply, answer_to_read, answer_to_write, number}
 use Rattle.itm_runtime.specs.declared.stop.Stop.TheVariants as stops
 
 -- the low byte comes first

@@ -1,4 +1,5 @@
 pub mod Common
 pub mod DueSteps
+pub mod GoingOn
 pub mod NumberAnswers
 pub mod Examples

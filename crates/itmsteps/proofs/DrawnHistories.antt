@@ -1,20 +1,13 @@
 -- What was written of the picture of a history.
-use Rattle.std.proofs.Common.{◌≡◌, ℕ, List, Option, Result, Ok, Err, refl, sym, subst}
-use Rattle.std.specs.Prelude.{IfErr}
+use Rattle.std.proofs.Common.{◌≡◌, ℕ, List, Option, Result, Ok, Err, refl, sym, subst, IfErr}
+use Rattle.itmsteps.proofs.Common.{Failure, InOrder, IsDrawn, IsNote, Outputs, Seat, Writes, Writing, drawing}
 use Rattle.history_checker.specs.Answers.{finding_of}
 use Rattle.history_picture.specs.declared.note.Note.{Note}
-use Rattle.history_picture.specs.declared.seats.Seat.{Seat}
 use Rattle.history_picture.specs.Columns.{columns_of}
 use Rattle.history_picture.specs.Picture.{picture_text}
-use Rattle.history_picture.specs.Seats.{InOrder}
 use Rattle.history_reader.specs.declared.fault.ReadFault.{ReadFault}
-use Rattle.text_commands.specs.Answers.{Outputs}
-use Rattle.text_commands.specs.declared.failure.Failure.{Failure}
-use Rattle.text_commands.specs.declared.failure.Failure.TheVariants.{Writing}
 use Rattle.tx_attempts.specs.declared.attempt.Attempt.{Attempt}
 use Rattle.tx_history.specs.declared.history.History.{History}
-use Rattle.tx_history.specs.Spelling.{Writes}
-use Rattle.itmsteps.specs.Histories.{IsDrawn, IsNote, drawing}
 
 module _ (h : History) (attempts : List Attempt) (columns : List ℕ) (seats : List Seat) (note : Note) (o n : Option (List ℕ)) (all : attempts ≡ h.attempts) (lanes : columns ≡ columns_of h)
     (order : InOrder attempts seats) (is : IsNote (finding_of h) note) where

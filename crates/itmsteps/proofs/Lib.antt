@@ -1,3 +1,4 @@
+pub mod Common
 mod Drawings
 mod DrawnHistories
 mod Refused

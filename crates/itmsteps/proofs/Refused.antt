@@ -1,11 +1,7 @@
 -- What is said where no text was read, or none was to be written.
 use Rattle.std.proofs.Common.{ℕ, Bool, true, false, List, Option, None, Err}
-use Rattle.script_fields.specs.declared.fault.AsmFault.{AsmFault}
-use Rattle.text_commands.specs.Answers.{Says}
-use Rattle.text_commands.specs.declared.failure.Failure.TheVariants.{NoMemory, Reading}
+use Rattle.itmsteps.proofs.Common.{AsmFault, Choice, Done, NoMemory, Reading, Says, failure_line}
 use Rattle.text_commands.specs.Lines.{failure_status}
-use Rattle.itmsteps.specs.declared.choice.Choice.{Choice}
-use Rattle.itmsteps.specs.Doing.{Done, failure_line}
 
 module _ (choice : Choice) (text : List ℕ) (status : ℕ) (old new : Option (List ℕ)) where
   -- memory was refused, for a history as for a script

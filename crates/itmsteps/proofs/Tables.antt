@@ -1,24 +1,9 @@
 -- What was written of the table of a program's run.
-use Rattle.std.proofs.Common.{◌≡◌, ℕ, List, length, take, Option, Result, Ok, Err, refl, sym, ap, subst, false}
-use Rattle.std.specs.Prelude.{IfErr, is_ok}
-use Rattle.std.specs.Io.KnownBytes.{Appends}
-use Rattle.world_rules.specs.World.{World}
+use Rattle.std.proofs.Common.{◌≡◌, ℕ, List, length, take, Option, Result, Ok, Err, refl, sym, ap, subst, false, IfErr, is_ok}
+use Rattle.itmsteps.proofs.Common.{Appends, AsmFault, Choice, Failure, Faulty, Item, NoMemory, NoThread, Outputs, Reading, Row, ScheduleFirst, ScheduleRows, Tells, Thread, View, World, Writing, showing, shown_text, table_text, thread_rules, view_of}
 use Rattle.run_commands.specs.Scheduled.{Begins, schedule_of}
-use Rattle.script_program.specs.declared.schedule.Item.{Item}
 use Rattle.script_program.specs.Listing.{Listing, threads_of}
-use Rattle.script_vm.specs.Threads.{Thread, thread_rules}
-use Rattle.step_table.specs.declared.view.View.{View}
-use Rattle.step_table.specs.Rows.{Row, ScheduleFirst, ScheduleRows}
 use Rattle.step_table.specs.Shown.{Shows}
-use Rattle.step_table.specs.Table.{table_text}
-use Rattle.text_commands.specs.Answers.{Outputs}
-use Rattle.script_fields.specs.declared.fault.AsmFault.{AsmFault}
-use Rattle.text_commands.specs.declared.failure.Failure.{Failure}
-use Rattle.text_commands.specs.declared.failure.Failure.TheVariants.{Faulty, NoMemory, NoThread, Reading, Writing}
-use Rattle.itmsteps.specs.declared.choice.Choice.{Choice}
-use Rattle.itmsteps.specs.Choices.{shown_text, view_of}
-use Rattle.itmsteps.specs.Doing.{showing}
-use Rattle.itmsteps.specs.Told.{Tells}
 
 module _ (choice : Choice) (p : Listing) (first last : World Thread) (items : List Item) (view : View) (o n : Option (List ℕ))
     (begins : Begins p first) (items_are : items ≡ schedule_of p) (view_is : view ≡ view_of choice (length (threads_of p))) where

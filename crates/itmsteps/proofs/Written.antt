@@ -1,10 +1,7 @@
 -- What was written of a text.
-use Rattle.std.proofs.Common.{◌≡◌, ℕ, List, length, take, Option, Result, Ok, Err, sym, subst}
-use Rattle.std.proofs.KnownBytes.{Appends-kept}
+use Rattle.std.proofs.Common.{◌≡◌, ℕ, List, length, take, Option, Result, Ok, Err, sym, subst, is_ok}
+use Rattle.itmsteps.proofs.Common.{Appends, Appends-kept, IsCut, Keeps, Writes}
 use Rattle.std.proofs.Math.Seq.{take-length}
-use Rattle.std.specs.Io.KnownBytes.{Appends, Keeps}
-use Rattle.std.specs.Prelude.{is_ok}
-use Rattle.tx_history.specs.Spelling.{IsCut, Writes}
 
 -- not all of it was written
 pub cut_written : (o n : Option (List ℕ)) (text : List ℕ) → IsCut o n text → (k : ℕ) × Appends o n (take k text)

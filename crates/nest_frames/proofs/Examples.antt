@@ -1,13 +1,8 @@
 -- Worked cases of open blocks, computed.
 use Rattle.std.proofs.Common.{◌≡◌, true, false, List, ℕ, [], ◌∷◌, refl}
-use Rattle.nest_frames.proofs.Common.{Actions, Frame, Moment, Old, Props, Row, Written, actions_back, actions_closed, arena_back, arena_restored, closed, frames_of, is_kept, log_of, logged, made_irrevocable, renewed, start}
+use Rattle.nest_frames.proofs.Common.{Actions, Frame, Moment, Old, Props, Row, Written, actions_back, actions_cancelled, actions_closed, arena_back, arena_restored, as_commit, as_undo, begun, closed, frames_of, is_kept, log_of, logged, made_irrevocable, no_actions, put_back, reads_of, registered, renewed, renewed_at, row, start}
 use Rattle.itm_types.specs.declared.call.Action.{Action}
-use Rattle.undo_log.specs.Rollback.{put_back}
-use Rattle.write_set.specs.Marks.{renewed_at}
-use Rattle.write_set.specs.Rows.{row}
 use Rattle.itm_types.specs.declared.call.ActionKind.TheVariants.{Undo}
-use Rattle.user_actions.specs.Actions.{no_actions, as_commit, as_undo, registered}
-use Rattle.nest_frames.specs.Nest.{begun, reads_of, actions_cancelled}
 
 abbrev old : ℕ → ℕ → Old
 old place byte = record { place = place; bytes = byte ∷ [] }

@@ -1,8 +1,6 @@
 -- The open blocks once nothing is written, logged or registered that they could go back to.
 use Rattle.std.proofs.Common.{◌≡◌, ℕ, zero, suc, ◌<◌, ◌≤◌, List, [], ◌∷◌, ◌++◌, length, map, take, drop, reverse, refl, ap, sym, subst, ◌∙◌, arith, slice_index_or, slice_set}
-use Rattle.nest_frames.proofs.Common.{Actions, AreUnder, BeginEmpty, Frame, IsSound, Moment, Nest, Old, Undo, Written, drop_all, forgotten, frame_at, frames_from, frames_of, length-map, made_irrevocable, refill, reverse-append, start, take-append-le, unwritten}
-use Rattle.std.proofs.lemmas.List.{append-nil, map-append, take_all}
-use Rattle.user_actions.specs.Actions.{ActionList}
+use Rattle.nest_frames.proofs.Common.{ActionList, Actions, AreUnder, BeginEmpty, Frame, IsSound, Moment, Nest, Old, Undo, Written, append-nil, drop_all, forgotten, frame_at, frames_from, frames_of, length-map, made_irrevocable, map-append, refill, reverse-append, start, take-append-le, take_all, unwritten}
 
 -- the first ones are forgotten, and now the next one
 pub next_forgotten : {A : Type 0} (f : A → A) (xs : List A) (i : ℕ) (none : A) → i < length xs

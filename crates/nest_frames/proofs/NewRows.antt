@@ -1,9 +1,7 @@
 -- Words of which the innermost block's begin had no row.
 use Rattle.std.proofs.Common.{◌≡◌, ◌<◌, ◌≤◌, ℕ, ◌==◌, List, [], ◌∷◌, length, take, drop, reverse, None, refl, sym, ap, subst, ◌∙◌, inl, inr, arith}
-use Rattle.nest_frames.proofs.Common.{Actions, AreUnder, IsNew, IsSound, Moment, Old, Place, Row, Written, cases_Bool, frames_from, frames_of, length-reverse, length-take-le, lookup, rows_of}
-use Rattle.std.proofs.lemmas.Bool.{eqb-true, cond-true, cond-false}
-use Rattle.write_set.specs.Rows.{replaced}
-use Rattle.write_set.specs.Marks.{AreMarks, put_back}
+use Rattle.nest_frames.proofs.Common.{Actions, AreMarks, AreUnder, IsNew, IsSound, Moment, Old, Place, Row, Written, cases_Bool, cond-false, cond-true, eqb-true, frames_from, frames_of, length-reverse, length-take-le, lookup, replaced, rows_of}
+use Rattle.write_set.specs.Marks.{put_back}
 use Rattle.write_set.proofs.Overlays.{lookup_here, lookup_there}
 use Rattle.write_set.proofs.PutBack.{length-put_back, take-put_back}
 

@@ -1,14 +1,11 @@
 -- The open blocks, as calls change what they stand for.
 use Rattle.std.proofs.Common.{◌≡◌, Bool, ℕ, suc, ◌+◌, ◌-◌, ◌<◌, ◌≤◌, List, [], ◌∷◌, ◌++◌, ◌||◌, length, map, take, drop, reverse, refl, ap, sym, subst, ◌∙◌, arith, length-append, Option, Some, get_or, option_map, slice_get}
-use Rattle.nest_frames.proofs.Common.{Actions, AreUnder, BeginEmpty, Frame, IsSound, Moment, Nest, Old, Place, Props, Written, actions_closed, closed, drop_all, found, frame_at, frames_from, frames_of, kept_of, length-reverse, length-take-le, log_of, logged, option_to_list, renewed, reverse-append, take-append-le, unwritten}
-use Rattle.std.specs.List.{list_any}
-use Rattle.std.proofs.lemmas.List.{drop-append-le, take-append-drop, take-take, length-take, get_or-reverse}
+use Rattle.nest_frames.proofs.Common.{Actions, AreUnder, BeginEmpty, Frame, IsBy, IsMark, IsSound, KeepsMarks, KeepsOuter, Moment, Nest, Old, Place, Props, Written, actions_closed, closed, drop-append-le, drop_all, found, frame_at, frames_from, frames_of, get_or-reverse, kept_of, length-reverse, length-take, length-take-le, list_any, log_of, logged, option_to_list, renewed, reverse-append, rows_at, take-append-drop, take-append-le, take-take, unwritten}
 use Rattle.std.proofs.lemmas.List.Sorted.{list_any-IsPermutation, IsPermutation-reverse}
 use Rattle.std.proofs.lemmas.Option.{slice_get-map, slice_get-get_or}
 use Rattle.itm_types.specs.KeptBytes.{also_kept, merged}
 use Rattle.undo_log.proofs.KeptBytes.{kept_of-append, kept_of-log}
 use Rattle.write_set.specs.declared.mark.Mark.{Mark}
-use Rattle.write_set.specs.Marks.{IsBy, IsMark, KeepsMarks, KeepsOuter, rows_at}
 
 pub length-frames_from : (w : Written) (os : List Old) (ms : List Moment) → length (frames_from w os ms) ≡ length ms
 length-frames_from w os [] = refl

@@ -1,5 +1,5 @@
 pub mod Common
 pub mod Replies
 pub mod Examples
-pub mod Accesses
+pub mod Logs
 pub mod Engines

@@ -3,8 +3,7 @@ use Rattle.std.specs.Prelude.{◌≡◌, ◌≢◌, ◌⊎◌, ℕ, zero, suc, �
 use Rattle.itm_types.specs.declared.limits.TheConstants.{MAX_COMMITS}
 use Rattle.itm_types.specs.declared.row.LogRow.{LogRow}
 use Rattle.itm_types.specs.declared.call.Call.{Call}
-use Rattle.nest_frames.specs.Nest.{Frame, closed, logged, reads_of, rows_of, made_irrevocable}
-use Rattle.undo_log.specs.Rollback.{found}
+use Rattle.nest_frames.specs.Nest.{Frame, reads_of, rows_of, made_irrevocable}
 use Rattle.itm_types.specs.Calls.{is_abort}
 use Rattle.itm_types.specs.declared.call.Call.TheVariants.{Begin, Commit, Mode, Read, Write, Log, LogBytes, Copy, Fill, CommitAction, UndoAction}
 use Rattle.word_pieces.specs.Chunks.{chunks_of}

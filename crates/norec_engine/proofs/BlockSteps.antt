@@ -1,18 +1,14 @@
 -- Outermost begins and commits, for the engine as its callers see it.
 use Rattle.std.proofs.Common.{◌≡◌, ℕ, ◌<◌, ◌≤◌, ◌&&◌, ◌||◌, not, Bool, true, false, List, length, None, if◌then◌else◌, inl, refl, sym, ap, subst, ◌∙◌}
-use Rattle.norec_engine.proofs.Common.{Answers, Asks, Begin, CallEnd, CallTurns, Core, Data, End, IsCalled, IsResumed, IsSound, IsSoundIn, Pending, Phase, Reply, StepGoesTo, StepTurns, Taking, Turn, Wait, counted, engine_in, in_block, in_transaction, none_inside, phase_of, told}
+use Rattle.norec_engine.proofs.Common.{Answers, Asks, Begin, CallEnd, CallTurns, Code, Core, Data, End, Entered, EnteredAgain, IsBegun, IsCalled, IsResumed, IsSound, IsSoundIn, Pending, Phase, Reply, StepGoesTo, StepTurns, Taking, Turn, Wait, answer_of, begins_outer, counted, engine_in, in_block, in_transaction, may_go, none_inside, phase_of, told}
 use Rattle.itm_types.specs.declared.step.Step.TheVariants as steps
 use Rattle.itm_types.specs.declared.call.Props.{Props}
 use Rattle.nest_frames.specs.Nest.{Frame, stays_revocable}
-use Rattle.itm_types.specs.declared.call.Reply.TheVariants.{Code}
-use Rattle.norec_core.specs.Core.{may_go}
 use Rattle.norec_core.specs.Phases as at
 use Rattle.norec_core.specs.declared.call_parts.Taking.TheVariants as takings
 use Rattle.norec_data.specs.declared.pending.Pending.TheVariants as waits
-use Rattle.norec_data.specs.declared.end.CallEnd.TheVariants.{Committed, Entered, EnteredAgain}
-use Rattle.norec_data.specs.Ends.{answer_of}
-use Rattle.norec_revocable.specs.OuterBegins.{BeginTurns}
-use Rattle.norec_engine.specs.BlockSteps.{IsBegun, begins_outer}
+use Rattle.norec_data.specs.declared.end.CallEnd.TheVariants.{Committed}
+use Rattle.norec_blocks.specs.OuterBegins.{BeginTurns}
 use Rattle.norec_engine.proofs.EitherTurns.{resumed_in, revocable_step}
 use Rattle.norec_engine.proofs.IdleEngines.{asks_for, left_is, left_sound, sound_idle}
 use Rattle.norec_engine.proofs.FastSteps.{outside_revocable}

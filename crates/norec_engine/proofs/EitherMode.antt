@@ -1,7 +1,6 @@
 -- A turn of either machine, as one of the engine's.
 use Rattle.std.proofs.Common.{◌≡◌, true, false, refl}
-use Rattle.norec_engine.proofs.Common.{CallEnd, Data, End, EndIrrevocable, Idle, IsHeld, IsSound, IsSoundAfter, IsSoundHeld, IsSoundTurn, IsSoundWith, Turn, Wait, core_after, engine_after, held_after, told}
-use Rattle.norec_data.specs.Bounds.{IsOver}
+use Rattle.norec_engine.proofs.Common.{CallEnd, Data, End, EndIrrevocable, Idle, IsHeld, IsOver, IsSound, IsSoundAfter, IsSoundHeld, IsSoundTurn, IsSoundWith, Turn, Wait, core_after, engine_after, held_after, told}
 
 pub revocable_after : (turn : Turn) (d : Data) → core_after turn d ≡ engine_after false turn d
 revocable_after (Wait phase) d = refl

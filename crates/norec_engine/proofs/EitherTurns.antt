@@ -1,12 +1,7 @@
 -- What a turn leaves, in a transaction of either kind, as the engine's callers see it.
 use Rattle.std.proofs.Common.{◌≡◌, ℕ, Bool, true, false, None, refl, sym, ap, subst, ◌∙◌}
-use Rattle.norec_engine.proofs.Common.{Asked, Call, CallTurns, Core, Data, End, EndIrrevocable, Idle, IsCalled, IsResumed, IsSoundAfter, IsSoundIn, IsSoundWith, IsTaken, Next, Pending, Phase, StepTurns, StepTurnsIn, Turn, Wait, counted, data_after, engine_after, engine_in, mode_after, next_of, phase_after, phase_of}
-use Rattle.norec_core.specs.Moves.{IsStarved}
-use Rattle.norec_core.specs.Proceeds.{MayStarve}
+use Rattle.norec_engine.proofs.Common.{Asked, Call, CallStarvesIn, CallTurns, CallTurnsIn, Core, Data, End, EndIrrevocable, Idle, IsCalled, IsResumed, IsSoundAfter, IsSoundIn, IsSoundWith, IsStarved, IsTaken, MayStarve, Next, Pending, Phase, StepTurns, StepTurnsIn, Turn, Wait, counted, data_after, engine_after, engine_in, mode_after, next_of, pending_after, phase_after, phase_of}
 use Rattle.norec_data.specs.declared.pending.Pending.TheVariants as waits
-use Rattle.norec_data.specs.Turns.{pending_after}
-use Rattle.norec_revocable.specs.Moves.{CallStarves}
-use Rattle.norec_engine.specs.Modes.{CallStarvesIn, CallTurnsIn}
 use Rattle.norec_engine.proofs.EitherMode.{irrevocable_after, irrevocable_sound, revocable_after, revocable_sound}
 use Rattle.norec_engine.proofs.HeldTurns as held
 use Rattle.norec_engine.proofs.RevocableTurns as revocable
@@ -77,9 +72,6 @@ phase_left (EndIrrevocable end) d = refl
 -- of a transaction that is known to be revocable
 pub revocable_call : (b : Bool) (s : Data) (call : Call) (again : Bool) (turn : Turn) (d : Data) → b ≡ false → CallTurns s call again turn d → CallTurnsIn b s call again turn d
 revocable_call b s call again turn d e t = subst (λ (x : Bool). CallTurnsIn x s call again turn d) (sym e) t
-
-pub revocable_starves : (b : Bool) (s : Data) (call : Call) (d : Data) → b ≡ false → CallStarves s call d → CallStarvesIn b s call d
-revocable_starves b s call d e t = subst (λ (x : Bool). CallStarvesIn x s call d) (sym e) t
 
 pub revocable_step : (b : Bool) (s : Data) (phase : Phase) (seen : ℕ) (turn : Turn) (d : Data) → b ≡ false → StepTurns s phase seen turn d → StepTurnsIn b s phase seen turn d
 revocable_step b s phase seen turn d e t = subst (λ (x : Bool). StepTurnsIn x s phase seen turn d) (sym e) t

@@ -1,6 +1,6 @@
 -- The steps of a call of an irrevocable transaction are within its most.
 use Rattle.std.proofs.Common.{◌≡◌, ◌≢◌, ℕ, zero, suc, ◌+◌, ◌*◌, ◌^◌, ◌<◌, ◌≤◌, Bool, true, false, List, [], ◌∷◌, take, None, Some, slice_get, refl, ap, ◌∙◌, arith}
-use Rattle.norec_engine.proofs.Common.{Core, Data, IsSoundHeld, IsWithin, Phase, held, size_of}
+use Rattle.norec_engine.proofs.Common.{Core, Data, IsOn, IsSoundHeld, IsWithin, LoadsFor, Phase, PlacesFor, before_loads, before_places, call_for, copy_steps, count, doing_held, held, most, placed_before, placed_for, size_of}
 use Rattle.itm_types.specs.declared.limits.TheConstants.{MAX_WORDS}
 use Rattle.itm_types.specs.declared.call.Copying.{Copying}
 use Rattle.itm_types.specs.declared.copy.CopyPair.{CopyPair}
@@ -14,17 +14,12 @@ use Rattle.norec_core.specs.declared.call_parts.Purpose.{Purpose}
 use Rattle.norec_core.specs.declared.call_parts.Purpose.TheVariants as for
 use Rattle.norec_core.specs.declared.call_parts.Target.{Target}
 use Rattle.norec_core.specs.declared.call_parts.Target.TheVariants as into
-use Rattle.norec_core.specs.Accesses.{count}
 use Rattle.norec_core.specs.Copies.{chunks_in, direction_of, is_out, words_in, words_read, words_written, WritesShared}
-use Rattle.norec_core.specs.Proceeds.{most}
-use Rattle.norec_core.proofs.Accesses.CopyChunks.{chunk_there, few_words}
-use Rattle.norec_core.proofs.Accesses.Ranges.{IsPart, parts-chunks_of}
-use Rattle.norec_core.proofs.Accesses.Readings.{words_in-at}
+use Rattle.access_rules.proofs.CopyChunks.{chunk_there, few_words}
+use Rattle.access_rules.proofs.Ranges.{IsPart, parts-chunks_of}
+use Rattle.access_rules.proofs.Readings.{words_in-at}
 use Rattle.norec_irrevocable.proofs.Pieces.ChunkPhases.{few_chunks}
 use Rattle.std.specs.List.{AllByRecursion}
-use Rattle.norec_data.specs.Turns.{IsOn}
-use Rattle.norec_data.specs.View.{call_for, doing_held, placed_for}
-use Rattle.norec_irrevocable.specs.Phases.{before_loads, before_places, copy_steps, placed_before, LoadsFor, PlacesFor}
 
 -- the words of the first chunks are some of all
 words_in-take : (place : ℕ) (cs : List Chunk) (n : ℕ) → words_in place (take n cs) ≤ words_in place cs

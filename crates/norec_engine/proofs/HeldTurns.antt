@@ -1,15 +1,12 @@
 -- What a turn of an irrevocable transaction leaves.
-use Rattle.std.proofs.Common.{rules, ◌≡◌, ℕ, Bool, true, false, not, ◌&&◌, Option, refl, sym, ap, subst, ◌∙◌}
-use Rattle.norec_engine.proofs.Common.{Answer, Begin, Call, Core, Data, End, EndIrrevocable, EndsSo, IsCalled, IsHeld, IsResumed, IsSettled, IsSoundAfter, IsSoundHeld, IsWithin, Phase, Stays, StaysOn, Turn, TurnEndsSo, Wait, asked, counted, data_after, ending_after, ending_at, held, held_after, in_transaction, mode_after, next_of, phase_after, phase_of, tries_at}
+use Rattle.std.proofs.Common.{rules, ◌≡◌, ℕ, Bool, true, false, not, ◌&&◌, refl, sym, ap, subst, ◌∙◌}
+use Rattle.norec_engine.proofs.Common.{Begin, Call, Core, Data, End, EndIrrevocable, IsCalled, IsHeld, IsResumed, IsSettled, IsSoundAfter, IsSoundHeld, IsWithin, Phase, Proceeds, Stays, StaysOn, Turn, Wait, asked, came, core_held, counted, data_after, ending_after, ending_at, held, held_after, in_transaction, mode_after, next_of, phase_after, phase_of, stage_at, tries_at}
 use Rattle.std.proofs.lemmas.Bool.{cond-true}
-use Rattle.norec_core.specs.Core.{came}
-use Rattle.norec_core.specs.Order.{stage_at}
-use Rattle.norec_core.specs.Proceeds.{Proceeds}
 use Rattle.norec_core.specs.Phases as at
-use Rattle.norec_data.specs.View.{core_held}
 use Rattle.norec_irrevocable.specs.Moves.{HeldCallTurns, HeldStepTurns}
 use Rattle.norec_engine.proofs.EitherMode.{irrevocable_after, irrevocable_sound}
 use Rattle.norec_engine.proofs.SettledEngines.{counts_in, settled_in}
+use Rattle.norec_engine.proofs.RevocableTurns.{ends}
 
 -- within a transaction no block begins again
 again_within : (again b : Bool) → b ≡ true → (again && not b) ≡ false
@@ -38,11 +35,6 @@ snapshot_is : (turn : Turn) (d : Data) → (held_after turn d).snapshot ≡ d.sn
 snapshot_is (Wait p) d = refl
 snapshot_is (End end) d = refl
 snapshot_is (EndIrrevocable end) d = refl
-
-ends : (so : Option Answer) (turn : Turn) (d : Data) → TurnEndsSo so turn d → EndsSo so (next_of turn d)
-ends so (Wait p) d e = tt
-ends so (End end) d e = e
-ends so (EndIrrevocable end) d e = e
 
 asks : (turn : Turn) (d : Data) → (held_after turn d).waits ≡ asked (held_after turn d)
 asks (Wait p) d = refl

@@ -1,9 +1,9 @@
 -- What a turn of a transaction that is not irrevocable leaves.
 use Rattle.std.proofs.Common.{rules, ◌≡◌, ℕ, Bool, true, false, Option, refl, sym, ap, subst, ◌∙◌}
-use Rattle.norec_engine.proofs.Common.{Answer, Call, CallTurns, Data, End, EndIrrevocable, EndsSo, Idle, IsCalled, IsResumed, IsSettled, IsSoundTurn, IsWithin, Phase, Stays, StaysOn, StepTurns, Turn, TurnEndsSo, Wait, asked, core, core_after, data_after, ending_after, ending_at, in_block, in_transaction, mode_after, next_of, phase_after, tries_at}
-use Rattle.norec_core.specs.Order.{log_after, tries_after}
+use Rattle.norec_engine.proofs.Common.{Call, CallTurns, Data, End, EndIrrevocable, EndsSo, Idle, IsCalled, IsResumed, IsSettled, IsSoundTurn, IsWithin, Phase, Stays, StaysOn, StepTurns, Turn, TurnEndsSo, Wait, asked, core, core_after, data_after, ending_after, ending_at, in_block, in_transaction, log_after, mode_after, next_of, phase_after, tries_after, tries_at}
 use Rattle.norec_engine.proofs.EitherMode.{revocable_after, revocable_sound}
 use Rattle.norec_engine.proofs.SettledEngines.{counts_in, settled_in}
+use Rattle.norec_core.specs.declared.answer.Answer.{Answer}
 
 stays : (turn : Turn) (s d : Data) → Stays s d → StaysOn (core s Idle) (core_after turn d)
 stays (Wait p) s d on = record { opens = on.opens; log = on.log; snapshot = on.snapshot }
@@ -20,7 +20,8 @@ snapshot_is (Wait p) d = refl
 snapshot_is (End end) d = refl
 snapshot_is (EndIrrevocable end) d = refl
 
-ends : (so : Option Answer) (turn : Turn) (d : Data) → TurnEndsSo so turn d → EndsSo so (next_of turn d)
+-- in either mode a turn ends as it says
+pub ends : (so : Option Answer) (turn : Turn) (d : Data) → TurnEndsSo so turn d → EndsSo so (next_of turn d)
 ends so (Wait p) d e = tt
 ends so (End end) d e = e
 ends so (EndIrrevocable end) d e = e

@@ -1,9 +1,7 @@
 -- The steps of a validation round, for the engine as its callers see it.
 use Rattle.std.proofs.Common.{◌≡◌, ℕ, suc, ◌+◌, Bool, true, false, Some, IsSome, refl, sym, ap, subst, ◌∙◌, arith}
-use Rattle.norec_engine.proofs.Common.{Aim, Asked, Core, Data, IsResumed, IsSound, IsSoundHeld, IsSoundIn, IsSoundWith, IsTaken, Load, LogRow, Next, Pending, Phase, RoundEnd, RoundRow, RoundStart, StepTurns, StepTurnsIn, Turn, core, engine_in, phase_of, row_at}
-use Rattle.norec_core.specs.Proceeds.{Fits}
+use Rattle.norec_engine.proofs.Common.{Aim, Asked, Core, Data, IsResumed, IsSound, IsSoundHeld, IsSoundIn, IsSoundWith, IsTaken, Load, LogRow, Next, Pending, Phase, RoundEnd, RoundRow, RoundStart, StepTurns, StepTurnsIn, Turn, aim_of, core, engine_in, phase_of, row_at}
 use Rattle.norec_data.specs.declared.pending.Pending.TheVariants as waits
-use Rattle.norec_data.specs.View.{aim_of}
 use Rattle.norec_engine.specs.Rounds.{Validates}
 use Rattle.norec_engine.proofs.BlockSteps.{mode, sound_for}
 use Rattle.norec_engine.proofs.WholeReads.{stage_is}
@@ -58,9 +56,6 @@ module _ (b : Bool) (d : Data) (p : Pending) (c : Core) (view : engine_in b d (p
 
   pub waits_here : IsSome (core d (phase_of d q)).waits
   waits_here = subst (λ (e : Core). IsSome e.waits) view_here (subst IsSome (sym v.waits) refl)
-
-  pub fits_here : (seen : ℕ) → Fits c seen → Fits (core d (phase_of d q)) seen
-  fits_here seen f = subst (λ (e : Core). Fits e seen) view_here f
 
   -- the step's value was handed in
   module _ (seen : ℕ) (turn : Turn) (new : Data) (turns : StepTurns d (phase_of d q) seen turn new) where

@@ -1,15 +1,12 @@
 -- The rows of a commit, as the engine's callers see them stored.
 use Rattle.std.proofs.Common.{◌≡◌, ℕ, ◌+◌, ◌*◌, ◌<◌, ◌≤◌, Bool, false, [], inl, inr, length, List, Option, None, Some, true, arith, refl, sym, ap, subst, ◌∙◌}
-use Rattle.norec_engine.proofs.Common.{Asks, CallTurns, CommitCall, Core, Data, IsCalled, IsResumed, IsSound, IsSoundIn, IsWhole, Pending, Phase, Row, StoresRows, Taking, Wait, WaitsForClock, asking_commit, core, counted, engine_in, exchanging, in_block, last_stage, next_step, part_stage, phase_of, step_in, storing, whole_stage}
+use Rattle.norec_engine.proofs.Common.{Asks, AsksForClock, CallTurns, Cas, CommitCall, Core, Data, IsCalled, IsResumed, IsSound, IsSoundIn, IsWhole, Pending, Phase, Row, StoresRows, Taking, Wait, WaitsForClock, WritesBack, after_row, after_taking, asking, asking_commit, asks_next, core, counted, engine_in, exchanging, in_block, last_stage, may_first, may_store, merging, next_step, part_loaded, part_stage, part_store, phase_of, sound_load, step_in, storing, whole_stage}
 use Rattle.itm_types.specs.declared.step.Step.{Step}
-use Rattle.itm_types.specs.declared.step.Step.TheVariants.{Cas}
 use Rattle.norec_core.specs.Phases as at
 use Rattle.norec_core.specs.declared.call_parts.Taking.TheVariants as takings
 use Rattle.norec_data.specs.declared.pending.Pending.TheVariants as waits
-use Rattle.norec_revocable.specs.Between as fields
-use Rattle.norec_revocable.proofs.CommitCalls.{asks}
-use Rattle.norec_revocable.proofs.StoredRows.{after_row, after_taking, asking, asks_next, may_first, may_store, part_loaded, sound_load}
-use Rattle.norec_engine.specs.BlockSteps.{AsksForClock, WritesBack, merging, part_store}
+use Rattle.norec_turns.specs.Between as fields
+use Rattle.norec_blocks.proofs.CommitCalls.{asks}
 use Rattle.norec_engine.proofs.BlockSteps.{exchange_at, mode}
 use Rattle.norec_engine.proofs.IdleEngines.{asks_for, core_idle, sound_idle}
 use Rattle.norec_engine.proofs.RevocableTurns.{resumed}
@@ -123,10 +120,6 @@ module _ (b : Bool) (d : Data) (p : Pending) (c : Core) (view : engine_in b d (p
 
   pub shown_taking : WaitsForClock c → core d (at.Exchange takings.Commit) ≡ c
   shown_taking t = (waiting t.revocable t.stage).0
-
-  -- as it waits for it, it is as it is seen
-  pub exchanging_now : c.irrevocable ≡ false → c.stage ≡ at.Exchange takings.Commit → exchanging c ≡ c
-  exchanging_now revocable stage = (let w = waiting revocable stage in sym (ap exchanging w.0) ∙ w.0)
 
   -- or a commit comes now
   module _ (t : AsksForClock c) where

@@ -1,17 +1,8 @@
 -- What is true of an engine between two steps, in a transaction of either kind.
 use Rattle.std.proofs.Common.{◌≡◌, ℕ, ◌/◌, ◌<◌, Bool, true, false, List, [], length, None, Some, refl, sym, subst, arith}
-use Rattle.norec_engine.proofs.Common.{Data, IsSettled, IsSound, IsSoundHeld, IsSoundIn, IsWithin, LogRow, Phase, core, engine_in, held, in_block, none_inside}
+use Rattle.norec_engine.proofs.Common.{AreRead, Data, InPhase, IsLog, IsOutside, IsSettled, IsSound, IsSoundHeld, IsSoundIn, IsWithin, LogRow, Phase, agreed, core, counts, engine_in, held, holds_of, in_block, none_inside, none_written, open_in, waits_of}
 use Rattle.norec_core.specs.Phases as at
-use Rattle.norec_core.specs.Order.{snapshot_after}
-use Rattle.norec_core.specs.Rows.{IsLog}
-use Rattle.norec_core.proofs.Accesses.Overlays.{agreed}
-use Rattle.norec_core.specs.Proceeds.{AreRead}
-use Rattle.norec_data.specs.Bounds.{IsOutside}
-use Rattle.norec_data.specs.View.{holds_of, waits_of}
-use Rattle.norec_revocable.specs.InPhases.{InPhase}
-use Rattle.norec_revocable.proofs.Counts.{counts}
-use Rattle.norec_revocable.proofs.Blocks.EndedTransactions.{none_written, open_in}
-use Rattle.norec_revocable.proofs.Blocks.OpenBegins.{are_read}
+use Rattle.norec_turns.proofs.OpenBegins.{are_read}
 use Rattle.norec_engine.proofs.HeldCounts.{held_counts}
 
 outside : (d : Data) (phase : Phase) → InPhase d phase → in_block d ≡ false → IsOutside d
@@ -96,10 +87,3 @@ settled_in true d phase s = held_settled d phase s
 pub counts_in : (irrevocable : Bool) (d : Data) (phase : Phase) → IsSoundIn irrevocable d phase → IsWithin (engine_in irrevocable d phase)
 counts_in false d phase s = counts d phase s
 counts_in true d phase s = held_counts d phase s
-
--- no step of an irrevocable transaction moves its snapshot
-pub held_snapshot : (d : Data) (phase : Phase) (seen : ℕ) → IsSoundHeld d phase → snapshot_after (held d phase) seen ≡ d.snapshot
-held_snapshot d (at.Begin b) seen s = absurd s.in_phase
-held_snapshot d (at.RoundEnd aim) seen s = absurd s.in_phase
-held_snapshot d (at.RoundBack aim row) seen s = absurd s.in_phase
-held_snapshot d phase seen s = refl

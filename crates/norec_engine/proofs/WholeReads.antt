@@ -1,20 +1,17 @@
 -- The steps of a read of one whole word, for the engine as its callers see it.
 use Rattle.std.proofs.Common.{◌≡◌, ◌+◌, inl, ℕ, suc, Bool, true, false, None, length, refl, sym, ap, subst, ◌∙◌, arith}
-use Rattle.norec_engine.proofs.Common.{Answers, Asks, CallTurns, Core, Data, End, Idle, IsCalled, IsResumed, IsSound, IsSoundIn, IsTaken, IsWord, Joins, Next, Pending, Phase, Read, Reply, StepGoesTo, StepTurns, StepTurnsIn, Turn, Wait, core, counted, engine_in, lookup, phase_of, rows_before, step_of}
+use Rattle.norec_engine.proofs.Common.{Answers, Asks, Bytes, CallTurns, Confirm, Core, Data, End, Idle, IsCalled, IsResumed, IsSound, IsSoundIn, IsTaken, IsWord, Joins, Next, Pending, Phase, Read, Reply, StepGoesTo, StepTurns, StepTurnsIn, Turn, Wait, Word, core, counted, engine_in, lookup, phase_of, rows_before, step_of, value_reading}
 use Rattle.std.proofs.lemmas.List.{take_all}
 use Rattle.std.specs.Int.{w64, to_le_bytes}
 use Rattle.itm_types.specs.declared.access.ReadHint.{ReadHint}
 use Rattle.itm_types.specs.declared.access.Width.{Width}
-use Rattle.itm_types.specs.declared.call.Reply.TheVariants.{Bytes}
 use Rattle.itm_types.specs.declared.step.Step.TheVariants as steps
-use Rattle.norec_core.specs.Order.{value_reading}
 use Rattle.norec_core.specs.OwnAccesses.{word_of}
-use Rattle.norec_core.specs.Phases.{Confirm, Load}
+use Rattle.norec_core.specs.Phases.{Load}
 use Rattle.norec_core.specs.declared.call_parts.Reading.{Reading}
 use Rattle.norec_data.specs.declared.pending.Pending.TheVariants as waits
-use Rattle.norec_data.specs.declared.end.CallEnd.TheVariants.{Word}
-use Rattle.norec_revocable.specs.WholeReads.{asking_word, IsNewWord, ReadTurns}
-use Rattle.norec_revocable.proofs.ReadCalls.WholeReads.{is_word}
+use Rattle.norec_accesses.specs.WholeReads.{asking_word, IsNewWord, ReadTurns}
+use Rattle.norec_accesses.proofs.ReadCalls.WholeReads.{is_word}
 use Rattle.norec_engine.specs.WholeReads.{ConfirmsWord, IsConfirmed, IsReadAtOnce, LoadsWord, ReadsAtOnce}
 use Rattle.norec_engine.proofs.EitherTurns.{resumed_in, revocable_step}
 use Rattle.norec_engine.proofs.IdleEngines.{asks_for, core_idle, left_is, left_sound, sound_idle}
@@ -42,9 +39,6 @@ confirms d word value b p mode is here none =
 -- the rows that were there as the read came
 pub rows_loaded : (b : Bool) (d : Data) (p : Pending) → b ≡ false → p ≡ waits.Load → (engine_in b d (phase_of d p)).writes ≡ rows_before d
 rows_loaded b d p mode is = λ i. (engine_in (mode i) d (phase_of d (is i))).writes
-
-pub rows_confirmed : (b : Bool) (d : Data) (p : Pending) (value : ℕ) → b ≡ false → p ≡ waits.Confirm value → (engine_in b d (phase_of d p)).writes ≡ rows_before d
-rows_confirmed b d p value mode is = λ i. (engine_in (mode i) d (phase_of d (is i))).writes
 
 -- a step that is counted, and leaves the fields as they are otherwise, moves neither the log nor the snapshot
 pub joins_none : (b : Bool) (d : Data) (p q : Phase) (seen : ℕ) → Joins (engine_in b d p) seen (engine_in b (counted d) q)

@@ -10,8 +10,8 @@ use Rattle.norec_data.specs.Turns.{data_after, next_of, pending_after, phase_aft
 use Rattle.norec_data.specs.declared.pending.Pending.{Pending}
 use Rattle.norec_core.specs.declared.answer.Next.{Next}
 use Rattle.norec_data.specs.View.{core, held, phase_of}
-use Rattle.norec_revocable.specs.InPhases.{IsSound}
-use Rattle.norec_revocable.specs.Moves.{CallStarves, CallTurns, StepTurns}
+use Rattle.norec_turns.specs.InPhases.{IsSound}
+use Rattle.norec_turns.specs.Moves.{CallStarves, CallTurns, StepTurns}
 use Rattle.norec_irrevocable.specs.Moves.{HeldCallStarves, HeldCallTurns, HeldStepTurns}
 use Rattle.norec_irrevocable.specs.Phases.{IsSoundHeld}
 

@@ -15,8 +15,8 @@ use Rattle.norec_core.specs.declared.answer.Next.TheVariants.{Step as Asks, Answ
 use Rattle.norec_core.specs.Moves.{IsCalled, IsResumed}
 use Rattle.itm_types.specs.declared.step.Step.TheVariants as steps
 use Rattle.norec_core.specs.declared.call_parts.Reading.{Reading}
-use Rattle.norec_revocable.specs.Between.{IsWord}
-use Rattle.norec_revocable.specs.WholeReads.{IsNewWord}
+use Rattle.norec_turns.specs.Between.{IsWord}
+use Rattle.norec_accesses.specs.WholeReads.{IsNewWord}
 
 -- the log has room by the number of its rows alone, and the transaction is revocable: a read whose word has to be loaded may be done at once
 pub record ReadsAtOnce (e : Core) (width : Width) (at word : ℕ) : Type 0 where

@@ -13,9 +13,9 @@ ghost use Rattle.norec_engine.specs.BlockSteps.{AsksForClock, IsBegun, IsWhole, 
 use crate::engine::Engine;
 use crate::turns::wait;
 use itm_types::{Call, ENTERED, ENTERED_AGAIN, Props, Step};
+use norec_blocks::{ask_free, begin_at_once, begin_outer, commit_reads, commit_writes, freed};
 use norec_core::Answer;
 use norec_data::Pending;
-use norec_revocable::{ask_free, begin_at_once, begin_outer, commit_reads, commit_writes, freed};
 use word_pieces::merge;
 
 /// The code of a block that has begun, `again` where it was begun before.

@@ -310,7 +310,7 @@ impl Engine {
         if self.irrevocable {
             None
         } else {
-            norec_revocable::irrevocable_room(&self.state, call)
+            norec_blocks::irrevocable_room(&self.state, call)
         }
     }
 

@@ -19,12 +19,12 @@ ghost use Rattle.norec_engine.specs.WholeWrites.{ServesWrite};
 use crate::engine::Engine;
 use crate::turns::{next_step, take};
 use itm_types::{Call, Datum, ReadHint, Reply, Step, Width, WriteHint};
-use norec_core::Answer;
-use norec_data::{CallEnd, Pending, Turn};
-use norec_revocable::{
+use norec_accesses::{
     ask_word, begin_word, confirmed_new, known_number, loaded, read_at_once, word_to_read, write,
     write_found, write_next, write_served,
 };
+use norec_core::Answer;
+use norec_data::{CallEnd, Pending, Turn};
 
 impl Engine {
     /// `call_into` of a read of one whole word that is neither written nor logged, where there is memory to log it: this

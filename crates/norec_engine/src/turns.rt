@@ -41,7 +41,7 @@ pub(crate) fn begin(
     if irrevocable {
         norec_irrevocable::called(state, &Call::Begin { props, room })
     } else {
-        norec_revocable::begin(state, props, room, again)
+        norec_blocks::begin(state, props, room, again)
     }
 }
 

@@ -1,4 +1,3 @@
 pub mod Common
 pub mod Pieces
 pub mod Replies
-pub mod SameDatum

@@ -4,21 +4,16 @@ ghost use Rattle.norec_core.specs.Phases as phases;
 ghost use Rattle.std.specs.Prelude.{IsSome, false};
 ghost use Rattle.norec_core.specs.Proceeds.{Fits};
 ghost use Rattle.norec_data.specs.View.{core, phase_of, waits_of};
-ghost use Rattle.norec_revocable.specs.InPhases.{IsSound};
-ghost use Rattle.norec_revocable.specs.Moves.{StepTurns, CallComes};
+ghost use Rattle.norec_turns.specs.InPhases.{IsSound};
+ghost use Rattle.norec_turns.specs.Moves.{StepTurns, CallComes};
 
-use crate::abort::abort;
-use crate::begins::{begin, begin_seen, begin_taken};
-use crate::commits::{back_loaded, commit, exchanged, freed, stored};
-use crate::copy::copy;
-use crate::fill::fill;
 use crate::local::{in_transaction, load, log, register, save};
-use crate::mode::mode;
-use crate::read::{confirmed, loaded, read};
-use crate::restarts::round_decided;
-use crate::rounds::{round_ended, round_started, row_seen};
-use crate::writes::write;
 use itm_types::{ActionKind, Call};
+use norec_accesses::{confirmed, copy, fill, loaded, read, write};
+use norec_blocks::{
+    abort, back_loaded, begin, begin_seen, begin_taken, commit, exchanged, freed, mode,
+    round_decided, round_ended, round_started, row_seen, stored,
+};
 use norec_data::{Data, Pending, Turn};
 use std::alloc::AllocError;
 

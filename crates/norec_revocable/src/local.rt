@@ -5,10 +5,10 @@ ghost use Rattle.std.specs.Prelude.{◌≡◌, ◌<◌, Some, false, if◌then�
 ghost use Rattle.itm_types.specs.declared.call.Call.{Call};
 ghost use Rattle.itm_types.specs.Calls.{logged_of, registered_by};
 ghost use Rattle.norec_data.specs.View.{in_block};
-ghost use Rattle.norec_revocable.specs.InPhases.{IsSound};
+ghost use Rattle.norec_turns.specs.InPhases.{IsSound};
 ghost use Rattle.norec_data.specs.Ends.{answer_of};
 ghost use Rattle.norec_data.specs.declared.data.Data.{Data};
-ghost use Rattle.norec_revocable.specs.Moves.{CallTurns, CallComes};
+ghost use Rattle.norec_turns.specs.Moves.{CallTurns, CallComes};
 
 use itm_types::{Action, ActionKind, Call, Datum, Refusal, Reply, Width};
 use norec_core::Answer;

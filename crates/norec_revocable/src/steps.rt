@@ -2,7 +2,7 @@
 
 ghost use Rattle.std.specs.Prelude.{◌≡◌};
 ghost use Rattle.norec_data.specs.View.{phase_of, step_of};
-ghost use Rattle.norec_revocable.specs.InPhases.{IsSound};
+ghost use Rattle.norec_turns.specs.InPhases.{IsSound};
 ghost use Rattle.norec_data.specs.Turns.{counted};
 
 use itm_types::Step;

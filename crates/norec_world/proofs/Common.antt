@@ -3,7 +3,9 @@ pub use Rattle.norec_engine.specs.NextSteps.{ComesInto, next_in}
 pub use Rattle.norec_world.specs.Views.{world_of}
 pub use Rattle.event_rules.proofs.Commits.ActorLimits.{limits_as, limits_stay}
 pub use Rattle.event_rules.proofs.Commits.CommitCounts.{commits_first, counted_after}
-pub use Rattle.event_rules.proofs.Common.{Actor, after_undoing, AllFit, Answer, Answers, append-nil, AreActors, AreOfActors, AreOpaque, AreOpen, AreTied, Asks, AsksOf, Attempt, Begin, Begins, begun, begun_in, bytes_of, Call, Cells, cells_after, CommitsInOrder, Core, count_in, counted, Current, ending_in, ends_in, event_result, first_engine, first_of, Goes, HasStepped, HasWorked, in_transaction, irrevocable_room, is_begin, is_ready, is_waiting, IsActing, IsAnswered, IsAsked, IsBetween, IsDue, IsFirst, IsSettled, IsSettledBy, IsTied, KeepsOthers, MAX_ACTORS, MayRunOn, Next, NoMemory, observed, open_in, opening, option_and_then, Outcome, Outside, over_as, PlayerRun, prior_of, Ran, Records, reserved, RunsFrom, same_Some, slice_get_within, slice_index_or, Stage, stage_of, Stand, stand_of, Starves, status_after, StatusIs, Step, Taken, tally_of, told, waiting_step, waits_at, whole, with_room, Within, words_of, words_of-bytes_of, World}
+pub use Rattle.event_rules.proofs.Common.{Actor, after_undoing, AllFit, Answer, Answers, append-nil, AreActors, AreOfActors, AreOpaque, AreOpen, AreTied, Asks, AsksOf, Attempt, Begin, Begins, begun, begun_in, bytes_of, Call, Cells, cells_after, CommitsInOrder, Core, count_in, Current, ending_in, ends_in, event_result, first_engine, first_of, Goes, HasStepped, HasWorked, in_transaction, irrevocable_room, is_begin, is_ready, is_waiting, IsActing, IsAnswered, IsAsked, IsBetween, IsDue, IsFirst, IsSettled, IsSettledBy, IsTied, KeepsOthers, MAX_ACTORS, MayRunOn, Next, NoMemory, observed, open_in, opening, Outcome, Outside, over_as, PlayerRun, prior_of, Ran, Records, reserved, RunsFrom, same_Some, slice_get_within, slice_index_or, Stage, stage_of, Stand, stand_of, Starves, status_after, StatusIs, Step, Taken, tally_of, told, waiting_step, waits_at, whole, with_room, Within, words_of, words_of-bytes_of, World}
+pub use Rattle.world_rules.specs.World.{counted}
+pub use Rattle.std.specs.Option.{option_and_then}
 pub use Rattle.itm_types.specs.Memory.{AreWords}
 pub use Rattle.std.specs.Int.{from_le_bytes, to_le_bytes, w64}
 pub use Rattle.world_rules.proofs.Common.{HasStarted, Leads, passes_of, SameOpening, Takes, took_in}

@@ -1,2 +1,5 @@
 pub mod Views
 pub mod Listed
+pub mod Beginnings
+pub mod Calls
+pub mod Taken

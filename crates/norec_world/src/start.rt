@@ -1,21 +1,15 @@
 //! How actors begin.
 
-ghost use Rattle.std.specs.Prelude.{◌≡◌, ℕ, ◌*◌, ◌<◌, ◌≤◌, [], length, slice_get, None, Some, IfOk, All};
-ghost use Rattle.itm_types.specs.Memory.{AllFit, bytes_of};
+ghost use Rattle.std.specs.Prelude.{◌≡◌, ◌<◌, ◌≤◌, [], length, IfOk, All};
 ghost use Rattle.itm_types.specs.declared.limits.TheConstants.{MAX_ACTORS, MAX_ARENA, MAX_COMMITS, MAX_PATIENCE, MAX_RETRIES};
 ghost use Rattle.world_rules.specs.Rows.{rows_in};
-ghost use Rattle.world_rules.specs.Stages.{active_of};
-ghost use Rattle.world_rules.specs.Actors.{AreActors};
-ghost use Rattle.world_rules.specs.World.{ending_in};
-ghost use Rattle.world_rules.specs.Starts.{IsFirst, IsNewActor, HasStarted, first_engine};
-ghost use Rattle.world_rules.specs.Runs.{RunsFrom};
-ghost use Rattle.world_rules.specs.Headline.{first_of};
-ghost use Rattle.world_rules.specs.Actor.{Actor};
+ghost use Rattle.world_rules.specs.Starts.{IsNewActor};
+ghost use Rattle.norec_world.specs.Beginnings.{HaveAllStarted, IsFresh};
 
 use crate::actor::{Actor, ending, fresh};
 use crate::memory::Memory;
 use crate::work::work;
-use itm_types::{Limits, MAX_ACTORS, MAX_MEMORY};
+use itm_types::{Limits, MAX_ACTORS};
 use norec_engine::Engine;
 use std::alloc::{AllocError, Global};
 use tx_attempts::Attempt;
@@ -47,23 +41,9 @@ pub(crate) fn start_all<P: Player>(
 ) -> Result<Vec<Actor<P>>, AllocError>
     requires few { length players.items ≤ MAX_ACTORS }
     requires outside { All (λ p. P.depth p ≡ 0) players.items }
-    requires size { (0 < length memory.now.words) × (8 * length memory.now.words ≤ MAX_MEMORY) }
-    requires fit { AllFit memory.now.words }
+    requires fresh { IsFresh memory.now }
     requires empty { ended.old.items ≡ [] }
-    requires clock { memory.now.clock ≡ 0 }
-    ensures count { IfOk result (λ actors. length actors.items ≡ length players.items) }
-    ensures sound { IfOk result (λ actors. AreActors P.Player memory.now (rows_in ended.new) actors.items) }
-    ensures first { IfOk result (λ actors. (place : ℕ) (a : Actor P) → slice_get actors.items place ≡ Some a
-        → IsFirst memory.now.clock terms.limits a) }
-    ensures starts { IfOk result (λ actors. (place : ℕ) (p : P) (a : Actor P) → slice_get players.items place ≡ Some p
-        → slice_get actors.items place ≡ Some a
-        → HasStarted P.Player memory.now.clock (first_engine (length memory.now.words) terms.arena terms.limits) terms.limits.retries place p a) }
-    ensures runs { IfOk result (λ actors. (place : ℕ) (p : P) (a : Actor P) → slice_get players.items place ≡ Some p
-        → slice_get actors.items place ≡ Some a
-        → RunsFrom P.Player (first_of p terms.arena) terms.limits.depth (bytes_of memory.now.words) memory.now (rows_in ended.new) a) }
-    ensures none { IfOk result (λ actors. ended.new.items ≡ []) }
-    ensures none_open { IfOk result (λ actors. (place : ℕ) (a : Actor P) → slice_get actors.items place ≡ Some a → active_of a ≡ None) }
-    ensures fed { IfOk result (λ actors. (place : ℕ) → ending_in actors.items place ≡ Some End.NoMemory → ⊥) }
+    ensures { IfOk result (λ actors. HaveAllStarted P.Player memory.now terms.arena terms.limits players.items (rows_in ended.new) actors.items) }
 {
     let mut actors = Vec::new(alloc);
     for player in players {
@@ -84,9 +64,7 @@ fn start<P: Player>(
     player: P,
 ) -> Result<Actor<P>, AllocError>
     requires outside { P.depth player ≡ 0 }
-    requires size { (0 < length memory.now.words) × (8 * length memory.now.words ≤ MAX_MEMORY) }
-    requires fit { AllFit memory.now.words }
-    requires clock { memory.now.clock ≡ 0 }
+    requires fresh { IsFresh memory.now }
     ensures { IfOk result (IsNewActor P.Player memory.now terms.arena terms.limits thread player (rows_in ended.old) (rows_in ended.new)) }
 {
     let arena = Arena::new(alloc, terms.arena as usize)?;

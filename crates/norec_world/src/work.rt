@@ -1,24 +1,17 @@
 //! The local work of an actor: what it does between two operations.
 
-ghost use Rattle.std.specs.Prelude.{◌≡◌, ◌≤◌, true, false, Some, IfOk, OnErr};
+ghost use Rattle.std.specs.Prelude.{◌≡◌, ◌≤◌, false, Some, IfOk, OnErr};
 ghost use Rattle.norec_core.specs.Core.{in_transaction};
 ghost use Rattle.norec_core.specs.declared.answer.Next.TheVariants.{Answer as Answers};
 ghost use Rattle.norec_engine.specs.NextSteps.{next_in};
 ghost use Rattle.world_rules.specs.Rows.{rows_in};
-ghost use Rattle.world_rules.specs.Cells.{Cells};
 ghost use Rattle.world_rules.specs.Status.{is_ready};
 ghost use Rattle.world_rules.specs.Stages.{KeepsOthers, count_of};
-ghost use Rattle.world_rules.specs.Records.{Asks, TakesTo};
-ghost use Rattle.norec_core.specs.Proceeds.{IsSettled};
-ghost use Rattle.norec_core.specs.Undoing.{after_undoing};
-ghost use Rattle.itm_types.specs.Calls.{is_begin};
-ghost use Rattle.world_rules.specs.LocalWork.{HasUsedUp};
 ghost use Rattle.event_rules.specs.Moments.{HasWorked};
-ghost use Rattle.world_rules.specs.ActionRoom.{MayRunOn, IsActing, IsRefused, MayRun};
-ghost use Rattle.world_rules.specs.Sound.{IsTied, IsKept, IsReady, IsSound, IsAsked, IsUnasked, MayRecord, WritesDown, Falls};
-ghost use Rattle.tx_runs.specs.PlayerRuns.{tally_of};
+ghost use Rattle.world_rules.specs.ActionRoom.{IsActing, IsRefused, MayRun};
+ghost use Rattle.world_rules.specs.Sound.{IsKept, IsSound, MayRecord, WritesDown, Falls};
+ghost use Rattle.norec_world.specs.Calls.{HasAsked, HasEnded, WasRefused};
 ghost use Rattle.tx_runs.specs.Ranks.{restarts_left};
-ghost use Rattle.tx_runs.specs.Tallies.{stand_of, stopped};
 
 use crate::actor::Actor;
 use crate::memory::Memory;
@@ -87,14 +80,9 @@ fn ask<P: Player>(
     requires sound { IsSound P.Player memory.now (rows_in ended.old) actor.old }
     requires ready { actor.old.status ≡ Status.Ready }
     requires asks { P.next_call actor.old.run.player ≡ Some call.now }
-    ensures acts { IfOk result (λ step. MayRunOn actor.new call.now (next_in step answer.new)) }
-    ensures asked { IfOk result (λ step. IsAsked P.Player actor.old actor.new call.now (next_in step answer.new)) }
-    ensures told { IfOk result
-        (λ step. Asks memory.now.clock (rows_in ended.old) (rows_in ended.new) actor.old actor.new call.now (next_in step answer.new)) }
-    ensures unasked { OnErr result (IsUnasked P.Player actor.old actor.new) }
-    ensures refused { OnErr result (IsRefused actor.new) }
-    ensures grows { OnErr result (in_transaction actor.old.engine ≡ false → is_begin call.now ≡ true) }
-    ensures used { OnErr result (HasUsedUp actor.old) }
+    ensures asked { IfOk result
+        (λ step. HasAsked P.Player memory.now.clock (rows_in ended.old) (rows_in ended.new) actor.old actor.new call.now (next_in step answer.new)) }
+    ensures refused { OnErr result (WasRefused P.Player actor.old actor.new call.now) }
     ensures ended { ended.new.items ≡ ended.old.items }
     ensures place { count_of actor.new ≤ (rows_in ended.new).room }
     ensures others { KeepsOthers actor.old (rows_in ended.old) actor.new (rows_in ended.new) }
@@ -154,18 +142,7 @@ fn starve<P: Player>(actor: &mut Actor<P>, ended: &mut Vec<Attempt>)
     requires free { actor.old.engine.holds ≡ actor.old.engine.irrevocable }
     requires refused { IsRefused actor.old }
     requires place { count_of actor.old ≤ (rows_in ended.old).room }
-    ensures acts { IsActing actor.new }
-    ensures kept { IsKept (in_transaction actor.new.engine) actor.new }
-    ensures tied { (cells : Cells) → IsTied cells actor.old.engine → IsTied cells actor.new.engine }
-    ensures status { actor.new.status ≡ Status.Ended End.NoMemory }
-    ensures closed { actor.old.engine.irrevocable ≡ false → in_transaction actor.new.engine ≡ false }
-    ensures engine { actor.new.engine ≡ after_undoing actor.old.engine }
-    ensures stops { actor.old.engine.irrevocable ≡ false
-        → TakesTo (stopped (tally_of actor.old.run) Outcome.NoMemory (stand_of actor.new.engine) End.NoMemory) (rows_in ended.old) (rows_in ended.new) actor.old actor.new }
-    ensures same { (actor.new.run.thread ≡ actor.old.run.thread) × (actor.new.run.retries ≡ actor.old.run.retries) }
-    ensures held { actor.old.engine.irrevocable ≡ true
-        → (ended.new.items ≡ ended.old.items) × (actor.new ≡ record actor.old { status = Status.Ended End.NoMemory }) }
-    ensures others { KeepsOthers actor.old (rows_in ended.old) actor.new (rows_in ended.new) }
+    ensures { HasEnded P.Player (rows_in ended.old) (rows_in ended.new) actor.old actor.new }
 {
     if let Undone::Done = actor.engine.abort() {
         let at = actor.engine.snapshot() / 2;

@@ -1,6 +1,6 @@
 //! Actors over one memory.
 
-ghost use Rattle.std.specs.Prelude.{◌≡◌, ℕ, ◌%◌, ◌<◌, ◌≤◌, true, false, [], length, IfOk, None, Some, IsSome, MatchOption, All};
+ghost use Rattle.std.specs.Prelude.{◌≡◌, ◌<◌, ◌≤◌, true, false, length, IfOk, None, Some, IsSome, MatchOption};
 ghost use Rattle.world_rules.specs.World.{event_result};
 
 use crate::actor::{Actor, attempt, ending, next_step, replies, step, waits};
@@ -49,7 +49,7 @@ impl<P: Player> Model for World<P> {
 }
 
 impl<P: Player> World<P> {
-    ghost use Rattle.world_rules.specs.World.{observed, counted, ending_at, waits_at, operation_at, attempt_at, memory_of, attempts_of, IsSetUp, SameOpening};
+    ghost use Rattle.world_rules.specs.World.{observed, ending_at, waits_at, operation_at, attempt_at, memory_of, attempts_of};
     ghost use Rattle.std.specs.Prelude.{slice_get, take, drop};
     ghost use Rattle.std.specs.Option.{option_map};
     ghost use Rattle.world_rules.specs.Status.{is_waiting};
@@ -57,31 +57,22 @@ impl<P: Player> World<P> {
     ghost use Rattle.world_rules.specs.Rows.{AreOpen};
     ghost use Rattle.world_rules.specs.Stages.{opens};
     ghost use Rattle.norec_world.specs.Listed.{left_of};
-    ghost use Rattle.world_rules.specs.Starts.{IsNew};
+    ghost use Rattle.norec_world.specs.Beginnings.{BeginsAs, MayBegin, MayPlay};
+    ghost use Rattle.norec_world.specs.Taken.{TakesSome};
     ghost use Rattle.world_rules.specs.Commits.{CommitsInOrder};
     ghost use Rattle.world_rules.specs.Headline.{AreOpaque};
     ghost use Rattle.world_rules.specs.Tied.{AreTied};
-    ghost use Rattle.world_rules.specs.WorldEvents.{Goes, Takes};
+    ghost use Rattle.world_rules.specs.WorldEvents.{Goes};
     ghost use Rattle.world_rules.specs.Progress.{LeavesLess, TellsCall, TellsCalls};
 
     /// A world over this memory, with the clock at 0. Each actor's local work up to its first operation is done.
     pub fn new(alloc: Global, setup: Setup, players: Vec<P>) -> Result<Self, AllocError>
-        requires size { (8 ≤ length setup.bytes) × (length setup.bytes ≤ MAX_MEMORY) × (length setup.bytes % 8 ≡ 0) }
-        requires arena { setup.arena ≤ MAX_ARENA }
-        requires patience { (0 < setup.limits.patience) × (setup.limits.patience ≤ MAX_PATIENCE) }
-        requires commits { (0 < setup.limits.max_commits) × (setup.limits.max_commits ≤ MAX_COMMITS) }
-        requires retries { setup.limits.retries ≤ MAX_RETRIES }
-        requires depth { 0 < setup.limits.depth }
-        requires some { 0 < length players.items }
-        requires few { length players.items ≤ MAX_ACTORS }
-        requires outside { All (λ p. P.depth p ≡ 0) players.items }
-        ensures opening { IfOk result (λ w. w.opening ≡ players.items) }
-        ensures memory { IfOk result (λ w. memory_of w ≡ setup.bytes) }
-        ensures setup { IfOk result (IsSetUp setup) }
+        requires setup { MayBegin setup }
+        requires players { MayPlay P.Player players.items }
+        ensures begins { IfOk result (BeginsAs P.Player setup players.items) }
         ensures commits { IfOk result (λ w. CommitsInOrder w) }
         ensures opaque { IfOk result (λ w. AreOpaque P.Player (observed w)) }
         ensures tied { IfOk result (AreTied P.Player) }
-        ensures anew { IfOk result (IsNew P.Player) }
     {
         let opening = copies(alloc, &players)?;
         let base = Bytes::new(setup.bytes.as_slice().to_vec(alloc)?);
@@ -205,10 +196,7 @@ impl<P: Player> World<P> {
         ensures commits { CommitsInOrder self.new }
         ensures opaque { AreOpaque P.Player (observed self.new) }
         ensures tied { AreTied P.Player self.new }
-        ensures took { (n : ℕ) × Takes P.Player actor n self.old self.new × (result ≡ counted 0 n) }
-        ensures counts { self.new.events ≡ counted self.old.events result }
-        ensures opening { SameOpening self.old self.new }
-        ensures actors { length self.new.actors ≡ length self.old.actors }
+        ensures took { TakesSome P.Player actor result self.old self.new }
     {
         // (what holds of every world: the clauses after a run of no events)
         let _events = self.events();
@@ -222,10 +210,7 @@ impl<P: Player> World<P> {
     /// Takes the events of the call in progress, and tells how many, up to 2^64 - 1.
     fn finish_call(&mut self, alloc: Global, actor: u8) -> u64
         requires { IsSome (waits_at self.old actor) }
-        ensures took { (n : ℕ) × Takes P.Player actor n self.old self.new × (result ≡ counted 0 n) }
-        ensures counts { self.new.events ≡ counted self.old.events result }
-        ensures opening { SameOpening self.old self.new }
-        ensures actors { length self.new.actors ≡ length self.old.actors }
+        ensures took { TakesSome P.Player actor result self.old self.new }
         ensures less { LeavesLess P.Player actor false self.old self.new }
     {
         // (what holds of every world: the clauses after a run of no events)

@@ -1,9 +1,6 @@
 -- The lines of threads that fell short, one after the other.
 use Rattle.std.proofs.Common.{◌≡◌, ℕ, ◌+◌, ◌<◌, ◌≤◌, List, [], ◌∷◌, ◌++◌, length, take, drop, get_or, Option, sym, ap, subst, ◌∙◌, arith, append_assoc, append-nil, drop-cons, add-one}
-use Rattle.run_commands.proofs.Common.{Appends, Appends-nil, Appends-trans, End, common_steps, ending_line, ending_lines, take-append-drop, take_more}
-use Rattle.std.proofs.lemmas.List.{length-take}
-use Rattle.tx_history.specs.Spelling.{IsCut}
-use Rattle.tx_history.proofs.TextPieces.{cut_short}
+use Rattle.run_commands.proofs.Common.{Appends, Appends-nil, Appends-trans, End, IsCut, common_steps, cut_short, ending_line, ending_lines, length-take, take-append-drop, take_more}
 
 lines_append : (thread : ℕ) (xs ys : List (Option End)) → ending_lines thread (xs ++ ys) ≡ ending_lines thread xs ++ ending_lines (thread + length xs) ys
 lines_append thread [] ys = ap (λ (n : ℕ). ending_lines n ys) (omega arith)

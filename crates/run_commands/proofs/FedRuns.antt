@@ -1,8 +1,7 @@
 -- In a world that a program's schedule leads to no thread that found no memory has an irrevocable attempt, nor any open one.
 use Rattle.std.proofs.Common.{inl, inr, ◌≡◌, ℕ, ◌%◌, List, length, Some, sym, ap, subst, ◌∙◌, arith}
-use Rattle.run_commands.proofs.Common.{AreTied, Begins, CommitsInOrder, HasNestedCode, Listing, NoMemory, Thread, World, ending_at, length-map, opening, players_of, thread_rules, threads_of}
+use Rattle.run_commands.proofs.Common.{AreTied, Begins, CommitsInOrder, HasNestedCode, Listing, NoMemory, Thread, World, ending_at, length-map, odd_or_even, opening, players_of, thread_rules, threads_of}
 use Rattle.world_rules.proofs.Common.{slice_get_within}
-use Rattle.world_rules.proofs.Events.Worlds.{odd_or_even}
 use Rattle.script_laws.proofs.FedScripts.{are_fed}
 use Rattle.world_laws.specs.Starved.{IsFed, LeavesNoneOpen}
 use Rattle.world_laws.proofs.LegalHistories.StarvedActors.{fed_leave_none_open, starved_shut}

@@ -1,14 +1,12 @@
 -- Items of a schedule, one after the other, whole or begun.
 use Rattle.std.proofs.Common.{inl, inr, ◌≡◌, ℕ, zero, suc, ◌+◌, ◌<◌, ◌≤◌, ◌-◌, false, List, [], ◌∷◌, ◌++◌, length, take, get_or, replicate, Option, None, Some, IsSome, Result, Err, refl, sym, ap, subst, ◌∙◌, arith, slice_get}
-use Rattle.run_commands.proofs.Common.{Actor, AreOpaque, AreTied, CommitsInOrder, Goes, Item, ItemBegins, ItemLeads, ItemsBegin, ItemsLead, Out, Rules, Take, World, WorldFault, ending_at, observed, take_more}
-use Rattle.std.proofs.lemmas.List.{replicate-append-replicate}
+use Rattle.run_commands.proofs.Common.{AreOpaque, AreTied, CommitsInOrder, Goes, Item, ItemBegins, ItemLeads, ItemsBegin, ItemsLead, Leads, Out, Rules, Take, World, WorldFault, ending_at, goes_no_more, observed, replicate-append-replicate, take_more}
 use Rattle.world_rules.specs.declared.actor.Status.{Status}
 use Rattle.world_rules.specs.declared.actor.Status.TheVariants.{Ended as HasEnded}
 use Rattle.world_rules.specs.declared.fault.WorldFault.TheVariants.{Ended}
 use Rattle.world_rules.specs.Status.{ending_of, is_ready, is_waiting}
-use Rattle.world_rules.specs.WorldEvents.{Leads}
-use Rattle.world_rules.proofs.Events.WorldEvents.{goes_no_more}
 use Rattle.std.specs.Option.{option_and_then}
+use Rattle.world_rules.specs.Actor.{Actor}
 
 -- who has ended is there
 pub ended_in : {P : Type 0} (o : Option (Actor P)) → IsSome (option_and_then (λ (a : Actor P). ending_of a.status) o) → (a : Actor P) × (o ≡ Some a) × IsSome (ending_of a.status)

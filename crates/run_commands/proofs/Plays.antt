@@ -1,20 +1,9 @@
 -- What the writer has got of a world's history.
-use Rattle.std.proofs.Common.{inl, inr, ◌≡◌, ℕ, ◌≤◌, List, [], ◌∷◌, ◌++◌, length, take, drop, flat_map, Option, None, Some, IsSome, Result, Ok, Err, true≢false, refl, sym, ap, subst, ◌∙◌, append-nil, append_assoc, arith, All, IfOk, IsErr, OnErr, OnOk}
-use Rattle.run_commands.proofs.Common.{Actor, All-nil, Appends, Appends-kept, Appends-nil, Appends-trans, Attempt, AttemptFits, Error, Goes, HistoryFits, IsCutOff, Item, ItemsBegin, ItemsLead, Page, Rules, SendsEnded, Standing, Version, World, adds_failed, adds_nothing, adds_then, attempt_lines, common_steps, ending_at, fault_of, history_text, last_line, result_err, standing, take-append-drop, told_of, waits_at}
-use Rattle.std.proofs.lemmas.Grind.{flat_map-append}
-use Rattle.std.proofs.lemmas.List.Elements.{All-append}
-use Rattle.hex.specs.Hex.{IsBytes}
-use Rattle.world_rules.specs.Rows.{Rows}
+use Rattle.std.proofs.Common.{inl, inr, ◌≡◌, ℕ, List, [], ◌++◌, length, take, drop, flat_map, Option, None, Some, IsSome, Result, Ok, Err, true≢false, refl, sym, ap, subst, ◌∙◌, append-nil, append_assoc, arith, All, IfOk, IsErr, OnErr, OnOk}
+use Rattle.run_commands.proofs.Common.{Adds, AddsEnded, All-append, All-nil, Appends, Appends-kept, Appends-nil, Appends-trans, Attempt, AttemptFits, Error, Fails, Front, Goes, Grown, HasWhole, HistoryFits, IsBytes, IsCutOff, IsWord, Item, ItemsBegin, ItemsLead, Page, Performs, Rules, SendsEnded, Standing, Version, World, adds_as, adds_failed, adds_nothing, adds_then, attempt_lines, common_steps, ending_at, event_grown, event_result, fault_of, flat_map-append, history_text, last_line, lines_so_far, result_err, standing, take-append-drop, told_event, told_of, waits_at}
+use Rattle.tx_history.specs.Streams.{Leaves}
 use Rattle.world_rules.specs.Stages.{opens}
-use Rattle.world_rules.specs.Tries.{Prior, Tries, prior_of, between, begins, runs, over, turned_away, outrun, shut_out}
-use Rattle.world_rules.specs.World.{event_result}
-use Rattle.world_rules.proofs.Events.WorldEvents.{told_event}
-use Rattle.world_rules.proofs.Events.Worlds.{waits_there}
-use Rattle.tx_history.specs.Bounds.{IsWord}
-use Rattle.tx_history.specs.Streams.{Adds, Leaves, lines_so_far}
-use Rattle.tx_history.proofs.Streams.{adds_as}
 use Rattle.run_commands.proofs.Items.{items_unbegun, items_whole}
-use Rattle.run_commands.specs.Plays.{AddsEnded, HasWhole, Fails, Front, Performs}
 
 -- what is so of a failure
 pub on_err : {T E F : Type 0} (r : Result T E) → F → OnErr r F
@@ -51,29 +40,6 @@ if_any (Err e) h = record {}
 
 -- ## What an event ends
 
--- those that had ended before stay, and others may follow them
-abbrev pub Grown : List Attempt → List Attempt → Type 0
-Grown old new = (more : List Attempt) × (new ≡ old ++ more)
-
-still : (old new : List Attempt) → new ≡ old → Grown old new
-still old new e = ([], e ∙ sym (append-nil old))
-
-tries_grown : {P : Type 0} {IsLater : Attempt → Attempt → Type 0} (clock : ℕ) (p : Prior) (clock' : ℕ) (r : Rows) (a : Actor P) → Tries IsLater clock p clock' r a → Grown p.ended r.ended
-tries_grown clock p clock' r a (between t) = still _ _ t.ended
-tries_grown clock p clock' r a (begins t) = still _ _ t.ended
-tries_grown clock p clock' r a (runs t) = still _ _ t.ended
-tries_grown clock p clock' r a (over t) = (t.row' ∷ [], t.ended)
-tries_grown clock p clock' r a (turned_away t) = still _ _ t.ended
-tries_grown clock p clock' r a (outrun t) = still _ _ t.ended
-tries_grown clock p clock' r a (shut_out t) = still _ _ t.ended
-
-module _ {P : Type 0} (rules : Rules P) where
-  pub event_grown : (old new : World P) (thread : ℕ) → IsSome (waits_at old thread) → Goes rules thread old (event_result (ending_at new thread)) new → Grown old.attempts.ended new.attempts.ended
-  event_grown old new thread waits g =
-      let there = waits_there old thread waits in
-      let goes = g.event_of there.0 there.1 (told_event (ending_at new thread)) in
-      tries_grown old.cells.clock (prior_of old.attempts there.0) new.cells.clock new.attempts goes.0 goes.2.tries
-
 dropped : (old new : List Attempt) (n : ℕ) → n ≡ length old → (g : Grown old new) → drop n new ≡ g.0
 dropped old new n long (more, e) = grind (arith, common_steps)
 
@@ -102,15 +68,6 @@ module _ {P : Type 0} (rules : Rules P) where
   event_ends_none old new thread n m s waits g before after same =
       let none = none_left new.attempts.ended m n after same in
       event_adds old new thread n s s waits g before (adds_as s s [] _ (adds_nothing s) (sym (ap (λ (l : List Attempt). flat_map attempt_lines l) none))) (λ good. subst (All AttemptFits) (sym none) (All-nil AttemptFits))
-
-  -- how many had ended before is no more than how many have
-  pub event_within : (old new : World P) (thread n : ℕ) → IsSome (waits_at old thread) → Goes rules thread old (event_result (ending_at new thread)) new → n ≡ length old.attempts.ended → n ≤ length new.attempts.ended
-  event_within old new thread n waits g long =
-      let grown = event_grown rules old new thread waits g in
-      within old.attempts.ended new.attempts.ended n long grown
-    where
-      within : (xs ys : List Attempt) (k : ℕ) → k ≡ length xs → Grown xs ys → k ≤ length ys
-      within xs ys k e (more, f) = grind (arith, common_steps)
 
 -- ## What has not failed
 
@@ -143,10 +100,6 @@ module _ {P : Type 0} where
 module _ {P W : Type 0} {contents : W → Option (List ℕ)} where
   pub sends_none : (w : World P) (s : Page W) → fault_of s ≡ None → SendsEnded {A = Unit {0}} contents w w s s (Ok tt)
   sends_none w s fresh = record { same = refl; answer = fresh; adds = adds_same w (standing contents s) }
-
-  -- no write failed in the first one
-  pub sends_both : {a b c : World P} {s t u : Page W} {A B : Type 0} {q : Result A Error} {r : Result B Error} → SendsEnded contents a b s t q → SendsEnded contents b c t u r → SendsEnded contents a c s u r
-  sends_both {a} {b} {c} {s} {t} {u} f g = record { same = g.same ∙ f.same; answer = g.answer; adds = adds_both a b c _ _ _ f.adds g.adds }
 
   -- nor in the second
   pub sends_on : {a b c : World P} {s t u : Page W} {A B C : Type 0} {q : Result A Error} {x : B} {y : C} → SendsEnded contents a b s t q → SendsEnded {A = B} contents b c t u (Ok x) → SendsEnded {A = C} contents a c s u (Ok y)

@@ -1,24 +1,17 @@
 -- What is told of a program's world is what its one thread does alone.
 use Rattle.std.proofs.Common.{◌≡◌, inl, inr, ℕ, zero, suc, ◌+◌, ◌*◌, ◌/◌, ◌%◌, ◌<◌, ◌≤◌, ◌==◌, List, [], ◌∷◌, length, map, replicate, Option, None, Some, refl, sym, ap, subst, ◌∙◌, arith, slice_index_or}
-use Rattle.run_commands.proofs.Common.{AreOpaque, AreTied, Attempt, CommitsInOrder, End, Finished, GaveUp, HasNestedCode, HistoryFits, Instruction, IsLimitedListing, IsWorldOf, Listing, MAX_ARENA, NoMemory, Thread, World, ending_at, history_text, legal_text, length-map, observed, opening, opening_of, page, players_of, roomless, schedule_of, solo_of, thread_rules, threads_of, told_of, version_of, without_room}
+use Rattle.run_commands.proofs.Common.{AreOpaque, AreTied, Attempt, CommitsInOrder, End, Finished, GaveUp, HasNestedCode, HistoryFits, Instruction, IsLimitedListing, IsMemorySize, IsOf, IsSetUp, IsWorldOf, Leaves, Listing, MAX_ARENA, MAX_RETRIES, NoMemory, Solo, Thread, World, attempts_of, ending_at, first_thread, history_text, led_alone, legal_text, length-map, memory_of, observed, one_if, opening, opening_of, page, players_of, roomless, schedule_of, setup_of, solo, solo_of, thread_rules, threads_of, told_of, version_of, without_room}
 use Rattle.itm_types.specs.declared.limits.Limits.{Limits}
-use Rattle.itm_types.specs.declared.limits.TheConstants.{MAX_RETRIES}
 use Rattle.tx_attempts.specs.declared.attempt.Outcome.{Outcome}
 use Rattle.tx_attempts.specs.declared.attempt.Outcome.TheVariants as outcomes
-use Rattle.world_laws.specs.Solo.{Solo, one_if, solo}
 use Rattle.world_laws.specs.SoFar.{IsSoFar}
-use Rattle.world_rules.specs.World.{IsSetUp, attempts_of, memory_of}
-use Rattle.run_commands.specs.Scheduled.{Leaves, setup_of}
-use Rattle.run_commands.specs.Pages.{first_thread, IsOf}
 use Rattle.history_reader.specs.LegalTexts.{IsLegalText}
-use Rattle.tx_history.specs.Bounds.{IsMemorySize}
 use Rattle.tx_history.specs.Versions.{MayRestart, thread_limit}
-use Rattle.tx_host.proofs.Histories.ScriptWidths.{script_widths}
+use Rattle.report_rules.proofs.Histories.ScriptWidths.{script_widths}
 use Rattle.world_laws.proofs.LegalHistories.LegalWorlds.{legal_world}
 use Rattle.world_laws.proofs.LegalHistories.LimitedWorlds.{limited_world}
 use Rattle.world_laws.specs.Limits.{IsLimitedWorld}
 use Rattle.world_laws.specs.ShownAlone.{DoneBy}
-use Rattle.world_laws.proofs.Solos.Schedules.{led_alone}
 use Rattle.script_vm.specs.ThreadLaws.{thread_laws}
 use Rattle.run_commands.proofs.FedRuns.{even_starved, fed, none_open}
 use Rattle.run_commands.proofs.RoomlessTexts.{roomless_text}

@@ -1,13 +1,6 @@
 -- The items of a program: one schedule, and what stays over it.
 use Rattle.std.proofs.Common.{inl, inr, ◌≡◌, ℕ, zero, suc, ◌+◌, ◌<◌, List, [], ◌∷◌, ◌++◌, length, map, replicate, Option, Result, refl, sym, subst, ◌∙◌, arith}
-use Rattle.run_commands.proofs.Common.{End, Goes, Instruction, Item, ItemBegins, ItemLeads, ItemsBegin, ItemsLead, Out, Take, Takes, Thread, World, WorldFault, depth_of, each_out, ending_at, endings_of, map-range_with_len_more, opening, thread_rules}
-use Rattle.std.specs.List.{All, AllByRecursion, range_with_len}
-use Rattle.std.proofs.lemmas.List.Elements.{All-map}
-use Rattle.std.proofs.lemmas.List.FromFn.{get_or-range_with_len, length-range_with_len}
-use Rattle.world_rules.specs.World.{SameOpening}
-use Rattle.world_rules.proofs.Events.WorldEvents.{opening_both, opening_same}
-use Rattle.script_program.specs.Listing.{thread_of}
-use Rattle.world_laws.proofs.Solos.Schedules.{takes_led}
+use Rattle.run_commands.proofs.Common.{All, All-map, AllByRecursion, End, Goes, Instruction, Item, ItemBegins, ItemLeads, ItemsBegin, ItemsLead, Out, SameOpening, Take, Takes, Thread, World, WorldFault, depth_of, each_out, ending_at, endings_of, get_or-range_with_len, length-range_with_len, map-range_with_len_more, opening, opening_both, opening_same, range_with_len, takes_led, thread_of, thread_rules}
 use Rattle.run_commands.proofs.Items.{IsLed, led_append}
 
 -- all of it is a schedule

@@ -1,9 +1,6 @@
 -- Texts that calls of a stream write, one after another.
 use Rattle.std.proofs.Common.{◌≡◌, ℕ, ◌+◌, ◌<◌, ◌≤◌, All, List, ◌++◌, length, take, flat_map, get_or, Option, None, Result, Ok, Err, refl, sym, ap, ◌∙◌, subst, arith, OnOk}
-use Rattle.run_commands.proofs.Common.{All-nil, Attempt, AttemptFits, Error, Page, adds_failed, adds_nothing, adds_then, attempt_lines, common_steps, fault_of, result_err, standing}
-use Rattle.std.proofs.lemmas.List.Elements.{All-more}
-use Rattle.tx_history.specs.Streams.{Sends}
-use Rattle.tx_history.proofs.Streams.{adds_attempt}
+use Rattle.run_commands.proofs.Common.{All-more, All-nil, Attempt, AttemptFits, Error, Page, Sends, adds_attempt, adds_failed, adds_nothing, adds_then, attempt_lines, common_steps, fault_of, result_err, standing}
 use Rattle.run_commands.proofs.Plays.{attempts_stopped}
 
 both : {A S : Type 0} (T : Type 0) (r : Result A Error) → S → OnOk r T → OnOk r (S × T)

@@ -1,11 +1,7 @@
 -- Worked programs with the texts of their histories, by computation.
 use Rattle.std.proofs.Common.{◌≡◌, ◌++◌, refl, arith, codes}
-use Rattle.run_commands.proofs.Common.{GaveUp, attempt_lines, codes_of, decimal_digit, first_lines, head_line, history_text, last_line, line, page, solo_of, try_text}
-use Rattle.hex.specs.Hex.{encode_with}
-use Rattle.script_program.specs.Listing.{bytes_of}
+use Rattle.run_commands.proofs.Common.{GaveUp, arena_line, attempt_lines, beyond, body_text, bytes_of, call_line, codes_of, counter, decimal_digit, empty_block, encode_with, first_lines, head_line, history_text, laid_in, last_line, line, one_commit, page, props_end, reply_text, solo_of, try_text}
 use Rattle.script_vm.specs.Registers.{datum}
-use Rattle.text_commands.proofs.WorkedScripts.{counter, empty_block, beyond, laid_in, one_commit}
-use Rattle.tx_history.specs.Histories.{props_end, arena_line, call_line, body_text, reply_text}
 
 counter_page : history_text (page counter) ≡
     line (codes "itm-history 1")

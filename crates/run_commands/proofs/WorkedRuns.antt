@@ -1,9 +1,6 @@
 -- Schedules of programs, and what is said of threads, by computation.
 use Rattle.std.proofs.Common.{◌≡◌, [], ◌∷◌, ◌++◌, true, false, None, Some, refl, arith, codes}
-use Rattle.run_commands.proofs.Common.{Finished, GaveUp, NoMemory, Out, Take, codes_of, decimal_digit, ending_line, ending_lines, line, opening, players_of, schedule_of, thread_line}
-use Rattle.std.specs.List.{list_any}
-use Rattle.run_commands.specs.Endings.{fell_short}
-use Rattle.text_commands.proofs.WorkedScripts.{counter_code, listing, lost_update}
+use Rattle.run_commands.proofs.Common.{Finished, GaveUp, NoMemory, Out, Take, codes_of, counter_code, decimal_digit, ending_line, ending_lines, fell_short, line, list_any, listing, lost_update, opening, players_of, schedule_of, thread_line}
 
 -- ## Schedules
 

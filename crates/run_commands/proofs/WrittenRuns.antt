@@ -1,15 +1,13 @@
 -- What was written of a program's run on threads.
 use Rattle.std.proofs.Common.{◌≡◌, ℕ, List, map, take, IfErr, IfOk, Option, Some, Result, Ok, Err, refl, sym, subst}
-use Rattle.run_commands.proofs.Common.{Appends, ArrayVec, End, HasNestedCode, HistoryFits, Listing, Outputs, Writing, history_text, legal_text}
-use Rattle.std.specs.Io.KnownBytes.{Keeps}
+use Rattle.run_commands.proofs.Common.{Appends, AreLimited, ArrayVec, End, HasNestedCode, HistoryFits, Keeps, Listing, Outputs, Writing, history_text, legal_text}
 use Rattle.script_fields.specs.declared.fault.AsmFault.{AsmFault}
 use Rattle.script_laws.proofs.IdleThreads.{none_stay_held}
 use Rattle.text_commands.specs.declared.failure.Failure.{Failure}
-use Rattle.tx_history.specs.Bounds.{AreLimited}
-use Rattle.tx_host.specs.declared.report.HostFault.{HostFault}
-use Rattle.tx_host.specs.declared.report.HostFault.TheVariants.{Held, NoMemory, NoThread}
-use Rattle.tx_host.specs.declared.report.Report.{Report}
-use Rattle.tx_host.specs.Reports.{Ran, StaysHeld}
+use Rattle.report_rules.specs.declared.report.HostFault.{HostFault}
+use Rattle.report_rules.specs.declared.report.HostFault.TheVariants.{Held, NoMemory, NoThread}
+use Rattle.report_rules.specs.declared.report.Report.{Report}
+use Rattle.report_rules.specs.Reports.{Ran, StaysHeld}
 use Rattle.worker_rules.specs.Gates.{all_let}
 use Rattle.run_commands.specs.Threading.{IsThreadedRun, TellsRun, failure_of, threading}
 

@@ -1,7 +1,6 @@
 -- What was written of a program's world.
 use Rattle.std.proofs.Common.{◌≡◌, ℕ, List, length, Option, Result, Ok, Err, refl}
-use Rattle.run_commands.proofs.Common.{Appends, AreOpaque, AreTied, ArrayVec, Begins, CommitsInOrder, End, HasNestedCode, HistoryFits, IsCutOff, IsLimitedListing, IsWorldOf, Listing, Outputs, Thread, World, Writes, Writing, endings_of, history_text, observed, schedule_of, thread_rules, threads_of, told_of, version_of}
-use Rattle.tx_history.specs.Spelling.{Puts}
+use Rattle.run_commands.proofs.Common.{Appends, AreOpaque, AreTied, ArrayVec, Begins, CommitsInOrder, End, HasNestedCode, HistoryFits, IsCutOff, IsLimitedListing, IsWorldOf, Listing, Outputs, Puts, Thread, World, Writes, Writing, endings_of, history_text, observed, schedule_of, thread_rules, threads_of, told_of, version_of}
 use Rattle.run_commands.proofs.FedRuns.{fed, none_open}
 use Rattle.run_commands.proofs.ProgramPages.{read_as_legal}
 use Rattle.run_commands.proofs.ScheduleItems.{items_begun_led}

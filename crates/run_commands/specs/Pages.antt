@@ -14,7 +14,7 @@ use Rattle.script_vm.specs.Threads.{Thread, opening, thread_rules}
 use Rattle.tx_history.specs.declared.history.History.{History}
 use Rattle.tx_history.specs.Histories.{history_text}
 use Rattle.tx_history.specs.Legal.{IsLegal}
-use Rattle.tx_host.specs.Versions.{version_of}
+use Rattle.report_rules.specs.Versions.{version_of}
 use Rattle.world_laws.specs.Starved.{IsFed, LeavesNoneOpen}
 use Rattle.world_laws.specs.Told.{told_of}
 use Rattle.run_commands.specs.Scheduled.{Leaves}

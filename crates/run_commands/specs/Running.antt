@@ -13,7 +13,7 @@ use Rattle.script_vm.specs.Threads.{Thread, thread_rules}
 use Rattle.text_commands.specs.Answers.{Command}
 use Rattle.text_commands.specs.Lines.{script_line}
 use Rattle.tx_history.specs.Histories.{history_text}
-use Rattle.tx_host.specs.Versions.{version_of}
+use Rattle.report_rules.specs.Versions.{version_of}
 use Rattle.run_commands.specs.Endings.{ending_lines, endings_status}
 use Rattle.world_laws.specs.Starved.{IsFed, LeavesNoneOpen}
 use Rattle.world_laws.specs.Told.{told_of}

@@ -12,10 +12,10 @@ use Rattle.text_commands.specs.declared.failure.Failure.TheVariants as failures
 use Rattle.tx_history.specs.Bounds.{HistoryFits}
 use Rattle.tx_history.specs.Histories.{history_text}
 use Rattle.tx_history.specs.Spelling.{Writes}
-use Rattle.tx_host.specs.declared.report.HostFault.{HostFault}
-use Rattle.tx_host.specs.declared.report.HostFault.TheVariants as faults
-use Rattle.tx_host.specs.declared.report.Report.{Report}
-use Rattle.tx_host.specs.Reports.{Ran}
+use Rattle.report_rules.specs.declared.report.HostFault.{HostFault}
+use Rattle.report_rules.specs.declared.report.HostFault.TheVariants as faults
+use Rattle.report_rules.specs.declared.report.Report.{Report}
+use Rattle.report_rules.specs.Reports.{Ran}
 use Rattle.tx_runs.specs.declared.ending.End.{End}
 use Rattle.worker_rules.specs.Gates.{all_let}
 use Rattle.run_commands.specs.Endings.{ending_lines, endings_status}

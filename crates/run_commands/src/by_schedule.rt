@@ -6,7 +6,7 @@ ghost use Rattle.script_asm.specs.Assembly.{program_of};
 ghost use Rattle.script_vm.specs.Threads.{thread_rules};
 ghost use Rattle.tx_history.specs.Bounds.{HistoryFits};
 ghost use Rattle.tx_history.specs.Histories.{history_text};
-ghost use Rattle.tx_host.specs.Limits.{IsLimitedListing};
+ghost use Rattle.report_rules.specs.Limits.{IsLimitedListing};
 ghost use Rattle.text_commands.specs.declared.failure.Failure.TheVariants.{Writing};
 ghost use Rattle.text_commands.specs.Input.{IsFront};
 ghost use Rattle.text_commands.specs.Answers.{Answers, Outputs};

@@ -3,7 +3,7 @@
 ghost use Rattle.std.specs.Prelude.{◌≡◌, ◌≤◌, IfOk, length};
 ghost use Rattle.script_program.specs.Sizes.{IsSize};
 ghost use Rattle.script_program.specs.Listing.{opening_of};
-ghost use Rattle.tx_host.specs.Limits.{IsLimitedListing};
+ghost use Rattle.report_rules.specs.Limits.{IsLimitedListing};
 ghost use Rattle.run_commands.specs.Scheduled.{Begins, each_out, endings_of, players_of};
 
 use crate::endings::Endings;

@@ -1,20 +1,18 @@
 -- Worked scripts, by computation: whole programs.
 use Rattle.std.proofs.Common.{◌≡◌, List, ℕ, [], ◌∷◌, ◌++◌, Ok, refl, true, false, codes, replicate}
-use Rattle.script_asm.proofs.Common.{Instruction, Part, Placed, program_of}
+use Rattle.script_asm.proofs.Common.{Instruction, Listing, MAX_COMMITS, Part, Placed, opening_of, program_of, threads_of}
 use Rattle.itm_types.specs.declared.access.ReadHint.TheVariants.{R, RfW}
 use Rattle.itm_types.specs.declared.access.WriteHint.TheVariants.{W, WaR}
 use Rattle.itm_types.specs.declared.access.Width.TheVariants as width
 use Rattle.itm_types.specs.declared.copy.CopyPair.TheVariants.{In, Within}
 use Rattle.itm_types.specs.declared.copy.SharedSide.TheVariants as sides
 use Rattle.itm_types.specs.declared.call.Props.{Props}
-use Rattle.itm_types.specs.declared.limits.TheConstants.{MAX_COMMITS}
 use Rattle.script_fields.specs.declared.register.Register.TheVariants.{R0, R1, R2, R3, R15}
 use Rattle.script_fields.specs.declared.place.Place.TheVariants as places
 use Rattle.script_program.specs.declared.instruction.Instruction.TheVariants as code
 use Rattle.script_program.specs.declared.instruction.Operation.TheVariants as operations
 use Rattle.script_program.specs.declared.instruction.ArenaWidth.TheVariants as widths
 use Rattle.script_program.specs.declared.schedule.Item.TheVariants.{Take, Out}
-use Rattle.script_program.specs.Listing.{Listing, opening_of, threads_of}
 use Rattle.script_asm.proofs.OnLiterals.{on_literals}
 use Rattle.script_asm.proofs.WorkedTexts.{line, script}
 

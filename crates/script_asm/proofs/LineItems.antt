@@ -1,10 +1,9 @@
 -- The items of a line, one after the other.
 use Rattle.std.proofs.Common.{◌≡◌, ℕ, ◌+◌, ◌<◌, List, [], ◌∷◌, length, Option, Some, None, Result, Ok, Err, refl, sym, ap, ◌∙◌, arith}
-use Rattle.script_asm.proofs.Common.{Item, item_of, items_in, items_of, schedule_of}
+use Rattle.script_asm.proofs.Common.{Item, both, item_of, items_in, items_of, schedule_of, with_item}
 use Rattle.script_fields.specs.declared.fault.AsmKind.{AsmKind}
 use Rattle.script_fields.specs.declared.fault.AsmKind.TheVariants as kinds
-use Rattle.script_fields.specs.Operands.{both, ◌>>=◌}
-use Rattle.script_asm.specs.Items.{with_item}
+use Rattle.script_fields.specs.Operands.{◌>>=◌}
 
 -- how many there are
 abbrev pub tally : Result (List Item) AsmKind → Result ℕ AsmKind
@@ -23,9 +22,8 @@ joined i items = both i items >>= λ x. Ok (x.0 ∷ x.1)
 
 stop_on : (beyond : Option AsmKind) (n : ℕ) (more : Result (List Item) AsmKind) → after beyond n (tally (joined (Err kinds.Operand) more)) ≡ Err kinds.Operand
 stop_on None n (Ok items) = refl
-stop_on None n (Err k) = refl
 stop_on (Some l) n (Ok items) = refl
-stop_on (Some l) n (Err k) = refl
+stop_on beyond n more = refl
 
 pub stop_next : (beyond : Option AsmKind) (n : ℕ) (fs more : List (List ℕ)) (f : List ℕ) → fs ≡ f ∷ more → item_of f ≡ Err kinds.Operand
     → after beyond n (tally (items_of fs)) ≡ Err kinds.Operand
@@ -35,10 +33,9 @@ stop_next beyond n fs more f e is = ap (λ (g : List (List ℕ)). after beyond n
 
 joined_ok : (i : Result Item AsmKind) (more : Result (List Item) AsmKind) (items : List Item) → joined i more ≡ Ok items → (x : Item) × (ys : List Item) × (i ≡ Ok x) × (more ≡ Ok ys) × (x ∷ ys ≡ items)
 joined_ok (Ok x) (Ok ys) items e = (x, ys, refl, refl, cc)
-joined_ok (Ok x) (Err k) items e = absurd cc
 joined_ok (Err j) (Ok ys) items e = absurd cc
 joined_ok (Err kinds.Operand) (Err k) items e = absurd cc
-joined_ok (Err j) (Err k) items e = absurd cc
+joined_ok i more items e = absurd cc
 
 in_items : (fs : List (List ℕ)) (items : List Item) → items_of fs ≡ Ok items → items_in fs ≡ items
 in_items [] items e = cc

@@ -1,8 +1,7 @@
 -- How many of what is open are lines that are to stand 0 times.
 use Rattle.std.proofs.Common.{◌≡◌, ℕ, ◌+◌, ◌≤◌, Bool, true, false, cond, ltb, ◌||◌, List, [], ◌∷◌, length, Some, refl, ap, ◌∙◌, arith}
-use Rattle.script_asm.proofs.Common.{Beginning, lt-ltb, never_count, second_part, within_never}
+use Rattle.script_asm.proofs.Common.{Beginning, innermost, lt-ltb, never_count, second_part, stands_never, within_never}
 use Rattle.script_asm.specs.declared.groups.Group.TheVariants as groups
-use Rattle.script_asm.specs.Groups.{innermost, stands_never}
 
 one_more : (b : Bool) (n : ℕ) → ltb 0 (cond b 1 0 + n) ≡ (b || ltb 0 n)
 one_more true n = lt-ltb 0 (1 + n) (omega arith)

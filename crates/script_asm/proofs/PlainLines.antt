@@ -1,16 +1,10 @@
 -- The lines of plain texts.
-use Rattle.std.proofs.Common.{◌≡◌, ℕ, ◌+◌, ◌-◌, Bool, true, false, cond, not, ◌||◌, eqb, List, [], ◌∷◌, length, take, refl, sym, ap, ◌∙◌, arith, slice_index}
-use Rattle.script_asm.proofs.Common.{AllPass-from_list_all, is_plain, is_plain_or_feed, lines, list_all}
-use Rattle.std.specs.List.{onto_first, position_or_len, slice_split}
-use Rattle.std.specs.Str.Lines.{lines_of_parts, strip_carriage_return}
-use Rattle.std.proofs.lemmas.Bool.{and_parts, not-true, or_right}
-use Rattle.std.proofs.lemmas.List.{take_all}
+use Rattle.std.proofs.Common.{◌≡◌, ℕ, ◌-◌, Bool, true, false, cond, not, ◌||◌, eqb, List, [], ◌∷◌, length, take, refl, sym, ap, ◌∙◌, arith, slice_index}
+use Rattle.script_asm.proofs.Common.{and_parts, is_allowed, is_feed, is_plain, is_plain_or_feed, is_semicolon, is_shown, lines, lines_of_parts, list_all, onto_first, or_right, slice_split, strip_carriage_return, take_all, without_comment}
+use Rattle.std.proofs.lemmas.List.Sums.{AllPass-from_list_all, list_all-from_AllPass}
 use Rattle.std.proofs.lemmas.List.Elements.{All-take}
-use Rattle.std.proofs.lemmas.List.Sums.{list_all-from_AllPass}
-use Rattle.script_fields.specs.Text.{is_allowed, is_feed, is_semicolon, without_comment}
-use Rattle.script_fields.proofs.FirstLines.{first_place}
+use Rattle.script_fields.proofs.SpelledFields.{none_before}
 use Rattle.script_fields.proofs.SpelledNumbers.{list_all-weaker}
-use Rattle.script_asm.specs.PlainTexts.{is_shown}
 
 -- ## One line
 
@@ -20,16 +14,12 @@ plain_allowed b h = or_right (eqb b 9) (is_shown b) (and_parts (is_shown b) (not
 pub all_allowed : (xs : List ℕ) → list_all is_plain xs ≡ true → list_all is_allowed xs ≡ true
 all_allowed xs h = list_all-weaker is_plain is_allowed plain_allowed xs h
 
-no_semicolon : (xs : List ℕ) → list_all is_plain xs ≡ true → position_or_len is_semicolon xs ≡ length xs
-no_semicolon [] h = refl
-no_semicolon (x ∷ xs) h =
-    let parts = and_parts (is_plain x) (list_all is_plain xs) h in
-    let other = and_parts (is_shown x) (not (is_semicolon x)) parts.0 in
-    first_place is_semicolon x xs ∙ ap (λ (t : Bool). cond t 0 (1 + position_or_len is_semicolon xs)) (not-true (is_semicolon x) other.1) ∙ omega (arith, no_semicolon xs parts.1)
+no_semicolon : (b : ℕ) → is_plain b ≡ true → not (is_semicolon b) ≡ true
+no_semicolon b h = (and_parts (is_shown b) (not (is_semicolon b)) h).1
 
 pub no_comment : (xs : List ℕ) → list_all is_plain xs ≡ true → without_comment xs ≡ xs
 unfolding without_comment
-no_comment xs h = take_all _ xs (omega (arith, no_semicolon xs h))
+no_comment xs h = take_all _ xs (omega (arith, none_before is_semicolon xs (list_all-weaker is_plain (λ (b : ℕ). not (is_semicolon b)) no_semicolon xs h)))
 
 -- ## All lines
 

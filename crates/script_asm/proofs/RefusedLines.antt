@@ -1,9 +1,6 @@
 -- Which line memory is refused to.
 use Rattle.std.proofs.Common.{◌≡◌, ℕ, zero, suc, ◌+◌, ◌≤◌, List, [], ◌∷◌, ◌++◌, length, take, drop, Some, Result, Ok, Err, refl, sym, ap, ◌∙◌, arith, slice_get}
-use Rattle.script_asm.proofs.Common.{Adds, AsmFault, MAX_TEXT, State, initial, length-take, lines, lines_say, meaning, ◌>>=◌}
-use Rattle.std.proofs.lemmas.List.{length-drop, take-take, drop-take, take-append-drop, drop-drop}
-use Rattle.std.proofs.Math.Seq.{drop-nil}
-use Rattle.script_asm.specs.Wants.{RunsOut}
+use Rattle.script_asm.proofs.Common.{Adds, AsmFault, MAX_TEXT, RunsOut, State, drop-drop, drop-nil, drop-take, initial, length-drop, length-take, lines, lines_say, meaning, take-append-drop, take-take, ◌>>=◌}
 
 bound_ok : (r : Result State AsmFault) → (r >>= λ t. Ok t) ≡ r
 bound_ok (Ok t) = refl

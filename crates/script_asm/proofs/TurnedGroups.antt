@@ -1,9 +1,7 @@
 -- The innermost of what is open, in a list whose last it is.
 use Rattle.std.proofs.Common.{◌≡◌, ℕ, ◌+◌, ◌-◌, ◌<◌, List, [], ◌∷◌, ◌++◌, length, take, get_or, set, reverse, sym, ap, ◌∙◌, arith}
-use Rattle.script_asm.proofs.Common.{Beginning, length-take, second_part}
-use Rattle.std.proofs.Math.Seq.{set-append_seam}
+use Rattle.script_asm.proofs.Common.{Beginning, length-take, reverse-append, second_part, set-append_seam, take_more}
 use Rattle.std.proofs.lemmas.Grind.{common_steps}
-use Rattle.std.proofs.lemmas.List.{reverse-append, take_more}
 use Rattle.script_asm.specs.declared.groups.Group.TheVariants as groups
 
 abbrev second : Beginning → Beginning

@@ -1,14 +1,6 @@
 -- The first line of a text, and the first field of a line.
 use Rattle.std.proofs.Common.{◌≡◌, ℕ, ◌+◌, ◌<◌, ◌≤◌, Bool, true, false, cond, not, ltb, List, [], ◌∷◌, length, take, drop, filter, Some, None, refl, sym, ap, ◌∙◌, arith, position, get_or, inl, inr, ◌⊎◌, subst}
-use Rattle.script_fields.proofs.Common.{common_steps, fields, is_blank, is_feed, is_semicolon, is_some_field, length-drop, length-take, lines, lines_of_parts, lt-ltb, ltb-false, ltb-true, ne_eqb, position_or_len, slice_split}
-use Rattle.std.specs.List.{before_first, after_first, onto_first}
-use Rattle.std.specs.Str.Lines.{strip_carriage_return}
-use Rattle.std.proofs.lemmas.List.Splits.{slice_split_first, length-slice_split, slice_split-cons_yes, slice_split-cons_no}
-use Rattle.script_fields.specs.Text.{is_ink}
-
-b_cases : (b : Bool) → (b ≡ true) ⊎ (b ≡ false)
-b_cases true = inl refl
-b_cases false = inr refl
+use Rattle.script_fields.proofs.Common.{after_first, before_first, cases_Bool, common_steps, fields, is_blank, is_feed, is_ink, is_semicolon, is_some_field, length-drop, length-slice_split, length-take, lines, lines_of_parts, lt-ltb, ltb-false, ltb-true, ne_eqb, onto_first, position_or_len, slice_split, slice_split-cons_no, slice_split-cons_yes, slice_split_first, strip_carriage_return, take_all}
 
 drop-one-more : (b : ℕ) (bs : List ℕ) (n : ℕ) → drop (1 + n) (b ∷ bs) ≡ drop n bs
 drop-one-more b bs n = grind (arith, common_steps)
@@ -27,9 +19,6 @@ at_none p xs e =
     let c = chosen (ltb (position_or_len p xs) (length xs)) (Some (position_or_len p xs)) None None (sym e) in
     elim c [ inl h ↦ absurd cc | inr h ↦ ltb-false _ _ h.0 ]
 
-take_past : (n : ℕ) (xs : List ℕ) → length xs ≤ n → take n xs ≡ xs
-take_past n xs h = grind (arith, common_steps)
-
 pub first_place : (p : ℕ → Bool) (x : ℕ) (xs : List ℕ) → position_or_len p (x ∷ xs) ≡ cond (p x) 0 (1 + position_or_len p xs)
 first_place p x xs = elim (p x) as (λ b. cond (not b) (1 + position_or_len p xs) 0 ≡ cond b 0 (1 + position_or_len p xs)) [ true ↦ refl | false ↦ refl ]
 
@@ -45,7 +34,7 @@ pub before_at : (xs : List ℕ) (i : ℕ) → Some i ≡ position is_semicolon x
 before_at xs i e = let h = at_is is_semicolon xs i e in rw h.0 refl
 
 pub before_none : (xs : List ℕ) → None ≡ position is_semicolon xs → before_first is_semicolon xs ≡ xs
-before_none xs e = take_past _ xs (at_none is_semicolon xs e)
+before_none xs e = take_all _ xs (at_none is_semicolon xs e)
 
 -- the first of the parts that the passing elements divide a list into, and those after it
 pub parts_first : (p : ℕ → Bool) (xs : List ℕ) (i : ℕ) → Some i ≡ position p xs → slice_split p xs ≡ take i xs ∷ slice_split p (drop (i + 1) xs)
@@ -93,7 +82,7 @@ skip_blanks : (xs : List ℕ) → fields (drop (position_or_len is_ink xs) xs) �
 unfolding fields
 skip_blanks [] = refl
 skip_blanks (b ∷ bs) =
-    elim (b_cases (is_blank b)) [
+    elim (cases_Bool (is_blank b)) [
       | inl is ↦
           let one : position_or_len is_ink (b ∷ bs) ≡ 1 + position_or_len is_ink bs = first_place is_ink b bs ∙ ap (λ (t : Bool). cond (not t) 0 (1 + position_or_len is_ink bs)) is in
           let two : drop (position_or_len is_ink (b ∷ bs)) (b ∷ bs) ≡ drop (position_or_len is_ink bs) bs = rw one (drop-one-more b bs (position_or_len is_ink bs)) in
@@ -106,7 +95,7 @@ skip_blanks (b ∷ bs) =
 ink_there : (xs : List ℕ) → position_or_len is_ink xs < length xs → is_blank (get_or (drop (position_or_len is_ink xs) xs) 0 0) ≡ false
 ink_there [] h = absurd (omega arith)
 ink_there (b ∷ bs) h =
-    elim (b_cases (is_blank b)) [
+    elim (cases_Bool (is_blank b)) [
       | inl is ↦
           let one : position_or_len is_ink (b ∷ bs) ≡ 1 + position_or_len is_ink bs = first_place is_ink b bs ∙ ap (λ (t : Bool). cond (not t) 0 (1 + position_or_len is_ink bs)) is in
           let two : drop (position_or_len is_ink (b ∷ bs)) (b ∷ bs) ≡ drop (position_or_len is_ink bs) bs = rw one (drop-one-more b bs (position_or_len is_ink bs)) in

@@ -1,26 +1,25 @@
 -- The bytes that hexadecimal digits say.
-use Rattle.std.proofs.Common.{◌≡◌, ℕ, ◌-◌, ◌*◌, ◌/◌, ◌%◌, ◌≤◌, Bool, true, false, eqb, not, ◌&&◌, List, [], ◌++◌, length, drop, replicate, Result, Ok, Err, refl, sym, ap, ◌∙◌, arith, MatchResult}
-use Rattle.script_fields.proofs.Common.{AllPass-from_list_all, IsBytes, decoded, eqb-true, is_hex, is_hex_digit, list_all, literal_of}
-use Rattle.std.specs.Result.{result_unwrap_or}
-use Rattle.std.proofs.lemmas.List.{drop-replicate}
+use Rattle.std.proofs.Common.{◌≡◌, ℕ, ◌-◌, ◌*◌, ◌/◌, ◌%◌, ◌≤◌, true, eqb, not, ◌&&◌, List, [], ◌++◌, length, drop, replicate, Result, Ok, Err, refl, sym, ap, ◌∙◌, arith, MatchResult}
+use Rattle.script_fields.proofs.Common.{AllPass-from_list_all, IsBytes, and_parts, decode_of, decode_of-digits, decode_of-ok, decode_sized, decode_sized-twice, decoded, drop-replicate, eqb-false, eqb-true, is_hex, is_hex_digit, list_all, literal_of, not-true, result_unwrap_or}
 use Rattle.hex.specs.declared.error.FromHexError.{FromHexError}
-use Rattle.hex.specs.Hex.{decode_of, decode_sized}
-use Rattle.hex.proofs.HexLemmas.{decode_of-digits, decode_of-ok, decode_sized-twice}
-
-and_true : (a b : Bool) → (a && b) ≡ true → (a ≡ true) × (b ≡ true)
-and_true true b h = (refl, h)
-and_true false b h = absurd cc
 
 -- digits are decoded to bytes, two digits for each byte
 pub decode_of-hex : (f : List ℕ) → is_hex f ≡ true → (decode_of f ≡ Ok (decoded f)) × (length f ≡ 2 * length (decoded f)) × IsBytes (decoded f)
 decode_of-hex f h =
-    let a = and_true (not (eqb (length f) 0)) (eqb (length f % 2) 0 && list_all is_hex_digit f) h in
-    let b = and_true (eqb (length f % 2) 0) (list_all is_hex_digit f) a.1 in
+    let a = and_parts (not (eqb (length f) 0)) (eqb (length f % 2) 0 && list_all is_hex_digit f) h in
+    let b = and_parts (eqb (length f % 2) 0) (list_all is_hex_digit f) a.1 in
     let even : length f % 2 ≡ 0 = eqb-true (length f % 2) 0 b.0 in
     let d = decode_of-digits f even (AllPass-from_list_all is_hex_digit f b.1) in
     let same : decode_of f ≡ Ok (decoded f) = d.1 ∙ ap (λ (bytes : List ℕ). Ok bytes) (sym (ap (λ (r : Result (List ℕ) FromHexError). result_unwrap_or r []) d.1)) in
     let ok = decode_of-ok f (decoded f) same in
     (same, ok.2, ok.3)
+
+-- some bytes, since there are some digits
+pub hex_said : (f : List ℕ) → is_hex f ≡ true → IsBytes (decoded f) × (1 ≤ length (decoded f)) × (length f ≡ 2 * length (decoded f))
+hex_said f h =
+    let d = decode_of-hex f h in
+    let some = eqb-false (length f) 0 (not-true _ (and_parts _ _ h).0) in
+    (d.2, omega (arith, d.1, some), d.1)
 
 -- two digits for each byte
 pub length-decoded : (f : List ℕ) → is_hex f ≡ true → length f / 2 ≡ length (decoded f)

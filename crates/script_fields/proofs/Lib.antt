@@ -5,9 +5,9 @@ pub mod Digits
 pub mod FieldLookup
 pub mod HexDigits
 pub mod NamedProperties
+pub mod Readings
 pub mod SpelledNumbers
 pub mod SpelledFields
 pub mod SpelledOperands
-pub mod SpelledShapes
 pub mod OnLiterals
 pub mod Examples

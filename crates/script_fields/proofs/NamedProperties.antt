@@ -1,7 +1,6 @@
 -- Properties, name by name.
 use Rattle.std.proofs.Common.{◌≡◌, ℕ, ◌+◌, List, take, drop, Some, None, Result, Ok, Err, refl, sym, ap, ◌∙◌, position}
-use Rattle.script_fields.proofs.Common.{AsmKind, Props, add_names, add_property, is_plus, property, slice_split}
-use Rattle.script_fields.specs.Operands.{◌>>=◌}
+use Rattle.script_fields.proofs.Common.{AsmKind, Props, add_names, add_property, is_plus, property, slice_split, ◌>>=◌}
 use Rattle.script_fields.proofs.FirstLines.{parts_first, parts_last}
 
 -- the names of a text

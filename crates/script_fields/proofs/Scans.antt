@@ -1,10 +1,6 @@
 -- The first byte that passes a test, looked for many bytes at a time through the mask of those that pass.
 use Rattle.std.proofs.Common.{◌≡◌, ◌≢◌, ℕ, ◌+◌, ◌*◌, ◌%◌, ◌^◌, ◌<◌, ◌≤◌, Bool, true, false, not, ◌||◌, cond, eqb, ltb, Some, None, position, List, [], ◌∷◌, map, length, drop, replicate, refl, ap, ap₂, ◌∙◌, sym, arith}
-use Rattle.script_fields.proofs.Common.{eq-eqb, le-ltb, length-drop, lt-ltb, ne_eqb, position_or_len}
-use Rattle.std.proofs.lemmas.Simd.{chunk-drop, length-chunk, leading_from_mask_l, trailing_mask_l, zip2_splat, mask_l-mod}
-use Rattle.std.proofs.lemmas.List.{length-map}
-use Rattle.std.proofs.lemmas.List.Folds.{prefix_len-append}
-use Rattle.std.proofs.lemmas.List.Sums.{prefix_len-le-length}
+use Rattle.script_fields.proofs.Common.{chunk-drop, eq-eqb, le-ltb, leading_from_mask_l, length-chunk, length-drop, length-map, lt-ltb, mask_l-mod, ne_eqb, position_or_len, prefix_len-append, prefix_len-le-length, trailing_mask_l, zip2_splat}
 use Rattle.std.specs.Simd.Lanes.{chunk, mask_l, top, zip2}
 use lib.Bits.{bit_or}
 use lib.Count.{count_trailing_zeros}

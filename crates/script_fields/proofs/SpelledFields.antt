@@ -1,13 +1,19 @@
 -- Fields that are joined, and lines that are ended, are read as they were.
-use Rattle.std.proofs.Common.{◌≡◌, ◌≢◌, ℕ, ◌+◌, ◌-◌, ◌≤◌, Bool, true, false, cond, not, eqb, ◌||◌, List, [], ◌∷◌, ◌++◌, length, take, get_or, filter, All, refl, ap, ◌∙◌, arith, inl, inr}
-use Rattle.script_fields.proofs.Common.{All-get_or, All-weaker, AllPass-from_list_all, IsField, and_parts, common_steps, eqb-true, fields, is_blank, is_feed, is_field_byte, is_semicolon, is_some_field, le-leb, leb-true, lines, lines_of_parts, list_all, ne_eqb, not-true, position_or_len, slice_split, without_comment}
-use Rattle.std.specs.List.{AllByRecursion}
-use Rattle.std.proofs.lemmas.Bool.{not_from_false, or_cases, or_left, or_right}
-use Rattle.std.proofs.lemmas.List.Folds.{list_all-append}
-use Rattle.std.proofs.lemmas.List.Splits.{slice_split_at, slice_split_none}
-use Rattle.script_fields.specs.Text.{IsLine, joined, ended, is_allowed}
+use Rattle.std.proofs.Common.{◌≡◌, ◌≢◌, ℕ, ◌+◌, ◌-◌, ◌≤◌, Bool, true, false, cond, not, eqb, ◌||◌, List, [], ◌∷◌, ◌++◌, length, take, get_or, filter, All, refl, ap, ◌∙◌, arith, inl, inr, zero, suc, drop}
+use Rattle.script_fields.proofs.Common.{All-get_or, All-weaker, AllByRecursion, AllPass-from_list_all, IsField, IsLine, and_parts, ended, eqb-true, fields, is_allowed, is_blank, is_feed, is_field_byte, is_semicolon, is_some_field, joined, le-leb, leb-true, lines, lines_of_parts, list_all, list_all-append, ne_eqb, not-true, not_from_false, or_cases, or_left, or_right, position_or_len, slice_split, slice_split_at, slice_split_none, take-length, without_comment}
 use Rattle.script_fields.proofs.FirstLines.{filter-yes, first_place, lines_of_parts-cons, parts_nonempty}
 use Rattle.script_fields.proofs.SpelledNumbers.{list_all-weaker}
+
+-- ## Lists that are put together
+
+pub all_append : {X : Type 0} (P : X → Type 0) (xs ys : List X) → AllByRecursion P xs → AllByRecursion P ys → AllByRecursion P (xs ++ ys)
+all_append P [] ys h k = k
+all_append P (x ∷ xs) ys h k = (h.0, all_append P xs ys h.1 k)
+
+pub all_parts : {X : Type 0} (P : X → Type 0) (n : ℕ) (xs : List X) → AllByRecursion P xs → AllByRecursion P (take n xs) × AllByRecursion P (drop n xs)
+all_parts P zero xs h = (tt, h)
+all_parts P (suc n) [] h = (tt, tt)
+all_parts P (suc n) (x ∷ xs) h = let more = all_parts P n xs h.1 in ((h.0, more.0), more.1)
 
 -- ## Fields
 
@@ -87,7 +93,7 @@ joined_allowed b h =
 pub allowed_again : (fs : List (List ℕ)) → AllByRecursion IsField fs → list_all is_allowed (joined fs) ≡ true
 allowed_again fs h = list_all-weaker is_joined_byte is_allowed joined_allowed (joined fs) (joined_bytes fs h)
 
-none_before : (p : ℕ → Bool) (xs : List ℕ) → list_all (λ b. not (p b)) xs ≡ true → position_or_len p xs ≡ length xs
+pub none_before : (p : ℕ → Bool) (xs : List ℕ) → list_all (λ b. not (p b)) xs ≡ true → position_or_len p xs ≡ length xs
 none_before p [] h = refl
 none_before p (x ∷ xs) h =
     let parts = and_parts (not (p x)) (list_all (λ b. not (p b)) xs) h in
@@ -96,15 +102,12 @@ none_before p (x ∷ xs) h =
 no_semicolon : (b : ℕ) → is_joined_byte b ≡ true → not (is_semicolon b) ≡ true
 no_semicolon b h = not_from_false (is_semicolon b) (ne_eqb b 59 (joined_bounds b h).2)
 
-whole : (xs : List ℕ) → take (length xs) xs ≡ xs
-whole xs = grind (arith, common_steps)
-
 -- a line of fields has no comment
 pub code_again : (fs : List (List ℕ)) → AllByRecursion IsField fs → without_comment (joined fs) ≡ joined fs
 unfolding without_comment
 code_again fs h =
     ap (λ (n : ℕ). take n (joined fs)) (none_before is_semicolon (joined fs) (list_all-weaker is_joined_byte (λ (b : ℕ). not (is_semicolon b)) no_semicolon (joined fs) (joined_bytes fs h)))
-    ∙ whole (joined fs)
+    ∙ take-length (joined fs)
 
 not_feed : (b : ℕ) → is_joined_byte b ≡ true → is_feed b ≡ false
 not_feed b h = let low = (joined_bounds b h).0 in ne_eqb b 10 (λ e. omega arith)

@@ -1,14 +1,11 @@
 -- Numbers that are written are read as they were, and what is read as a number was written so.
-use Rattle.std.proofs.Common.{◌≡◌, ◌≢◌, ℕ, zero, suc, ◌^◌, ◌<◌, ◌≤◌, Bool, true, false, cond, ltb, leb, eqb, not, ◌&&◌, List, length, get_or, Some, None, Ok, Err, refl, ap, ◌∙◌, arith, rules, lit<, inl, inr, decimal}
-use Rattle.script_fields.proofs.Common.{All-weaker, AllPass-from_list_all, IsField, and_parts, decimal_nonempty, function, in_range, is_digit, is_field_byte, is_number, le-leb, leb-true, list_all, lt-ltb, ltb-true, ne_eqb, number, value_after, value_of}
-use Rattle.std.proofs.lemmas.Fmt.{digits_decimal, digits_value-decimal, first_decimal, decimal_digit}
-use Rattle.std.proofs.lemmas.List.Sums.{list_all-from_AllPass}
+use Rattle.std.proofs.Common.{◌≡◌, ◌≢◌, ℕ, zero, suc, ◌^◌, ◌<◌, ◌≤◌, Bool, true, false, cond, ltb, leb, eqb, not, ◌&&◌, List, length, get_or, Some, None, Ok, Err, refl, ap, arith, rules, lit<, inl, inr, decimal, [], ◌∷◌}
+use Rattle.script_fields.proofs.Common.{All-weaker, AllPass-from_list_all, IfOk, IsField, and_parts, cases_Bool, decimal_digit, decimal_nonempty, digits_decimal, digits_value-decimal, first_decimal, function, in_range, is_digit, is_field_byte, is_number, le-leb, leb-true, limit_of, list_all, list_all-from_AllPass, lt-ltb, ltb-true, ne_eqb, number, one, value_after, value_of, within}
 use Rattle.std.proofs.lemmas.Str.Parse.{IsNumeralModel, numerals_by_fold}
 use Rattle.script_fields.specs.declared.fault.AsmKind.TheVariants as kinds
-use Rattle.script_fields.specs.Operands.{within}
-use Rattle.script_fields.proofs.FirstLines.{chosen}
+use Rattle.script_fields.proofs.Readings.{choice_if}
 
-own : IsNumeralModel (λ ds. list_all is_digit ds ≡ true) (value_after 0)
+pub own : IsNumeralModel (λ ds. list_all is_digit ds ≡ true) (value_after 0)
 own = numerals_by_fold _ (search rules) value_after (search rules)
 
 pub digits_again : (n : ℕ) → n < 2 ^ 64 → list_all is_digit (decimal n) ≡ true
@@ -33,6 +30,10 @@ number_again n h =
 -- a number between the two is left as it is
 pub within_again : (low high n : ℕ) → low ≤ n → n ≤ high → within low high n ≡ Ok n
 within_again low high n l h = rw (le-leb low n l, le-leb n high h) refl
+
+pub limit_of_again : (low high n : ℕ) → low ≤ n → n ≤ high → n < 2 ^ 64 → limit_of low high (decimal n ∷ []) ≡ Ok n
+unfolding limit_of one
+limit_of_again low high n l h small = rw (number_again n small) (within_again low high n l h)
 
 pub function_again : (n : ℕ) → n < 2 ^ 32 → function (decimal n) ≡ Ok n
 unfolding function
@@ -60,23 +61,25 @@ decimal_field n h = (decimal_nonempty n h, list_all-weaker is_digit is_field_byt
 
 -- ## What is read
 
-value_below : (v n : ℕ) → in_range (cond (ltb v (2 ^ 64)) (Some v) None) ≡ Ok n → n < 2 ^ 64
-value_below v n e =
-    elim (chosen (ltb v (2 ^ 64)) (Some v) None (cond (ltb v (2 ^ 64)) (Some v) None) refl) [
-      | inl fits ↦
-          let same : in_range (Some v) ≡ Ok n = ap in_range fits.1 ∙ e in
-          let is : v ≡ n = cc in
-          omega (arith, ltb-true _ _ fits.0)
-      | inr big ↦
-          let none : in_range None ≡ Ok n = ap in_range big.1 ∙ e in
-          absurd cc
+value_if : (v : ℕ) (P : ℕ → Type 0) → (v < 2 ^ 64 → P v) → IfOk (in_range (cond (ltb v (2 ^ 64)) (Some v) None)) P
+value_if v P f =
+    elim (cases_Bool (ltb v (2 ^ 64))) [
+      | inl fits ↦ rw fits (f (ltb-true _ _ fits))
+      | inr big ↦ rw big tt
     ]
 
--- what is read as a number has at most 64 bits
-pub number_form : (f : List ℕ) (n : ℕ) → number f ≡ Ok n → n < 2 ^ 64
+-- what is read as a number is the value of its digits, which fits
+pub number_if : (f : List ℕ) (P : ℕ → Type 0) → (is_number f ≡ true → value_after 0 f < 2 ^ 64 → P (value_after 0 f)) → IfOk (number f) P
 unfolding number value_of
-number_form f n e =
-    elim (chosen (is_number f) (in_range (cond (ltb (value_after 0 f) (2 ^ 64)) (Some (value_after 0 f)) None)) (Err kinds.Operand) (Ok n) e) [
-      | inl good ↦ value_below (value_after 0 f) n good.1
-      | inr bad ↦ absurd cc
-    ]
+number_if f P h =
+    choice_if P (is_number f) (in_range (cond (ltb (value_after 0 f) (2 ^ 64)) (Some (value_after 0 f)) None)) (Err kinds.Operand) (λ good. value_if (value_after 0 f) P (h good)) (λ bad. tt)
+
+-- it has at most 64 bits
+pub number_form : (f : List ℕ) → IfOk (number f) (λ n. n < 2 ^ 64)
+number_form f = number_if f (λ n. n < 2 ^ 64) (λ good small. small)
+
+-- a number between the two
+pub within_if : (low high n : ℕ) (P : ℕ → Type 0) → (low ≤ n → n ≤ high → P n) → IfOk (within low high n) P
+within_if low high n P h =
+    choice_if P (leb low n && leb n high) (Ok n) (Err kinds.Range)
+    (λ good. let p = and_parts (leb low n) (leb n high) good in h (leb-true low n p.0) (leb-true n high p.1)) (λ bad. tt)

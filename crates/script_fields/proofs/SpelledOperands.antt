@@ -1,17 +1,15 @@
 -- Operands that are written are read as they were.
-use Rattle.std.proofs.Common.{◌≡◌, ℕ, suc, ◌-◌, ◌*◌, ◌/◌, ◌%◌, ◌^◌, ◌<◌, ◌≤◌, Bool, true, false, eqb, leb, ltb, List, [], ◌∷◌, ◌++◌, length, take, replicate, Option, Some, None, Result, Ok, Err, refl, sym, ap, subst, ◌∙◌, arith, lit<, inl, inr, decimal, slice_index}
-use Rattle.script_fields.proofs.Common.{All-get_or, AllPass-from_list_all, AsmKind, IsBytes, IsField, IsLiteral, IsPlace, Literal, MAX_INIT_DIGITS, Place, Props, R0, R1, R10, R2, Register, and_parts, decimal_nonempty, decoded, digits, encode_lower, eq-eqb, is_digit, is_field_byte, is_hex, is_hex_digit, le-ltb, leb-true, length-take, list_all, literal, literal_of, literal_text, ltb-false, mode, mode_text, named, ne_eqb, no_transaction, no_transaction_text, not-true, number, place, place_text, property, props, props_text, register, register_name, scope, scope_text}
-use Rattle.std.proofs.lemmas.Bool.{eqb-false, cases_Bool}
-use Rattle.std.proofs.lemmas.List.{length-append, length-replicate}
-use Rattle.std.proofs.Math.Seq.{take-append_seam}
-use Rattle.hex.specs.Hex.{encode_with, lower_digits}
-use Rattle.hex.proofs.HexLemmas.{decode_of-encode_lower, length-encode_with}
+use Rattle.std.proofs.Common.{◌≡◌, ℕ, suc, ◌-◌, ◌*◌, ◌/◌, ◌%◌, ◌^◌, ◌<◌, ◌≤◌, Bool, true, false, eqb, leb, ltb, List, [], ◌∷◌, ◌++◌, length, take, replicate, Option, Some, None, Result, Ok, Err, refl, sym, ap, subst, ◌∙◌, arith, lit<, decimal, slice_index, cond, not, ◌&&◌}
+use Rattle.script_fields.proofs.Common.{All-get_or, AllPass-from_list_all, AsmKind, IfOk, IsBytes, IsField, IsLiteral, IsPlace, Props, R0, and_parts, decimal_nonempty, decode_of-encode_lower, decoded, digits, digits_to, encode_lower, encode_with, eq-eqb, is_digit, is_field_byte, is_hex, is_hex_digit, le-ltb, leb-true, length-append, length-encode_with, length-replicate, length-take, list_all, literal, literal_of, literal_text, lower_digits, ltb-false, mode, mode_text, named, ne_eqb, no_transaction, no_transaction_text, number, or_number, place, place_text, property, props, props_text, register, said_bytes, scope, scope_text, take-append_seam}
+use Rattle.script_fields.specs.declared.literal.Literal.{Literal}
+use Rattle.script_fields.specs.declared.hex_digits.TheConstants.{MAX_INIT_DIGITS}
+use Rattle.script_fields.specs.declared.place.Place.{Place}
+use Rattle.script_fields.specs.declared.register.Register.{Register}
+use Rattle.script_fields.specs.Registers.{register_name}
 use Rattle.script_fields.specs.declared.fault.AsmKind.TheVariants as kinds
 use Rattle.script_fields.specs.declared.place.Place.TheVariants as places
-use Rattle.script_fields.specs.declared.register.Register.TheVariants.{R3, R4, R5, R6, R7, R8, R9, R11, R12, R13, R14, R15}
-use Rattle.script_fields.specs.Operands.{or_number, digits_to}
-use Rattle.script_fields.specs.Spelling.{said_bytes}
-use Rattle.script_fields.proofs.HexDigits.{decode_of-hex, decoded_is}
+use Rattle.script_fields.proofs.HexDigits.{decoded_is, hex_said}
+use Rattle.script_fields.proofs.Readings.{choice_if, then_if}
 use Rattle.script_fields.proofs.SpelledNumbers.{number_again, number_form, digits_again, decimal_field}
 
 -- ## Registers
@@ -19,21 +17,7 @@ use Rattle.script_fields.proofs.SpelledNumbers.{number_again, number_form, digit
 named_again : (r : Register) → named (register_name r) ≡ Some r
 unfolding named
 named_again R0 = refl
-named_again R1 = refl
-named_again R2 = refl
-named_again R3 = refl
-named_again R4 = refl
-named_again R5 = refl
-named_again R6 = refl
-named_again R7 = refl
-named_again R8 = refl
-named_again R9 = refl
-named_again R10 = refl
-named_again R11 = refl
-named_again R12 = refl
-named_again R13 = refl
-named_again R14 = refl
-named_again R15 = refl
+named_again r = refl
 
 -- a register's name is read as the register
 pub register_again : (r : Register) → register (register_name r) ≡ Ok r
@@ -41,21 +25,7 @@ register_again r = rw (named_again r) refl
 
 pub register_field : (r : Register) → IsField (register_name r)
 register_field R0 = (lit< tt, refl)
-register_field R1 = (lit< tt, refl)
-register_field R2 = (lit< tt, refl)
-register_field R3 = (lit< tt, refl)
-register_field R4 = (lit< tt, refl)
-register_field R5 = (lit< tt, refl)
-register_field R6 = (lit< tt, refl)
-register_field R7 = (lit< tt, refl)
-register_field R8 = (lit< tt, refl)
-register_field R9 = (lit< tt, refl)
-register_field R10 = (lit< tt, refl)
-register_field R11 = (lit< tt, refl)
-register_field R12 = (lit< tt, refl)
-register_field R13 = (lit< tt, refl)
-register_field R14 = (lit< tt, refl)
-register_field R15 = (lit< tt, refl)
+register_field r = (lit< tt, refl)
 
 -- ## Places
 
@@ -83,7 +53,7 @@ place_field (places.Number n) h = decimal_field n h
 
 -- ## Bytes
 
-encoded_all : (p : ℕ → Bool) → list_all p lower_digits ≡ true → (bytes : List ℕ) → IsBytes bytes → list_all p (encode_lower bytes) ≡ true
+pub encoded_all : (p : ℕ → Bool) → list_all p lower_digits ≡ true → (bytes : List ℕ) → IsBytes bytes → list_all p (encode_lower bytes) ≡ true
 unfolding encode_with
 encoded_all p t [] h = refl
 encoded_all p t (b ∷ rest) h =
@@ -94,16 +64,18 @@ encoded_all p t (b ∷ rest) h =
     let more = encoded_all p t rest (λ (i : ℕ). h (suc i)) in
     rw (high, low) more
 
-hex_again : (bytes : List ℕ) → IsBytes bytes → 1 ≤ length bytes → is_hex (encode_lower bytes) ≡ true
-hex_again bytes h some =
+-- digits that pass a test, an even number of them and at least 2
+pub even_digits : (p : ℕ → Bool) → list_all p lower_digits ≡ true → (bytes : List ℕ) → IsBytes bytes → 1 ≤ length bytes
+    → (not (eqb (length (encode_lower bytes)) 0) && (eqb (length (encode_lower bytes) % 2) 0 && list_all p (encode_lower bytes))) ≡ true
+even_digits p t bytes h some =
     let twice = length-encode_with lower_digits bytes in
     let long : eqb (length (encode_lower bytes)) 0 ≡ false = ne_eqb _ 0 (λ e. omega arith) in
     let even : eqb (length (encode_lower bytes) % 2) 0 ≡ true = eq-eqb _ 0 (omega arith) in
-    rw (long, even) (encoded_all is_hex_digit refl bytes h)
+    rw (long, even) (encoded_all p t bytes h)
 
 digits_to_again : (most : ℕ) (bytes : List ℕ) → IsBytes bytes → 1 ≤ length bytes → 2 * length bytes ≤ most → digits_to most (encode_lower bytes) ≡ Ok bytes
 digits_to_again most bytes h some few =
-    let hex = hex_again bytes h some in
+    let hex : is_hex (encode_lower bytes) ≡ true = even_digits is_hex_digit refl bytes h some in
     let twice = length-encode_with lower_digits bytes in
     let fits : ltb most (length (encode_lower bytes)) ≡ false = le-ltb most _ (omega arith) in
     rw (hex, fits) (ap (λ (bs : List ℕ). Ok bs) (decoded_is _ _ (decode_of-encode_lower bytes h)))
@@ -140,13 +112,10 @@ literal_field l h = hex_field (said_bytes l) h.bytes (omega (arith, length-take 
 made_again : (abort irrevocable goes : Bool) → props (props_text (record { no_abort = abort; no_irrevocable = irrevocable; goes_irrevocable = goes })) ≡ Ok (record { no_abort = abort; no_irrevocable = irrevocable; goes_irrevocable = goes })
 unfolding props property
 made_again false false false = refl
-made_again false false true = refl
 made_again false true false = refl
-made_again false true true = refl
 made_again true false false = refl
-made_again true false true = refl
 made_again true true false = refl
-made_again true true true = refl
+made_again abort irrevocable goes = refl
 
 -- properties that are written are read as they were
 pub props_again : (p : Props) → props (props_text p) ≡ Ok p
@@ -154,13 +123,10 @@ props_again p = made_again p.no_abort p.no_irrevocable p.goes_irrevocable
 
 made_field : (abort irrevocable goes : Bool) → IsField (props_text (record { no_abort = abort; no_irrevocable = irrevocable; goes_irrevocable = goes }))
 made_field false false false = (lit< tt, refl)
-made_field false false true = (lit< tt, refl)
 made_field false true false = (lit< tt, refl)
-made_field false true true = (lit< tt, refl)
 made_field true false false = (lit< tt, refl)
-made_field true false true = (lit< tt, refl)
 made_field true true false = (lit< tt, refl)
-made_field true true true = (lit< tt, refl)
+made_field abort irrevocable goes = (lit< tt, refl)
 
 pub props_field : (p : Props) → IsField (props_text p)
 props_field p = made_field p.no_abort p.no_irrevocable p.goes_irrevocable
@@ -190,20 +156,15 @@ no_transaction_field = (lit< tt, refl)
 
 -- ## What is read
 
-number_place : (f : List ℕ) (p : Place) (r : Result ℕ AsmKind) → ((n : ℕ) → r ≡ Ok n → n < 2 ^ 64) → or_number None r ≡ Ok p → IsPlace p
-number_place f (places.Register s) r h e = tt
-number_place f (places.Number n) (Ok m) h e = let is : m ≡ n = cc in subst (λ (k : ℕ). k < 2 ^ 64) is (h m refl)
-number_place f (places.Number n) (Err k) h e = absurd cc
-
-some_place : (p : Place) (o : Option Register) (f : List ℕ) → or_number o (number f) ≡ Ok p → IsPlace p
-some_place (places.Register s) o f e = tt
-some_place (places.Number n) (Some s) f e = absurd cc
-some_place (places.Number n) None f e = number_place f (places.Number n) (number f) (number_form f) e
+some_place : (o : Option Register) (r : Result ℕ AsmKind) → IfOk r (λ n. n < 2 ^ 64) → IfOk (or_number o r) IsPlace
+some_place (Some s) r h = tt
+some_place None (Ok n) h = h
+some_place None (Err k) h = tt
 
 -- what is read as a place is one that a script can say
-pub place_form : (f : List ℕ) (p : Place) → place f ≡ Ok p → IsPlace p
+pub place_form : (f : List ℕ) → IfOk (place f) IsPlace
 unfolding place
-place_form f p e = some_place p (named f) f e
+place_form f = some_place (named f) (number f) (number_form f)
 
 few_bytes : (bytes : List ℕ) → IsBytes bytes → 1 ≤ length bytes → length bytes ≤ 32 → IsLiteral (literal_of bytes)
 few_bytes bytes h some few =
@@ -217,23 +178,15 @@ few_bytes bytes h some few =
       bytes = subst IsBytes (sym said) h;
     }
 
-digits_form : (f : List ℕ) → is_hex f ≡ true → length f ≤ 64 → IsLiteral (literal_of (decoded f))
-digits_form f hex few =
-    let d = decode_of-hex f hex in
-    let some : length f ≡ 0 → ⊥ = eqb-false (length f) 0 (not-true _ (and_parts _ _ hex).0) in
-    few_bytes (decoded f) d.2 (omega (arith, d.1, some)) (omega (arith, d.1))
+-- bytes are those that their digits say, of which there are so many at most
+pub digits_if : (most : ℕ) (f : List ℕ) (P : List ℕ → Type 0) → (is_hex f ≡ true → length f ≤ most → P (decoded f)) → IfOk (digits_to most f) P
+digits_if most f P h =
+    choice_if P (is_hex f) (cond (ltb most (length f)) (Err kinds.Range) (Ok (decoded f))) (Err kinds.Operand)
+    (λ hex. choice_if P (ltb most (length f)) (Err kinds.Range) (Ok (decoded f)) (λ long. tt) (λ short. h hex (ltb-false _ _ short))) (λ bad. tt)
 
 -- what is read as bytes for a register is what a script can say for one
-pub literal_form : (f : List ℕ) (l : Literal) → literal f ≡ Ok l → IsLiteral l
+pub literal_form : (f : List ℕ) → IfOk (literal f) IsLiteral
 unfolding literal
-literal_form f l e =
-    elim (cases_Bool (is_hex f)) [
-      | inr bad ↦ let no : Err kinds.Operand ≡ Ok l = rw bad at e in absurd cc
-      | inl hex ↦ elim (cases_Bool (ltb 64 (length f))) [
-        | inl long ↦ let no : Err kinds.Range ≡ Ok l = rw (hex, long) at e in absurd cc
-        | inr short ↦
-            let is : Ok (literal_of (decoded f)) ≡ Ok l = rw (hex, short) at e in
-            let same : literal_of (decoded f) ≡ l = cc in
-            subst IsLiteral same (digits_form f hex (ltb-false _ _ short))
-      ]
-    ]
+literal_form f =
+    then_if IsLiteral (digits_to 64 f) (λ bytes. Ok (literal_of bytes))
+    (digits_if 64 f (λ bytes. IsLiteral (literal_of bytes)) (λ hex few. let d = hex_said f hex in few_bytes (decoded f) d.0 d.1 (omega (arith, d.2))))

@@ -1,24 +1,17 @@
 -- The code of a script's threads is nested: a line that would leave it otherwise is a fault.
-use Rattle.std.proofs.Common.{◌≡◌, ℕ, zero, suc, ◌+◌, ◌||◌, Bool, true, false, nat_eq, nat_le, nat_lt, if◌then◌else◌, List, [], ◌∷◌, ◌++◌, length, take, drop, replicate, Option, None, Some, Result, Ok, Err, refl, sym, ap, subst, ◌∙◌, inl, inr}
-use Rattle.std.specs.Prelude.{slice_get}
-use Rattle.std.specs.List.{flat_map, repeat}
-use Rattle.std.proofs.lemmas.Bool.{cases_Bool, or_parts, or_right}
+use Rattle.std.proofs.Common.{◌≡◌, ℕ, zero, suc, ◌+◌, ◌||◌, Bool, true, false, nat_eq, nat_le, nat_lt, if◌then◌else◌, List, [], ◌∷◌, ◌++◌, length, take, drop, replicate, Option, None, Some, Result, Ok, Err, refl, sym, ap, subst, ◌∙◌, inl, inr, slice_get}
+use Rattle.script_laws.proofs.Common.{Beginning, Group, Instruction, Leads, Level, Listing, Nests, Part, Shared, cases_Bool, codes_of, flat_map, group, innermost, innermost_line, list_all, or_parts, or_right, outer, repeat, second_part, stands_never, threads_of, within_never}
 use Rattle.std.proofs.lemmas.List.{append-nil}
 use Rattle.itm_types.specs.declared.limits.TheConstants.{MAX_ACTORS, MAX_ARENA, MAX_COMMITS, MAX_DEPTH, MAX_PATIENCE, MAX_RESTARTS, MAX_RETRIES}
 use Rattle.script_fields.specs.declared.fault.AsmFault.{AsmFault}
 use Rattle.script_fields.specs.declared.fault.AsmKind.TheVariants as kinds
 use Rattle.script_fields.specs.Text.{fields, without_comment, is_allowed}
-use Rattle.std.specs.List.{list_all}
 use Rattle.std.specs.Str.Lines.{lines}
 use Rattle.script_program.specs.declared.limits.TheConstants.{MAX_INSTRUCTIONS, MAX_ITEMS, MAX_LEVELS, MAX_REPEATS, MAX_TEXT}
-use Rattle.script_program.specs.declared.instruction.Instruction.{Instruction}
 use Rattle.script_program.specs.declared.instruction.Instruction.TheVariants as code
 use Rattle.script_program.specs.declared.schedule.Item.{Item}
-use Rattle.script_program.specs.Listing.{Listing, Part, Shared, codes_of, threads_of}
 use Rattle.script_program.specs.Schedules.{stray_of}
 use Rattle.script_program.specs.Sections.{Sections, begun, counted_again, expanded, instruction_total, parts_of, thread_total}
-use Rattle.script_asm.specs.declared.groups.Beginning.{Beginning}
-use Rattle.script_asm.specs.declared.groups.Group.{Group}
 use Rattle.script_asm.specs.declared.groups.Group.TheVariants as groups
 use Rattle.script_asm.specs.declared.state.State.{State}
 use Rattle.script_asm.specs.declared.words.Word.{Word}
@@ -26,14 +19,12 @@ use Rattle.script_asm.specs.declared.words.Word.TheVariants as words
 use Rattle.script_asm.specs.Assembly.{closed, complete, end_of, initial, lines_say, listing_of, meaning, named, obeyed, program_of, said, worded}
 use Rattle.script_asm.specs.Blocks.{added, again, begins, counted, ends, ends_block, ends_group, in_second_part, opened, place_of, repeated, repeats, run_code, turns_group, without_innermost}
 use Rattle.script_asm.specs.Directives.{laid_in, scheduled, threaded}
-use Rattle.script_asm.specs.Groups.{innermost, innermost_line, outer, second_part, stands_never, within_never}
 use Rattle.script_asm.specs.Readings.{◌>>=◌, at_line, fault}
 use Rattle.script_asm.specs.Code.{instruction_of}
 use Rattle.script_asm.specs.Items.{schedule_of}
 use Rattle.script_fields.specs.Shapes.{none, size_of, limit_of, init_of, count_of}
 use Rattle.script_asm.specs.Standing.{has_begun, may_stand}
 use Rattle.script_asm.specs.Words.{word_of}
-use Rattle.script_vm.specs.Nesting.{Leads, Level, Nests, group}
 use Rattle.script_laws.proofs.OpenCode.{leads_times, take_front, drop_front, level_in, BeginsAt, Open, open_more, open_ended, live, live_never, live_all}
 
 -- ## Sections
@@ -91,6 +82,10 @@ module _ (s : State) (n : ℕ) (good : IsGood s) where
   now_added i bs levels w same o =
       subst (λ (b : Bool). AreOpen (added b s.threads i) bs) (sym w) (record { ended = good.ended; levels = levels; now = subst (λ (l : List Beginning). Open l (s.threads.code ++ i ∷ []) levels) (sym same) o })
 
+  -- where there is no room for it, it is a fault
+  all_room : (f : State → Result State AsmFault) (t : Sections) → OkGood (f (record s { threads = t })) → OkGood ((if nat_le MAX_INSTRUCTIONS (instruction_total s.threads) then fault n kinds.TooLong else Ok (record s { threads = t })) >>= f)
+  all_room f t g = elim (nat_le MAX_INSTRUCTIONS (instruction_total s.threads)) as (λ (full : Bool). OkGood ((if full then fault n kinds.TooLong else Ok (record s { threads = t })) >>= f)) [ true ↦ tt | false ↦ g ]
+
   -- one that begins and ends nothing
   plain_good : (i : Instruction) → ((levels : List Level) → Leads (i ∷ []) levels levels) → OkGood (counted s n i)
   plain_good i leads = fault_or (nat_le MAX_INSTRUCTIONS (instruction_total s.threads)) _ _ (elim (cases_Bool (within_never s.levels)) [
@@ -100,7 +95,7 @@ module _ (s : State) (n : ℕ) (good : IsGood s) where
 
   -- one that begins a block or a group
   begins_good : (i : Instruction) (g : Group) → stands_never g ≡ false → ((levels : List Level) → Leads (i ∷ []) levels (level_in g levels)) → BeginsAt g (length s.threads.code) → OkGood (begins s n i g)
-  begins_good i g stands leads place = by_room (nat_le MAX_INSTRUCTIONS (instruction_total s.threads))
+  begins_good i g stands leads place = all_room (λ t. opened t n g) (added (within_never s.levels) s.threads i) (fault_or (nat_le MAX_LEVELS (length s.levels)) _ _ opens)
     where
       b : Beginning
       b = record { line = n; group = g }
@@ -113,13 +108,9 @@ module _ (s : State) (n : ℕ) (good : IsGood s) where
             (s.threads.code, i ∷ [], good.levels, all_open w, refl, refl, leads good.levels, place)
       ]
 
-      by_room : (full : Bool) → OkGood ((if full then fault n kinds.TooLong else Ok (record s { threads = added (within_never s.levels) s.threads i })) >>= λ t. opened t n g)
-      by_room true = tt
-      by_room false = fault_or (nat_le MAX_LEVELS (length s.levels)) _ _ opens
-
   -- one that ends what is innermost
   ends_good : (i : Instruction) (g : Group) → innermost s.levels ≡ Some g → ((levels : List Level) → Leads (i ∷ []) (level_in g levels) levels) → OkGood (ends s n i)
-  ends_good i g is leads = by_room (nat_le MAX_INSTRUCTIONS (instruction_total s.threads))
+  ends_good i g is leads = all_room (λ t. Ok (without_innermost t)) (added (within_never s.levels) s.threads i) (closes s.levels refl is)
     where
       closes : (bs : List Beginning) → bs ≡ s.levels → innermost bs ≡ Some g → AreOpen (added (within_never s.levels) s.threads i) (outer bs)
       closes [] same is = absurd (cc)
@@ -131,13 +122,9 @@ module _ (s : State) (n : ℕ) (good : IsGood s) where
             now_added i more x.0 w (live_all more (or_parts (stands_never b.group) (within_never more) (ap within_never same ∙ w)).1) x.1)
       ]
 
-      by_room : (full : Bool) → OkGood ((if full then fault n kinds.TooLong else Ok (record s { threads = added (within_never s.levels) s.threads i })) >>= λ t. Ok (without_innermost t))
-      by_room true = tt
-      by_room false = closes s.levels refl is
-
   -- the second part of a group
   turns_good : innermost s.levels ≡ Some groups.First → OkGood (turns_group s n (innermost s.levels))
-  turns_good is = subst (λ (o : Option Group). OkGood (turns_group s n o)) (sym is) (by_room (nat_le MAX_INSTRUCTIONS (instruction_total s.threads)))
+  turns_good is = subst (λ (o : Option Group). OkGood (turns_group s n o)) (sym is) (all_room (λ t. Ok (in_second_part t)) (added (within_never s.levels) s.threads code.Else) (turned s.levels refl is))
     where
       turned : (bs : List Beginning) → bs ≡ s.levels → innermost bs ≡ Some groups.First → AreOpen (added (within_never s.levels) s.threads code.Else) (second_part bs)
       turned [] same is = absurd (cc)
@@ -156,30 +143,18 @@ module _ (s : State) (n : ℕ) (good : IsGood s) where
                 (more_code.0, more_code.1, more_code.2, more_code.3, more_code.4, more_code.5 ∙ ap (λ (g : Group). level_in g more_code.2) first, more_code.6, tt))
           ]
 
-      by_room : (full : Bool) → OkGood ((if full then fault n kinds.TooLong else Ok (record s { threads = added (within_never s.levels) s.threads code.Else })) >>= λ t. Ok (in_second_part t))
-      by_room true = tt
-      by_room false = turned s.levels refl is
-
   ends_group_good : (o : Option Group) → innermost s.levels ≡ o → OkGood (ends_group s n o)
   ends_group_good (Some groups.First) is = ends_good code.EndIf groups.First is (λ levels. (levels, refl, refl))
   ends_group_good (Some groups.Second) is = ends_good code.EndIf groups.Second is (λ levels. (levels, refl, refl))
-  ends_group_good (Some groups.Block) is = tt
-  ends_group_good (Some (groups.Repeat start times)) is = tt
-  ends_group_good None is = tt
+  ends_group_good o is = tt
 
   ends_block_good : (o : Option Group) → innermost s.levels ≡ o → OkGood (ends_block s n o)
   ends_block_good (Some groups.Block) is = ends_good code.Commit groups.Block is (λ levels. (levels, refl, refl))
-  ends_block_good (Some groups.First) is = tt
-  ends_block_good (Some groups.Second) is = tt
-  ends_block_good (Some (groups.Repeat start times)) is = tt
-  ends_block_good None is = tt
+  ends_block_good o is = tt
 
   turns_group_good : (o : Option Group) → innermost s.levels ≡ o → OkGood (turns_group s n (innermost s.levels))
   turns_group_good (Some groups.First) is = turns_good is
-  turns_group_good (Some groups.Second) is = subst (λ (o : Option Group). OkGood (turns_group s n o)) (sym is) tt
-  turns_group_good (Some groups.Block) is = subst (λ (o : Option Group). OkGood (turns_group s n o)) (sym is) tt
-  turns_group_good (Some (groups.Repeat start times)) is = subst (λ (o : Option Group). OkGood (turns_group s n o)) (sym is) tt
-  turns_group_good None is = subst (λ (o : Option Group). OkGood (turns_group s n o)) (sym is) tt
+  turns_group_good now is = subst (λ (o : Option Group). OkGood (turns_group s n o)) (sym is) tt
 
   run_good : (i : Instruction) → OkGood (run_code s n i)
   unfolding run_code
@@ -237,10 +212,7 @@ module _ (s : State) (n : ℕ) (good : IsGood s) where
                   (subst (λ (xs : List Instruction). Open more xs o.2) (sym again_is) stands);
             }))
       ]
-  repeated_good (Some groups.Block) is = tt
-  repeated_good (Some groups.First) is = tt
-  repeated_good (Some groups.Second) is = tt
-  repeated_good None is = tt
+  repeated_good o is = tt
 
   -- ## Sections
 

@@ -1,18 +1,8 @@
 -- A thread of nested code tells its room truly; and so its irrevocable attempt never wants memory.
-use Rattle.std.proofs.Common.{◌≡◌, ℕ, zero, suc, ◌≤◌, List, [], ◌∷◌, map, Bool, true, false, None, Some, refl, sym, ap, subst, ◌∙◌, inl, inr, arith}
-use Rattle.std.specs.Prelude.{slice_get, if◌then◌else◌}
-use Rattle.itm_types.specs.declared.call.Call.{Call}
-use Rattle.itm_types.specs.declared.call.Call.TheVariants.{Begin, Mode}
+use Rattle.std.proofs.Common.{◌≡◌, ℕ, zero, suc, ◌≤◌, List, [], ◌∷◌, map, Bool, true, false, None, Some, refl, sym, ap, subst, ◌∙◌, inl, inr, arith, slice_get, if◌then◌else◌}
+use Rattle.script_laws.proofs.Common.{Begin, Call, Instruction, IsNested, Mode, Nests, Thread, answered, back_nested, carried_room, depth_of, left, next_call, opening, opening_nested, plays, slice_get_within, some_left, there_is, thread_rules, threads_of}
 use Rattle.world_rules.specs.PlayerRooms.{ComesTo, EndsWithin, GoesTo, TellsRoom, going_room}
-use Rattle.world_rules.proofs.Common.{slice_get_within}
-use Rattle.world_rules.proofs.Common.{there_is}
 use Rattle.script_laws.specs.Fed.{AreFed, TellRoom, TellsEachRoom}
-use Rattle.script_program.specs.declared.instruction.Instruction.{Instruction}
-use Rattle.script_program.specs.Listing.{threads_of}
-use Rattle.script_vm.specs.Nesting.{Nests}
-use Rattle.script_vm.specs.Rooms.{carried_room}
-use Rattle.script_vm.specs.Threads.{Thread, answered, depth_of, next_call, opening, thread_rules}
-use Rattle.script_vm.proofs.NestedThreads.{IsNested, back_nested, left, opening_nested, plays, some_left}
 
 -- one that makes its transaction irrevocable is one of these
 only_told : (going : Bool) (room n : ℕ) → (if going then Some room else None) ≡ Some n → Some room ≡ Some n

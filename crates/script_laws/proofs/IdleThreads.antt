@@ -1,43 +1,23 @@
 -- A thread of nested code that runs on a thread of its own comes back idle.
 use Rattle.std.proofs.Common.{◌≡◌, inl, inr, ℕ, ◌<◌, ◌≤◌, Bool, true, false, true≢false, if◌then◌else◌, List, [], length, Result, Ok, Err, refl, sym, ap, subst, ◌∙◌, arith}
-use Rattle.std.proofs.lemmas.Option.{get_or_from_slice_get}
-use Rattle.norec_core.specs.Core.{Core, in_transaction, rolled_back}
+use Rattle.script_laws.proofs.Common.{Account, Core, Finished, Gating, GaveUp, Instruction, IsDeep, IsRow, Listing, NoMemory, Parts, Standing, StopsAt, Thread, Words, both, call_number, depth_of, ended_shut, first_account, get_or_from_slice_get, in_transaction, is_held, opening, rolled_back, some_left, there_is, thread_laws, thread_rules, threads_of}
 use Rattle.norec_core.specs.Phases.{Idle}
 use Rattle.norec_core.specs.Undoing.{after_undoing}
 use Rattle.norec_core.proofs.Engines.HeldStores.{shut_revocable}
-use Rattle.shared_words.specs.InGlobal.{Words}
 use Rattle.shared_words.specs.declared.pass.Pass.{Pass}
-use Rattle.call_rules.specs.Standing.{Standing}
 use Rattle.script_laws.specs.Assembled.{HasNestedCode}
 use Rattle.script_laws.specs.Idle.{ComeBackIdle, NoneStayHeld}
-use Rattle.script_program.specs.declared.instruction.Instruction.{Instruction}
-use Rattle.script_program.specs.Listing.{Listing, threads_of}
-use Rattle.script_vm.specs.ThreadLaws.{thread_laws}
-use Rattle.script_vm.specs.Threads.{Thread, depth_of, opening, thread_rules}
-use Rattle.script_vm.proofs.NestedThreads.{ended_shut, some_left}
-use Rattle.tx_host.specs.Rows.{MadeCalls}
-use Rattle.tx_host.specs.Starts.{code_of}
+use Rattle.report_rules.specs.Rows.{MadeCalls}
+use Rattle.report_rules.specs.Fresh.{code_of}
 use Rattle.tx_runs.specs.declared.ending.End.{End}
-use Rattle.tx_runs.specs.declared.ending.End.TheVariants.{Finished, GaveUp, NoMemory}
-use Rattle.tx_runs.specs.Nesting.{IsDeep}
-use Rattle.tx_runs.proofs.RunLists.{there_is}
 use Rattle.worker_rules.specs.Worked.{Worked}
-use Rattle.worker_rules.specs.Accounts.{Account, first_account}
-use Rattle.worker_rules.specs.Gates.{Gating, call_number}
-use Rattle.worker_rules.specs.Calls.{StopsAt}
-use Rattle.worker_rules.specs.Works.{IsRow, Parts, is_held}
-use Rattle.worker_rules.proofs.Laws.Answers.{both}
 use Rattle.script_laws.proofs.KeptThreads.{IsKept, course, first_kept, kept_all, some_open}
 
 -- ## Where it stops
 
 module _ (words : Words) (start : Standing) (code : List Instruction) (number retries : ℕ) where
   undone_free : (e : Core) → e.irrevocable ≡ false → (after_undoing e).irrevocable ≡ false
-  undone_free e free = by_holder e.holds
-    where
-      by_holder : (b : Bool) → (if b then e else record (rolled_back e) { stage = Idle; tries = 0 }).irrevocable ≡ false
-      by_holder true = free
-      by_holder false = refl
+  undone_free e free = elim e.holds as (λ (b : Bool). (if b then e else record (rolled_back e) { stage = Idle; tries = 0 }).irrevocable ≡ false) [ true ↦ free | false ↦ refl ]
 
   free_at : (gate : Gating) (calls : ℕ) (end : End) (a : Account Thread) (s : Standing) (over : Account Thread) (thread : Standing) → IsKept words start code number retries a s → StopsAt words thread_rules number retries gate calls end a s over thread → thread.engine.irrevocable ≡ false
   free_at gate calls Finished a s over thread k stops =
@@ -76,9 +56,9 @@ made_idle : (gate : Gating) (p : Listing) (words : Words) (base : List ℕ) (num
 made_idle gate p words base number worked nested there made =
     let code = there_is (threads_of p) number there in
     let its_code : code_of p number ≡ code.0 = get_or_from_slice_get (threads_of p) number code.0 [] code.1 in
-    let deep : made.start.engine.depth ≡ p.limits.depth = ap (λ (e : Core). e.depth) made.fresh.engine_is in
-    let player : made.player ≡ opening made.start.engine.depth code.0 = made.fresh.player_is ∙ (λ i. opening (sym deep i) (its_code i)) in
-    come_back_idle words made.start code.0 number p.limits.retries gate worked (nested number code.0 code.1) made.own made.stands (ap in_transaction made.fresh.engine_is)
+    let deep : made.start.engine.depth ≡ p.limits.depth = ap (λ (e : Core). e.depth) made.begins.fresh.engine_is in
+    let player : made.player ≡ opening made.start.engine.depth code.0 = made.begins.fresh.player_is ∙ (λ i. opening (sym deep i) (its_code i)) in
+    come_back_idle words made.start code.0 number p.limits.retries gate worked (nested number code.0 code.1) made.begins.own made.begins.stands (ap in_transaction made.begins.fresh.engine_is)
     (subst (λ (q : Thread). IsRow thread_rules words made.start q number p.limits.retries gate worked) player made.row)
 
 pub none_stay_held : NoneStayHeld

@@ -1,45 +1,18 @@
 -- What is kept of a thread of nested code from call to call.
-use Rattle.std.proofs.Common.{◌≡◌, ◌⊎◌, inl, inr, ℕ, zero, suc, ◌+◌, ◌-◌, ◌/◌, ◌<◌, ◌≤◌, Bool, true, false, true≢false, nat_lt, List, [], ◌∷◌, length, Option, None, Some, IsSome, unwrap_or, refl, sym, ap, subst, ◌∙◌, arith, append-nil}
-use Rattle.std.proofs.lemmas.Bool.{cases_Bool, cond-false, cond-true, ltb-false, ltb-true}
-use Rattle.itm_types.specs.Calls.{is_begin}
-use Rattle.itm_types.specs.declared.call.Call.{Call}
-use Rattle.itm_types.specs.declared.call.Call.TheVariants.{Begin}
-use Rattle.itm_types.specs.declared.call.Reply.{Reply as Replied}
-use Rattle.itm_types.specs.declared.call.Reply.TheVariants.{Done, Code}
+use Rattle.std.proofs.Common.{◌≡◌, ◌⊎◌, inl, inr, ℕ, zero, suc, ◌+◌, ◌-◌, ◌<◌, ◌≤◌, Bool, true, false, true≢false, nat_lt, List, [], ◌∷◌, length, None, Some, IsSome, unwrap_or, refl, sym, ap, subst, ◌∙◌, arith, append-nil}
+use Rattle.script_laws.proofs.Common.{Account, Attempt, Begin, Call, Code, Core, Done, Gating, GaveUp, HasMade, Instruction, IsDeep, IsMade, IsNested, MayReply, Nested, Nests, Replied, Savepoint, Stage, Standing, Taken, Thread, Ways, Words, account_after, answered, answered_deepest, asked, at_block, at_block_deepest, back_nested, begins_again, begun, both, cases_Bool, cond-false, cond-true, course_of, depth_after, depth_of, first_account, gone_back, in_transaction, irrevocable_room, is_begin, is_inside, is_within, left, ltb-false, ltb-true, next_call, opening, opening_nested, outside, plays, reply_cases, reserved, restarted, restarted_deepest, sent_back, stage_at, stand_of, start_of, thread_laws, thread_rules, took_in, within}
 use Rattle.nest_frames.specs.Nest.{Frame}
 use Rattle.norec_core.specs.declared.answer.Answer.{Answer}
 use Rattle.norec_core.specs.declared.answer.Answer.TheVariants.{Busy, Committed, Conflict, Full, Reply, Restarted}
-use Rattle.norec_core.specs.Core.{Core, in_transaction, irrevocable_room, is_inside, is_within}
-use Rattle.norec_core.proofs.Replies.ReplyCases.{Ways, reply_cases}
-use Rattle.shared_words.specs.InGlobal.{Words}
 use Rattle.shared_words.specs.Passes.{Owns, cells_of, commits_known, view_of}
 use Rattle.call_rules.specs.CallResults.{IsAnswered}
 use Rattle.call_rules.specs.Served.{Start}
-use Rattle.call_rules.specs.Standing.{Standing, start_of}
 use Rattle.call_rules.specs.Ties.{Stands}
-use Rattle.script_program.specs.declared.instruction.Instruction.{Instruction}
-use Rattle.script_vm.specs.Nesting.{Nests}
-use Rattle.script_vm.specs.ThreadLaws.{thread_laws}
-use Rattle.script_vm.specs.Threads.{Thread, answered, at_block, depth_of, next_call, opening, restarted, thread_rules}
-use Rattle.script_vm.proofs.NestedThreads.{IsNested, answered_deepest, at_block_deepest, back_nested, left, opening_nested, plays, restarted_deepest}
-use Rattle.tx_attempts.specs.declared.attempt.Attempt.{Attempt}
-use Rattle.tx_attempts.specs.Kept.{reserved}
 use Rattle.tx_attempts.proofs.LaterClocks.{outrun_none}
-use Rattle.tx_player.specs.Depth.{depth_after}
-use Rattle.tx_player.specs.Replies.{MayReply}
-use Rattle.tx_runs.specs.declared.ending.End.TheVariants.{GaveUp}
-use Rattle.tx_runs.specs.declared.savepoint.Savepoint.{Savepoint}
-use Rattle.tx_runs.specs.Nesting.{IsDeep, IsNested as Nested}
-use Rattle.tx_runs.specs.Tallies.{Stage, Taken, begins_again, begun, gone_back, outside, sent_back, stage_at, stand_of, took_in, within}
-use Rattle.tx_runs.proofs.EngineReplies.{engine_may}
-use Rattle.tx_runs.proofs.IrrevocableCalls.{goes_same}
-use Rattle.tx_runs.proofs.Players.{nested_outside}
-use Rattle.worker_rules.specs.Accounts.{Account, account_after, first_account}
-use Rattle.worker_rules.specs.Gates.{Gating}
-use Rattle.worker_rules.specs.Calls.{HasMade, IsMade, asked}
+use Rattle.run_rules.proofs.EngineReplies.{engine_may}
+use Rattle.run_rules.proofs.IrrevocableCalls.{goes_same}
+use Rattle.run_rules.proofs.Players.{nested_outside}
 use Rattle.worker_rules.specs.Progress.{Course, IsRunning}
-use Rattle.worker_rules.specs.Works.{course_of}
-use Rattle.worker_rules.proofs.Laws.Answers.{both}
 use Rattle.worker_rules.proofs.Machines.LastEvents.{IsLast, last_event}
 use Rattle.call_rules.proofs.LaterViews.{went_self}
 use Rattle.script_laws.proofs.RepliedThreads.{HasLeft, deeper_begins, engine_fits, entered_may, one_deeper, open_room, replied_player, reserved_least, told_as_asked, tried_so}
@@ -265,10 +238,15 @@ module _ (words : Words) (start : Standing) (code : List Instruction) (number re
         room = λ held row points is. subst (λ (q : Thread). left q ≤ row.calls.room) (sym player_told) (room_told held row points is);
       }
 
-    -- ### Another answer
+    -- ### An answer
 
-    kept_commit : (at : ℕ) (wrote : Bool) (x : Answered (Committed at wrote)) → (took (Committed at wrote)).end ≡ None → IsKept (account_after a (took (Committed at wrote))) s'
-    kept_commit at wrote x none =
+    sent_outside : (c : Call) → sent_back thread_rules (stage_at outside c (λ props. begun number a.nth (commits_known (view_of s.pass)) props s.engine.arena ahead) ahead) a.player ≡ a.player
+    sent_outside (Begin props room) = refl
+    sent_outside c = refl
+
+    kept_on : (answer : Answer) (x : Answered answer) → (took answer).end ≡ None → IsKept (account_after a (took answer)) s'
+    kept_on (Reply r) x none = kept_reply r x none
+    kept_on (Committed at wrote) x none =
         let may : MayReply (depth_of a.player) call Done = subst (λ (c : Call). MayReply (depth_of a.player) c Done) (sym x.served.tells.call) (λ some. refl) in
         record {
           own = x.own;
@@ -280,13 +258,7 @@ module _ (words : Words) (start : Standing) (code : List Instruction) (number re
           few = few_told Done (λ n opens is. absurd (let f : Done ≡ Code n = is in cc));
           room = λ held row points is. absurd (let f : outside ≡ within row points = is in cc);
         }
-
-    sent_outside : (c : Call) → sent_back thread_rules (stage_at outside c (λ props. begun number a.nth (commits_known (view_of s.pass)) props s.engine.arena ahead) ahead) a.player ≡ a.player
-    sent_outside (Begin props room) = refl
-    sent_outside c = refl
-
-    kept_conflict : (clock : ℕ) (word : Option ℕ) (x : Answered (Conflict clock word)) → (took (Conflict clock word)).end ≡ None → IsKept (account_after a (took (Conflict clock word))) s'
-    kept_conflict clock word x none = kept_shut (account_after a (took (Conflict clock word))) x.own x.stands (running_on (Conflict clock word) x none) now.1 (by_mode (in_transaction s.engine) refl)
+    kept_on (Conflict clock word) x none = kept_shut (account_after a (took (Conflict clock word))) x.own x.stands (running_on (Conflict clock word) x none) now.1 (by_mode (in_transaction s.engine) refl)
       where
         now : ((took (Conflict clock word)).tally.player ≡ sent_back thread_rules (stage_came a.stage) a.player) × ((took (Conflict clock word)).tally.stage ≡ outside)
         now = tried_so retries (record (asked words thread_rules number retries s a call) { player = sent_back thread_rules (stage_came a.stage) a.player }) _
@@ -294,12 +266,8 @@ module _ (words : Words) (start : Standing) (code : List Instruction) (number re
         by_mode : (i : Bool) → in_transaction s.engine ≡ i → ((took (Conflict clock word)).tally.player ≡ a.player) ⊎ (((took (Conflict clock word)).tally.player ≡ restarted a.player) × (depth_of (restarted a.player) ≡ 0))
         by_mode true inside = (let i = k.running.inside inside in inr (now.0 ∙ ap (λ (g : Stage). sent_back thread_rules (stage_came g) a.player) i.stage_is, k.running.nested.begun inside))
         by_mode false shut = (let o = k.running.outside shut in inl (now.0 ∙ (ap (λ (g : Stage). sent_back thread_rules (stage_came g) a.player) o.stage_is ∙ sent_outside call)))
-
-    kept_busy : (clock : ℕ) (x : Answered (Busy clock)) → (took (Busy clock)).end ≡ None → IsKept (account_after a (took (Busy clock))) s'
-    kept_busy clock x none = (let now = tried_so retries (asked words thread_rules number retries s a call) [] in kept_shut (account_after a (took (Busy clock))) x.own x.stands (running_on (Busy clock) x none) now.1 (inl now.0))
-
-    kept_restart : (clock word : ℕ) (x : Answered (Restarted clock word)) → (took (Restarted clock word)).end ≡ None → IsKept (account_after a (took (Restarted clock word))) s'
-    kept_restart clock word x none =
+    kept_on (Busy clock) x none = (let now = tried_so retries (asked words thread_rules number retries s a call) [] in kept_shut (account_after a (took (Busy clock))) x.own x.stands (running_on (Busy clock) x none) now.1 (inl now.0))
+    kept_on (Restarted clock word) x none =
         let inside : in_transaction s.engine ≡ true = x.served.tells.still.0 in
         let i = k.running.inside inside in
         let same = k.running.depth in
@@ -319,13 +287,6 @@ module _ (words : Words) (start : Standing) (code : List Instruction) (number re
           few = omega arith;
           room = λ held row points is. absurd (true≢false (sym held ∙ x.served.tells.revocable.1));
         }
-
-    kept_on : (answer : Answer) (x : Answered answer) → (took answer).end ≡ None → IsKept (account_after a (took answer)) s'
-    kept_on (Reply r) x none = kept_reply r x none
-    kept_on (Committed at wrote) x none = kept_commit at wrote x none
-    kept_on (Conflict clock word) x none = kept_conflict clock word x none
-    kept_on (Restarted clock word) x none = kept_restart clock word x none
-    kept_on (Busy clock) x none = kept_busy clock x none
     kept_on (Full at) x none = absurd (let f : Some GaveUp ≡ None = none in cc)
 
   kept_next : (a : Account Thread) (s : Standing) (a' : Account Thread) (s' : Standing) → IsKept a s → IsMade words thread_rules number retries a s None a' s' → IsKept a' s'

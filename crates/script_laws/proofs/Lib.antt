@@ -1,3 +1,4 @@
+pub mod Common
 pub mod OpenCode
 pub mod AssembledCode
 pub mod FedScripts

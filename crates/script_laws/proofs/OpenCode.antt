@@ -1,14 +1,8 @@
 -- The code of a section so far, within what has begun and not ended.
 use Rattle.std.proofs.Common.{◌≡◌, ℕ, zero, suc, true, false, if◌then◌else◌, List, [], ◌∷◌, ◌++◌, length, take, drop, refl, sym, ap, subst, ◌∙◌}
-use Rattle.std.specs.List.{repeat}
-use Rattle.std.proofs.lemmas.Bool.{cond-true, cond-false}
-use Rattle.script_program.specs.declared.instruction.Instruction.{Instruction}
+use Rattle.script_laws.proofs.Common.{Beginning, Group, Instruction, Leads, Level, block, cond-false, cond-true, group, repeat, within_never}
 use Rattle.script_program.specs.declared.instruction.Instruction.TheVariants as code
-use Rattle.script_asm.specs.declared.groups.Beginning.{Beginning}
-use Rattle.script_asm.specs.declared.groups.Group.{Group}
 use Rattle.script_asm.specs.declared.groups.Group.TheVariants as groups
-use Rattle.script_asm.specs.Groups.{within_never}
-use Rattle.script_vm.specs.Nesting.{Leads, Level, block, group}
 
 -- ## Code
 

@@ -1,33 +1,17 @@
 -- What a reply makes of a script: how many blocks it has open, and how much room its open attempt has.
 use Rattle.std.proofs.Common.{◌≡◌, inl, inr, ℕ, ◌+◌, ◌-◌, ◌<◌, ◌≤◌, Bool, true, false, nat_lt, if◌then◌else◌, List, [], length, replicate, Option, None, Some, IsSome, unwrap_or, refl, sym, ap, subst, ◌∙◌, arith}
-use Rattle.std.proofs.lemmas.Bool.{ltb-false, ltb-true}
+use Rattle.script_laws.proofs.Common.{Attempt, Begin, Call, Code, Core, Done, GaveUp, Kept, MayReply, Mode, Replied, Savepoint, Stage, Stand, Taken, Tally, Thread, Ways, abort_of, begins, carried_room, depth_after, depth_by, entered, irrevocable_room, is_begin, is_commit, ltb-false, ltb-true, outside, replied, reserved, tried, went_on, with_call, within}
 use Rattle.itm_types.specs.Memory.{IsMemory}
-use Rattle.itm_types.specs.Calls.{abort_of, is_begin, is_commit}
-use Rattle.itm_types.specs.declared.call.Call.{Call}
-use Rattle.itm_types.specs.declared.call.Call.TheVariants.{Begin, Mode}
 use Rattle.itm_types.specs.declared.call.Props.{Props}
 use Rattle.itm_types.specs.declared.call.Refusal.TheVariants.{NoIrrevocable, TooDeep}
-use Rattle.itm_types.specs.declared.call.Reply.{Reply as Replied}
-use Rattle.itm_types.specs.declared.call.Reply.TheVariants.{Done, Bytes, Code, Refused}
 use Rattle.itm_model.specs.Machine.{or_else, reply, reply_unless, unless}
 use Rattle.itm_model.specs.State.{State}
-use Rattle.norec_core.specs.Core.{Core, irrevocable_room}
 use Rattle.norec_core.specs.Effects.{recoded}
 use Rattle.norec_core.specs.Proceeds.{IsSettled}
 use Rattle.norec_core.specs.Stands.{stands_for}
-use Rattle.norec_core.proofs.Replies.ReplyCases.{Ways}
-use Rattle.script_vm.specs.Rooms.{carried_room}
-use Rattle.script_vm.specs.Threads.{Thread}
-use Rattle.tx_attempts.specs.declared.attempt.Attempt.{Attempt}
-use Rattle.tx_attempts.specs.Kept.{Kept, reserved}
 use Rattle.tx_attempts.specs.Restarts.{ran_on}
-use Rattle.tx_player.specs.Depth.{depth_after, depth_by}
-use Rattle.tx_player.specs.Replies.{MayReply}
-use Rattle.tx_runs.specs.declared.ending.End.TheVariants.{GaveUp}
-use Rattle.tx_runs.specs.declared.savepoint.Savepoint.{Savepoint}
 use Rattle.tx_runs.specs.Savepoints.{savepoints_after}
-use Rattle.tx_runs.specs.Tallies.{Stage, Stand, Taken, Tally, begins, entered, outside, replied, tried, went_on, with_call, within}
-use Rattle.tx_runs.proofs.EngineStates.{stands_blocks}
+use Rattle.run_rules.proofs.EngineStates.{stands_blocks}
 
 -- ## A begin that is accepted
 
@@ -37,10 +21,9 @@ begin_fits deepest s props room n again e = by_tests _ (nat_lt (length s.blocks)
   where
     by_tests : (may few again : Bool) → nat_lt (length s.blocks) deepest ≡ few → recoded (Begin props room) again (reply_unless (or_else (or_else (unless may NoIrrevocable) (unless few TooDeep)) None) (Code 5)) ≡ Code n → length s.blocks < deepest
     by_tests true true again is e = ltb-true (length s.blocks) deepest is
-    by_tests true false true is e = absurd (cc)
-    by_tests true false false is e = absurd (cc)
-    by_tests false few true is e = absurd (cc)
-    by_tests false few false is e = absurd (cc)
+    by_tests true few true is e = absurd (cc)
+    by_tests may few true is e = absurd (cc)
+    by_tests may few again is e = absurd (cc)
 
 pub engine_fits : (mid new : Core) (call : Call) (r : Replied) (n : ℕ) → is_begin call ≡ true → r ≡ Code n → IsSettled new → Ways mid new call r → length mid.blocks < mid.depth
 engine_fits mid new (Begin props room) r n opens is settled ways = elim ways [
@@ -61,19 +44,10 @@ deeper_begins deep call r more = by_kind (is_begin call) refl (is_commit call) (
   where
     by_kind : (begin : Bool) → is_begin call ≡ begin → (commit : Bool) (abort : Option Bool) (r : Replied) → deep < depth_by begin commit abort deep r → (is_begin call ≡ true) × (n : ℕ) × (r ≡ Code n)
     by_kind true is commit abort (Code n) l = (is, n, refl)
-    by_kind true is commit abort Done l = absurd (omega arith)
-    by_kind true is commit abort (Bytes v) l = absurd (omega arith)
-    by_kind true is commit abort (Refused f) l = absurd (omega arith)
     by_kind false is true abort Done l = absurd (omega arith)
-    by_kind false is true abort (Code k) l = absurd (omega arith)
-    by_kind false is true abort (Bytes v) l = absurd (omega arith)
-    by_kind false is true abort (Refused f) l = absurd (omega arith)
     by_kind false is false (Some true) (Code k) l = absurd (omega arith)
     by_kind false is false (Some false) (Code k) l = absurd (omega arith)
-    by_kind false is false (Some outer) Done l = absurd (omega arith)
-    by_kind false is false (Some outer) (Bytes v) l = absurd (omega arith)
-    by_kind false is false (Some outer) (Refused f) l = absurd (omega arith)
-    by_kind false is false None r l = absurd (omega arith)
+    by_kind begin is commit abort r l = absurd (omega arith)
 
 -- at most one
 pub one_deeper : (deep : ℕ) (call : Call) (r : Replied) → depth_after deep call r ≤ deep + 1
@@ -81,19 +55,10 @@ one_deeper deep call r = by_kind (is_begin call) (is_commit call) (abort_of call
   where
     by_kind : (begin commit : Bool) (abort : Option Bool) (r : Replied) → depth_by begin commit abort deep r ≤ deep + 1
     by_kind true commit abort (Code n) = omega arith
-    by_kind true commit abort Done = omega arith
-    by_kind true commit abort (Bytes v) = omega arith
-    by_kind true commit abort (Refused f) = omega arith
     by_kind false true abort Done = omega arith
-    by_kind false true abort (Code k) = omega arith
-    by_kind false true abort (Bytes v) = omega arith
-    by_kind false true abort (Refused f) = omega arith
     by_kind false false (Some true) (Code k) = omega arith
     by_kind false false (Some false) (Code k) = omega arith
-    by_kind false false (Some outer) Done = omega arith
-    by_kind false false (Some outer) (Bytes v) = omega arith
-    by_kind false false (Some outer) (Refused f) = omega arith
-    by_kind false false None r = omega arith
+    by_kind begin commit abort r = omega arith
 
 pub entered_may : (deep : ℕ) (call : Call) → is_begin call ≡ true → MayReply deep call (Code 5)
 entered_may deep (Begin props room) is = tt
@@ -151,8 +116,4 @@ replied_player (within b inner) t call r s = by_open s.is_open (with_call call r
     by_open false x now = refl
 
 pub tried_so : (retries : ℕ) (t : Tally Thread) (over : List Attempt) → ((tried retries t over).tally.player ≡ t.player) × ((tried retries t over).tally.stage ≡ outside)
-tried_so retries t over = by_test (nat_lt retries t.nth)
-  where
-    by_test : (b : Bool) → (let x : Taken Thread = if b then record { tally = record t { stage = outside }; over = over; end = Some GaveUp } else record { tally = record t { nth = t.nth + 1; stage = outside }; over = over; end = None } in (x.tally.player ≡ t.player) × (x.tally.stage ≡ outside))
-    by_test true = (refl, refl)
-    by_test false = (refl, refl)
+tried_so retries t over = elim (nat_lt retries t.nth) as (λ (b : Bool). (let x : Taken Thread = if b then record { tally = record t { stage = outside }; over = over; end = Some GaveUp } else record { tally = record t { nth = t.nth + 1; stage = outside }; over = over; end = None } in (x.tally.player ≡ t.player) × (x.tally.stage ≡ outside))) [ true ↦ (refl, refl) | false ↦ (refl, refl) ]

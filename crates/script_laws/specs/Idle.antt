@@ -10,7 +10,7 @@ use Rattle.script_program.specs.declared.instruction.Instruction.{Instruction}
 use Rattle.script_program.specs.Listing.{Listing}
 use Rattle.script_vm.specs.Nesting.{Nests}
 use Rattle.script_vm.specs.Threads.{opening, thread_rules}
-use Rattle.tx_host.specs.Reports.{StaysHeld}
+use Rattle.report_rules.specs.Reports.{StaysHeld}
 use Rattle.worker_rules.specs.Gates.{Gating}
 use Rattle.worker_rules.specs.Worked.{Worked}
 use Rattle.worker_rules.specs.Works.{IsRow, is_held}

@@ -1,8 +1,7 @@
 -- Worked texts, by computation: what is printed of a program, and that it is read as the program.
 use Rattle.std.proofs.Common.{◌≡◌, ℕ, zero, suc, true, false, List, [], ◌∷◌, ◌++◌, Ok, refl, lit<, arith, codes, replicate}
-use Rattle.script_print.proofs.Common.{AllByRecursion, Instruction, IsBytes, IsLiteral, Listing, MAX_COMMITS, Out, Take, printed, program_of}
+use Rattle.script_print.proofs.Common.{AllByRecursion, Instruction, IsBytes, IsLiteral, Listing, MAX_COMMITS, Out, Take, encode_with, printed, program_of}
 use Rattle.std.specs.Fmt.{digits}
-use Rattle.hex.specs.Hex.{encode_with}
 use Rattle.itm_types.specs.declared.access.ReadHint.TheVariants.{RaW}
 use Rattle.itm_types.specs.declared.access.Width.TheVariants as width
 use Rattle.itm_types.specs.declared.access.WriteHint.TheVariants.{W, WaR}

@@ -1,7 +1,6 @@
 -- Programs that a text can say: what each of their parts keeps.
-use Rattle.script_print.proofs.Common.{AllByRecursion, AreWithin, Group, Instruction, IsBytes, IsLiteral, IsPlace, IsSize, Item, Listing, MAX_ACTORS, MAX_ARENA, MAX_EVENTS, MAX_INIT_DIGITS, MAX_INSTRUCTIONS, MAX_ITEMS, MAX_LEVELS, Out, Part, Placed, Take}
-use Rattle.std.specs.Prelude.{◌≡◌, ℕ, ◌+◌, ◌*◌, ◌^◌, ◌<◌, ◌≤◌, nat_lt, ⊤, List, [], ◌∷◌, length, Option, Some, None, if◌then◌else◌}
-use Rattle.std.specs.List.{sum_by}
+use Rattle.script_print.proofs.Common.{AllByRecursion, AreWithin, Group, Instruction, IsBytes, IsLiteral, IsPlace, IsSize, Item, List, Listing, MAX_ACTORS, MAX_ARENA, MAX_EVENTS, MAX_INIT_DIGITS, MAX_INSTRUCTIONS, MAX_ITEMS, MAX_LEVELS, None, Option, Out, Part, Placed, Some, Take, if◌then◌else◌, length, nat_lt, sum_by, ℕ, [], ◌*◌, ◌+◌, ◌<◌, ◌^◌, ◌∷◌, ◌≡◌, ◌≤◌}
+use Rattle.std.specs.Prelude.{⊤}
 use Rattle.script_asm.specs.declared.groups.Group.TheVariants as groups
 use Rattle.script_program.specs.declared.instruction.Instruction.TheVariants as code
 

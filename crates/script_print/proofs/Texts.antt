@@ -10,4 +10,3 @@ pub mod ItemTexts
 pub mod Items
 pub mod Sections
 pub mod Programs
-pub mod RoundTrips

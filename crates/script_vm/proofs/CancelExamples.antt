@@ -1,6 +1,5 @@
 -- Threads that were worked by hand: blocks within blocks.
-use Rattle.script_vm.proofs.Common.{Code, Done, Instruction, List, None, R0, R1, R2, R3, R4, Refused, Reply, Some, Thread, datum, depth_of, false, next_call, opening, refl, replicate, restarted, ℕ, [], ◌∷◌, ◌≡◌}
-use Rattle.std.specs.Prelude.{true, ◌++◌}
+use Rattle.script_vm.proofs.Common.{Code, Done, Instruction, List, None, R0, R1, R2, R3, R4, Refused, Reply, Some, Thread, datum, depth_of, false, next_call, opening, refl, replicate, restarted, true, ℕ, [], ◌++◌, ◌∷◌, ◌≡◌}
 use Rattle.std.specs.List.{flat_map}
 use Rattle.itm_types.specs.declared.access.Width.TheVariants as width
 use Rattle.itm_types.specs.declared.call.Refusal.TheVariants.{TooDeep, NoAbort}

@@ -1,9 +1,7 @@
 -- A thread that goes back to just after the begin of its innermost block.
 use Rattle.std.proofs.Common.{◌≡◌, ℕ, ◌-◌, ◌<◌, ◌≤◌, Bool, true, false, if◌then◌else◌, List, [], ◌∷◌, ◌++◌, length, take, nat_lt, Some, refl, sym, ap, ◌∙◌, arith, slice_get, slice_index_or}
-use Rattle.script_vm.proofs.Common.{Block, Code, Instruction, R0, Thread, answered, at_block, closed, closed_is, depth_of, entered, innermost_of, le-ltb, length-closed, ltb-false, may_open, no_block, stopped, zeros}
-use Rattle.std.proofs.lemmas.Bool.{ltb-true}
+use Rattle.script_vm.proofs.Common.{Block, Code, Instruction, Opened, R0, Thread, answered, at_block, back_in, closed, closed_is, depth_of, entered, innermost_of, le-ltb, length-closed, ltb-false, ltb-true, may_open, no_block, stopped, zeros}
 use Rattle.std.proofs.lemmas.Option.{slice_get-get_or}
-use Rattle.script_vm.specs.Threads.{Opened, back_in}
 use Rattle.script_vm.proofs.KeptBlocks.{innermost_of_is}
 
 some_open : (blocks : List Block) (b : Block) → innermost_of blocks ≡ Some b → 0 < length blocks

@@ -1,9 +1,6 @@
 -- Open blocks of which the starts of the outermost ones are kept.
 use Rattle.std.proofs.Common.{◌≡◌, ℕ, zero, suc, ◌+◌, ◌-◌, ◌<◌, ◌≤◌, List, [], ◌∷◌, ◌++◌, length, take, replicate, Some, nat_lt, refl, sym, ap, ◌∙◌, arith, append_assoc, length-append, sub-one, slice_get}
-use Rattle.script_vm.proofs.Common.{Block, closed, closed_is, innermost, innermost_of, le-ltb, length-closed, may_open, no_block}
-use Rattle.std.proofs.lemmas.Bool.{lt-ltb}
-use Rattle.std.proofs.lemmas.List.{append-nil, replicate-append-replicate, length-replicate}
-use Rattle.script_vm.specs.Threads.{all_blocks}
+use Rattle.script_vm.proofs.Common.{Block, all_blocks, append-nil, closed, closed_is, innermost, innermost_of, le-ltb, length-closed, length-replicate, lt-ltb, may_open, no_block, replicate-append-replicate}
 
 none_beyond : (kept : List Block) → all_blocks kept 0 ≡ kept
 none_beyond kept = append-nil kept

@@ -1,8 +1,7 @@
 -- Nested code: the room that is told of it, local work in it, and the ends of its blocks.
 use Rattle.std.proofs.Common.{◌≡◌, ℕ, zero, suc, ◌+◌, ◌-◌, ◌<◌, ◌≤◌, List, [], ◌∷◌, refl, sym, ap, subst, ◌∙◌, arith}
-use Rattle.script_vm.proofs.Common.{Instruction, Level, Nests, Runs, Stage, ToEnd, block, blocks_in, bytes_at, chosen_by, computed, group, number_at, open_past, past_block, room, stage_past, with_bytes, with_number, worked}
+use Rattle.script_vm.proofs.Common.{Instruction, Level, Nests, Runs, Stage, ToElse, ToEnd, block, blocks_in, bytes_at, chosen_by, computed, group, number_at, open_past, past_block, room, stage_past, with_bytes, with_number, worked}
 use Rattle.script_program.specs.declared.instruction.Instruction.TheVariants as code
-use Rattle.script_vm.specs.declared.stage.Stage.TheVariants.{ToElse}
 
 -- ## What is told as room
 

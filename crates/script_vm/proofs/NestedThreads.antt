@@ -1,13 +1,11 @@
 -- A thread whose code is nested makes no more calls up to its outermost commit than it tells.
 use Rattle.std.proofs.Common.{◌≡◌, ℕ, zero, suc, ◌+◌, ◌-◌, ◌<◌, ◌≤◌, Bool, true, false, List, [], ◌∷◌, ◌++◌, length, None, Some, ◌⊎◌, inl, inr, true≢false, if◌then◌else◌, refl, sym, ap, subst, ◌∙◌, arith, slice_index_or, take}
-use Rattle.script_vm.proofs.Common.{Block, Bytes, Code, Done, Instruction, Level, Nests, Refused, Register, Reply, Runs, Stage, Thread, ToEnd, answered, at_block, block, blocks_in, bytes_at, chosen_by, closed, computed, depth_of, entered, innermost, length-closed, ltb-false, may_open, next_call, no_block, number_at, open_past, opening, past_block, restarted, room, settled, stage_past, stopped, with_bytes, with_number, worked, zeros}
+use Rattle.script_vm.proofs.Common.{Block, Bytes, Code, Done, Instruction, Level, Nests, Refused, Register, Reply, Runs, Stage, Thread, ToEnd, answered, answered_at, at_block, back_to, begun, block, blocks_in, bytes_at, call_at, cancelled, cancelled_in, chosen_by, closed, computed, depth_of, ended, entered, goes_on, innermost, length-closed, ltb-false, may_open, next_call, no_block, none_is_no_call, number_at, one_longer, open_past, opening, past_block, restarted, room, same_call, settled, stage_past, stopped, told, took, with_bytes, with_number, worked, zeros}
 use Rattle.itm_types.specs.declared.call.Call.{Call}
 use Rattle.itm_types.specs.declared.call.Call.TheVariants as calls
 use Rattle.tx_player.specs.Replies.{MayReply}
 use Rattle.script_program.specs.declared.instruction.Instruction.TheVariants as code
-use Rattle.script_vm.specs.BlockLaws.{none_is_no_call, one_longer, same_call}
 use Rattle.script_vm.specs.Rooms.{carried_room}
-use Rattle.script_vm.specs.Threads.{answered_at, back_to, begun, call_at, cancelled, cancelled_in, ended, goes_on, told, took}
 use Rattle.script_vm.proofs.NestedCode.{past_nests, room_more, room_nil, room_step, worked_settles}
 
 -- ## A thread

@@ -10,10 +10,6 @@ pub words_behind : (cells : List ℕ) → 0 < length cells → length (drop 1 ce
 words_behind [] more = absurd (omega arith)
 words_behind (x ∷ xs) more = (let e : length xs + 1 ≡ length (x ∷ xs) = omega arith in e)
 
-pub word_behind : (cells : List ℕ) (k : ℕ) → get_or (drop 1 cells) k 0 ≡ get_or cells (k + 1) 0
-word_behind [] k = refl
-word_behind (x ∷ xs) k = ap (λ (n : ℕ). get_or (x ∷ xs) n 0) (let e : suc k ≡ k + 1 = omega arith in e)
-
 pub at_is : (cells : List ℕ) (k w : ℕ) → get_elem? cells k ≡ some w → get_or cells k 0 ≡ w
 at_is [] k w at = absurd (cc)
 at_is (x ∷ xs) zero w at = some-injective x w at

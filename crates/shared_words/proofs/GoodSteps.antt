@@ -1,9 +1,7 @@
 -- Each kind of step keeps what is true of the cells and the views.
 use Rattle.std.proofs.Common.{◌≡◌, ℕ, eqb, suc, ◌+◌, ◌*◌, ◌/◌, ◌%◌, ◌^◌, ◌<◌, ◌≤◌, ◌≢◌, Bool, true, false, cond, List, [], ◌∷◌, ◌++◌, length, get_or, set, sym, refl, ap, ◌∙◌, subst, ⊎_elim, arith, le_refl, append-nil, length-append, eq-eqb, ne_eqb}
-use Rattle.shared_words.proofs.Common.{AllMet, Fits, Good, Looked, Stand, StartsWith, Step, Took, View, after, clock_of, dite, freed, get_elem?, held, holders, noted, placed, read, shares, some, stored, sum_by_push, times, wrote, ℕ_discrete}
+use Rattle.shared_words.proofs.Common.{AllMet, CanTake, Fits, Good, Looked, Sees, Stand, StartsWith, Step, Took, View, after, clock_of, dite, freed, get_elem?, held, holders, looked, noted, placed, read, shares, some, stored, sum_by_push, times, took, wrote, ℕ_discrete}
 use Rattle.shared_words.proofs.MetWords.{all_grows, all_snoc, grows_store, grows_commit, met_now}
-use Rattle.shared_words.specs.Views.{looked, took}
-use Rattle.shared_words.specs.Steps.{Sees, CanTake}
 use Rattle.shared_words.proofs.ListPlaces.{at_set, weigh_set, weigh_le, weigh_two, starts_self, starts_longer, starts_le, starts_trans}
 use Rattle.shared_words.proofs.StoredWords.{stored_snoc, after_snoc, stand_snoc, stores_snoc, commits_snoc}
 

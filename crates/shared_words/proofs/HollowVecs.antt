@@ -1,19 +1,17 @@
 -- A vector is its cells and the way back. Assumes `Logic`.
 use Rattle.std.proofs.Common.{◌≡◌, ℕ, ◌+◌, ◌*◌, ◌^◌, ◌<◌, List, [], ◌∷◌, length, true, refl, sym, arith, Vec}
-use Rattle.shared_words.proofs.Common.{Extent, Frees, Ghosts, IsSend, Logic, RattleType, Ura, Val, done, drop, ent, feq, feq_i, feq_l, fjoin, fpack, fsep, fsplit, full_share, fwand, move, nothing, part_at, sem, strip, with_items, with_items_is, ‵, ◌$◌}
+use Rattle.shared_words.proofs.Common.{Extent, Frees, Ghosts, IsSend, Logic, RattleType, Ura, Val, assume, block_of, count_of, done, drop, each, ent, fall, feq, feq_i, feq_l, fjoin, flt_i, flt_l, fpack, frame, fsep, fsplit, full_share, fwand, id⊢, in_a_block, in_block, lies_at, move, never, nothing, part_at, part_keyless, sem, sendable, sep, show, strip, struct_send, wand, with_items, with_items_is, ‵, ◌$◌}
 use Rattle.std.proofs.lemmas.Bool.{ne_eqb, not_from_false}
-use base.Logic.{sep, wand, never, id⊢}
-use base.Fml.{ftrue, fall}
+use base.Fml.{ftrue}
 use base.Shift.{Keyless}
-use types.Kit.{◌∵◌, !, qed, by, frame, each, assume, show, use1, flt_l, flt_i, rewrite}
+use types.Kit.{◌∵◌, !, qed, by, use1, rewrite}
 use types.SemTy.{cells}
 use denote.Builtin.{u64}
 use denote.Array.{Array}
 use denote.ArrayMemory.{Array-apart, Array-whole}
 use denote.Index.{row, whole_in, whole_out}
 use denote.Memory.{mem}
-use denote.Param.Send.{part_keyless, sendable, struct_send}
-use denote.RawPtr.{Ptr, block_ptr, block_of, count_of, lies_at, in_block, in_a_block}
+use denote.RawPtr.{Ptr, block_ptr}
 use denote.Struct.Declared as declared
 use Rattle.std.specs.Allocator.{block_with_items}
 use Rattle.std_alloc.specs.Vec.Ownership.{owns_if, has_block}

@@ -1,7 +1,6 @@
 -- What words had been found with stays true of a history that grows.
 use Rattle.std.proofs.Common.{◌≡◌, ℕ, zero, suc, ◌≤◌, List, [], ◌∷◌, ◌++◌, length, get_or, take, sym, refl, ap, ◌∙◌, arith, append-nil}
-use Rattle.shared_words.proofs.Common.{AllMet, StartsWith, after, get_elem?, some, some-injective, some-ne-none, stored, take-append-le, take_all, take_at}
-use Rattle.shared_words.specs.Commits.{Met}
+use Rattle.shared_words.proofs.Common.{AllMet, Met, StartsWith, after, get_elem?, some, some-injective, some-ne-none, stored, take-append-le, take_all, take_at}
 use Rattle.shared_words.proofs.ListPlaces.{starts_le}
 
 abbrev pub Log : Type 0

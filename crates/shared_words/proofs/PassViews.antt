@@ -1,11 +1,8 @@
 -- The first view, a view that is cut in two, two that are joined, and what the only view knows.
 use Rattle.std.proofs.Common.{◌≡◌, ℕ, eqb, zero, suc, ◌+◌, ◌-◌, ◌*◌, ◌<◌, ◌≤◌, ◌≢◌, ◌⊎◌, Bool, true, false, cond, List, [], ◌∷◌, ◌++◌, length, set, sym, refl, ap, ◌∙◌, subst, inl, inr, ⊎_elim, arith, ltb, lt_of_not-le}
-use Rattle.shared_words.proofs.Common.{AllFit, AllMet, Ends, Fits, Good, Joined, StartsWith, View, after, both, clock_of, cut_left, cut_right, dite, get_elem?, held, holders, opening, placed, shares, some, some-injective, spent, stored, sum_by_push, times, ℕ_discrete}
-use native.Mathlib.Decide.{dec_le}
+use Rattle.shared_words.proofs.Common.{AllFit, AllMet, Ends, Fits, Good, Joined, StartsWith, View, after, both, clock_of, cut_left, cut_right, dec_le, dite, get_elem?, held, holders, longer, opening, placed, shares, some, some-injective, spent, stored, sum_by-append, sum_by_push, times, ℕ_discrete}
 use borrow.Author.Tests.{ltb-true, ltb-false}
-use Rattle.std.proofs.lemmas.List.Sums.{sum_by-append}
 use Rattle.shared_words.proofs.MetWords.{all_both}
-use Rattle.shared_words.specs.Views.{longer}
 use Rattle.shared_words.proofs.ListPlaces.{at_snoc, set_else, weigh_set, weigh_le, weigh_alone, starts_le, starts_whole, comparable}
 use Rattle.shared_words.proofs.GoodSteps.{each_set, hold, share_of, at_place}
 

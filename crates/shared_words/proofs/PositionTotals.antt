@@ -1,7 +1,6 @@
 -- How many positions there are, where each number below n is one of them once.
 use Rattle.std.proofs.Common.{◌≡◌, ℕ, zero, suc, ◌+◌, ◌<◌, ◌≤◌, ◌==◌, ltb, cond, List, [], ◌∷◌, length, sym, refl, ap, ◌∙◌, arith}
-use Rattle.shared_words.proofs.Common.{sum_by-cons, times}
-use Rattle.std.specs.List.{count_by}
+use Rattle.shared_words.proofs.Common.{count_by, sum_by-cons, times}
 use Rattle.std.proofs.lemmas.Bool.Decides.{nat_tests}
 
 is_here : (q p : ℕ) → q ≡ p → cond {A = ℕ} (q == p) 1 0 ≡ 1

@@ -1,8 +1,7 @@
 -- The cells' types as the logic has them, and the data of a `Row`, which are none. Assumes `Logic`.
 use Rattle.std.proofs.Common.{◌≡◌, List, [], ◌∷◌, refl}
-use Rattle.shared_words.proofs.Common.{Logic, RattleType, Struct, Ura, Val, ent, sem, u8, vnil, vstruct}
+use Rattle.shared_words.proofs.Common.{Is, Logic, RattleType, Struct, Ura, Val, ent, sem, u8, vnil, vstruct}
 use base.Logic.{emp}
-use denote.Laws.{Is}
 use denote.Shadow.{makes_shadow}
 use denote.Struct.Owning.{shape}
 use Rattle.atomic_table.specs.contracts.shared.Shared as table

@@ -1,7 +1,6 @@
 -- Stores and commits one after another.
 use Rattle.std.proofs.Common.{◌≡◌, ◌^◌, ℕ, zero, suc, ◌<◌, ◌≤◌, List, [], ◌∷◌, ◌++◌, length, set, get_or, sym, refl, ap, ◌∙◌, length-set, take}
-use Rattle.shared_words.proofs.Common.{AllFit, CommitsFit, Stand, StartsWith, StoresFit, after, stored, take-append-le}
-use Rattle.shared_words.specs.Commits.{memory_at}
+use Rattle.shared_words.proofs.Common.{AllFit, CommitsFit, Stand, StartsWith, StoresFit, after, memory_at, stored, take-append-le}
 use Rattle.itm_types.proofs.WordLists.{fit-set}
 
 pub stored_snoc : (m : List ℕ) (xs : List (ℕ × ℕ)) (x : ℕ × ℕ) → stored m (xs ++ x ∷ []) ≡ set (stored m xs) x.0 x.1

@@ -1,14 +1,10 @@
 -- Structs of few fields are made and taken apart in walks. Assumes `Logic`.
 use Rattle.std.proofs.Common.{◌≡◌, List, [], ◌∷◌, refl}
-use Rattle.shared_words.proofs.Common.{Laws, Logic, RattleType, Struct, Ura, Val, drop, feq_i, feq_l, fjoin, fpack, fpick, fsplit, layout, move, nothing, vnil, vstruct, ‵, ◌$◌}
+use Rattle.shared_words.proofs.Common.{Goal, Item, Laws, Logic, RattleType, Seq, Struct, Ura, Val, WT, dict_at, drop, feq_i, feq_l, fjoin, fpack, fpick, fsplit, handle_tells, has_ty, layout, move, nothing, vcons, vnil, vstruct, within, ‵, ◌$◌}
 use lib.Dec.{T}
-use mir.Syntax.{given as dict_at}
-use mir.Val.{vcons, has_ty, WT}
 use base.Fml.{ftrue}
-use types.Kit.{Goal, Seq, Step, step, Item}
+use types.Kit.{Step, step}
 use denote.RattleType.{Valss}
-use denote.Struct.Struct.{within}
-use Rattle.std.proofs.alloc.Calls.{handle_tells}
 
 abbrev pub Good : RattleType → Val → Type 0
 Good R v = T (has_ty (layout R) v) × WT v

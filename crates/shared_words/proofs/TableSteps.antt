@@ -1,18 +1,14 @@
 -- What each step owes the table.
 use Rattle.std.proofs.Common.{◌≡◌, ℕ, zero, suc, ◌<◌, ◌≤◌, ◌≢◌, ◌^◌, Bool, true, false, List, get_or, set, sym, refl, ap, ◌∙◌, subst, arith, ◌==◌, cond, Some, bit_xor}
-use Rattle.shared_words.proofs.Common.{Cas, Good, Held, Lawful, Load, Loaded, Moves, Step, StepTells, Store, View, both, cells_after, cut_left, cut_right, finds, get_elem?, held, held_cells, shares, some, spent, wrote}
+use Rattle.shared_words.proofs.Common.{Allows, AreGood, Cas, Good, Held, Joins, Lawful, Load, Loaded, Moves, Splits, Step, StepTells, Store, View, WasFound, both, cells_after, changes, cut_left, cut_right, exchanges, finds, get_elem?, held, held_cells, keeps, loads, none, settled, shares, some, spent, step, stores, wrote}
 use Rattle.std.specs.Int.Bits.{xor_assoc, xor_self, xor_zero_l}
 use Rattle.std.proofs.lemmas.Option.{get_or_from_slice_get}
-use mathlib.Core.Option.{none}
 use lib.Seq.{set-get_or}
 use prog.Atomic.{either}
-use Rattle.atomic_table.specs.Table.{keeps, step, Allows, Splits, Joins}
-use Rattle.shared_words.specs.Steps.{WasFound}
 use Rattle.shared_words.proofs.GoodSteps.{held_word, share_of}
 use Rattle.shared_words.proofs.StepViews.{turns}
 use Rattle.shared_words.proofs.ListPlaces.{set_again, set_else, weigh_le}
 use Rattle.shared_words.proofs.PassViews as ends
-use Rattle.shared_words.specs.Rule.{AreGood, loads, stores, changes, exchanges, settled}
 
 same_views : (ws : List ℕ) (vs : List View) (id : ℕ) (v : View) → get_elem? vs id ≡ some v → Good ws vs → Good ws (set vs id v)
 same_views ws vs id v at g = subst (Good ws) (sym (set_again vs id v at)) g
@@ -78,12 +74,6 @@ free_holds v w x n t = ap (λ (u : View). u.holds) (t.0 refl).0
 pub store_holds : (v w : View) (c x n : ℕ) → c ≢ 0 → StepTells v (Store c x) n w → w.holds ≡ v.holds
 store_holds v w zero x n away t = absurd (away refl)
 store_holds v w (suc k) x n away t = (let e : w ≡ wrote v (Store (suc k) x) k x = t.1 k (omega arith) in ap (λ (u : View). u.holds) e)
-
-pub took_holds : (v w : View) (c s t n : ℕ) → n ≡ s → StepTells v (Cas c s t) n w → w.holds ≡ true
-took_holds v w c s t n is h = ap (λ (u : View). u.holds) (h.0 is).0
-
-pub missed_holds : (v w : View) (c s t n : ℕ) → n ≢ s → StepTells v (Cas c s t) n w → w.holds ≡ v.holds
-missed_holds v w c s t n away h = ap (λ (u : View). u.holds) (h.1 away).0
 
 -- ## The latest clock
 

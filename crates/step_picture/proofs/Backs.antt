@@ -1,8 +1,6 @@
 -- One step back, and how far they lead.
-use Rattle.std.proofs.Common.{◌≡◌, ℕ, zero, suc, ◌-◌, ◌<◌, ◌≤◌, Bool, true, false, List, slice_get, Option, None, Some, sym, ap, subst, arith}
-use Rattle.std.specs.Prelude.{if◌then◌else◌, nat_lt}
-use Rattle.step_picture.specs.declared.mark.Mark.{Mark}
-use Rattle.step_picture.specs.Walks.{back_by, back_in, calls_of, known_in, look_of, or_else}
+use Rattle.std.proofs.Common.{◌≡◌, ℕ, zero, suc, ◌-◌, ◌<◌, ◌≤◌, Bool, true, false, List, slice_get, Option, None, Some, sym, ap, subst, arith, if◌then◌else◌, nat_lt}
+use Rattle.step_picture.proofs.Common.{Mark, back_by, back_in, calls_of, known_in, look_of, or_else}
 
 before_suc : (k : ℕ) → k ≡ suc k - 1
 before_suc k = omega arith

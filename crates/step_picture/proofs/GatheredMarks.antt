@@ -1,16 +1,9 @@
 -- Marks of events, one after another.
-use Rattle.std.proofs.Common.{◌≡◌, ℕ, ◌+◌, ◌<◌, Bool, List, [], ◌∷◌, ◌++◌, length, take, get_or, sym, ap, ◌∙◌, append-nil, append_assoc}
-use Rattle.std.proofs.lemmas.Grind.{flat_map-append}
-use Rattle.std.specs.Prelude.{is_some}
-use Rattle.world_rules.specs.World.{World}
-use Rattle.script_program.specs.declared.schedule.Item.{Item}
+use Rattle.std.proofs.Common.{◌≡◌, ℕ, ◌+◌, ◌<◌, Bool, List, [], ◌∷◌, ◌++◌, length, take, get_or, sym, ap, ◌∙◌, append-nil, append_assoc, is_some}
+use Rattle.step_picture.proofs.Common.{Gathered, Item, ItemRows, Mark, Row, ScheduleRows, World, flat_map-append, schedule_more}
 use Rattle.tx_player.specs.Rules.{Rules}
 use Rattle.step_table.specs.declared.view.View.{View}
-use Rattle.step_table.specs.Rows.{ItemRows, Row, ScheduleRows}
-use Rattle.step_table.proofs.RowLists.{schedule_more}
 use Rattle.step_picture.specs.declared.mark.Came.{Came}
-use Rattle.step_picture.specs.declared.mark.Mark.{Mark}
-use Rattle.step_picture.specs.Gathered.{Gathered}
 use Rattle.step_picture.specs.Marks.{calls_after, came_of, kept, marks_in, marks_of}
 
 -- none yet

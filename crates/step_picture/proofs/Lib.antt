@@ -1,3 +1,4 @@
+pub mod Common
 mod Backs
 mod GatheredMarks
 mod SameBars

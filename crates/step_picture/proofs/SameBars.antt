@@ -1,6 +1,6 @@
 -- Bars that are the same.
 use Rattle.std.proofs.Common.{◌≡◌, ℕ, List, ap, ◌∙◌}
-use Rattle.step_picture.specs.Picture.{bar_text}
+use Rattle.step_picture.proofs.Common.{bar_text}
 
 pub bar_as : (to lane from from' : ℕ) (look look' words words' : List ℕ) → from ≡ from' → look ≡ look' → words ≡ words' → bar_text from to lane look words ≡ bar_text from' to lane look' words'
 bar_as to lane from from' look look' words words' e f h =

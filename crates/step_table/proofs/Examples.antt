@@ -1,13 +1,10 @@
 -- Lines of the table of two threads that add one to a word, of which the second gets in between.
-use Rattle.std.proofs.Common.{◌≡◌, ℕ, List, [], ◌∷◌, refl}
+use Rattle.std.proofs.Common.{◌≡◌, ℕ, List, [], ◌∷◌, refl, codes}
+use Rattle.step_table.proofs.Common.{Event, Step, back_text, cell_of, cell_text, column_text, event_text, exchange_text, front_text, number_text, step_text}
 use Rattle.std.specs.Fmt.{digits}
-use Rattle.std.specs.Prelude.{codes}
-use Rattle.itm_types.specs.declared.step.Step.{Step}
 use Rattle.itm_types.specs.declared.step.Step.TheVariants.{Load, Store, Cas}
 use Rattle.tx_attempts.specs.declared.attempt.Outcome.TheVariants.{Committed, Conflict}
 use Rattle.step_table.specs.Came.{conflict_text, end_text}
-use Rattle.step_table.specs.declared.event.Event.{Event}
-use Rattle.step_table.specs.Table.{back_text, cell_of, cell_text, column_text, event_text, exchange_text, front_text, number_text, step_text}
 
 abbrev event_of : ℕ → ℕ → Step → ℕ → ℕ → Event
 event_of number thread step found clock = record { number = number; thread = thread; operation = record { step = step; found = found }; clock = clock }

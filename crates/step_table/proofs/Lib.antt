@@ -1,3 +1,4 @@
+pub mod Common
 pub mod RowLists
 pub mod ShownRows
 pub mod ShownItems

@@ -1,11 +1,6 @@
 -- Events of a world, one after another, as a schedule asks for them.
 use Rattle.std.proofs.Common.{inl, inr, ℕ, zero, suc, ◌+◌, ◌<◌, List, [], ◌∷◌, ◌++◌, length, take, get_or, refl, sym, ap, subst, ◌∙◌, arith, append-nil, append_assoc}
-use Rattle.std.proofs.lemmas.List.{length-append, take_more}
-use Rattle.world_rules.specs.World.{World}
-use Rattle.script_program.specs.declared.schedule.Item.{Item}
-use Rattle.script_program.specs.declared.schedule.Item.TheVariants.{Take, Out}
-use Rattle.tx_player.specs.Rules.{Rules}
-use Rattle.step_table.specs.Rows.{AreOf, AreRows, ItemFirst, ItemRows, Row, RowsOf, ScheduleFirst, ScheduleRows, SoMany}
+use Rattle.step_table.proofs.Common.{AreOf, AreRows, Item, ItemFirst, ItemRows, Out, Row, RowsOf, Rules, ScheduleFirst, ScheduleRows, SoMany, Take, World, length-append, take_more}
 
 of_both : (thread : ℕ) (xs ys : List Row) → AreOf thread xs → AreOf thread ys → AreOf thread (xs ++ ys)
 of_both thread [] ys p q = q

@@ -1,10 +1,6 @@
 -- What a writer has of the lines of events, item by item.
 use Rattle.std.proofs.Common.{ℕ, ◌+◌, ◌<◌, List, length, take, get_or, Option}
-use Rattle.world_rules.specs.World.{World}
-use Rattle.script_program.specs.declared.schedule.Item.{Item}
-use Rattle.tx_player.specs.Rules.{Rules}
-use Rattle.step_table.specs.declared.view.View.{View}
-use Rattle.step_table.specs.Rows.{ItemFirst, ItemRows, ScheduleFirst, ScheduleRows}
+use Rattle.step_table.proofs.Common.{Item, ItemFirst, ItemRows, Rules, ScheduleFirst, ScheduleRows, View, World}
 use Rattle.step_table.proofs.RowLists.{schedule_begun, schedule_more}
 use Rattle.step_table.proofs.ShownRows.{Begun, Written, written_begun, written_on}
 

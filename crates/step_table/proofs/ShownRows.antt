@@ -1,16 +1,8 @@
 -- What a writer has of the lines of events, one after another.
 use Rattle.std.proofs.Common.{◌≡◌, ℕ, ◌+◌, List, [], ◌∷◌, ◌++◌, length, take, Option, Result, Ok, Err, sym, ap, subst, ◌∙◌, append-nil, arith}
-use Rattle.std.proofs.KnownBytes.{Appends-kept, Appends-trans}
-use Rattle.std.proofs.lemmas.Grind.{flat_map-append}
-use Rattle.std.proofs.lemmas.List.{length-append}
+use Rattle.step_table.proofs.Common.{Appends, Appends-kept, Appends-trans, IsCut, Keeps, Puts, Row, View, World, came_of, flat_map-append, head_text, length-append, line_of, line_text, lines_text, table_text}
 use Rattle.std.proofs.Math.Seq.{take-append-add, take-length}
-use Rattle.std.specs.Io.KnownBytes.{Appends, Keeps}
-use Rattle.world_rules.specs.World.{World}
-use Rattle.tx_history.specs.Spelling.{IsCut, Puts}
-use Rattle.step_table.specs.declared.view.View.{View}
-use Rattle.step_table.specs.Rows.{Row}
 use Rattle.step_table.specs.Shown.{Shows}
-use Rattle.step_table.specs.Table.{came_of, head_text, line_of, line_text, lines_text, table_text}
 
 module _ (view : View) where
   lines_both : (xs ys : List Row) → lines_text view (xs ++ ys) ≡ lines_text view xs ++ lines_text view ys

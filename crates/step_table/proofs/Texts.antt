@@ -1,16 +1,7 @@
 -- Texts that are written one after another.
-use Rattle.std.proofs.Common.{◌≡◌, ℕ, ◌+◌, ◌-◌, ◌<◌, ◌≤◌, Bool, true, List, [], ◌∷◌, ◌++◌, length, take, drop, get_or, Option, Some, Result, refl, sym, ap, subst, ◌∙◌, arith, append-nil, append_assoc, drop-cons, add-one}
-use Rattle.std.proofs.KnownBytes.{Appends-nil, Appends-trans}
-use Rattle.std.proofs.lemmas.Grind.{common_steps, flat_map-append}
-use Rattle.std.proofs.lemmas.List.{length-append, take-append-drop}
-use Rattle.std.specs.Io.KnownBytes.{Appends}
-use Rattle.std.specs.Prelude.{decimal, flat_map, if◌then◌else◌}
-use Rattle.tx_history.specs.Spelling.{IsCut, Puts}
-use Rattle.tx_history.proofs.TextPieces.{cut_short}
+use Rattle.std.proofs.Common.{◌≡◌, ℕ, ◌+◌, ◌-◌, ◌<◌, ◌≤◌, Bool, true, List, [], ◌∷◌, ◌++◌, length, take, drop, get_or, Option, Some, Result, refl, sym, ap, subst, ◌∙◌, arith, append-nil, append_assoc, drop-cons, add-one, decimal, flat_map, if◌then◌else◌}
+use Rattle.step_table.proofs.Common.{Appends, Appends-nil, Appends-trans, Event, IsCut, Puts, View, back_text, blanks_beside, column_text, common_steps, cut_short, event_text, flat_map-append, front_text, length-append, line_of, number_text, shows, take-append-drop}
 use Rattle.step_table.proofs.ShownRows.{puts_then}
-use Rattle.step_table.specs.declared.view.View.{View}
-use Rattle.step_table.specs.declared.event.Event.{Event}
-use Rattle.step_table.specs.Table.{back_text, blanks_beside, column_text, event_text, front_text, line_of, number_text, shows}
 
 -- ## Those of a list
 

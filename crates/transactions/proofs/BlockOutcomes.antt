@@ -1,11 +1,9 @@
 -- What a block within a transaction comes to.
 use Rattle.std.proofs.Common.{◌≡◌, ◌∙◌, ◌⊎◌, inl, inr, ℕ, Bool, true, false, List, [], ◌∷◌, ◌++◌, drop, length, None, Some, Result, Ok, Err, ap, refl, subst, sym, true≢false, arith}
-use Rattle.transactions.proofs.Common.{Abort, Actions, Answer, Begin, Call, Code, Commit, Core, Done, Frame, GoesOn, HasGoneBack, IsAnswered, IsAsBefore, IsKept, IsWithin, IsWithinStill, Leaves, Lent, Outside, Refusal, Refused, Replied, Reply, Standing, StartsWith, State, StaysWithin, Stop, Tells, Words, answer_of, blocks_after, came_over, closed, in_transaction, irrevocable_room, is_inside, is_open, or_else, reply, reply_unless, stands_for, start_of, unless, usual, view_of, went_on}
-use Rattle.itm_model.specs.Machine.{abort_for}
+use Rattle.transactions.proofs.Common.{Abort, Actions, Answer, Begin, Call, Code, Commit, Core, Done, Enters, Frame, GoesOn, HasGoneBack, IsAnswered, IsAsBefore, IsKept, IsWithin, IsWithinStill, Leaves, Lent, NoCommit, Outside, Refusal, Refused, Replied, Reply, Standing, StartsWith, State, StaysWithin, Stop, Tells, Words, abort_for, answer_of, blocks_after, came_over, closed, in_transaction, irrevocable_room, is_inside, is_open, on_answer, or_else, reply, reply_unless, stands_for, start_of, unless, usual, view_of, went_on}
 use Rattle.norec_core.specs.declared.answer.Answer.TheVariants as answers
 use Rattle.itm_runtime.specs.declared.stop.Stop.TheVariants as stops
 use Rattle.call_rules.proofs.Calls.Restarts.{cancel_whole, commit_whole}
-use Rattle.transactions.specs.Blocks.{Enters}
 use Rattle.transactions.proofs.InnerBlocks.{HasEntered, committed, fresh_begun, goes_abort, goes_commit, has_entered, taken_back, within_self, begin_idle}
 use Rattle.transactions.proofs.Looks.{engine_open}
 use Rattle.transactions.proofs.LastEngines.{arena_left, last, mid, replied, writes_left}
@@ -117,10 +115,6 @@ commit_refused d s e = ap (λ (b : Bool). reply_unless (or_else (unless b Outsid
 abort_refused : (d : ℕ) (s : State) → is_open s ≡ false → reply d s (Abort false) ≡ Refused Outside
 abort_refused d s e = ap (λ (b : Bool). reply_unless (or_else (or_else (unless b Outside) (abort_for s false)) None) (Code 24)) e
 
-abbrev NoAbort : Call → Type 0
-NoAbort Commit = ⊥
-NoAbort call = Unit {0}
-
 abbrev Same : Standing → Standing → Type 0
 Same old new = (view_of new.pass).mine ≡ (view_of old.pass).mine
 
@@ -157,16 +151,13 @@ module _ (words : Words) (t l new : Standing) (began : Core) (h : HasEntered t.e
 
   -- one that is served
   pub served_done : (a : Answer) → IsAnswered words (start_of l Commit false) a new.pass new.engine → GoesOn a → a ≡ Reply Done
-  served_done (Reply r) a on = elim w [
-    | inl within ↦ ap Reply (committed words t l new began h is inside within r a).1
-    | inr shut ↦ (let m = came_over (start_of l Commit false) (view_of new.pass) new.engine in
-        absurd (on (stops.Refused Outside) (ap (λ (x : Replied). Some (Reply x)) (sym (a.served.tells.here.reply_is ∙ commit_refused l.engine.depth (stands_for l.engine m) (engine_open l.engine m is ∙ shut))))))
-  ]
-  served_done (answers.Committed at wrote) a on = absurd (not_outermost a.served.tells.outermost a.served.tells.was_open)
-  served_done (answers.Conflict clock word) a on = absurd (on (stops.Conflict clock word) refl)
-  served_done (answers.Restarted clock word) a on = absurd (on (stops.Restarted clock word) refl)
-  served_done (answers.Busy clock) a on = absurd (on (stops.Busy clock) refl)
-  served_done (answers.Full at) a on = absurd (on (stops.Full at) refl)
+  served_done a answered on = on_answer (λ (x : Answer). IsAnswered words (start_of l Commit false) x new.pass new.engine → x ≡ Reply Done) a on
+      (λ r goes now. elim w [
+        | inl within ↦ ap Reply (committed words t l new began h is inside within r now).1
+        | inr shut ↦ (let m = came_over (start_of l Commit false) (view_of new.pass) new.engine in
+            absurd (goes (stops.Refused Outside) (ap (λ (x : Replied). Some (Reply x)) (sym (now.served.tells.here.reply_is ∙ commit_refused l.engine.depth (stands_for l.engine m) (engine_open l.engine m is ∙ shut))))))
+      ])
+      (λ at wrote now. absurd (not_outermost now.served.tells.outermost now.served.tells.was_open)) answered
 
   abort_reply : (r : Replied) → IsAnswered words (start_of l (Abort false) false) (Reply r) new.pass new.engine → Over ⊎ HasGoneBack t new
   abort_reply r a = elim w [
@@ -176,20 +167,17 @@ module _ (words : Words) (t l new : Standing) (began : Core) (h : HasEntered t.e
 
   -- one that is served
   pub served_back : (a : Answer) → IsAnswered words (start_of l (Abort false) false) a new.pass new.engine → GoesOn a → HasGoneBack t new
-  served_back (Reply r) a on = elim w [
-    | inl within ↦ (taken_back words t l new began h is inside within r a).0
-    | inr shut ↦ (let m = came_over (start_of l (Abort false) false) (view_of new.pass) new.engine in
-        absurd (on (stops.Refused Outside) (ap (λ (x : Replied). Some (Reply x)) (sym (a.served.tells.here.reply_is ∙ abort_refused l.engine.depth (stands_for l.engine m) (engine_open l.engine m is ∙ shut))))))
-  ]
-  served_back (answers.Committed at wrote) a on = absurd (subst NoAbort a.served.tells.call tt)
-  served_back (answers.Conflict clock word) a on = absurd (on (stops.Conflict clock word) refl)
-  served_back (answers.Restarted clock word) a on = absurd (on (stops.Restarted clock word) refl)
-  served_back (answers.Busy clock) a on = absurd (on (stops.Busy clock) refl)
-  served_back (answers.Full at) a on = absurd (on (stops.Full at) refl)
+  served_back a answered on = on_answer (λ (x : Answer). IsAnswered words (start_of l (Abort false) false) x new.pass new.engine → HasGoneBack t new) a on
+      (λ r goes now. elim w [
+        | inl within ↦ (taken_back words t l new began h is inside within r now).0
+        | inr shut ↦ (let m = came_over (start_of l (Abort false) false) (view_of new.pass) new.engine in
+            absurd (goes (stops.Refused Outside) (ap (λ (x : Replied). Some (Reply x)) (sym (now.served.tells.here.reply_is ∙ abort_refused l.engine.depth (stands_for l.engine m) (engine_open l.engine m is ∙ shut))))))
+      ])
+      (λ at wrote now. absurd (subst NoCommit now.served.tells.call tt)) answered
 
   pub abort_out : (a : Answer) → IsAnswered words (start_of l (Abort false) false) a new.pass new.engine → (Over ⊎ HasGoneBack t new) × Same l new
   abort_out (Reply r) a = (abort_reply r a, a.served.mine)
-  abort_out (answers.Committed at wrote) a = absurd (subst NoAbort a.served.tells.call tt)
+  abort_out (answers.Committed at wrote) a = absurd (subst NoCommit a.served.tells.call tt)
   abort_out (answers.Conflict clock word) a = (inl a.served.tells.closes.closed, a.served.mine)
   abort_out (answers.Restarted clock word) a = absurd (cancel_whole (start_of l (Abort false) false) (answers.Restarted clock word) (view_of new.pass) new.engine false a.served refl tt)
   abort_out (answers.Busy clock) a = (inl a.served.tells.closes.closed, a.served.mine)

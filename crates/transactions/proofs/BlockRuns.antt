@@ -1,9 +1,8 @@
 -- What the runs of a block come to.
-use Rattle.std.proofs.Common.{◌≡◌, ◌∙◌, inl, inr, Result, Ok, Err, ap, refl, subst, sym, true≢false, false, true}
-use Rattle.transactions.proofs.Common.{Abort, Begin, CalledAtMut, Cancelled, Commit, EndsBlockBy, Engine, HasGoneBack, HasRunBlock, IsAsBefore, IsKept, KeepsBlocks, KeepsBody, KeepsLent, Leaves, Lent, Mut, MutBor, Standing, StaysWithin, Stop, Stopped, Tells, TellsBlock, Went, answer_of, block_told, in_transaction, usual, view_of, went_self}
+use Rattle.std.proofs.Common.{◌≡◌, ◌∙◌, inl, inr, Result, Ok, Err, ap, subst, sym, true≢false, false, true}
+use Rattle.transactions.proofs.Common.{Abort, Begin, CalledAtMut, Cancelled, Commit, EndsBlockBy, Engine, EntersNot, HasGoneBack, HasRunBlock, IsAsBefore, IsKept, IsToldAgain, IsUndoneUnless, KeepsBlocks, KeepsBody, KeepsLent, Leaves, Lent, Mut, MutBor, Standing, StaysWithin, Stop, Stopped, Tells, TellsBlock, Went, answer_of, block_told, in_transaction, usual, view_of, went_self}
 use Rattle.itm_runtime.specs.declared.stop.Stop.TheVariants as stops
-use Rattle.transactions.specs.Blocks.{EntersNot, IsToldAgain, IsUndoneUnless}
-use Rattle.transactions.proofs.BlockOutcomes.{abort_back, abort_kept, back_self, before_twice, before_within, commit_failed, commit_kept, commit_within, not_entered, back_served}
+use Rattle.transactions.proofs.BlockOutcomes.{abort_back, abort_kept, before_twice, before_within, commit_failed, commit_kept, commit_within, not_entered, back_served}
 
 -- nothing is changed
 same_kept : (from new : Lent) → new.words ≡ from.words → new.thread ≡ from.thread → IsKept from new
@@ -95,9 +94,3 @@ module _ {R E : Type 0} (old from new : Lent) where
 
 pub within_on : (old from new : Lent) → IsAsBefore old from → StaysWithin from new → StaysWithin old new
 within_on old from new back within first fresh w = within first fresh (before_within old from back first fresh w)
-
-pub before_self : (l : Lent) → IsAsBefore l l
-before_self l o = back_self l.thread
-
-pub kept_self : (l : Lent) → IsKept l l
-kept_self l = same_kept l l refl refl

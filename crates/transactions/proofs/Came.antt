@@ -1,9 +1,7 @@
 -- What all tries of a body come to.
 use Rattle.std.proofs.Common.{◌≡◌, ◌∙◌, ◌+◌, ◌≤◌, ℕ, List, Result, Ok, Err, IfErr, IfOk, ap, arith, refl}
-use Rattle.transactions.proofs.Common.{ComesTo, Failed, Fails, HasLooked, IsCancelled, IsKept, IsPlainRun, KeepsBody, KeepsLent, Lent, Makings, Mut, MutBor, Standing, Stopped, Value, Words, mine_of, view_of, went_on}
+use Rattle.transactions.proofs.Common.{ComesTo, Failed, Fails, HasLooked, IsCancelled, IsKept, IsLeft, IsPlainRun, KeepsBody, KeepsLent, Lent, Makings, Mut, MutBor, Standing, Stopped, Value, Words, mine_left, mine_of, view_of, went_on}
 use Rattle.transactions.specs.declared.failed.Failed.TheVariants as failures
-use Rattle.transactions.specs.Lent.{IsLeft}
-use Rattle.transactions.specs.Runs.{mine_left}
 use Rattle.transactions.proofs.Plain.{plain_run}
 use Rattle.transactions.proofs.Tries.{rebased}
 

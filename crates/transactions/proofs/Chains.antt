@@ -1,13 +1,12 @@
 -- What follows from how often a body was tried, and from what each try was told as.
 use Rattle.std.proofs.Common.{◌≡◌, ◌∙◌, ◌+◌, ◌≤◌, inl, inr, ℕ, zero, suc, Bool, true, false, Result, Ok, Err, IfOk, add-one, ap, arith, subst, sym}
-use Rattle.transactions.proofs.Common.{Answer, AreCancelled, AreTries, CalledAtMut, Cancelled, ComesTo, Commit, EndsBy, Engine, Failed, Fails, IsAnswered, IsCancelled, IsKept, IsTry, KeepsBody, KeepsLent, Lent, Mut, MutBor, Standing, Stands, Stopped, Tried, Value, commit_told, in_transaction, start_of, view_of}
+use Rattle.transactions.proofs.Common.{Answer, AreCancelled, AreTries, CalledAtMut, Cancelled, ComesAgain, ComesTo, Commit, EndsBy, EndsTries, Engine, Failed, Fails, HasRetried, HasTried, IsAnswered, IsCancelled, IsKept, IsTry, KeepsBody, KeepsLent, LeavesLent, Lent, Mut, MutBor, Standing, Stands, Stopped, Tried, Value, again_after, commit_told, in_transaction, looks_of, seen_of, start_of, view_of}
 use Rattle.norec_core.specs.declared.answer.Answer.TheVariants as answers
 use Rattle.shared_words.proofs.ListPlaces.{starts_le}
 use Rattle.transactions.specs.declared.failed.Failed.TheVariants as failures
 use Rattle.transactions.specs.declared.tried.Tried.TheVariants.{Done}
-use Rattle.transactions.specs.Lent.{seen_of}
 use Rattle.transactions.specs.Runs.{Tells}
-use Rattle.transactions.specs.Tries.{ComesAgain, EndsTries, HasRetried, HasTried, again_after}
+use Rattle.transactions.proofs.Came.{left_after, tried_after}
 use Rattle.transactions.proofs.Tries.{is_other, not_cancelled, not_committed, not_stopped, told_at, wants_tries}
 
 -- ## One try
@@ -19,7 +18,7 @@ module _ {F R E : Type 0} (fn : Mut F (MutBor Lent × Unit {0}) (Result R (Stopp
   ended_not told (Err (Engine why)) last left ends wants other = not_stopped told why (in_transaction last.thread.engine) ends.1 other
   ended_not told (Err (Cancelled why)) last left ends wants other = not_cancelled told why (in_transaction last.thread.engine) ends.1 other
 
-  tried_not : IsTry fn f old again (Fails failures.Tries) f' new → ⊥
+  pub tried_not : IsTry fn f old again (Fails failures.Tries) f' new → ⊥
   tried_not (inl run) = ended_not (Fails failures.Tries) run.gives run.last new.thread run.ends tt tt
   tried_not (inr none) = not_stopped {R = R} {E = E} (Fails failures.Tries) none.stop true none.told_is tt
 
@@ -66,9 +65,17 @@ module _ {F R E : Type 0} (fn : Mut F (MutBor Lent × Unit {0}) (Result R (Stopp
 pub seen_more : (old new : Lent) → IsKept old new → seen_of old ≤ seen_of new
 seen_more old new kept = starts_le (view_of new.thread.pass).seen (view_of old.thread.pass).seen kept.went.grows
 
-pub late_after : {R E : Type 0} (old mid : Lent) (told : Result (Value R) (Failed E)) → IsKept old mid → IfOk told (λ done. seen_of mid ≤ done.at) → IfOk told (λ done. seen_of old ≤ done.at)
+late_after : {R E : Type 0} (old mid : Lent) (told : Result (Value R) (Failed E)) → IsKept old mid → IfOk told (λ done. seen_of mid ≤ done.at) → IfOk told (λ done. seen_of old ≤ done.at)
 late_after old mid (Ok done) kept late = let more = seen_more old mid kept in omega (arith, more, late)
 late_after old mid (Err why) kept late = tt
+
+-- what a transaction leaves, it leaves of all that came before it too
+pub lent_after : {R E : Type 0} (old mid new : Lent) (tries tried : ℕ) (told : Result (Value R) (Failed E)) → IsKept old mid → tries ≡ tried → LeavesLent mid tries told new → LeavesLent old tried told new
+lent_after old mid new tries tried told was same now = record {
+  left = left_after old mid new told was now.left;
+  late = late_after old mid told was now.late;
+  tried = tried_after told (looks_of old) (looks_of mid) (looks_of new) tries tried now.tried was.went.looks same;
+}
 
 -- ## Tries in a row
 

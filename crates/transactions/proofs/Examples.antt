@@ -1,7 +1,6 @@
 -- Worked cases of the definitions, proved by computing.
 use Rattle.std.proofs.Common.{◌≡◌, [], ◌∷◌, refl}
-use Rattle.transactions.proofs.Common.{Action, Begin, Calls, Commit, CommitAction, Done, State, TakesBack, UndoAction, after, as_commit, as_undo, calls_of, opened, state_with, usual}
-use Rattle.transactions.specs.Plain.{block_of}
+use Rattle.transactions.proofs.Common.{Action, Begin, Calls, Commit, CommitAction, Done, State, TakesBack, UndoAction, after, as_commit, as_undo, block_of, calls_of, opened, state_with, usual}
 
 abbrev a : Action
 a = record { fun = 1; arg = 2 }

@@ -1,12 +1,6 @@
 -- How a block within a transaction begins and ends.
-use Rattle.std.proofs.Common.{◌≡◌, ◌∙◌, ℕ, not, Bool, true, false, List, [], ◌∷◌, ◌++◌, drop, length, reverse, Option, None, Some, ap, refl, subst, sym, true≢false, append-nil, if◌then◌else◌}
-use Rattle.transactions.proofs.Common.{Abort, Actions, Answer, Begin, Call, Code, Commit, Core, Done, Frame, GoesOn, HasGoneBack, Idle, IsAnswered, IsFresh, IsWithin, LogRow, Old, Outside, ReadsOn, Refusal, Replied, Reply, Served, Standing, StartsWith, State, View, Words, actions_after, actions_cancelled, arena_after, blocks_after, came, came_over, cells_of, closed, in_transaction, irrevocable_room, is_inside, is_open, keeps_self, log_of, or_else, put_back, refusal, reply, reply_unless, stage_at, stands_for, start_of, state_in, unless, usual, view_of, writes_after}
-use Rattle.itm_types.specs.declared.call.Refusal.TheVariants.{IsIrrevocable, NoAbort}
-use Rattle.itm_model.specs.Machine.{keeps_innermost}
-use Rattle.nest_frames.specs.Nest.{actions_closed, begun, rows_of}
-use Rattle.norec_core.specs.declared.answer.Answer.TheVariants as answers
-use Rattle.norec_core.specs.Phases.{Phase}
-use Rattle.itm_runtime.specs.declared.stop.Stop.TheVariants as stops
+use Rattle.std.proofs.Common.{◌≡◌, ◌∙◌, ℕ, not, Bool, true, false, List, [], ◌∷◌, ◌++◌, drop, length, reverse, None, ap, refl, subst, sym, true≢false, append-nil, if◌then◌else◌}
+use Rattle.transactions.proofs.Common.{Abort, Actions, Answer, Begin, Code, Commit, Core, Done, Frame, GoesOn, HasGoneBack, Idle, IsAnswered, IsFresh, IsIrrevocable, IsWithin, LogRow, NoAbort, Old, Outside, Phase, ReadsOn, Replied, Reply, Served, Standing, StartsWith, State, View, Words, actions_after, actions_cancelled, actions_closed, arena_after, begun, blocks_after, came, came_over, cells_of, closed, in_transaction, irrevocable_room, is_inside, is_open, keeps_innermost, keeps_self, log_of, on_reply, or_else, put_back, refusal, reply, reply_unless, rows_of, stage_at, stands_for, start_of, state_in, unless, unrefused, usual, view_of, writes_after}
 use Rattle.transactions.proofs.LastEngines.{arena_left, at_once, last, m, replied, replied_of, writes_left}
 use Rattle.transactions.proofs.Looks.{engine_open}
 use Rattle.transactions.proofs.Modes.{stands_mode}
@@ -14,21 +8,10 @@ use Rattle.transactions.proofs.Within.{RanMore, begins, cut, on_self, on_twice, 
 
 -- ## Its begin
 
-abbrev NoCommit : Call → Type 0
-NoCommit Commit = ⊥
-NoCommit call = Unit {0}
-
-coded : (why : Option Refusal) (r : Replied) → r ≡ reply_unless why (Code 5) → GoesOn (Reply r) → Reply r ≡ Reply (Code 5)
-coded (Some why) r e on = absurd (on (stops.Refused why) (ap (λ (x : Replied). Some (Reply x)) (sym e)))
-coded None r e on = ap Reply e
-
 pub begin_coded : (t : Standing) (a : Answer) (v : View) (e : Core) → Served (start_of t (Begin usual 0) false) a v e → GoesOn a → a ≡ Reply (Code 5)
-begin_coded t (Reply r) v e served on = coded (refusal t.engine.depth (stands_for t.engine (came_over (start_of t (Begin usual 0) false) v e)) (Begin usual 0)) r served.tells.here.reply_is on
-begin_coded t (answers.Committed at wrote) v e served on = absurd (subst NoCommit served.tells.call tt)
-begin_coded t (answers.Conflict clock word) v e served on = absurd (on (stops.Conflict clock word) refl)
-begin_coded t (answers.Restarted clock word) v e served on = absurd (on (stops.Restarted clock word) refl)
-begin_coded t (answers.Busy clock) v e served on = absurd (on (stops.Busy clock) refl)
-begin_coded t (answers.Full at) v e served on = absurd (on (stops.Full at) refl)
+begin_coded t a v e served on =
+    let s = start_of t (Begin usual 0) false in
+    on_reply (λ (x : Answer). x ≡ Reply (Code 5)) s a v e tt served on (λ r goes now. unrefused r (Code 5) (refusal t.engine.depth (stands_for t.engine (came_over s v e)) s.call) now.tells.here.reply_is goes)
 
 -- the block that has begun goes back to what was written, registered and read
 pub record HasEntered (t e : Core) : Type 0 where

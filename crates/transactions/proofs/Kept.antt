@@ -1,7 +1,6 @@
 -- What a call of a body keeps.
-use Rattle.std.proofs.Common.{◌≡◌, ◌∙◌, ℕ, false, Option, None, Some, Result, Ok, Err, ap, refl, subst, sym}
-use Rattle.transactions.proofs.Common.{Action, Answer, Call, Commit, CommitAction, Committed, Core, Done, GoesOn, IsKept, Lent, Owns, Refusal, Replied, Reply, Served, Standing, Stop, Tells, UndoAction, View, Went, Words, answer_to_read, answer_to_write, came_over, mine_of, refusal, reply_unless, stands_for, start_of, view_of, went_self}
-use Rattle.norec_core.specs.declared.answer.Answer.TheVariants as answers
+use Rattle.std.proofs.Common.{◌≡◌, ◌∙◌, ℕ, false, Option, None, Some, Result, Ok, Err, ap, subst, sym}
+use Rattle.transactions.proofs.Common.{Action, Answer, Call, CommitAction, Core, Done, GoesOn, IsKept, Lent, Owns, Reply, Served, Standing, Stop, Tells, UndoAction, View, Went, Words, answer_to_read, answer_to_write, came_over, mine_of, on_reply, refusal, stands_for, start_of, unrefused, view_of, went_self}
 use Rattle.itm_runtime.specs.declared.stop.Stop.TheVariants.{Refused, Conflict, Restarted, Busy, Full, Memory}
 use Rattle.transactions.proofs.Modes.{KeepsMode, stays_revocable}
 
@@ -53,28 +52,12 @@ module _ (inside now : Lent) (words : Words) (call : Call) (is : inside ≡ now)
   kept_by_write r t = kept_by (answer_to_write r) t (mine_of_write words inside.thread call new r t)
 
 -- an action that was registered, where the transaction goes on
-registered : (r : Replied) (why : Option Refusal) → r ≡ reply_unless why Done → GoesOn (Reply r) → Reply r ≡ Reply Done
-registered r (Some why) e on = absurd (on (Refused why) (ap (λ (x : Replied). Some (Reply x)) (sym e)))
-registered r None e on = ap Reply e
-
-abbrev no_commit : Call → Type 0
-no_commit Commit = ⊥
-no_commit call = Unit {0}
-
 pub action_done : (t : Standing) (action : Action) (a : Answer) (v : View) (e : Core) → Served (start_of t (CommitAction action) false) a v e → GoesOn a → a ≡ Reply Done
-action_done t action (Reply r) v e served on =
-    registered r (refusal t.engine.depth (stands_for t.engine (came_over (start_of t (CommitAction action) false) v e)) (CommitAction action)) served.tells.here.reply_is on
-action_done t action (Committed position wrote) v e served on = absurd (subst no_commit served.tells.call tt)
-action_done t action (answers.Conflict clock word) v e served on = absurd (on (Conflict clock word) refl)
-action_done t action (answers.Restarted clock word) v e served on = absurd (on (Restarted clock word) refl)
-action_done t action (answers.Busy clock) v e served on = absurd (on (Busy clock) refl)
-action_done t action (answers.Full position) v e served on = absurd (on (Full position) refl)
+action_done t action a v e served on =
+    let s = start_of t (CommitAction action) false in
+    on_reply (λ (x : Answer). x ≡ Reply Done) s a v e tt served on (λ r goes now. unrefused r Done (refusal t.engine.depth (stands_for t.engine (came_over s v e)) s.call) now.tells.here.reply_is goes)
 
 pub undo_done : (t : Standing) (action : Action) (a : Answer) (v : View) (e : Core) → Served (start_of t (UndoAction action) false) a v e → GoesOn a → a ≡ Reply Done
-undo_done t action (Reply r) v e served on =
-    registered r (refusal t.engine.depth (stands_for t.engine (came_over (start_of t (UndoAction action) false) v e)) (UndoAction action)) served.tells.here.reply_is on
-undo_done t action (Committed position wrote) v e served on = absurd (subst no_commit served.tells.call tt)
-undo_done t action (answers.Conflict clock word) v e served on = absurd (on (Conflict clock word) refl)
-undo_done t action (answers.Restarted clock word) v e served on = absurd (on (Restarted clock word) refl)
-undo_done t action (answers.Busy clock) v e served on = absurd (on (Busy clock) refl)
-undo_done t action (answers.Full position) v e served on = absurd (on (Full position) refl)
+undo_done t action a v e served on =
+    let s = start_of t (UndoAction action) false in
+    on_reply (λ (x : Answer). x ≡ Reply Done) s a v e tt served on (λ r goes now. unrefused r Done (refusal t.engine.depth (stands_for t.engine (came_over s v e)) s.call) now.tells.here.reply_is goes)

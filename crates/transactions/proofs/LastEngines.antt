@@ -1,15 +1,11 @@
 -- The engine that a call's answer comes of.
 use Rattle.std.proofs.Common.{◌≡◌, ◌∙◌, inl, inr, ℕ, ◌/◌, Bool, true, false, List, [], ◌∷◌, Option, None, Some, IsSome, ap, refl, subst, sym, true≢false}
-use Rattle.transactions.proofs.Common.{Answer, Call, Core, Idle, IsAnswered, IsMemory, Replied, Reply, Standing, Start, View, Words, arena_after, came, cells_of, in_transaction, irrevocable_room, is_memory, keeps_self, memory_of, stage_at, start_of, view_of, writes_after}
+use Rattle.transactions.proofs.Common.{Answer, Call, Core, Ends, Idle, IsAnswered, IsMemory, Proceeds, Replied, Replies, Reply, Standing, Start, StaysOn, View, Words, arena_after, asked_from, came, cells_of, handed_is, handed_to, in_transaction, irrevocable_room, is_memory, keeps_asked, keeps_self, keeps_twice, memory_of, stage_at, start_of, view_of, writes_after}
 use Rattle.itm_types.specs.declared.step.Step.{Step}
 use Rattle.norec_core.specs.declared.answer.Next.{Next}
 use Rattle.norec_core.specs.declared.answer.Next.TheVariants.{Step as Asks, Answer as Answers}
-use Rattle.norec_core.specs.Core.{handed_to}
 use Rattle.norec_core.specs.Keeps.{Keeps}
 use Rattle.norec_core.specs.Moves.{IsCalled}
-use Rattle.norec_core.specs.Order.{asked_from}
-use Rattle.norec_core.specs.Proceeds.{Ends, Proceeds, Replies, StaysOn}
-use Rattle.norec_core.proofs.Engines.KeptFields.{handed_is, keeps_asked, keeps_twice}
 use Rattle.norec_core.proofs.Replies.ReplyCases.{reply_cases}
 use Rattle.call_rules.specs.Drives.{Drives, IsDriven, LeadsOn}
 

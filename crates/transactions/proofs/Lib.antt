@@ -11,6 +11,7 @@ pub mod BlockOutcomes
 mod BlockRuns
 mod RanActions
 pub mod Deeds
+pub mod FirstReplies
 mod Examples
 mod PlainBlocks
 pub mod Plain

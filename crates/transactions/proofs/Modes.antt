@@ -1,7 +1,7 @@
 -- No call of a body takes the clock for good.
 use Rattle.std.proofs.Common.{◌≡◌, ◌∙◌, if◌then◌else◌, ℕ, Bool, true, false, List, [], ◌∷◌, Option, None, Some, ap, refl, sym, true≢false}
-use Rattle.transactions.proofs.Common.{Abort, Answer, Begin, Block, Busy, Call, Commit, Committed, Conflict, Core, Full, Refusal, Reply, Restarted, Saved, Served, Stands, Start, State, View, after, after_unless, back_from, came_over, closed_irrevocable, effect, entered, in_transaction, is_open, left_over, opened, refusal, rolled_back, stands_for, state_in, usual}
-use Rattle.call_rules.specs.Served.{mine_after}
+use Rattle.transactions.proofs.Common.{Abort, Answer, Begin, Block, Busy, Call, Commit, Committed, Core, Full, Refusal, Reply, Restarted, Saved, Served, Stands, Start, State, View, after, after_unless, back_from, came_over, closed_irrevocable, effect, entered, in_transaction, is_open, left_over, mine_after, opened, refusal, rolled_back, stands_for, state_in, usual}
+use Rattle.norec_core.specs.declared.answer.Answer.TheVariants.{Conflict}
 
 -- the call's effect leaves a revocable transaction so
 abbrev pub KeepsMode : Call → Type 0
@@ -63,15 +63,6 @@ back_mode s (b ∷ bs) is = rolled_mode s bs b.saved is
 
 pub keeps_abort : KeepsMode (Abort false)
 keeps_abort s is = back_mode s s.blocks is
-
--- no call but a commit adds to the pass's own positions
-pub mine_kept : (s : Start) (a : Answer) (v : View) (e : Core) → Served s a v e → (s.call ≡ Commit → ⊥) → v.mine ≡ s.view.mine
-mine_kept s (Reply r) v e served other = served.mine
-mine_kept s (Committed at wrote) v e served other = absurd (other served.tells.call)
-mine_kept s (Conflict clock word) v e served other = served.mine
-mine_kept s (Restarted clock word) v e served other = served.mine
-mine_kept s (Busy clock) v e served other = served.mine
-mine_kept s (Full at) v e served other = served.mine
 
 pub mine_stays : (a : Answer) (mine : List ℕ) → ((at : ℕ) (wrote : Bool) → a ≡ Committed at wrote → ⊥) → mine_after mine a ≡ mine
 mine_stays (Reply r) mine other = refl

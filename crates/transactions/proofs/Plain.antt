@@ -1,24 +1,20 @@
 -- The calls of a transaction are the plain machine's, on every memory that agrees with what was read.
 use Rattle.std.proofs.Common.{◌≡◌, ◌∙◌, ◌⊎◌, inl, inr, ℕ, ◌/◌, ◌&&◌, not, if◌then◌else◌, Bool, true, false, List, [], ◌∷◌, ◌++◌, map, Option, None, Some, Result, Ok, Err, ap, refl, subst, sym, true≢false}
-use Rattle.transactions.proofs.Common.{Abort, Action, Answer, Begin, Block, Call, CalledAtMut, Calls, Cancelled, Code, Commit, CommitAction, Copy, CopyPair, Core, Deed, EndsBy, Engine, Fill, Frame, GoesOn, GoesOver, In, InTransaction, IsAnswered, IsMemory, IsPlainRun, IsTry, KeepsBody, KeepsLent, LeftBy, Lent, Load, Log, LogBytes, Makes, Makings, Mode, Mut, MutBor, Out, Props, Read, Refusal, Replied, Reply, Save, Standing, Stands, Start, StartsWith, State, Stopped, TakesBack, Tried, UndoAction, Value, Within, Words, Write, after, after_unless, as_undo, back, calls_of, came_over, commit_told, effect, entered, in_transaction, irrevocable_from, is_inside, is_memory, is_open, left_over, memory_of, opened, outside, pushed, recoded, refusal, replies, reply, reply_unless, rolled_back, source_bytes, stands_for, start_of, state_after, state_in, state_with, target_written, undone, undone_from, usual, view_of, with_action}
+use Rattle.transactions.proofs.Common.{Abort, Action, Agrees, Answer, Begin, Block, Call, CalledAtMut, Calls, Cancelled, Code, Commit, CommitAction, Copy, CopyPair, Core, Deed, EndsBy, Engine, Fill, Frame, GoesOn, GoesOver, HasBegun, In, InTransaction, IsAnswered, IsMemory, IsPlain, IsPlainRun, IsTakenBack, IsTry, KeepsBody, KeepsLent, LeftBy, Lent, Load, Log, LogBytes, Makes, Makings, Mode, Mut, MutBor, NoCommit, Out, Props, Read, Refusal, Replied, Reply, Save, Standing, Stands, Start, StartsWith, State, Stays, Stopped, TakesBack, Tried, UndoAction, Value, Within, Words, Write, after, after_unless, as_undo, back, begun_at, bytes_of, calls_of, came_over, commit_told, committed_at, effect, entered, in_transaction, irrevocable_from, is_inside, is_memory, is_open, left_over, memory_in, memory_of, on_answer, opened, outside, pushed, recoded, refusal, replies, replies_of, reply, reply_unless, rolled_back, source_bytes, stands_for, start_of, state_after, state_in, state_over, state_with, target_written, undone, undone_from, usual, view_of, with_action, with_gone}
 use Rattle.itm_types.specs.declared.call.ActionKind.TheVariants as kinds
 use Rattle.itm_types.specs.Calls.{is_abort}
-use Rattle.itm_types.specs.Memory.{Agrees, bytes_of}
 use Rattle.norec_core.specs.declared.answer.Answer.TheVariants as answers
 use Rattle.write_set.specs.declared.row.Row.{Row}
-use Rattle.norec_core.specs.Stands.{state_over}
-use Rattle.norec_core.proofs.Accesses.Logs.{agrees_less}
+use Rattle.norec_core.proofs.Logs.{agrees_less}
 use Rattle.norec_core.proofs.Replies.AnsweredEngines.{told_plainly}
-use Rattle.call_rules.specs.Served.{memory_in}
 use Rattle.itm_runtime.specs.declared.stop.Stop.TheVariants as stops
-use Rattle.transactions.specs.Blocks.{IsTakenBack}
-use Rattle.transactions.specs.Plain.{IsPlain, Stays, begun_at, committed_at, replies_of, with_gone}
 use Rattle.transactions.specs.declared.tried.Tried.TheVariants.{Done}
-use Rattle.transactions.specs.Runs.{HasBegun, Tells}
+use Rattle.transactions.specs.Runs.{Tells}
 use Rattle.transactions.proofs.Looks.{engine_open}
 use Rattle.transactions.proofs.RanActions.{ran_as, same_after, same_left, same_replies}
 use Rattle.transactions.proofs.Tries.{is_other, not_cancelled, not_stopped, told_at}
 use Rattle.transactions.proofs.Modes.{KeepsMode, back_mode, keeps_begin, keeps_commit, rolled_mode, shut_revocable, stays_revocable}
+use Rattle.norec_core.proofs.Engines.Blocks.{none_inside}
 
 -- ## The mode
 
@@ -156,26 +152,18 @@ leads words (TakesBack gone ∷ rest) t last made is inside =
 
 -- ## The begin
 
-shut_blocks : (blocks : List Frame) → is_inside blocks ≡ false → blocks ≡ []
-shut_blocks [] shut = refl
-shut_blocks (b ∷ bs) shut = absurd (true≢false shut)
-
 -- outside a transaction an engine stands for the memory alone
 shut_state : (c : Core) (m : List ℕ) → in_transaction c ≡ false → c.irrevocable ≡ false → c.writes ≡ [] → stands_for c m ≡ state_over [] [] c.arena c.actions m
 shut_state c m shut is unwritten =
     ap (λ (b : Bool). state_in b c.writes c.blocks c.arena c.actions m) is
     ∙ ap (λ (rows : List Row). state_over rows c.blocks c.arena c.actions m) unwritten
-    ∙ ap (λ (blocks : List Frame). state_over [] blocks c.arena c.actions m) (shut_blocks c.blocks shut)
+    ∙ ap (λ (blocks : List Frame). state_over [] blocks c.arena c.actions m) (none_inside c.blocks shut)
 
 -- a begin that is not refused opens a block
 unrefused : (s : State) (b : Bool) (r : Replied) (why : Option Refusal) → r ≡ recoded (Begin usual 0) b (reply_unless why (Code 5)) → GoesOn (Reply r) → after_unless why s (effect s (Begin usual 0)) ≡ effect s (Begin usual 0)
 unrefused s true r (Some why) is on = absurd (on (stops.Refused why) (ap (λ (x : Replied). Some (Reply x)) (sym is)))
 unrefused s false r (Some why) is on = absurd (on (stops.Refused why) (ap (λ (x : Replied). Some (Reply x)) (sym is)))
 unrefused s b r None is on = refl
-
-abbrev begins : Call → Type 0
-begins Commit = ⊥
-begins call = Unit {0}
 
 -- what a transaction that began has by then
 pub record Begins (before : Standing) (began : Lent) : Type 0 where
@@ -185,7 +173,8 @@ pub record Begins (before : Standing) (began : Lent) : Type 0 where
   state : (m : List ℕ) → IsMemory before.engine.words m → Agrees m began.thread.engine.log → stands_for began.thread.engine m ≡ opened (bytes_of m) before.engine.arena usual
 
 opens_on : (before : Standing) (again : Bool) (answer : Answer) (began : Lent) (stood : Stands (view_of before.pass) before.engine) → in_transaction before.engine ≡ false → IsAnswered began.words (start_of before (Begin usual 0) again) answer began.thread.pass began.thread.engine → GoesOn answer → Begins before began
-opens_on before again (Reply r) began stood shut a on =
+opens_on before again answer began stood shut answered on = on_answer (λ (x : Answer). IsAnswered began.words (start_of before (Begin usual 0) again) x began.thread.pass began.thread.engine → Begins before began) answer on
+    (λ r on a.
     let s : Start = start_of before (Begin usual 0) again in
     let t = before.engine in
     let e = began.thread.engine in
@@ -201,12 +190,8 @@ opens_on before again (Reply r) began stood shut a on =
       inside = sym (engine_open e (left_over v e) still) ∙ ap is_open here.state ∙ ap is_open (opened_over (came_over s v e) r here.reply_is on);
       words_are = a.served.words;
       state = λ m fits agrees. let meets = a.served.tells.all is still m fits agrees in meets.state ∙ opened_over m r meets.reply_is on;
-    }
-opens_on before again (answers.Committed at wrote) began stood shut a on = absurd (subst begins a.served.tells.call tt)
-opens_on before again (answers.Conflict clock word) began stood shut a on = absurd (on (stops.Conflict clock word) refl)
-opens_on before again (answers.Restarted clock word) began stood shut a on = absurd (on (stops.Restarted clock word) refl)
-opens_on before again (answers.Busy clock) began stood shut a on = absurd (on (stops.Busy clock) refl)
-opens_on before again (answers.Full at) began stood shut a on = absurd (on (stops.Full at) refl)
+    })
+    (λ at wrote a. absurd (subst NoCommit a.served.tells.call tt)) answered
 
 state_arena : (c : Core) (m : List ℕ) → (stands_for c m).arena ≡ c.arena
 state_arena c m = by_mode c.irrevocable

@@ -1,9 +1,7 @@
 -- The plain machine takes no heed of the actions that have come to run.
 use Rattle.std.proofs.Common.{◌≡◌, ◌∙◌, ℕ, Bool, true, false, List, [], ◌∷◌, ◌++◌, drop, map, reverse, Option, None, Some, ap, refl, if◌then◌else◌}
-use Rattle.transactions.proofs.Common.{Abort, Action, Begin, Block, Call, Calls, Commit, CommitAction, Copy, CopyPair, Deed, Fill, In, InTransaction, Load, Log, LogBytes, Mode, Out, Props, Ran, Read, Refusal, Save, Saved, State, TakesBack, UndoAction, Within, Write, after, after_unless, as_commit, as_undo, back, back_from, calls_of, closed_irrevocable, effect, entered, irrevocable_from, is_open, opened, or_else, outside, pushed, refusal, replies, reply, reply_unless, rolled_back, source_bytes, standing, state_after, state_with, target_written, undone, undone_from, unless, with_action}
+use Rattle.transactions.proofs.Common.{Abort, Action, Begin, Block, Call, Calls, Commit, CommitAction, Copy, CopyPair, Deed, Fill, In, InTransaction, Load, Log, LogBytes, Mode, Out, Overlap, Props, Ran, Read, Refusal, Save, Saved, State, TakesBack, UndoAction, Within, Write, after, after_unless, answer, as_commit, as_undo, back, back_from, calls_of, closed_actions, closed_in, closed_irrevocable, effect, entered, irrevocable_from, is_clear, is_open, made_irrevocable, opened, or_else, outside, pushed, refusal, replies, reply, reply_unless, rolled_back, source_bytes, source_range, standing, state_after, state_with, target_range, target_written, undone, undone_from, unless, with_action}
 use Rattle.itm_types.specs.declared.call.ActionKind.TheVariants as kinds
-use Rattle.itm_types.specs.declared.call.Refusal.TheVariants.{Overlap}
-use Rattle.itm_model.specs.Machine.{answer, closed_actions, closed_in, is_clear, made_irrevocable, source_range, target_range}
 
 -- with these instead
 abbrev pub ran_as : List Ran → State → State

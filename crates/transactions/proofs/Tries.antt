@@ -1,11 +1,11 @@
 -- What a try of a body tells.
 use Rattle.std.proofs.Common.{◌≡◌, ◌∙◌, inr, Bool, true, false, ℕ, List, Result, ap, refl, subst}
-use Rattle.transactions.proofs.Common.{Answer, Fails, KeepsBody, KeepsLent, LeftBy, Lent, Mut, MutBor, Standing, Stop, Stopped, Tried, Words, commit_told, mine_then, stop_told}
+use Rattle.transactions.proofs.Common.{Answer, Conflict, Fails, IsGivenUp, KeepsBody, KeepsLent, LeftBy, Lent, Mut, MutBor, Standing, Stop, Stopped, Tried, Words, cancel_told, commit_told, mine_then, stop_told}
 use Rattle.norec_core.specs.declared.answer.Answer.TheVariants as answers
 use Rattle.itm_runtime.specs.declared.stop.Stop.TheVariants as stops
 use Rattle.transactions.specs.declared.failed.Failed.TheVariants as failures
-use Rattle.transactions.specs.declared.tried.Tried.TheVariants.{Done, Conflict}
-use Rattle.transactions.specs.Runs.{IsGivenUp, Tells, cancel_told}
+use Rattle.transactions.specs.declared.tried.Tried.TheVariants.{Done}
+use Rattle.transactions.specs.Runs.{Tells}
 
 -- told of the words and the body that came first
 pub rebased : {F R E : Type 0} (fn : Mut F (MutBor Lent × Unit {0}) (Result R (Stopped E) × (MutBor Lent × Unit {0}))) (words first : Words) → (KeepsLent fn → words ≡ first) → (body passed : F) → (KeepsBody fn → body ≡ passed) → (told : Tried R E) (new : Standing) → Tells fn body words told new → Tells fn passed first told new

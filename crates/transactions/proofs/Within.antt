@@ -1,13 +1,10 @@
 -- What a call leaves of the open blocks.
 use Rattle.std.proofs.Common.{◌≡◌, ◌∙◌, ◌⊎◌, inl, inr, ℕ, Bool, true, false, List, [], ◌∷◌, ◌++◌, length, map, take, drop, reverse, Option, None, Some, ap, refl, subst, sym, true≢false, append_assoc, append-nil, arith, if◌then◌else◌}
-use Rattle.transactions.proofs.Common.{Action, Actions, Answer, Begin, Call, Commit, CommitAction, Core, Done, Frame, GoesOver, IsAnswered, IsFresh, IsWithin, IsWithinStill, Lent, LogRow, Old, Ran, Read, ReadsOn, Refusal, Refused, Replied, Reply, Standing, StartsWith, Tells, UndoAction, Words, Write, actions_after, actions_cancelled, arena_after, as_undo, blocks_after, cells_of, in_transaction, irrevocable_room, is_inside, log_of, put_back, start_of, usual, view_of}
+use Rattle.transactions.proofs.Common.{Action, Actions, Answer, Call, CameToRun, Commit, CommitAction, Core, Done, Frame, GoesOver, IsAnswered, IsFresh, IsWithin, IsWithinStill, Lent, LogRow, NoCommit, Old, Ran, Read, ReadsOn, Replied, Reply, Standing, StartsWith, Tells, UndoAction, Words, Write, actions_after, actions_cancelled, arena_after, as_undo, blocks_after, cells_of, in_transaction, irrevocable_room, is_inside, log_of, put_back, reads_of, registered, renewed, start_of, view_of}
 use Rattle.std.proofs.lemmas.List.{map-append, take-append-le, take_all}
 use Rattle.itm_types.specs.declared.call.ActionKind.TheVariants as kinds
-use Rattle.user_actions.specs.Actions.{registered}
-use Rattle.nest_frames.specs.Nest.{reads_of, renewed}
 use Rattle.norec_core.specs.declared.answer.Answer.TheVariants as answers
 use Rattle.norec_core.specs.Restarts.{Restarts}
-use Rattle.transactions.specs.Blocks.{CameToRun}
 use Rattle.transactions.proofs.LastEngines.{IsLast, arena_left, last, last_of, mid, replied}
 
 -- ## Lists
@@ -95,10 +92,6 @@ mild (UndoAction action) Done p = record { blocks = λ c. refl; arena = λ c m. 
 mild (UndoAction action) r p = record { blocks = λ c. refl; arena = λ c m. refl; commits = λ c. begins _; undos = λ c. begins _; ran = λ c. refl; goes = λ c. refl }
 mild call r p = absurd p
 
--- so does the refusal of a begin
-pub mild_begin : (why : Refusal) → IsMild (Begin usual 0) (Refused why)
-mild_begin why = record { blocks = λ c. refl; arena = λ c m. refl; commits = λ c. begins _; undos = λ c. begins _; ran = λ c. refl; goes = λ c. refl }
-
 module _ (words : Words) (t new : Standing) (call : Call) (again : Bool) (r : Replied) (is_mild : IsMild call r) (a : IsAnswered words (start_of t call again) (Reply r) new.pass new.engine) (is : t.engine.irrevocable ≡ false) where
   mild_within : (first : Core) → IsWithin first t.engine → in_transaction new.engine ≡ true → IsWithin first new.engine
   mild_within first w o =
@@ -185,10 +178,6 @@ restarted_still words t new call clock word a is first fresh (inl w) = inl (rest
 restarted_still words t new call clock word a is first fresh (inr shut) = absurd (true≢false (sym a.served.tells.still.0 ∙ shut))
 
 -- ## Any answer
-
-abbrev NoCommit : Call → Type 0
-NoCommit Commit = ⊥
-NoCommit call = Unit {0}
 
 module _ (words : Words) (t new : Standing) (call : Call) (other : NoCommit call) (milds : (r : Replied) → IsMild call r) (is : t.engine.irrevocable ≡ false) (first : Core) (fresh : IsFresh first.blocks first.actions first.log) where
   answered_still : (a : Answer) → IsAnswered words (start_of t call false) a new.pass new.engine → IsWithinStill first t.engine → IsWithinStill first new.engine

@@ -1,5 +1,5 @@
 -- The runs of a body as transactions.
-use Rattle.std.specs.Prelude.{◌≡◌, ◌⊎◌, ℕ, Bool, true, false, List, Option, None, Some, Result, Ok, Err}
+use Rattle.std.specs.Prelude.{◌≡◌, ◌⊎◌, ℕ, ◌+◌, ◌≤◌, Bool, true, false, List, Option, None, Some, Result, Ok, Err, IfErr, IfOk}
 use Rattle.std.specs.Borrow.{MutBor}
 use Rattle.std.specs.Fn.{CalledAtMut, Mut}
 use Rattle.itm_types.specs.declared.call.Call.TheVariants.{Begin, Commit}
@@ -24,7 +24,7 @@ use Rattle.transactions.specs.declared.tried.Tried.{Tried}
 use Rattle.transactions.specs.declared.tried.Tried.TheVariants.{Done, Failed as Fails, Conflict, Busy}
 use Rattle.transactions.specs.declared.stopped.Stopped.{Stopped}
 use Rattle.transactions.specs.declared.stopped.Stopped.TheVariants.{Engine, Cancelled}
-use Rattle.transactions.specs.Lent.{Lent, IsKept}
+use Rattle.transactions.specs.Lent.{Lent, IsKept, IsLeft, looks_of, mine_of, seen_of}
 
 -- a block that may be cancelled, and that does not go irrevocable
 abbrev pub usual : Props
@@ -79,6 +79,12 @@ abbrev pub IsCancelled : {R E : Type 0} → Result (Value R) (Failed E) → Type
 IsCancelled (Ok done) = ⊥
 IsCancelled (Err (failures.Cancelled why)) = Unit {0}
 IsCancelled (Err why) = ⊥
+
+-- what all tries of a body leave that hands back what it is lent
+pub record LeavesLent {R E : Type 0} (old : Lent) (tries : ℕ) (result : Result (Value R) (Failed E)) (new : Lent) : Type 0 where
+  pub left : IsLeft (mine_left (mine_of old) result) old new  -- the words are the same, and the pass's own commits are those told
+  pub late : IfOk result (λ done. seen_of old ≤ done.at)  -- the position told is no less than the number of the commits that the pass had seen before
+  pub tried : IfErr result (λ why. why ≡ failures.Tries → looks_of old + tries ≤ looks_of new)  -- for want of tries it gives up after so many looks at the clock, one for each
 
 -- ## One try
 

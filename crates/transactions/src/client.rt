@@ -1,6 +1,6 @@
 //! A thread of a program, and the transactions that it makes.
 
-ghost use Rattle.std.specs.Prelude.{◌≡◌, ◌+◌, ◌<◌, ◌≤◌, false, IfErr, IfOk};
+ghost use Rattle.std.specs.Prelude.{◌≡◌, ◌<◌, false, IfOk};
 ghost use Rattle.norec_core.specs.Core.{in_transaction};
 ghost use Rattle.shared_words.specs.Passes.{Owns};
 
@@ -23,10 +23,9 @@ pub struct Client {
 }
 
 impl Client {
-    ghost use Rattle.transactions.specs.Lent.{IsLeft, looks_of, mine_of, seen_of};
-    ghost use Rattle.transactions.specs.declared.failed.Failed.TheVariants.{Tries};
+    ghost use Rattle.transactions.specs.Lent.{looks_of};
     ghost use Rattle.transactions.specs.Plain.{IsPlainRun, Makings};
-    ghost use Rattle.transactions.specs.Runs.{ComesTo, IsCancelled, KeepsLent, mine_left};
+    ghost use Rattle.transactions.specs.Runs.{ComesTo, IsCancelled, KeepsLent, LeavesLent};
     ghost use Rattle.transactions.specs.Tries.{HasTried};
 
     /// A thread outside a transaction, over the words that own its pass. Each body is tried as often as `tries` says.
@@ -75,14 +74,10 @@ impl Client {
         // told.
         ensures plain { KeepsLent F.FnMut → (makings : Makings F.FnMut) → IfOk result (λ done. IsPlainRun F.FnMut makings body self.old.transaction.words done self.new.transaction.thread) }
 
-        // The body hands back what it was lent: the words are the same, and the pass's own commits are those told.
-        ensures left { KeepsLent F.FnMut → IsLeft (mine_left (mine_of self.old.transaction) result) self.old.transaction self.new.transaction }
-
-        // The position told is no less than the number of the commits that its thread had seen before.
-        ensures late { KeepsLent F.FnMut → IfOk result (λ done. seen_of self.old.transaction ≤ done.at) }
-
-        // It gives up for want of tries after so many looks at the clock, one for each.
-        ensures tried { KeepsLent F.FnMut → IfErr result (λ why. why ≡ Tries → looks_of self.old.transaction + self.old.tries ≤ looks_of self.new.transaction) }
+        // The body hands back what it was lent: the words are the same, the pass's own commits are those told, and the position
+        // told is no less than the number of the commits that its thread had seen before. It gives up for want of tries after so
+        // many looks at the clock, one for each.
+        ensures lent { KeepsLent F.FnMut → LeavesLent self.old.transaction self.old.tries result self.new.transaction }
         ensures tries { self.new.tries ≡ self.old.tries }
     {
         self.run(&mut body)
@@ -97,9 +92,7 @@ impl Client {
         ensures callable { F.IsAlwaysCallable body.new }
         ensures tries { self.new.tries ≡ self.old.tries }
         ensures ran { HasTried F.FnMut body.old self.old.transaction self.old.tries result body.new self.new.transaction }
-        ensures left { KeepsLent F.FnMut → IsLeft (mine_left (mine_of self.old.transaction) result) self.old.transaction self.new.transaction }
-        ensures late { KeepsLent F.FnMut → IfOk result (λ done. seen_of self.old.transaction ≤ done.at) }
-        ensures tried { KeepsLent F.FnMut → IfErr result (λ why. why ≡ Tries → looks_of self.old.transaction + self.old.tries ≤ looks_of self.new.transaction) }
+        ensures lent { KeepsLent F.FnMut → LeavesLent self.old.transaction self.old.tries result self.new.transaction }
         ensures cancelled { KeepsLent F.FnMut → IsCancelled result → looks_of self.old.transaction < looks_of self.new.transaction }
     {
         let mut again = false;

@@ -1,6 +1,6 @@
 //! A transaction that waits for others.
 
-ghost use Rattle.std.specs.Prelude.{◌≡◌, ◌+◌, ◌<◌, ◌≤◌, true, false, IfErr, IfOk};
+ghost use Rattle.std.specs.Prelude.{◌≡◌, ◌+◌, ◌<◌, true, false, IfOk};
 ghost use Rattle.transactions.specs.Runs.{IsCancelled};
 
 use crate::client::Client;
@@ -11,10 +11,9 @@ use crate::tried::Done;
 use std::hint::spin_loop;
 
 impl Client {
-    ghost use Rattle.transactions.specs.Lent.{IsLeft, looks_of, mine_of, seen_of};
-    ghost use Rattle.transactions.specs.declared.failed.Failed.TheVariants.{Tries};
+    ghost use Rattle.transactions.specs.Lent.{looks_of};
     ghost use Rattle.transactions.specs.Plain.{IsPlainRun, Makings};
-    ghost use Rattle.transactions.specs.Runs.{ComesTo, KeepsLent, mine_left};
+    ghost use Rattle.transactions.specs.Runs.{ComesTo, KeepsLent, LeavesLent};
     ghost use Rattle.transactions.specs.Tries.{HasRetried};
 
     /// Runs the body as `atomically` does, and, where the body has cancelled it, as a new transaction, at most so many times
@@ -35,14 +34,10 @@ impl Client {
         // told.
         ensures plain { KeepsLent F.FnMut → (makings : Makings F.FnMut) → IfOk result (λ done. IsPlainRun F.FnMut makings body self.old.transaction.words done self.new.transaction.thread) }
 
-        // The body hands back what it was lent: the words are the same, and the pass's own commits are those told.
-        ensures left { KeepsLent F.FnMut → IsLeft (mine_left (mine_of self.old.transaction) result) self.old.transaction self.new.transaction }
-
-        // The position told is no less than the number of the commits that its thread had seen before.
-        ensures late { KeepsLent F.FnMut → IfOk result (λ done. seen_of self.old.transaction ≤ done.at) }
-
-        // It gives up for want of tries after so many looks at the clock, one for each.
-        ensures tried { KeepsLent F.FnMut → IfErr result (λ why. why ≡ Tries → looks_of self.old.transaction + self.old.tries ≤ looks_of self.new.transaction) }
+        // The body hands back what it was lent: the words are the same, the pass's own commits are those told, and the position
+        // told is no less than the number of the commits that its thread had seen before. It gives up for want of tries after so
+        // many looks at the clock, one for each.
+        ensures lent { KeepsLent F.FnMut → LeavesLent self.old.transaction self.old.tries result self.new.transaction }
 
         // It tells of one that the body cancelled once there were so many more of them, each with a look at the clock.
         ensures waited { KeepsLent F.FnMut → IsCancelled result → looks_of self.old.transaction + retries < looks_of self.new.transaction }

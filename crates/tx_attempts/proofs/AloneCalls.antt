@@ -1,12 +1,6 @@
 -- A player that makes its calls alone, one by one: they come first in what it gets.
 use Rattle.std.proofs.Common.{◌≡◌, ℕ, zero, suc, ◌≤◌, Bool, true, false, is_none, is_some, List, [], ◌∷◌, ◌++◌, length, map, Option, None, Some, refl, sym, ap, ◌∙◌, arith, cond}
-use Rattle.tx_attempts.proofs.Common.{Begin, Beginning, Breaks, Call, CallRecord, IsAlone, Refusal, Reply, Rules, State, after, after_unless, effect, is_open, later, outside, refusal, reply, state_then}
-use Rattle.std.proofs.lemmas.Bool.{cond-false}
-use Rattle.itm_model.specs.Runs.{gets_through, turn}
-use Rattle.tx_player.specs.Rules.{Obeys}
-use Rattle.tx_attempts.specs.Attempts.{pair_of}
-use Rattle.tx_attempts.specs.Alone.{player_then}
-use Rattle.tx_attempts.specs.Opacity.{begin_within, stays_outside}
+use Rattle.tx_attempts.proofs.Common.{Begin, Beginning, Breaks, Call, CallRecord, IsAlone, Obeys, Refusal, Reply, Rules, State, after, after_unless, begin_within, cond-false, effect, gets_through, is_open, later, outside, pair_of, player_then, refusal, reply, state_then, stays_outside, turn}
 
 -- a call that is made in an open block is the player's next
 asked_if : (b : Bool) (o : Option Call) (c : Call) → cond b o None ≡ Some c → o ≡ Some c

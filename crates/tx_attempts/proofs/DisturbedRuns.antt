@@ -1,9 +1,6 @@
 -- Each attempt of a player's run reads as many commits past its begin as it tells of blocks that ran again.
 use Rattle.std.proofs.Common.{ℕ, List, [], ◌∷◌, ◌++◌, Option, None, Some}
-use Rattle.tx_attempts.proofs.Common.{All-append, Attempt, Beginning, IsDisturbed, Rules}
-use Rattle.std.proofs.lemmas.List.Elements.{All-cons, All-nil}
-use Rattle.tx_attempts.specs.Opacity.{Between, IsRunOf, IsTryAt, after_try, begin_of}
-use Rattle.tx_attempts.specs.Outrun.{AreDisturbed}
+use Rattle.tx_attempts.proofs.Common.{All-append, All-cons, All-nil, AreDisturbed, Attempt, Beginning, Between, IsDisturbed, IsRunOf, IsTryAt, Rules, after_try, begin_of}
 
 module _ {P : Type 0} (rules : Rules P) (deepest n : ℕ) (memory : ℕ → List ℕ) where
   of_try : (b : Between P) (o : Option (Beginning P)) (a : Attempt) → IsTryAt rules deepest n memory b o a → IsDisturbed a

@@ -1,17 +1,10 @@
 -- An attempt within which a block ran again, and attempts in conflict, worked by computation.
 use Rattle.std.proofs.Common.{◌≡◌, ℕ, suc, ◌-◌, false, true, List, [], ◌∷◌, ◌++◌, take, refl, subst, arith, slice_get}
-use Rattle.tx_attempts.proofs.Common.{Again, AreAgain, AreOutrun, Attempt, Begin, Call, CallRecord, Commit, Conflict, IsDisturbed, IsInnerBegin, Props, Reply, Rules, State, breaks_of, opened, with_again}
+use Rattle.tx_attempts.proofs.Common.{Again, AreAgain, AreOutrun, Attempt, Begin, Call, CallRecord, Commit, Conflict, EndsAs, IsDisturbed, IsInnerBegin, IsOpaque, Load, Log, Props, Read, ReadOnly, Reply, Rules, Save, State, alone, breaks_of, bytes_reply, calls_of, open_in, opened, ran_of, replies_of, replies_through, state_after, unbroken, with_again}
 use Rattle.itm_types.specs.declared.access.Width.TheVariants.{U1, U8}
 use Rattle.itm_types.specs.declared.access.ReadHint.TheVariants.{R}
 use Rattle.itm_types.specs.declared.datum.Datum.{Datum}
-use Rattle.itm_types.specs.declared.call.Call.TheVariants.{Load, Log, Read, Save}
 use Rattle.itm_types.specs.declared.call.Reply.TheVariants.{Done, Code}
-use Rattle.itm_model.specs.Machine.{bytes_reply}
-use Rattle.itm_model.specs.Runs.{replies_through, state_after, unbroken}
-use Rattle.tx_attempts.specs.declared.attempt.Outcome.TheVariants.{ReadOnly}
-use Rattle.tx_attempts.specs.Attempts.{alone, calls_of, replies_of}
-use Rattle.tx_attempts.specs.Restarts.{open_in}
-use Rattle.tx_attempts.specs.Opacity.{EndsAs, IsOpaque, ran_of}
 use Rattle.tx_attempts.proofs.LaterClocks.{outrun_more, outrun_none}
 
 abbrev pub plain : Props

@@ -1,7 +1,6 @@
 -- Conflicts that a later clock has outrun too, and lists of them.
 use Rattle.std.proofs.Common.{◌≡◌, ℕ, ◌*◌, ◌<◌, ◌≤◌, List, [], ◌∷◌, ◌++◌, arith}
-use Rattle.tx_attempts.proofs.Common.{All-append, AreOutrun, Attempt, Conflict}
-use Rattle.std.proofs.lemmas.List.Elements.{All-push}
+use Rattle.tx_attempts.proofs.Common.{All-append, All-push, AreOutrun, Attempt, Conflict}
 
 pub outrun_later : (early late : ℕ) → early ≤ late → (xs : List Attempt) → AreOutrun early xs → AreOutrun late xs
 outrun_later early late on xs all k d inside conflict = let before = all k d inside conflict in omega arith

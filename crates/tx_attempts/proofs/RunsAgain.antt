@@ -1,8 +1,7 @@
 -- Runs with records: of two that tell alike, and of a block that runs again.
 use Rattle.std.proofs.Common.{◌≡◌, ℕ, zero, suc, ◌<◌, Bool, true, false, List, [], ◌∷◌, ◌++◌, length, Option, None, Some, refl, sym, ap, subst, ◌∙◌, arith, nat_lt, ◌==◌, if◌then◌else◌, slice_get}
-use Rattle.tx_attempts.proofs.Common.{Again, AreAgain, AtEach, Breaks, CallRecord, IsAgain, IsAlone, IsInnerBegin, Rules, State, after, again_at, arena_set, before, breaks_in, breaks_of, later, lt-ltb, ltb-false, ltb-true, run_on, state_then, take-append-le, with_again}
+use Rattle.tx_attempts.proofs.Common.{Again, AreAgain, AtEach, Breaks, CallRecord, IsAgain, IsAlone, IsInnerBegin, Rules, State, after, again_at, arena_set, before, breaks_in, breaks_of, eq-eqb, later, lt-ltb, ltb-false, ltb-true, ne_eqb, run_on, state_then, take-append-le, with_again}
 use Rattle.std.proofs.lemmas.Option.{slice_get_within}
-use Rattle.std.proofs.lemmas.Bool.{eq-eqb, ne_eqb}
 use Rattle.tx_attempts.proofs.AloneCalls.{state_snoc}
 
 -- ## Breaks that are alike between the calls

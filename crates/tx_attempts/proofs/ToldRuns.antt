@@ -1,12 +1,9 @@
 -- What has run decides nothing: a run in which it is told otherwise has the same replies, and all else of its states.
 use Rattle.std.proofs.Common.{◌≡◌, ℕ, suc, Bool, true, false, List, [], ◌∷◌, ◌++◌, map, Option, None, Some, refl, sym, ap, subst, ◌∙◌, append-nil, append_assoc, if◌then◌else◌, drop, reverse}
-use Rattle.tx_attempts.proofs.Common.{Again, Begin, Breaks, Call, CallRecord, Commit, IsAlone, Props, Ran, Refusal, Rules, State, after, after_unless, again_at, arena_set, breaks_in, breaks_of, effect, is_open, later, opened, outside, refusal, reply, run_on, state_then}
+use Rattle.tx_attempts.proofs.Common.{Abort, Again, Begin, Block, Breaks, Call, CallRecord, Commit, Copy, IsAlone, Mode, Props, Ran, Refusal, Rules, Saved, State, UndoAction, after, after_unless, again_at, answer, arena_set, back_from, breaks_in, breaks_of, closed_actions, closed_in, closed_irrevocable, effect, is_clear, is_open, later, made_irrevocable, opened, or_else, outside, pushed, refusal, reply, reply_unless, rolled_back, run_on, source_bytes, source_range, standing, state_then, target_range, target_written, undone, undone_from, unless, with_action}
 use Rattle.itm_types.specs.declared.call.Action.{Action}
-use Rattle.itm_types.specs.declared.call.Call.TheVariants.{Abort, Mode, Copy, UndoAction}
 use Rattle.itm_types.specs.declared.copy.CopyPair.{CopyPair}
 use Rattle.itm_types.specs.declared.copy.CopyPair.TheVariants.{Out, In, Within}
-use Rattle.itm_model.specs.State.{Block, Saved}
-use Rattle.itm_model.specs.Machine.{answer, back_from, closed_actions, closed_in, closed_irrevocable, is_clear, made_irrevocable, or_else, pushed, reply_unless, rolled_back, source_bytes, source_range, standing, target_range, target_written, undone, undone_from, unless, with_action}
 use Rattle.user_actions.specs.Actions.{as_commit, as_undo}
 use Rattle.itm_types.specs.declared.call.ActionKind.TheVariants as kinds
 use Rattle.itm_types.specs.declared.call.Refusal.TheVariants.{Overlap}

@@ -1,7 +1,6 @@
 -- How many actions the records of blocks that ran again tell of, record by record.
 use Rattle.std.proofs.Common.{◌≡◌, ℕ, ◌+◌, ◌<◌, ◌≤◌, Bool, true, false, nat_lt, if◌then◌else◌, List, [], ◌∷◌, ◌++◌, drop, length, take, get_or, sym, ap, ◌∙◌, arith}
-use Rattle.tx_attempts.proofs.Common.{Again, before, count_undone, le-ltb, lt-ltb}
-use Rattle.std.proofs.lemmas.List.{take-append-drop, take_more}
+use Rattle.tx_attempts.proofs.Common.{Again, before, count_undone, le-ltb, lt-ltb, take-append-drop, take_more}
 use Rattle.tx_attempts.proofs.KeptRecords.{before_both, before_early, before_late}
 
 pub undone_both : (xs ys : List Again) → count_undone (xs ++ ys) ≡ count_undone xs + count_undone ys

@@ -1,9 +1,6 @@
 -- The lines of calls, with those of the blocks that ran again within them.
 use Rattle.std.proofs.Common.{◌≡◌, ℕ, ◌+◌, ◌-◌, ◌<◌, ◌≤◌, All, List, [], ◌∷◌, ◌++◌, length, take, drop, min, Option, refl, sym, ap, ◌∙◌, subst, get_or, flat_map, append_assoc, arith}
-use Rattle.tx_history.proofs.Common.{Again, All-more, All-nil, CallRecord, Carries, EntryFits, Page, Spells, again_lines, call_line, call_lines, common_steps, take-append-drop}
-use Rattle.std.proofs.lemmas.List.{take_all, drop_all}
-use Rattle.std.proofs.lemmas.List.Elements.{All-append}
-use Rattle.tx_history.specs.Bounds.{AgainFits}
+use Rattle.tx_history.proofs.Common.{Again, AgainFits, All-append, All-more, All-nil, CallRecord, Carries, EntryFits, Page, Spells, again_lines, call_line, call_lines, common_steps, drop_all, take-append-drop, take_all}
 use Rattle.tx_history.proofs.PagedTexts.{carries_as, carries_none, carries_then}
 
 few_taken : {A : Type 0} (m : ℕ) (xs : List A) → take (min m (length xs)) xs ≡ take m xs

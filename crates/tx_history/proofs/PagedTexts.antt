@@ -1,7 +1,6 @@
 -- A text that goes to its writer page by page.
 use Rattle.std.proofs.Common.{◌≡◌, refl, ℕ, ◌+◌, ◌<◌, Bool, true, false, List, [], ◌++◌, length, take, Option, None, Result, Ok, Err, sym, ap, ◌∙◌, subst, append-nil, append_assoc, arith, is_err, is_some}
-use Rattle.tx_history.proofs.Common.{Appends, Appends-nil, Appends-trans, Carries, Error, Grows, Page, Puts, Spells, length-append, result_err, take-append-add, take-append-le}
-use Rattle.tx_history.specs.Pages.{IsSent, Sheet}
+use Rattle.tx_history.proofs.Common.{Appends, Appends-nil, Appends-trans, Carries, Error, Grows, IsSent, Page, Puts, Sheet, Spells, length-append, result_err, take-append-add, take-append-le}
 
 -- nothing is written
 pub grows_nil : (f : Bool) (w : Option (List ℕ)) (p : List ℕ) → Grows (record { failed = f; written = w; page = p }) (record { failed = f; written = w; page = p }) []

@@ -1,16 +1,9 @@
 -- Calls on the plain machine leave the memory and the arena as long as they were, also where blocks run again from arenas of that length.
 use Rattle.std.proofs.Common.{◌≡◌, ℕ, zero, suc, ◌+◌, ◌≤◌, ◌%◌, Bool, true, false, if◌then◌else◌, ◌==◌, List, [], ◌∷◌, ◌++◌, length, take, drop, replicate, map, Option, None, Some, refl, sym, ap, subst, ◌∙◌, arith, length-append, length-drop}
-use Rattle.tx_history.proofs.Common.{Abort, Again, AreAgain, Attempt, Begin, Block, Breaks, Call, CallRecord, Commit, CommitAction, Copy, CopyPair, Fill, History, In, InTransaction, Load, Log, LogBytes, Mode, Out, Props, Read, Refusal, Save, Saved, State, UndoAction, Within, Write, after, after_unless, again_at, alone, also_kept, arena_set, back, back_from, breaks_of, closed_in, depth_of, effect, entered, handed, irrevocable_from, is_open, later, logged_in, made_irrevocable, opened, option_map, or_else, outside, pushed, refusal, rolled_back, size_of, source_bytes, state_through, target_written, undone, undone_from, unless, with_action, with_slice, written}
+use Rattle.tx_history.proofs.Common.{Abort, Again, AreAgain, Attempt, Begin, Block, Breaks, Call, CallRecord, Commit, CommitAction, Copy, CopyPair, Fill, History, In, Log, LogBytes, Mode, Out, OutOfArena, OutOfRange, Props, Refusal, Save, Saved, State, UndoAction, Within, Write, after, after_unless, again_at, alone, also_kept, arena_set, back, back_from, breaks_of, calls_of, closed_in, committed_at, depth_of, effect, entered, handed, irrevocable_from, is_open, later, length-replicate, length-take-le, logged_in, made_irrevocable, memory_after, memory_at, memory_left, opened, option_map, or_else, outside, pushed, ranges, refusal, restored, rolled_back, saved_in_arena, size_of, slice, source_bytes, source_range, standing, state_through, target_range, target_written, undone, undone_from, unless, with_action, with_slice, written}
 use Rattle.std.proofs.lemmas.Bool.{leb-true}
-use Rattle.std.proofs.lemmas.List.{length-replicate, length-take-le}
-use Rattle.itm_types.specs.KeptBytes.{restored}
-use Rattle.itm_types.specs.Slices.{slice}
 use Rattle.itm_types.specs.declared.call.ActionKind.TheVariants as kinds
-use Rattle.itm_types.specs.declared.call.Refusal.TheVariants.{OutOfRange, OutOfArena}
 use Rattle.itm_model.specs.Places.{in_range}
-use Rattle.itm_model.specs.Machine.{ranges, saved_in_arena, source_range, standing, target_range}
-use Rattle.tx_attempts.specs.Attempts.{calls_of, committed_at, memory_after, memory_left}
-use Rattle.tx_history.specs.Legal.{memory_at}
 
 -- what a block goes back to has so many bytes
 abbrev pub IsSavedSized : ℕ → Option Saved → Type 0
@@ -169,8 +162,6 @@ module _ (n : ℕ) (K : ℕ → Type 0) where
   sized_effect deepest s Commit e h = record { memory = h.memory; arena = h.arena; back = sized_closed s.blocks h.back }
   sized_effect deepest s (Abort outer) e h = sized_aborted s outer h
   sized_effect deepest s (Mode room) e h = sized_irrevocable s h
-  sized_effect deepest s InTransaction e h = h
-  sized_effect deepest s (Read hint width at) e h = h
   sized_effect deepest s (Write hint at value) e h = sized_written s at value.bytes.items (as_many s.memory value.bytes.items at (size_of value.width) value.sized (within s.memory at (size_of value.width) OutOfRange e)) h
   sized_effect deepest s (Log width at) e h = record { memory = h.memory; arena = h.arena; back = sized_logged s.blocks s.arena at (size_of width) h.back }
   sized_effect deepest s (LogBytes at size) e h = record { memory = h.memory; arena = h.arena; back = sized_logged s.blocks s.arena at size h.back }
@@ -181,8 +172,8 @@ module _ (n : ℕ) (K : ℕ → Type 0) where
   sized_effect deepest s (Fill hint to byte size) e h = sized_written s to (replicate size (byte % 256)) (as_many s.memory _ to size (length-replicate size (byte % 256)) (within s.memory to size OutOfRange e)) h
   sized_effect deepest s (CommitAction action) e h = record { memory = h.memory; arena = h.arena; back = h.back }
   sized_effect deepest s (UndoAction action) e h = sized_undo s s.irrevocable (with_action s kinds.Undo action) h (record { memory = h.memory; arena = h.arena; back = h.back })
-  sized_effect deepest s (Load width at) e h = h
   sized_effect deepest s (Save at value) e h = sized_saved s at value.bytes.items (as_many s.arena value.bytes.items at (size_of value.width) value.sized (within s.arena at (size_of value.width) OutOfArena e)) h
+  sized_effect deepest s c e h = h
 
   pub sized_after : (deepest : ℕ) (s : State) (c : Call) → IsSized n K s → IsSized n K (after deepest s c)
   sized_after deepest s c h = by_refusal (refusal deepest s c) refl

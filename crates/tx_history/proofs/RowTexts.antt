@@ -1,25 +1,21 @@
 -- The rows of a history, one after the other, are its text.
 use Rattle.std.proofs.Common.{◌≡◌, List, [], ◌∷◌, ◌++◌, sym, ap, ◌∙◌, append-nil, append_assoc, flat_map}
-use Rattle.tx_history.proofs.Common.{Attempt, History, attempt_lines, first_lines, history_text}
-use Rattle.tx_history.specs.Histories.{last_line}
+use Rattle.tx_history.proofs.Common.{Attempt, History, attempt_lines, first_lines, history_text, last_line}
 use Rattle.tx_history.specs.Rows.{AreRest, AreRowsOf, IsLastOf, IsStartOf, IsTriedOf, row_lines}
 use Rattle.tx_history.specs.declared.parts.Row.{Row}
 use Rattle.tx_history.specs.declared.parts.Row.TheVariants.{Start, Tried, Last}
 
 start_lines : (h : History) (row : Row) → IsStartOf h row → row_lines row ≡ first_lines h.version h.memory
 start_lines h (Start version memory) is = ap (λ v. first_lines v memory.now) is.0 ∙ ap (first_lines h.version) is.1
-start_lines h (Tried attempt) is = absurd is
-start_lines h (Last clock bytes) is = absurd is
+start_lines h row is = absurd is
 
 tried_lines : (a : Attempt) (row : Row) → IsTriedOf a row → row_lines row ≡ attempt_lines a
-tried_lines a (Start version memory) is = absurd is
 tried_lines a (Tried attempt) is = ap attempt_lines is
-tried_lines a (Last clock bytes) is = absurd is
+tried_lines a row is = absurd is
 
 end_line : (h : History) (row : Row) → IsLastOf h row → row_lines row ≡ last_line h.clock h.bytes
-end_line h (Start version memory) is = absurd is
-end_line h (Tried attempt) is = absurd is
 end_line h (Last clock bytes) is = ap (λ n. last_line n bytes.now) is.0 ∙ ap (last_line h.clock) is.1
+end_line h row is = absurd is
 
 rest_lines : (h : History) (attempts : List Attempt) (rows : List Row) → AreRest h attempts rows → flat_map row_lines rows ≡ flat_map attempt_lines attempts ++ last_line h.clock h.bytes
 rest_lines h [] [] is = absurd is

@@ -1,8 +1,7 @@
 -- Texts that a stream writes, one after another.
 use Rattle.std.proofs.Common.{◌≡◌, false, true≢false, refl, ℕ, ◌+◌, ◌<◌, List, [], ◌∷◌, ◌++◌, length, take, Option, None, Some, Result, Ok, Err, sym, ap, ◌∙◌, subst, append-nil, arith, IsErr, OnOk, get_or, flat_map, is_some}
-use Rattle.tx_history.proofs.Common.{Adds, Appends, Appends-kept, Appends-nil, Appends-trans, Attempt, Error, Grows, IsCut, Page, Puts, Spells, Standing, attempt_lines, common_steps, length-append, result_err, take-append-le}
-use Rattle.std.proofs.KnownBytes.{Keeps-refl, Keeps-trans}
-use Rattle.tx_history.specs.Streams.{Leaves, Sends, standing}
+use Rattle.tx_history.proofs.Common.{Adds, Appends, Appends-kept, Appends-nil, Appends-trans, Attempt, Error, Grows, IsCut, Keeps-refl, Keeps-trans, Leaves, Page, Puts, Sends, Spells, Standing, attempt_lines, common_steps, length-append, result_err, take-append-le}
+use Rattle.tx_history.specs.Streams.{standing}
 use Rattle.tx_history.proofs.TextPieces.{cut_short}
 
 leaves_nothing : (f : Option Error) (u : Option (List ℕ)) → Leaves f f u u []

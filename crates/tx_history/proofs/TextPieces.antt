@@ -1,8 +1,6 @@
 -- Writing the bytes of a text.
 use Rattle.std.proofs.Common.{◌≡◌, ℕ, ◌+◌, ◌/◌, ◌%◌, ◌<◌, ◌≤◌, List, [], ◌∷◌, ◌++◌, length, take, drop, Option, Result, refl, sym, ap, ◌∙◌, arith, subst, slice_index}
-use Rattle.tx_history.proofs.Common.{Appends, Appends-kept, Appends-nil, Appends-trans, IsCut, Puts, common_steps, encode_lower, encode_with, length-append, lower_digits, take-append-add, take-append-drop, take-append-le}
-use Rattle.std.specs.Io.KnownBytes.{Keeps}
-use Rattle.std.proofs.lemmas.List.{take-take, drop-take}
+use Rattle.tx_history.proofs.Common.{Appends, Appends-kept, Appends-nil, Appends-trans, IsCut, Keeps, Puts, common_steps, drop-take, encode_lower, encode_with, length-append, lower_digits, take-append-add, take-append-drop, take-append-le, take-take}
 
 pub take_past : (n : ℕ) (xs : List ℕ) → length xs ≤ n → take n xs ≡ xs
 take_past n xs h = grind (arith, common_steps)

@@ -1,8 +1,7 @@
 -- A version tells of the blocks that may have run again in a run that it tells of.
 use Rattle.std.proofs.Common.{ℕ, ◌≤◌, List, [], ◌∷◌, length, refl, arith}
-use Rattle.tx_history.proofs.Common.{Again, One, Three, Two}
+use Rattle.tx_history.proofs.Common.{Again, MayRestart, MayTell, One, Three, Two}
 use Rattle.tx_history.specs.declared.history.Version.{Version}
-use Rattle.tx_history.specs.Versions.{MayRestart, MayTell}
 
 pub may_tell : (version : Version) (most : ℕ) (restarts : List Again) → MayRestart version most → length restarts ≤ most → MayTell version restarts
 may_tell One most [] none few = refl

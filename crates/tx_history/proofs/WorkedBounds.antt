@@ -1,9 +1,8 @@
 -- Worked calls that fit their types and their limits, and some that do not.
 use Rattle.std.proofs.Common.{inl, inr, refl, arith, lit<}
-use Rattle.tx_history.proofs.Common.{Fill, Load, Read, W}
+use Rattle.tx_history.proofs.Common.{CallFits, Fill, HasArenaWidth, Load, Read, W}
 use Rattle.itm_types.specs.declared.access.ReadHint.TheVariants.{R}
 use Rattle.itm_types.specs.declared.access.Width.TheVariants.{U1, U8, M256}
-use Rattle.tx_history.specs.Bounds.{CallFits, HasArenaWidth}
 
 last_word : CallFits (Read R U1 18446744073709551615)
 last_word = lit< tt

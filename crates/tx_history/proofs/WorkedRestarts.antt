@@ -1,10 +1,8 @@
 -- Worked lines of blocks that ran again, and of versions, by computation.
 use Rattle.std.proofs.Common.{◌≡◌, ℕ, List, [], ◌∷◌, ◌++◌, refl, arith, lit<, lit≤, codes, decimal, flat_map}
-use Rattle.tx_history.proofs.Common.{CallRecord, Depth, One, Three, Two, again_lines, attempt_lines, body_text, call_line, call_lines, decimal_digit, decimal_step, depth_of, encode_with, first_lines, head_line, props_end, reply_text, try_text, undone_line}
+use Rattle.tx_history.proofs.Common.{CallRecord, Depth, One, Three, Two, again_lines, arena_line, attempt_lines, body_text, call_line, call_lines, decimal_digit, decimal_step, depth_of, encode_with, first_lines, head_line, memory_limit, props_end, reply_text, restart_line, thread_limit, try_text, undone_line}
 use Rattle.itm_types.specs.declared.call.ActionKind.TheVariants.{Undo}
 use Rattle.tx_attempts.proofs.Examples.{again}
-use Rattle.tx_history.specs.Histories.{arena_line, restart_line}
-use Rattle.tx_history.specs.Versions.{memory_limit, thread_limit}
 use Rattle.tx_history.proofs.WorkedLines.{line}
 
 sixteen : decimal 16 ≡ codes "16"

@@ -1,6 +1,2 @@
 pub mod Common
-pub mod Numbers
-pub mod Rows
-pub mod Passes
-pub mod Histories
-pub mod Examples
+pub mod Parts

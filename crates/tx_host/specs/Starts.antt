@@ -1,45 +1,28 @@
 -- What is known of workers that are ready, and of those that were started.
-use Rattle.std.specs.Prelude.{◌≡◌, ℕ, ◌+◌, ◌≤◌, true, List, [], length, replicate, slice_index_or, Vec, vec_len}
+use Rattle.std.specs.Prelude.{◌≡◌, ℕ, ◌+◌, ◌≤◌, true, List, length, Vec, vec_len}
 use Rattle.std.specs.declared.alloc.Global.{Global}
 use Rattle.std.specs.declared.thread.PromisedHandle.{PromisedHandle}
-use Rattle.norec_core.specs.Core.{opening}
 use Rattle.shared_words.specs.declared.view.View.{View}
 use Rattle.shared_words.specs.InGlobal.{Words}
-use Rattle.shared_words.specs.Passes.{Owns, view_of}
-use Rattle.shared_words.specs.Views.{cut_right, opening as unwritten}
-use Rattle.script_program.specs.declared.instruction.Instruction.{Instruction}
+use Rattle.shared_words.specs.Views.{opening as unwritten}
 use Rattle.script_program.specs.Listing.{Listing, threads_of}
-use Rattle.script_vm.specs.Threads.{Thread, opening as script_opening}
-use Rattle.call_rules.specs.Standing.{Standing}
-use Rattle.call_rules.specs.Ties.{Stands}
 use Rattle.worker_rules.specs.Worked.{Worked}
 use Rattle.tx_host.specs.declared.start.Ready.{Ready}
 use Rattle.tx_host.specs.declared.start.Started.{Started}
 use Rattle.tx_host.specs.declared.start.WorksOn.{WorksOn}
-use Rattle.tx_host.specs.Numbers.{Numbered}
-
-abbrev pub code_of : Listing → ℕ → List Instruction
-code_of p number = slice_index_or (threads_of p) number []
+use Rattle.report_rules.specs.Fresh.{MayBegin}
+use Rattle.report_rules.specs.Numbers.{Numbered}
 
 -- nothing was done with it, but that it may have given parts away
 abbrev pub IsUnused : View → Type 0
 IsUnused v = v ≡ record (unwritten v.base) { share = v.share }
-
--- the thread of the program with this number, before its first call, on a part of the first pass over this memory, which had seen no commit
-pub record IsFresh (p : Listing) (base : List ℕ) (number : ℕ) (t : Standing) (player : Thread) : Type 0 where
-  pub player_is : player ≡ script_opening p.limits.depth (code_of p number)
-  pub words : ℕ
-  pub engine_is : t.engine ≡ opening words (replicate p.arena 0) p.limits.patience p.limits.max_commits p.limits.depth p.limits.restarts
-  pub pass_is : view_of t.pass ≡ cut_right (unwritten base)
 
 -- the promise is of the worker with this number
 pub record IsFor {G : Type 0} (words : Words) (base : List ℕ) (p : Listing) (number : ℕ) (w : WorksOn G) : Type 0 where
   pub words_are : w.words.now ≡ words
   pub number_is : w.number ≡ number
   pub retries_are : w.retries ≡ p.limits.retries
-  pub own : Owns words w.start.value.pass
-  pub stands : Stands (view_of w.start.value.pass) w.start.value.engine
-  pub fresh : IsFresh p base number w.start.value w.player.value
+  pub begins : MayBegin words p base number w.start.value w.player.value
 
 abbrev pub Handle : Type 0 → Type 0
 Handle G = PromisedHandle Worked (WorksOn G)
@@ -51,9 +34,7 @@ Promised words base p n hs = Numbered (λ k h. IsFor words base p k h.promise) n
 -- what the worker with this number is to be given
 pub record IsReady (words : Words) (base : List ℕ) (p : Listing) (number : ℕ) (r : Ready) : Type 0 where
   pub number_is : r.number ≡ number
-  pub own : Owns words r.thread.pass
-  pub stands : Stands (view_of r.thread.pass) r.thread.engine
-  pub fresh : IsFresh p base number r.thread r.player
+  pub begins : MayBegin words p base number r.thread r.player
 
 abbrev pub AllReady : Words → List ℕ → Listing → ℕ → List Ready → Type 0
 AllReady words base p n rs = Numbered (IsReady words base p) n rs

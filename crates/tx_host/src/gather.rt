@@ -1,9 +1,9 @@
 //! The attempts of all workers in one list.
 
 ghost use Rattle.std.specs.Prelude.{◌≡◌, IfOk};
-ghost use Rattle.tx_host.specs.Joins.{attempts_in, ends_in};
+ghost use Rattle.report_rules.specs.Joins.{attempts_in, ends_in};
 
-use crate::join::Done;
+use report_rules::Done;
 use std::alloc::{AllocError, Global};
 use tx_attempts::Attempts;
 use tx_runs::End;

@@ -1,29 +1,19 @@
 //! Joining workers, and their passes.
 
-ghost use Rattle.std.specs.Prelude.{◌≡◌, ◌≤◌, true, false, [], IfOk, vec_len, vec_capacity};
+ghost use Rattle.std.specs.Prelude.{◌≡◌, ◌≤◌, false, [], IfOk, vec_len, vec_capacity};
 ghost use Rattle.shared_words.specs.Passes.{Owns, view_of};
 ghost use Rattle.shared_words.specs.Steps.{Joined as JoinedViews};
-ghost use Rattle.script_program.specs.Listing.{Listing};
 ghost use Rattle.worker_rules.specs.Works.{IsBack, is_held};
+ghost use Rattle.tx_host.specs.Joined.{AreJoined};
 ghost use Rattle.tx_host.specs.Starts.{Promised};
-ghost use Rattle.tx_host.specs.Joins.{Joins};
-ghost use Rattle.tx_host.specs.Rows.{HeldAmong};
 
 use crate::start::WorksOn;
 use itm_runtime::Thread;
+use report_rules::Done;
 use script_program::Program;
 use shared_words::{Pass, Words};
 use std::thread::{PromisedHandle, Threads};
-use tx_attempts::Attempts;
-use tx_runs::End;
 use tx_worker::{Gate, Worked};
-
-/// What a worker did, without its pass.
-#[derive(Drop)]
-pub(crate) struct Done {
-    pub(crate) attempts: Attempts,
-    pub(crate) end: End,
-}
 
 /// What all workers did, and the pass that took in theirs. `held` where a worker did not give its pass back.
 #[derive(Drop)]
@@ -65,11 +55,7 @@ pub(crate) fn join_all<'e, R: Threads, G: Gate>(
     requires idle { (view_of pass).holds ≡ false }
     requires promised { Promised words.now (view_of pass).base program.now 0 handles.items }
     requires room { (room.items ≡ []) × (vec_len handles ≤ vec_capacity room) }
-    ensures own { Owns words.now result.pass }
-    ensures idle { (view_of result.pass).holds ≡ false }
-    ensures len { vec_len result.all ≡ vec_len handles.entry }
-    ensures held { result.held ≡ true → HeldAmong words.now program.now (view_of pass).base G.answers (vec_len handles.entry) }
-    ensures joins { result.held ≡ false → Joins words.now (view_of pass) program.now G.answers (vec_len handles.entry) (view_of result.pass) result.all.items }
+    ensures { AreJoined words.now (view_of pass) program.now G.answers (vec_len handles.entry) result }
 {
     let mut pass = pass;
     let mut all = room;

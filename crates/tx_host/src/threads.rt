@@ -5,13 +5,13 @@ ghost use Rattle.script_program.specs.Listing.{opening_of};
 ghost use Rattle.shared_words.specs.Good.{EndsWith};
 ghost use Rattle.shared_words.specs.Passes.{Owns, cells_of, view_of};
 ghost use Rattle.tx_history.specs.Bounds.{AreLimited};
-ghost use Rattle.tx_host.specs.Limits.{IsLimitedListing};
-ghost use Rattle.tx_host.specs.Reports.{Ran, StaysHeld};
+ghost use Rattle.report_rules.specs.Limits.{IsLimitedListing};
+ghost use Rattle.report_rules.specs.Reports.{Ran, StaysHeld};
 
 use crate::gather::gather_all;
-use crate::report::{HostFault, Report};
 use crate::versions::version_of;
 use crate::workers::run_all;
+use report_rules::{HostFault, Report};
 use script_program::Program;
 use shared_words::{Pass, Words};
 use std::alloc::{AllocError, Global};

@@ -1,7 +1,7 @@
 //! Which version of a history's text tells of a program's runs.
 
 ghost use Rattle.std.specs.Prelude.{◌≡◌};
-ghost use Rattle.tx_host.specs.Versions.{version_of};
+ghost use Rattle.report_rules.specs.Versions.{version_of};
 
 use itm_types::{Depth, USUAL_DEPTH};
 use script_program::Program;

@@ -4,13 +4,13 @@ ghost use Rattle.std.specs.Prelude.{◌≡◌, ◌<◌, IfErr, IfOk, length};
 ghost use Rattle.itm_types.specs.declared.limits.TheConstants.{MAX_ACTORS};
 ghost use Rattle.script_program.specs.Listing.{threads_of};
 ghost use Rattle.shared_words.specs.Passes.{Owns, view_of};
-ghost use Rattle.tx_host.specs.Joins.{Gathers};
-ghost use Rattle.tx_host.specs.Rows.{HeldAmong};
+ghost use Rattle.report_rules.specs.Joins.{Gathers};
+ghost use Rattle.report_rules.specs.Rows.{HeldAmong};
 ghost use Rattle.tx_host.specs.Starts.{IsUnused};
 
-use crate::join::{Done, Joined, join_all};
-use crate::report::HostFault;
+use crate::join::{Joined, join_all};
 use crate::start::{Started, prepare, start_all};
+use report_rules::{Done, HostFault};
 use script_program::Program;
 use shared_words::{Pass, Words};
 use std::alloc::Global;

@@ -1,14 +1,6 @@
 -- As many puts are of new keys as there are keys at the end.
 use Rattle.std.proofs.Common.{◌≡◌, ◌≢◌, ◌∙◌, ℕ, zero, suc, ◌+◌, ◌<◌, ◌≤◌, ◌==◌, Bool, true, false, true≢false, cond, List, [], ◌∷◌, ◌++◌, length, ap, refl, subst, sym, arith}
-use Rattle.std.proofs.lemmas.Bool.{eq-eqb, eqb-true}
-use Rattle.shared_words.specs.declared.view.View.{View}
-use Rattle.shared_words.specs.Views.{times}
-use Rattle.tx_map.specs.declared.table.Put.{Put}
-use Rattle.tx_map.specs.Pairs.{HasAllPairs, HasOnlyPairs}
-use Rattle.tx_map.specs.Puts.{added_of}
-use Rattle.tx_map.specs.Tables.{IsEmpty}
-use Rattle.tx_map.specs.Told.{bytes_in}
-use Rattle.tx_map.specs.Written.{EachPuts, PutsPair, added_in, positions}
+use Rattle.tx_map.proofs.Common.{EachPuts, HasAllPairs, HasOnlyPairs, IsEmpty, Put, PutsPair, View, added_in, added_of, bytes_in, eq-eqb, eqb-true, positions, times}
 use Rattle.tx_map.proofs.Counts.{times_here, times_other}
 use Rattle.tx_map.proofs.Keys.{all_in, keys_in, none_in, put_adds, upto, upto_but, upto_none}
 

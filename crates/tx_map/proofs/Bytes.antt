@@ -1,12 +1,8 @@
 -- A word written into the bytes of a map.
 use Rattle.std.proofs.Common.{◌≡◌, ◌≢◌, ◌∙◌, ◌⊎◌, inl, inr, ℕ, ◌+◌, ◌-◌, ◌*◌, ◌/◌, ◌%◌, ◌^◌, ◌<◌, ◌≤◌, List, ◌++◌, length, take, drop, replicate, ap, sym, arith, length-append, length-take}
-use Rattle.std.specs.Int.{w64, from_le_bytes, to_le_bytes}
-use Rattle.std.proofs.lemmas.Nat.{from_le_bytes-to_le_bytes_8}
-use Rattle.itm_types.specs.Slices.{slice, with_slice}
+use Rattle.tx_map.proofs.Common.{HasMap, IsEmpty, SameBeside, cases_order, from_le_bytes, from_le_bytes-to_le_bytes_8, pair_of, slice, slots_in, to_le_bytes, w64, with_slice}
 use Rattle.word_pieces.proofs.Lists.{length-with_slice, slice-with_slice, slice-below, slice-above, take-with_slice}
-use Rattle.std.proofs.lemmas.Bool.{cases_order}
 use Rattle.std.proofs.lemmas.List.{drop_at, drop-drop, drop-replicate, length-replicate, take-replicate, take-take}
-use Rattle.tx_map.specs.Tables.{HasMap, IsEmpty, SameBeside, pair_of, slots_in}
 
 pub pair_back : (a b : ℕ) → a < 2 ^ 32 → b < 2 ^ 32 → pair_of (a + 2 ^ 32 * b) ≡ (a, b)
 pair_back a b h k =

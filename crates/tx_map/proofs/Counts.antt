@@ -1,8 +1,6 @@
 -- How often a position stands in a list.
 use Rattle.std.proofs.Common.{◌≡◌, ◌≢◌, ◌∙◌, ℕ, suc, ◌+◌, ◌==◌, Bool, true, false, cond, List, ◌∷◌, ◌++◌, ap, refl, arith}
-use Rattle.std.proofs.lemmas.Bool.{eq-eqb, eqb-true}
-use Rattle.std.proofs.lemmas.List.Sums.{sum_by-append, sum_by-cons}
-use Rattle.shared_words.specs.Views.{times}
+use Rattle.tx_map.proofs.Common.{eq-eqb, eqb-true, sum_by-append, sum_by-cons, times}
 
 pub times_append : (p : ℕ) (xs ys : List ℕ) → times p (xs ++ ys) ≡ times p xs + times p ys
 times_append p xs ys = sum_by-append _ xs ys

@@ -1,9 +1,6 @@
 -- Worked cases.
 use Rattle.std.proofs.Common.{◌≡◌, ℕ, ◌+◌, ◌*◌, ◌^◌, List, [], ◌∷◌, ap, refl, arith}
-use Rattle.std.specs.Int.{w64, to_le_bytes}
-use Rattle.itm_types.specs.Slices.{with_slice}
-use Rattle.tx_map.specs.Slots.{Holds, Passes, slot_of}
-use Rattle.tx_map.specs.Tables.{slots_in}
+use Rattle.tx_map.proofs.Common.{Holds, Passes, slot_of, slots_in, to_le_bytes, w64, with_slice}
 use Rattle.tx_map.proofs.Finds.{walks_none, walks_on}
 
 -- key 6 in three slots is looked for at 0, then at 1 and 2

@@ -1,14 +1,7 @@
 -- A search on the bytes, step by step, and what comes of it.
 use Rattle.std.proofs.Common.{◌≡◌, ◌≢◌, ◌∙◌, ◌⊎◌, inl, inr, ℕ, ◌+◌, ◌*◌, ◌^◌, ◌<◌, ◌≤◌, List, take, drop, length, None, Some, ap, refl, sym, subst, below_more, arith}
-use Rattle.std.specs.Int.{w64, to_le_bytes}
-use Rattle.itm_types.specs.Slices.{with_slice}
+use Rattle.tx_map.proofs.Common.{Added, Again, Full, HasFound, HasGot, HasMap, HasPut, IsPut, IsPutIn, IsTold, Passes, Put, slot_of, slots_in, to_le_bytes, w64, with_slice}
 use Rattle.typed_cells.specs.declared.cell.Cell.{Cell}
-use Rattle.tx_map.specs.declared.table.Put.{Put}
-use Rattle.tx_map.specs.declared.table.Put.TheVariants.{Added, Again, Full}
-use Rattle.tx_map.specs.Finds.{HasFound}
-use Rattle.tx_map.specs.Puts.{HasGot, HasPut, IsPutIn, IsTold}
-use Rattle.tx_map.specs.Slots.{IsPut, Passes, slot_of}
-use Rattle.tx_map.specs.Tables.{HasMap, slots_in}
 use Rattle.tx_map.proofs.Bytes.{beside, length_kept, slot_kept, slot_put}
 use Rattle.tx_map.proofs.Searches.{is_put, map_after, none_free, none_there, none_where_free, slot_below}
 
@@ -47,9 +40,6 @@ module _ (first count key : ℕ) where
     same = r.same ∙ w.same;
     ends = record { steps = steps; few = few; passes = w.passes; place_is = place; pair_is = read_there (slot_of count key steps) pair m n o w.same r; ends = ends };
   }
-
-  pub stops_nowhere : (m n : List ℕ) → Walks count m n → HasFound first count key None m n
-  stops_nowhere m n w = record { same = w.same; ends = w.passes }
 
   -- ## Looks
 

@@ -1,15 +1,8 @@
 -- From what each commit does to the bytes that all have left.
 use Rattle.std.proofs.Common.{◌≡◌, ◌∙◌, ℕ, zero, suc, ◌+◌, ◌-◌, ◌*◌, ◌<◌, ◌≤◌, List, [], ◌∷◌, length, ap, refl, subst, sym, arith}
-use Rattle.shared_words.specs.declared.view.View.{View}
-use Rattle.itm_types.specs.Memory.{bytes_of}
-use Rattle.shared_words.specs.Commits.{StartsWith, memory_at}
+use Rattle.tx_map.proofs.Common.{EachPuts, HasOnlyPairs, HasPair, HasPut, Put, PutsPair, StartsWith, View, bytes_in, bytes_of, memory_at}
 use Rattle.shared_words.proofs.ListPlaces.{starts_le}
 use Rattle.shared_words.proofs.StoredWords.{memory_stays}
-use Rattle.tx_map.specs.declared.table.Put.{Put}
-use Rattle.tx_map.specs.Pairs.{HasOnlyPairs, HasPair}
-use Rattle.tx_map.specs.Puts.{HasPut}
-use Rattle.tx_map.specs.Told.{bytes_in}
-use Rattle.tx_map.specs.Written.{EachPuts, PutsPair}
 use Rattle.tx_map.proofs.Pairs.{KeepsPairs, put_there}
 
 -- ## A view that has seen more

@@ -1,12 +1,6 @@
 -- How many of the pairs' keys a map has, and how many more after a put.
 use Rattle.std.proofs.Common.{◌≡◌, ◌≢◌, ◌∙◌, ◌⊎◌, inl, inr, ℕ, zero, suc, ◌+◌, ◌*◌, ◌<◌, ◌==◌, ◌||◌, Bool, true, false, true≢false, List, ap, refl, sym, arith}
-use Rattle.std.proofs.lemmas.Bool.{eq-eqb, eqb-true}
-use Rattle.tx_map.specs.declared.table.Put.{Put}
-use Rattle.tx_map.specs.declared.table.Put.TheVariants.{Added, Again, Full}
-use Rattle.tx_map.specs.Pairs.{HasAllPairs}
-use Rattle.tx_map.specs.Puts.{HasPut, added_of, is_put}
-use Rattle.tx_map.specs.Slots.{HasNo, Holds, IsPut, Slots}
-use Rattle.tx_map.specs.Tables.{HasMap, IsEmpty, slots_in}
+use Rattle.tx_map.proofs.Common.{Added, Again, Full, HasAllPairs, HasMap, HasNo, HasPut, Holds, IsEmpty, IsPut, Put, Slots, added_of, eq-eqb, eqb-true, is_put, or_true, slots_in}
 use Rattle.tx_map.proofs.Searches.{either}
 
 -- ## Sums
@@ -41,10 +35,6 @@ upto_but f g m (suc n) h same = by (either m n) (upto_but f g m n)
 abbrev has : Slots → ℕ → ℕ → Bool
 has slots key zero = false
 has slots key (suc i) = ((slots i).0 == key) || has slots key i
-
-or_true : (b : Bool) → (b || true) ≡ true
-or_true false = refl
-or_true true = refl
 
 has_none : (slots : Slots) (key n : ℕ) → HasNo n slots key → has slots key n ≡ false
 has_none slots key zero none = refl

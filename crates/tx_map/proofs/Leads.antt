@@ -1,22 +1,10 @@
 -- What is told of a transaction whose body does something to the plain machine's bytes.
 use Rattle.std.proofs.Common.{◌≡◌, ◌∙◌, ◌||◌, ℕ, suc, Bool, true, false, List, Result, Ok, refl, subst, sym, arith, IfOk}
-use Rattle.std.proofs.lemmas.Result.{IfOk-weaker}
-use Rattle.std.specs.Borrow.{MutBor}
+use Rattle.tx_map.proofs.Common.{Does, Failed, HasLed, IfOk-weaker, IsPlain, IsPlainRun, KeepsBody, Lent, Makings, MutBor, Standing, Words, begun_at, bytes_of, calls_of, state_after, view_of}
 use Rattle.std.specs.Fn.{Called, CalledAtMut, Mut}
-use Rattle.itm_types.specs.Memory.{bytes_of}
-use Rattle.itm_model.specs.Runs.{state_after}
-use Rattle.shared_words.specs.InGlobal.{Words}
-use Rattle.shared_words.specs.Passes.{view_of}
-use Rattle.call_rules.specs.Standing.{Standing}
 use Rattle.call_rules.specs.Ties.{memory_of}
-use Rattle.transactions.specs.Plain.{IsPlain, IsPlainRun, Makings, begun_at, calls_of}
-use Rattle.transactions.specs.Lent.{Lent}
-use Rattle.transactions.specs.Runs.{KeepsBody}
-use Rattle.transactions.specs.declared.failed.Failed.{Failed}
 use Rattle.transactions.specs.declared.stopped.Stopped.{Stopped}
 use Rattle.transactions.specs.declared.tried.Done.{Done}
-use Rattle.tx_map.specs.Plainly.{Does}
-use Rattle.tx_map.specs.Told.{HasLed}
 use Rattle.tx_map.proofs.Machines.{committed_memory, committed_wrote}
 
 or_none : (b : Bool) → (b || false) ≡ b

@@ -1,3 +1,4 @@
+pub mod Common
 mod Added
 mod Bytes
 mod Counts

@@ -1,11 +1,6 @@
 -- Puts keep the pairs.
 use Rattle.std.proofs.Common.{◌≡◌, ◌≢◌, ◌∙◌, ◌⊎◌, inl, inr, ℕ, ◌+◌, ◌*◌, ◌<◌, true, true≢false, List, subst, sym, arith}
-use Rattle.tx_map.specs.declared.table.Put.{Put}
-use Rattle.tx_map.specs.declared.table.Put.TheVariants.{Added, Again, Full}
-use Rattle.tx_map.specs.Pairs.{HasOnlyPairs, HasPair, IsPair}
-use Rattle.tx_map.specs.Puts.{HasPut, is_put}
-use Rattle.tx_map.specs.Slots.{Holds, IsPut}
-use Rattle.tx_map.specs.Tables.{HasMap, IsEmpty, slots_in}
+use Rattle.tx_map.proofs.Common.{Added, Again, Full, HasMap, HasOnlyPairs, HasPair, HasPut, Holds, IsEmpty, IsPair, IsPut, Put, is_put, slots_in}
 use Rattle.tx_map.proofs.Searches.{either}
 
 -- such a map stays one, and no pair goes

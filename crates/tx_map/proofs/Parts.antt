@@ -1,28 +1,13 @@
 -- Parts of a transaction, one after the other.
 use Rattle.std.proofs.Common.{◌≡◌, ◌∙◌, ◌||◌, ℕ, ◌+◌, ◌*◌, ◌/◌, ◌^◌, ◌<◌, Bool, false, true, true≢false, List, [], ◌∷◌, ◌++◌, Result, Ok, Err, ap, refl, subst, sym, arith}
-use Rattle.std.specs.Int.{w64, to_le_bytes}
-use Rattle.itm_types.specs.declared.access.ReadHint.TheVariants.{R}
-use Rattle.itm_types.specs.declared.access.WriteHint.TheVariants.{W}
-use Rattle.itm_types.specs.declared.access.Width.TheVariants.{U8}
-use Rattle.itm_types.specs.declared.call.Call.TheVariants.{Read, Write}
-use Rattle.itm_types.specs.declared.call.Reply.TheVariants.{Done}
-use Rattle.itm_types.specs.Slices.{slice, with_slice}
-use Rattle.itm_model.specs.Machine.{bytes_reply}
-use Rattle.itm_model.specs.Runs.{state_after}
-use Rattle.itm_model.specs.State.{State}
-use Rattle.shared_words.specs.InGlobal.{Words}
+use Rattle.tx_map.proofs.Common.{Calls, Does, Done, Goes, R, Read, Standing, State, U8, W, Words, Write, answer_to_read, answer_to_write, bytes_of_number, bytes_reply, calls_of, number, pair_of, slice, state_after, to_le_bytes, w64, with_slice}
 use Rattle.call_rules.specs.CallResults.{Tells}
-use Rattle.call_rules.specs.Standing.{Standing}
-use Rattle.itm_runtime.specs.Stops.{answer_to_read, answer_to_write, bytes_of_number, number}
 use Rattle.itm_runtime.specs.declared.stop.Stop.{Stop}
-use Rattle.transactions.specs.Plain.{Calls, calls_of}
 use Rattle.transactions.proofs.Deeds.{makes_then}
 use Rattle.typed_cells.specs.Reads.{read_as}
-use Rattle.tx_map.specs.Plainly.{Does, Goes}
-use Rattle.tx_map.specs.Tables.{pair_of}
 use Rattle.tx_map.proofs.Bytes.{pair_read}
 use Rattle.tx_map.proofs.Finds.{Reads}
-use Rattle.tx_map.proofs.Machines.{goes_by_read, goes_by_write, goes_nowhere, parted}
+use Rattle.tx_map.proofs.Machines.{goes_by_read, goes_by_write, parted}
 
 pub goes_weaker : (a : Bool) (So Then : List ℕ → List ℕ → Type 0) (s t : State) → ((m n : List ℕ) → So m n → Then m n) → Goes a So s t → Goes a Then s t
 goes_weaker a So Then s t by g = record { so = by s.memory t.memory g.so; wrote = g.wrote; still = g.still }
@@ -45,9 +30,6 @@ goes_on a b So Then All s t u by g h = record {
 }
 
 module _ (words : Words) where
-  pub does_nothing : (t : Standing) (So : List ℕ → List ℕ → Type 0) → ((m : List ℕ) → So m m) → Does words t t false So
-  does_nothing t So so = record { made = []; makes = refl; plainly = λ d s e. goes_nowhere So s s refl (so s.memory) }
-
   pub does_then : (a b c : Standing) (f g : Bool) (So Then All : List ℕ → List ℕ → Type 0) → ((m n o : List ℕ) → So m n → Then n o → All m o) → Does words a b f So → Does words b c g Then → Does words a c (f || g) All
   does_then a b c f g So Then All by x y = record {
     made = x.made ++ y.made;

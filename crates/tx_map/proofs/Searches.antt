@@ -1,8 +1,6 @@
 -- Searches for keys before and after a put.
 use Rattle.std.proofs.Common.{◌≡◌, ◌≢◌, ◌∙◌, ◌⊎◌, inl, inr, ℕ, ◌+◌, ◌-◌, ◌*◌, ◌/◌, ◌%◌, ◌<◌, ◌≤◌, ap, sym, subst, arith}
-use Rattle.std.proofs.lemmas.Bool.{cases_lt, cases_order}
-use Rattle.std.proofs.lemmas.Nat.{mod-mul-add, mod_below, div-add-mod'}
-use Rattle.tx_map.specs.Slots.{HasNo, Holds, IsMap, IsPut, Passes, Reaches, Slots, slot_of}
+use Rattle.tx_map.proofs.Common.{HasNo, Holds, IsMap, IsPut, Passes, Reaches, Slots, cases_lt, cases_order, div-add-mod', mod-mul-add, mod_below, slot_of}
 
 pub either : (a b : ℕ) → (a ≡ b) ⊎ (a ≢ b)
 either a b = by (cases_order a b)

@@ -1,25 +1,13 @@
 -- From what each thread has written to the bytes that all threads leave.
 use Rattle.std.proofs.Common.{◌≡◌, ◌∙◌, ◌⊎◌, inl, inr, ℕ, zero, suc, ◌+◌, ◌-◌, ◌*◌, ◌/◌, ◌%◌, ◌==◌, ◌<◌, ◌≤◌, Bool, true, false, List, [], ◌∷◌, ◌++◌, length, Option, None, Some, IsSome, IfSome, unwrap_or, ap, refl, subst, sym, true≢false, arith, length-append}
-use Rattle.std.specs.Borrow.{MutBor}
+use Rattle.tx_map.proofs.Common.{AllTell, EachPuts, HasAllPairs, HasOnlyPairs, HasPair, HasWritten, HasWrittenIn, HasWrittenSome, IsEmpty, MutBor, Put, PutsPair, StartsWith, Stores, View, Words, added_in, bytes_in, bytes_of, cases_lt, eq-eqb, eqb-true, positions, sum_by-cons, times, told_in_all, view_of}
 use Rattle.std.specs.List.{flat_map}
-use Rattle.std.proofs.lemmas.Bool.{cases_lt, eq-eqb, eqb-true}
-use Rattle.std.proofs.lemmas.List.Sums.{sum_by-cons}
 use Rattle.std.proofs.Math.Seq.{take-length}
 use denote.Param.Members.{Shared}
-use Rattle.itm_types.specs.Memory.{bytes_of}
 use Rattle.shared_words.proofs.PositionTotals.{count_is}
-use Rattle.shared_words.specs.declared.view.View.{View}
-use Rattle.shared_words.specs.Commits.{StartsWith, Stores, after}
-use Rattle.shared_words.specs.InGlobal.{Words}
-use Rattle.shared_words.specs.Passes.{view_of}
-use Rattle.shared_words.specs.Views.{times}
+use Rattle.shared_words.specs.Commits.{after}
 use Rattle.transactions.specs.declared.client.Client.{Client}
 use Rattle.tx_threads.specs.Threads.{AllBegin, EachHasRun, HasRun, HaveRun}
-use Rattle.tx_map.specs.declared.table.Put.{Put}
-use Rattle.tx_map.specs.Pairs.{HasAllPairs, HasOnlyPairs, HasPair}
-use Rattle.tx_map.specs.Tables.{IsEmpty}
-use Rattle.tx_map.specs.Told.{AllTell, bytes_in, told_in_all}
-use Rattle.tx_map.specs.Written.{EachPuts, HasWritten, HasWrittenIn, HasWrittenSome, PutsPair, added_in, positions}
 use Rattle.tx_map.proofs.Added.{AllPut, all_append, all_of_each, as_many_new}
 use Rattle.tx_map.proofs.Counts.{times_append, times_other}
 use Rattle.tx_map.proofs.Histories.{KeepsAt, each_later, pairs_at, put_stays}

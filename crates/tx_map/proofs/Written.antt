@@ -1,20 +1,10 @@
 -- What a thread's own commits have done, transaction by transaction.
 use Rattle.std.proofs.Common.{◌≡◌, ◌∙◌, ℕ, suc, ◌+◌, ◌*◌, ◌<◌, Bool, true, false, true≢false, List, [], ◌∷◌, ◌++◌, length, Option, Some, Result, Ok, Err, IfOk, ap, refl, subst, sym, arith, append_assoc, append-nil, length-append}
+use Rattle.tx_map.proofs.Common.{Added, Again, EachPuts, Failed, Full, HasGot, HasLed, HasPut, HasWritten, HasWrittenIn, HasWrittenSome, IsKept, IsLeft, Lent, Put, View, added_in, added_of, is_put, mine_left, mine_of, positions, view_of, went_on, went_self}
 use Rattle.std.proofs.lemmas.Option.{none-some, same_Some}
 use Rattle.std.specs.Result.{result_ok}
-use Rattle.shared_words.specs.declared.view.View.{View}
-use Rattle.shared_words.specs.Passes.{view_of}
 use Rattle.call_rules.specs.Served.{mine_if}
-use Rattle.transactions.specs.declared.failed.Failed.{Failed}
 use Rattle.transactions.specs.declared.tried.Done.{Done}
-use Rattle.transactions.specs.Lent.{IsKept, IsLeft, Lent, mine_of}
-use Rattle.transactions.specs.Runs.{mine_left}
-use Rattle.call_rules.proofs.LaterViews.{went_on, went_self}
-use Rattle.tx_map.specs.declared.table.Put.{Put}
-use Rattle.tx_map.specs.declared.table.Put.TheVariants.{Added, Again, Full}
-use Rattle.tx_map.specs.Puts.{HasGot, HasPut, added_of, is_put}
-use Rattle.tx_map.specs.Told.{HasLed}
-use Rattle.tx_map.specs.Written.{EachPuts, HasWritten, HasWrittenIn, HasWrittenSome, added_in, positions}
 use Rattle.tx_map.proofs.Histories.{each_later}
 
 pub positions_append : (xs ys : List (ℕ × Put)) → positions (xs ++ ys) ≡ positions xs ++ positions ys

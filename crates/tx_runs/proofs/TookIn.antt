@@ -1,10 +1,13 @@
 -- What an answer makes of a tally, whichever it was.
 use Rattle.std.proofs.Common.{◌≡◌, ◌⊎◌, inl, inr, ℕ, ◌+◌, Bool, true, false, nat_lt, if◌then◌else◌, List, [], ◌∷◌, Some, None, refl, sym, ap, ◌∙◌}
-use Rattle.tx_runs.proofs.Common.{Answer, Attempt, Busy, Call, Committed, Conflict, Done, Full, Outcome, Replied as Reply, Reply as Replied, Restarted, Rules, Savepoint, Stage, Taken, cut_back, over_as, ran_on, savepoints_after, went_on, with_call}
-use Rattle.norec_core.specs.Restarts.{IsRestart}
+use Rattle.tx_runs.proofs.Common.{Attempt, Call, Done, Replied, Rules, Stage, Stand, Taken, Tally, begins, cut_back, ending_as, entered, gone_back, outside, over_as, ran_on, savepoints_after, sent_back, stage_with, took_in, went_on, with_call, within}
+use Rattle.norec_core.specs.declared.answer.Answer.{Answer}
+use Rattle.norec_core.specs.declared.answer.Answer.TheVariants.{Busy, Committed, Conflict, Full, Reply, Restarted}
+use Rattle.tx_attempts.specs.declared.attempt.Outcome.{Outcome}
+use Rattle.tx_runs.specs.declared.savepoint.Savepoint.{Savepoint}
 use Rattle.tx_attempts.specs.declared.attempt.Outcome.TheVariants as outcomes
 use Rattle.tx_runs.specs.declared.ending.End.TheVariants.{GaveUp}
-use Rattle.tx_runs.specs.Tallies.{outside, begins, within, Stand, Tally, ending_as, entered, gone_back, sent_back, stage_with, took_in}
+use Rattle.norec_core.specs.Restarts.{IsRestart}
 
 -- an attempt is open: the one that was, with a reply to its call; or the one whose begin was accepted; or the one that was, as its innermost block has gone back
 abbrev pub OpensBy : Stage → Call → Answer → Stand → Attempt → List Savepoint → Type 0

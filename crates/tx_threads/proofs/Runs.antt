@@ -1,5 +1,5 @@
 -- What one thread, two rows of them, and all of them come to.
-use Rattle.std.proofs.Common.{◌≡◌, ◌∙◌, slice_get, Some, ℕ, zero, suc, ◌+◌, false, List, [], ◌∷◌, ◌++◌, ◌⊎◌, inl, inr, length, ap, refl, subst, sym, arith, append_assoc, length-append}
+use Rattle.std.proofs.Common.{◌≡◌, ◌∙◌, slice_get, Some, ℕ, zero, suc, ◌+◌, false, List, [], ◌∷◌, ◌++◌, length, ap, refl, subst, sym, arith, append_assoc, length-append}
 use Rattle.std.specs.List.{flat_map}
 use Rattle.std.proofs.lemmas.Option.{none-some, same_Some}
 use Rattle.std.specs.Borrow.{MutBor}
@@ -13,7 +13,6 @@ use Rattle.shared_words.specs.declared.view.View.{View}
 use Rattle.shared_words.specs.Commits.{StartsWith, Stores}
 use Rattle.shared_words.specs.InGlobal.{Words}
 use Rattle.shared_words.specs.Passes.{Owns, view_of}
-use Rattle.shared_words.specs.Steps.{Joined}
 use Rattle.transactions.specs.declared.client.Client.{Client}
 use Rattle.tx_threads.specs.Threads.{AllBegin, AreServed, EachHasRun, Ending, HasRun, HasUsualLimits, HaveRun}
 
@@ -31,20 +30,6 @@ all_longer log some (v ∷ vs) a b = (starts_trans log some v.seen a b.0, all_lo
 both_begin : (log : List Stores) (vs ws : List View) → AllBegin log vs → AllBegin log ws → AllBegin log (vs ++ ws)
 both_begin log [] ws a b = b
 both_begin log (v ∷ vs) ws a b = (a.0, both_begin log vs ws a.1 b)
-
-pub first_begins : (v u w : View) → Joined v u w → StartsWith w.seen v.seen
-first_begins v u w j = by j.longer
-  where
-    by : (StartsWith v.seen u.seen × (w.seen ≡ v.seen)) ⊎ (StartsWith u.seen v.seen × (w.seen ≡ u.seen)) → StartsWith w.seen v.seen
-    by (inl l) = subst (λ (log : List Stores). StartsWith log v.seen) (sym l.1) (starts_self v.seen)
-    by (inr r) = subst (λ (log : List Stores). StartsWith log v.seen) (sym r.1) r.0
-
-pub second_begins : (v u w : View) → Joined v u w → StartsWith w.seen u.seen
-second_begins v u w j = by j.longer
-  where
-    by : (StartsWith v.seen u.seen × (w.seen ≡ v.seen)) ⊎ (StartsWith u.seen v.seen × (w.seen ≡ u.seen)) → StartsWith w.seen u.seen
-    by (inl l) = subst (λ (log : List Stores). StartsWith log u.seen) (sym l.1) l.0
-    by (inr r) = subst (λ (log : List Stores). StartsWith log u.seen) (sym r.1) (starts_self u.seen)
 
 mine_append : (vs ws : List View) → flat_map mine_of (vs ++ ws) ≡ flat_map mine_of vs ++ flat_map mine_of ws
 mine_append [] ws = refl

@@ -1,5 +1,5 @@
 -- What threads begin with, and what they come to.
-use Rattle.std.specs.Prelude.{◌≡◌, ℕ, suc, false, List, [], ◌∷◌, ◌++◌, length}
+use Rattle.std.specs.Prelude.{◌≡◌, ℕ, suc, false, List, [], ◌∷◌, ◌++◌, length, Result, IfErr, IfOk}
 use Rattle.std.specs.List.{flat_map}
 use Rattle.std.specs.Borrow.{MutBor}
 use denote.Param.Members.{Shared}
@@ -11,8 +11,11 @@ use Rattle.shared_words.specs.declared.view.View.{View}
 use Rattle.shared_words.specs.Commits.{StartsWith, Stores}
 use Rattle.shared_words.specs.Good.{EndsWith}
 use Rattle.shared_words.specs.InGlobal.{Words}
-use Rattle.shared_words.specs.Passes.{Owns, view_of}
+use Rattle.shared_words.specs.Passes.{IsWrongSize, Owns, view_of}
+use Rattle.shared_words.specs.declared.fault.WordsFault.TheVariants.{Length}
 use Rattle.transactions.specs.declared.client.Client.{Client}
+use Rattle.tx_threads.specs.declared.fault.ThreadsFault.{ThreadsFault}
+use Rattle.tx_threads.specs.declared.fault.ThreadsFault.TheVariants.{Words as NoWords}
 
 -- a client may be made of the pass, which has no commit of its own and has not looked at the clock
 pub record IsNew (words : Words) (pass : Pass) : Type 0 where
@@ -20,6 +23,12 @@ pub record IsNew (words : Words) (pass : Pass) : Type 0 where
   pub idle : (view_of pass).holds ≡ false
   pub mine : (view_of pass).mine ≡ []
   pub looks : (view_of pass).looks ≡ 0
+
+-- a wrong size is told exactly where so many bytes are no memory
+pub record TellsWrongSize {T : Type 0} (size : ℕ) (result : Result T ThreadsFault) : Type 0 where
+  pub only : IfErr result (λ why. why ≡ NoWords Length → IsWrongSize size)
+  pub wrong : IfErr result (λ why. IsWrongSize size → why ≡ NoWords Length)
+  pub right : IfOk result (λ _. IsWrongSize size → ⊥)
 
 -- what all passes know, where this one had no client and the other one is all those that had
 pub record Ending (trunk other : View) (clock : ℕ) (bytes : List ℕ) : Type 0 where

@@ -1,10 +1,8 @@
 //! Threads from their start to the bytes that they leave.
 
-ghost use Rattle.std.specs.Prelude.{◌≡◌, ◌<◌, ◌≤◌, ◌+◌, ◌*◌, false, length, IfOk, IfErr, OnErr};
-ghost use Rattle.shared_words.specs.Passes.{IsWrongSize, Owns, cells_of, view_of};
-ghost use Rattle.shared_words.specs.declared.fault.WordsFault.TheVariants.{Length};
-ghost use Rattle.tx_threads.specs.Threads.{Ending, HaveRun, KeepsWords};
-ghost use Rattle.tx_threads.specs.declared.fault.ThreadsFault.TheVariants.{Words as NoWords};
+ghost use Rattle.std.specs.Prelude.{◌≡◌, ◌<◌, ◌≤◌, ◌+◌, ◌*◌, false, length, IfOk, OnErr};
+ghost use Rattle.shared_words.specs.Passes.{Owns, cells_of, view_of};
+ghost use Rattle.tx_threads.specs.Threads.{Ending, HaveRun, KeepsWords, TellsWrongSize};
 
 use crate::fault::{Lost, ThreadsFault};
 use crate::serving::serve_all;
@@ -44,9 +42,7 @@ pub fn run<R: Threads + Sync, T: Send + Drop, F: Fn(usize, &mut Client) -> T + S
     requires keeps { KeepsWords F.Fn body.now }
     ensures run { IfOk result (λ r. HaveRun F.Fn body.now threads tries bytes.old r.values.items r.clock bytes.new) }
     ensures still { OnErr result (bytes.new ≡ bytes.old) }
-    ensures length { IfErr result (λ why. why ≡ NoWords Length → IsWrongSize (length bytes.old)) }
-    ensures wrong { IfErr result (λ why. IsWrongSize (length bytes.old) → why ≡ NoWords Length) }
-    ensures right { IfOk result (λ _. IsWrongSize (length bytes.old) → ⊥) }
+    ensures size { TellsWrongSize (length bytes.old) result }
 {
     let (words, mut rest) = Words::new(alloc, bytes)?;
     // it has no client, so what it knows of the bytes at first stays

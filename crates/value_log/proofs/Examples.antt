@@ -1,7 +1,6 @@
 -- Worked cases of value logs, computed.
 use Rattle.std.proofs.Common.{◌≡◌, List, [], ◌∷◌, Some, None, take, refl}
-use Rattle.itm_types.specs.declared.row.LogRow.{LogRow}
-use Rattle.itm_types.specs.LogRows.{value_of}
+use Rattle.value_log.proofs.Common.{LogRow, value_of}
 
 -- words 4, 1, 4 and 0 were read
 abbrev rows : List LogRow

@@ -1,6 +1,6 @@
 -- Rows in places that are all filled: what the first places are as rows join and go.
 use Rattle.std.proofs.Common.{◌≡◌, ℕ, zero, suc, ◌%◌, ◌^◌, ◌<◌, ◌≤◌, List, [], ◌∷◌, ◌++◌, length, take, slice_set, refl, ap, arith}
-use Rattle.itm_types.specs.declared.row.LogRow.{LogRow}
+use Rattle.value_log.proofs.Common.{LogRow}
 
 -- a row that is put behind the first ones joins them
 pub take_set : (places : List LogRow) (n : ℕ) (r : LogRow) → n < length places → take (suc n) (slice_set places n r) ≡ take n places ++ r ∷ []

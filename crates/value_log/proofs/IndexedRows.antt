@@ -1,16 +1,11 @@
 -- An index as rows join, and what it finds.
 use Rattle.std.proofs.Common.{map, Bool, true, if◌then◌else◌, eqb, ◌^◌, ◌||◌, ◌≡◌, ◌≢◌, ◌⊎◌, ℕ, zero, suc, ◌==◌, ◌<◌, ◌≤◌, false, List, [], ◌∷◌, ◌++◌, Option, Some, None, length, take, slice_get, slice_set, get_or, ◌-◌, refl, sym, ap, subst, ◌∙◌, inl, inr, arith}
+use Rattle.value_log.proofs.Common.{AllBelow, AreHeads, AreLinks, AreSingle, FallsTo, IsIndex, IsLast, LogRow, length-append, length-map, length-set, length_push, other_word, same_Some, slice_get_within, slot_of, take_all, value_here, value_of, value_there}
 use Rattle.std.specs.List.{list_any, AllByRecursion, IsDistinct}
 use Rattle.std.proofs.lemmas.Bool.{cases_Bool, eqb-true, eqb-false, ne_eqb}
-use Rattle.std.proofs.lemmas.List.{length-map, length-set, length-append, length_push, take_all}
 use Rattle.std.proofs.lemmas.Map.Keys.{IsDistinct-cons}
 use Rattle.std.proofs.lemmas.Map.Steps.{length-le_from_distinct_below}
-use Rattle.std.proofs.lemmas.Option.{slice_get_within, same_Some}
-use Rattle.itm_types.specs.declared.row.LogRow.{LogRow}
-use Rattle.itm_types.specs.LogRows.{value_of, AreSingle}
-use Rattle.itm_types.proofs.LogRows.{other_word, value_here, value_there}
 use Rattle.itm_types.proofs.Words.{slice_get-set_same, slice_get-set_other}
-use Rattle.value_log.specs.Index.{slot_of, AllBelow, FallsTo, IsLast, AreHeads, AreLinks, IsIndex}
 
 -- ## Rows by place
 
@@ -140,9 +135,6 @@ module _ (slots : ℕ) (rows : List LogRow) (r : LogRow) where
 
 -- ## The index
 
-pub index_none : (last before : List ℕ) → IsIndex last before []
-index_none last before = record { within = omega arith; heads = λ slot place e i below f. absurd (cc); links = λ i place r e h. absurd (cc) }
-
 module _ (last before : List ℕ) (rows : List LogRow) (r : LogRow) (old : ℕ) where
   pub index_push : slice_get last (slot_of (length last) r.word) ≡ Some old → length rows < length before → IsIndex last before rows
       → IsIndex (slice_set last (slot_of (length last) r.word) (length rows)) (slice_set before (length rows) old) (rows ++ r ∷ [])
@@ -200,9 +192,6 @@ index_resized true last before more rows n long is = subst (λ (b : List ℕ). I
 index_resized false last before more rows n long is = is
 
 -- ## The index of rows, one after the other
-
-pub noted_none : (last before : List ℕ) (rows : List LogRow) → IsIndex last before (take 0 rows)
-noted_none last before rows = index_none last before
 
 pub got_or : (rows : List LogRow) (i : ℕ) (d : LogRow) → i < length rows → slice_get rows i ≡ Some (get_or rows i d)
 got_or [] i d l = absurd (omega arith)

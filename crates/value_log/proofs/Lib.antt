@@ -1,3 +1,4 @@
+pub mod Common
 pub mod FilledRows
 pub mod IndexedRows
 pub mod Examples

@@ -1,7 +1,6 @@
 -- What an answer makes of an account, part by part.
 use Rattle.std.proofs.Common.{ℕ, ◌+◌, false, List, [], ◌∷◌, ◌++◌}
-use Rattle.worker_rules.proofs.Common.{Account, Attempt, Call, Outcome, Ran, Replied, Savepoint, outside, ran_on, reserved, with_call, within}
-use Rattle.tx_attempts.specs.Kept.{spent}
+use Rattle.worker_rules.proofs.Common.{Account, Attempt, Call, Outcome, Ran, Replied, Savepoint, outside, ran_on, reserved, spent, with_call, within}
 
 -- the open attempt as a call comes, with room for it and for so many more
 abbrev pub with_room : ℕ → Attempt → Attempt

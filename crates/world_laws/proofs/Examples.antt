@@ -1,11 +1,10 @@
 -- Worked cases, computed: all that a player does alone.
 use Rattle.std.proofs.Common.{◌≡◌, [], ◌∷◌, replicate, refl, true, false}
-use Rattle.world_laws.proofs.Common.{Attempt, Begin, Commit, Committed, Finished, Full, GaveUp, Mode, Props, Unfinished, Write}
+use Rattle.world_laws.proofs.Common.{Attempt, Begin, Commit, Committed, Finished, Full, GaveUp, Mode, Props, Unfinished, Write, solo}
 use Rattle.itm_types.specs.declared.access.WriteHint.TheVariants.{W}
 use Rattle.world_rules.proofs.Common.{Done}
 use Rattle.world_rules.proofs.Plan.{Plan}
 use Rattle.world_rules.proofs.Examples.{begin, cancelled, commit, counter, counter_rules, fresh, next, plain, plan_rules, planned, refused, two, word, write}
-use Rattle.world_laws.specs.Solo.{solo}
 
 counter_alone : solo counter_rules 1 1 0 fresh.player (replicate 8 0) [] ≡ record { attempts = counter ∷ []; memory = 1 ∷ replicate 7 0; commits = 1; held = false; ending = Finished }
 counter_alone = refl

@@ -2,3 +2,4 @@
 pub mod Measures
 pub mod Worlds
 pub mod WorldEvents
+pub mod EndedAttempts

@@ -1,23 +1,19 @@
 -- Worked cases, computed: the attempts of one counter, and of two whose first try is lost; a block that is cancelled and the next one; the counts of a schedule; which transactions have a room that is kept; a block within another that goes back; which calls go on.
 use Rattle.std.proofs.Common.{◌≡◌, ℕ, suc, ◌-◌, List, [], ◌∷◌, ◌++◌, length, map, refl, ap, ◌∙◌, false, true, replicate, Option, None, Some, Ok, Err, arith, slice_get}
-use Rattle.itm_types.specs.declared.call.Call.TheVariants.{Abort, Log, Mode, Read, Save}
+use Rattle.world_rules.proofs.Common.{Abort, Attempt, Begin, Between, ByAbort, Call, CallRecord, Cells, Commit, Core, Done, GoesBack, IsOpaque, IsRunOf, Load, Log, Mode, Outcome, Props, Read, Reply, Rules, Save, Write, after, alone, asks_further, is_held, memory_after, opening, passes_of, slice_index_or, takes_clock, wanted}
 use Rattle.world_rules.specs.Dates.{AreDated, IsDated}
-use Rattle.world_rules.proofs.Common.{Attempt, Begin, Between, Call, CallRecord, Commit, Core, Done, IsOpaque, IsRunOf, Props, Outcome, Replied as Reply, Rules, Write, after, alone, passes_of, slice_index_or, takes_clock}
 use Rattle.itm_types.specs.declared.call.Reply.TheVariants.{Code, Refused}
 use Rattle.nest_frames.specs.Nest.{Frame}
-use Rattle.world_rules.specs.ActionRoom.{is_held, wanted}
-use Rattle.norec_core.specs.Core.{opening}
 use Rattle.tx_runs.specs.OpenAttempts.{promised}
 use Rattle.world_rules.proofs.Plan.{Plan, next_call, restarted, at_block}
-use Rattle.world_rules.specs.{ActionRoom.counted, Cells.Cells, PlayerRooms.EndsWithin, Progress.asks_further, Tries.GoesBack}
+use Rattle.world_rules.specs.{ActionRoom.counted, PlayerRooms.EndsWithin}
 use Rattle.norec_core.specs.declared.call_parts.Purpose.TheVariants.{Value}
 use Rattle.norec_core.specs.declared.call_parts.Reading.{Reading}
 use Rattle.norec_core.specs.Phases.{Phase}
 use Rattle.norec_core.specs.Phases as at
 use Rattle.itm_types.specs.declared.step.Step.TheVariants as steps
 use Rattle.tx_attempts.specs.declared.attempt.Outcome.TheVariants.{Cancelled, Committed, Conflict, Full, ReadOnly, Unfinished}
-use Rattle.itm_types.specs.declared.{access.ReadHint.TheVariants.R, access.Width.TheVariants.U1, access.Width.TheVariants.U2, access.Width.TheVariants.U8, access.WriteHint.TheVariants.W, call.Call.TheVariants.Load, call.Refusal.TheVariants.Outside, call.Reply.TheVariants.Bytes, datum.Datum.Datum}
-use Rattle.tx_attempts.specs.Attempts.{ByAbort, memory_after}
+use Rattle.itm_types.specs.declared.{access.ReadHint.TheVariants.R, access.Width.TheVariants.U1, access.Width.TheVariants.U2, access.Width.TheVariants.U8, access.WriteHint.TheVariants.W, call.Refusal.TheVariants.Outside, call.Reply.TheVariants.Bytes, datum.Datum.Datum}
 use Rattle.tx_player.specs.Replies.{MayReply}
 use Rattle.world_rules.specs.declared.fault.WorldFault.TheVariants as faults
 use Rattle.world_rules.proofs.Plan as plans

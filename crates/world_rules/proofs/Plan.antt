@@ -1,5 +1,5 @@
 -- A list of calls that are made one after the other, whatever the replies are.
-use Rattle.world_rules.proofs.Common.{Call, Replied as Reply}
+use Rattle.world_rules.proofs.Common.{Call, Reply}
 use Rattle.tx_player.specs.Depth.{depth_after}
 use Rattle.std.specs.Prelude.{ℕ, ◌+◌, ◌-◌, min, nat_lt, if◌then◌else◌, List, [], ◌∷◌, ◌++◌, length, take, Option, None, Some, slice_get, slice_index_or}
 

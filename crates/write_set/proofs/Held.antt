@@ -1,12 +1,8 @@
 -- Rows of which an index has the places: what their list and the index become where a row comes, goes or changes.
 use Rattle.std.proofs.Common.{add-one, ◌≡◌, ◌<◌, ◌≤◌, ◌+◌, ℕ, zero, suc, ◌^◌, min, List, [], ◌∷◌, ◌++◌, length, take, ◌==◌, false, get_or, length-take-le, nat_eq, Bool, cond, position, Option, Some, None, slice_get, slice_set, refl, sym, ap, ◌∙◌, ◌⊎◌, inl, inr, arith, subst, IfNone, IfSome}
-use Rattle.write_set.proofs.Common.{AreHeld, AreRows, Index, IsDistinct, IsFirst, Puts, Row, cases_Bool, eqb-false, eqb-true, get_or_from_slice_get, keys_of, lookup, ne_eqb, place_in, row, same_Some, set_row, slice_get_within, take_all}
-use Rattle.std.specs.Map.{values_of}
-use Rattle.std.proofs.lemmas.Bool.{eq-eqb}
-use Rattle.std.proofs.lemmas.List.{length_push}
+use Rattle.write_set.proofs.Common.{AreHeld, AreRows, Index, IsDistinct, IsFirst, Puts, Row, cases_Bool, eq-eqb, eqb-false, eqb-true, get_or_from_slice_get, keys_of, length_push, lookup, ne_eqb, place_in, row, same_Some, set_row, slice_get-get_or, slice_get_within, values_of}
 use Rattle.std.proofs.lemmas.List.Quantifiers.{position-Some}
 use Rattle.std.proofs.lemmas.Map.Keys.{apart_from_distinct}
-use Rattle.std.proofs.lemmas.Option.{slice_get-get_or}
 use Rattle.indexmap.proofs.MapLemmas.{Missing-position}
 use Rattle.write_set.proofs.Overlays.{AreRows-push, AreRows-take}
 use Rattle.write_set.proofs.Places.{indexed, none_before, other_at, place_of_found, AreRows-set_row}
@@ -127,15 +123,6 @@ module _ (list : List Row) (len : ℕ) (index : Index) (told : ℕ) (is : AreHel
   pub count : length (take len list) ≡ len
   count = length-take-le len list is.within
 
-  pub held-fewer : (n : ℕ) → n < len → AreHeld list n index told
-  held-fewer n fewer = record {
-    are = is.are;
-    within = omega (arith, fewer, is.within);
-    tells = is.tells;
-    many = λ l. (let many = is.many (omega (arith, fewer, l)) in omega (arith, fewer, many));
-    distinct = is.distinct;
-  }
-
   -- the row behind the last one has a word that has no row
   pub none_behind : (r : Row) → slice_get list len ≡ Some r → lookup r.word (take len list) ≡ None
   none_behind r e = none_before list len r is.are.apart e
@@ -174,10 +161,6 @@ module _ (list : List Row) (len : ℕ) (index : Index) (told : ℕ) (is : AreHel
 
   joined : (x : Row) → length (take len list ++ x ∷ []) ≡ len + 1
   joined x = omega (arith, length_push (take len list) x, count)
-
-  -- a row that joins is the last one
-  pub rows_joined : (x : Row) → take (len + 1) (take len list ++ x ∷ []) ≡ take len list ++ x ∷ []
-  rows_joined x = take_all (len + 1) (take len list ++ x ∷ []) (omega (arith, joined x))
 
   -- the list with one that may join: what the index tells of those before it is as it was
   pub held-behind : (x : Row) (n : ℕ) → lookup x.word (take len list) ≡ None → x.mask < 2 ^ 64 → x.value < 2 ^ 64 → n ≤ told → n ≤ len → (8 < len → len ≤ n)

@@ -1,7 +1,6 @@
 -- The room for commit actions.
 use Rattle.std.proofs.Common.{◌≡◌, ℕ, ◌-◌, IsSome, refl, ap}
-use Rattle.call_rules.proofs.Common.{Call, Core, Reply, irrevocable_room, room_left}
-use Rattle.itm_types.specs.declared.call.Call.TheVariants.{CommitAction}
+use Rattle.call_rules.proofs.Common.{Call, CommitAction, Core, Reply, irrevocable_room, room_left}
 use Rattle.itm_types.specs.declared.call.Reply.TheVariants.{Done}
 
 pub room_same : (a b : Core) (call : Call) (r : Reply) → a.room ≡ b.room → room_left a call r ≡ room_left b call r

@@ -1,17 +1,10 @@
 -- Each kind of answer.
 use Rattle.std.proofs.Common.{◌≡◌, inl, inr, ℕ, suc, ◌/◌, ◌<◌, ◌&&◌, not, Bool, true, false, List, [], ◌∷◌, ◌++◌, length, take, Option, None, Some, refl, sym, ap, subst, ◌∙◌, arith, length-append}
-use Rattle.call_rules.proofs.Common.{Agrees, Answer, Answers, Asks, Busy, Call, ComesTo, Commit, Committed, Conflict, Core, Ends, Full, GoesBegin, IsDue, IsMemory, IsPatient, IsRest, IsWithin, Loads, Next, Proceeds, Reply as Replied, Restarted, Served, Stands, Start, State, Tells, View, WantsClock, after_call as after, after_snoc, backed, came, held, in_transaction, is_inside, memory_of, reply, rests, room_left, stands_for, stored, take_all, undone}
-use Rattle.std.proofs.lemmas.Bool.{false_from_ne_true}
-use Rattle.std.proofs.lemmas.List.{take_at}
-use Rattle.itm_types.specs.Memory.{bytes_of}
+use Rattle.call_rules.proofs.Common.{Agrees, Answer, Answers, Asks, Busy, Call, ComesTo, Commit, Commits, Committed, Conflict, Conflicts, ConflictsIn, Core, Differs, Ends, Enters, Full, GoesBegin, IsAtOnce, IsBegin, IsBusy, IsDue, IsFull, IsMemory, IsPatient, IsRead, IsRest, IsWithin, Loads, Meets, Next, Proceeds, Replies, RepliesHeld, Reply as Replied, Restarted, Served, Stands, Start, State, Tells, View, WantsClock, after_call as after, after_snoc, backed, bytes_of, came, came_over, false_from_ne_true, held, in_transaction, is_inside, left_over, memory_in, memory_of, mine_if, recoded, reply, rests, room_left, stands_for, stored, take_all, take_at, told_plainly, undone}
 use Rattle.norec_core.specs.declared.answer.Answer.TheVariants.{Reply}
-use Rattle.norec_core.specs.Proceeds.{ConflictsIn, Differs, Enters, IsAtOnce, IsBegin, Replies, RepliesHeld}
-use Rattle.norec_core.specs.Effects.{recoded}
 use Rattle.norec_core.specs.Proceeds as engine
-use Rattle.norec_core.proofs.Replies.AnsweredEngines.{told_plainly}
 use Rattle.norec_core.proofs.Replies.ReplyCases.{reply_cases}
 use Rattle.shared_words.specs.Commits as past
-use Rattle.call_rules.specs.Served.{Meets, Commits, Conflicts, IsBusy, IsFull, IsRead, came_over, left_over, memory_in, mine_if}
 use Rattle.call_rules.specs.Served as served_so
 use Rattle.call_rules.proofs.Steps.CallsInHand.{both, Freed, IsMid, IsHeldMid, Tried, is_memory}
 use Rattle.call_rules.proofs.Steps.NewCalls.{asked_on}

@@ -1,15 +1,8 @@
 -- An answer that a block has gone back to its begin alone.
 use Rattle.std.proofs.Common.{◌≡◌, inl, inr, ℕ, ◌+◌, ◌/◌, ◌<◌, ◌≤◌, true, false, List, [], ◌∷◌, take, refl, sym, ap, subst, ◌∙◌, arith}
-use Rattle.call_rules.proofs.Common.{Agrees, Core, Frame, Restarted, Served, Stands, Start, View, in_transaction, is_inside, memory_of, reads_of, rests}
-use Rattle.std.proofs.lemmas.List.{take-append-le}
-use Rattle.itm_model.specs.Machine.{back}
-use Rattle.nest_frames.specs.Nest.{renewed}
-use Rattle.norec_core.specs.Core.{is_within}
-use Rattle.norec_core.specs.Restarts.{begun_again}
+use Rattle.call_rules.proofs.Common.{Agrees, Core, Frame, Restarted, Restarts, Served, Stands, Start, View, back, begun_again, came_restarted, in_transaction, is_inside, is_within, memory_of, reads_of, renewed, rests, take-append-le}
 use Rattle.norec_core.specs.Restarts as engine
 use Rattle.norec_core.proofs.Engines.BlocksAgain.{restart_parts}
-use Rattle.norec_core.proofs.Engines.KeptFields.{came_restarted}
-use Rattle.call_rules.specs.Served.{Restarts}
 use Rattle.call_rules.proofs.Steps.CallsInHand.{IsMid}
 use Rattle.call_rules.proofs.Calls.Closes.{mode_then, same, served, stands, to_mid}
 

@@ -1,11 +1,7 @@
 -- The call is answered: what holds of the thread then, whatever the answer.
 use Rattle.std.proofs.Common.{◌≡◌, ℕ, suc, ◌/◌, ◌&&◌, not, nat_lt, Bool, true, false, List, [], length, None, Some, IsSome, if◌then◌else◌, refl, sym, ap, subst, ◌∙◌, arith}
-use Rattle.call_rules.proofs.Common.{Agrees, Answer, Call, Commit, Core, IsMemory, IsOver, IsRest, IsRestart, Served, Stands, Start, Tells, View, WantsClock, after, agrees_less, in_transaction, irrevocable_room, is_inside, may_go, memory_of, stands_for, starts_le, stays_revocable, take_all, undone}
-use Rattle.itm_types.specs.declared.call.Call.TheVariants.{Begin, Mode}
-use Rattle.norec_core.specs.Stands.{state_in, state_over}
+use Rattle.call_rules.proofs.Common.{Agrees, Answer, Begin, Call, Closes, Commit, Core, IsMemory, IsOver, IsRest, IsRestart, IsUndone, Mode, Reads, Served, Stands, Start, Tells, View, WantsClock, after, agrees_less, in_transaction, irrevocable_room, is_inside, may_go, memory_of, mine_after, stands_for, starts_le, state_in, state_over, stays_revocable, take_all, undone}
 use Rattle.norec_core.proofs.Engines.Blocks.{none_inside}
-use Rattle.call_rules.specs.Ties.{Reads}
-use Rattle.call_rules.specs.Served.{Closes, IsUndone, mine_after}
 use Rattle.call_rules.proofs.Steps.CallsInHand.{IsMid}
 
 module _ (s : Start) (w : View) (mid new : Core) (m : IsMid s w mid new) where

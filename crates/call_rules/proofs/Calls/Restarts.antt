@@ -1,7 +1,6 @@
 -- Calls after which no block has gone back alone.
 use Rattle.std.proofs.Common.{◌≡◌, Bool, ap, ◌∙◌, if◌then◌else◌, arith}
-use Rattle.call_rules.proofs.Common.{Answer, Call, Commit, Core, Idle, IsRestart, Restarted, Served, Start, View, commit_stage, stage_at}
-use Rattle.itm_types.specs.declared.call.Call.TheVariants.{Abort}
+use Rattle.call_rules.proofs.Common.{Abort, Answer, Call, Commit, Core, Idle, IsRestart, Restarted, Served, Start, View, commit_stage, stage_at}
 use Rattle.norec_core.proofs.Engines.RestartingCalls.{inner}
 
 -- a call with no step to ask for looks at nothing

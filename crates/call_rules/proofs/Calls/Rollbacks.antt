@@ -1,7 +1,6 @@
 -- A thread whose transaction is given up.
 use Rattle.std.proofs.Common.{◌≡◌, Bool, true, false, [], refl, sym, ap, subst, ◌∙◌, if◌then◌else◌}
-use Rattle.call_rules.proofs.Common.{Core, Idle, Stands, View}
-use Rattle.norec_core.specs.Core.{rolled_back}
+use Rattle.call_rules.proofs.Common.{Core, Idle, Stands, View, rolled_back}
 use Rattle.norec_core.specs.Undoing.{after_undoing}
 
 -- the engine outside

@@ -1,8 +1,6 @@
 -- A call of a thread that was left off between a step and what comes of it.
 use Rattle.std.proofs.Common.{ℕ, ◌++◌, Bool, Result, Ok, Err, IfOk, IfErr}
-use Rattle.call_rules.proofs.Common.{Answer, Answers, Asks, Call, Core, Finishes, HasStepped, IsOver, Pass, Stands, Start, Words, cells_of, view_of}
-use Rattle.call_rules.specs.Underway.{IsUnderway}
-use Rattle.call_rules.specs.InCall.{IsDone}
+use Rattle.call_rules.proofs.Common.{Answer, Answers, Asks, Call, Core, Finishes, HasStepped, IsDone, IsOver, IsUnderway, Pass, Stands, Start, Words, cells_of, view_of}
 use Rattle.call_rules.proofs.Steps.DrivenCalls.{due_on, leads_further}
 use Rattle.call_rules.proofs.Steps.StepChains.{starts}
 

@@ -1,9 +1,7 @@
 -- An engine with a call that came, or with the value of its step, and the view of its pass.
 use Rattle.std.proofs.Common.{◌≡◌, ◌≢◌, ◌⊎◌, ℕ, suc, ◌+◌, ◌/◌, ◌<◌, ◌≤◌, Bool, true, false, List, [], ◌∷◌, ◌++◌, length, take, None, Some, slice_get, slice_index, ap, ◌∙◌, arith}
-use Rattle.call_rules.proofs.Common.{Agrees, ComesTo, Core, Follows, Got, Grows, Idle, IsFresh, IsHolding, IsMemory, IsOpening, IsOver, IsSettled, Keeps, Loads, Next, Stand, Start, StartsWith, Store, View, Went, after, after_call, asked, backed, came, held, in_transaction, length_after, memory_of, most, pending, reads_of, reply, stage_at, stands_for, stored}
+use Rattle.call_rules.proofs.Common.{Agrees, ComesTo, Core, Follows, Got, Grows, Idle, IsFresh, IsHolding, IsMemory, IsOpening, IsOver, IsSettled, IsShut, Keeps, Loads, Next, Stand, Start, StartsWith, Store, View, Went, after, after_call, after_fits, asked, backed, came, commits_take, held, in_transaction, length_after, memory_of, most, pending, reads_of, reply, stage_at, stands_for, stored}
 use Rattle.std.proofs.lemmas.Option.{slice_get-get_or}
-use Rattle.shared_words.proofs.StoredWords.{after_fits, commits_take}
-use Rattle.call_rules.specs.InCall.{IsShut}
 
 pub both : (n : Bool) → n ≡ true → n ≡ false → ⊥
 both n t f = absurd (cc)

@@ -1,8 +1,6 @@
 -- Steps that are known ahead, as steps of the call.
 use Rattle.std.proofs.Common.{◌≡◌, ℕ, ◌<◌, ◌≤◌, List, [], ◌∷◌, ◌++◌, Some, refl, sym, ap, subst, arith}
-use Rattle.call_rules.proofs.Common.{Answer, Answers, Asks, Core, Drives, Finishes, HasStepped, InCall, IsDue, IsOver, IsResumed, LeadsOn, Next, Owns, Pass, Start, Step, StepTells, View, Words, cells_of, left, view_of}
-use Rattle.call_rules.specs.Underway.{Finds}
-use Rattle.call_rules.specs.Drives.{StepsOn}
+use Rattle.call_rules.proofs.Common.{Answer, Answers, Asks, Core, Drives, Finds, Finishes, HasStepped, InCall, IsDue, IsOver, IsResumed, LeadsOn, Next, Owns, Pass, Start, Step, StepTells, StepsOn, View, Words, cells_of, left, view_of}
 use Rattle.call_rules.proofs.Steps.DrivenCalls.{due_on, leads_further}
 use Rattle.call_rules.proofs.Steps.StepChains.{at_step, goes, smaller}
 

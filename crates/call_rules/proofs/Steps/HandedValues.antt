@@ -1,16 +1,11 @@
 -- The step was done, and its value is handed in.
 use Rattle.std.proofs.Common.{◌≡◌, ◌≢◌, ◌⊎◌, inr, ℕ, zero, suc, ◌+◌, ◌/◌, ◌<◌, ◌≤◌, ◌==◌, Bool, true, false, List, [], ◌∷◌, ◌++◌, length, set, take, if◌then◌else◌, None, Some, slice_get, refl, sym, ap, subst, ◌∙◌, arith, eqb-true, eq-eqb, length-append}
-use Rattle.call_rules.proofs.Common.{Cas, Core, Follows, Got, InCall, IsFresh, IsHolding, IsLawful, IsMemory, IsOver, IsSettled, IsTied, Joins, Load, Loaded, Start, Step, StepTells, Store, View, after, asked, backed, handed_is, handed_to, held, in_transaction, is_inside, keeps_twice, starts_self, stored_snoc, word_loaded}
+use Rattle.call_rules.proofs.Common.{Cas, Core, Follows, Got, InCall, IsFresh, IsHanded, IsHolding, IsLawful, IsMemory, IsOver, IsSettled, IsTied, Joins, Load, Loaded, Sees, Start, Step, StepTells, Store, View, after, agrees_more, asked, backed, freed, got_now, got_or, handed_is, handed_to, held, in_transaction, is_inside, keeps_twice, looked, noted, read, snapshot_same, starts_self, stored_snoc, took, word_loaded, wrote}
 use Rattle.norec_core.specs.Phases as at
 use Rattle.norec_core.specs.OwnAccesses.{got_in}
 use Rattle.write_set.specs.Rows.{overlay}
-use Rattle.norec_core.proofs.Engines.KeptFields.{IsHanded}
-use Rattle.norec_core.proofs.Accesses.Logs.{agrees_more, snapshot_same}
-use Rattle.shared_words.specs.Views.{looked, took, read, noted, wrote, freed}
-use Rattle.shared_words.specs.Steps.{Sees}
 use Rattle.call_rules.proofs.Steps.CallsInHand.{Freed, both, IsMid, stand_less, get_of, whole_memory}
 use Rattle.call_rules.proofs.Steps.NewCalls.{held_memory}
-use Rattle.norec_core.proofs.Engines.HeldStores.{got_now, got_or}
 use Rattle.call_rules.proofs.Steps.NextViews.{Log, Looks, before_on, fixed_on, grows_on, logged_on, looks_not, opens_on, went_on}
 
 module _ (s : Start) (v : View) (e : Core) (step : Step) (i : InCall s v e step) (n : ℕ) (new : Core) (joins : Joins e n new) (settled : IsSettled new) (asks : new.waits ≡ asked new) where

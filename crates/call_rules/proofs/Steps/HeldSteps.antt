@@ -1,12 +1,8 @@
 -- A step of an irrevocable transaction was done, and its value is handed in.
 use Rattle.std.proofs.Common.{◌≡◌, ℕ, zero, suc, ◌+◌, true, List, length, Option, Some, slice_get, refl, sym, ap, subst, ◌∙◌, arith}
-use Rattle.call_rules.proofs.Common.{Answers, Asks, Cas, ComesTo, Core, Got, InCall, Load, Next, Proceeds, Reply, Start, State, Step, StepTells, Store, View, after, after_snoc, asked, asked_from, handed_is, handed_to, held, reply, rests, stage_from, stands_for, stored_snoc}
-use Rattle.norec_core.specs.Held.{IsFound, StepsHeld, answers, leaves, memory_after}
-use Rattle.norec_core.specs.Order.{stage_after}
-use Rattle.call_rules.specs.InCall.{HeldOn}
+use Rattle.call_rules.proofs.Common.{Answers, Asks, Cas, ComesTo, Core, Got, HeldOn, InCall, IsFound, IsLoaded, Load, Next, Proceeds, Reply, Start, State, Step, StepTells, StepsHeld, Store, View, after, after_snoc, answers, asked, asked_from, got_handed, handed_is, handed_to, held, leaves, memory_after, reply, rests, stage_after, stage_from, stands_for, stored_snoc}
 use Rattle.call_rules.proofs.Steps.CallsInHand.{both, IsHeldMid, get_of}
 use Rattle.call_rules.proofs.Steps.NewCalls.{held_memory}
-use Rattle.norec_core.proofs.Engines.HeldStores.{IsLoaded, got_handed}
 
 module _ (s : Start) (v : View) (e : Core) (n : ℕ) (w : View) (holds : e.holds ≡ true) where
   add_one : (word : ℕ) → suc word ≡ word + 1

@@ -1,14 +1,8 @@
 -- A call comes, and the engine asks for a step.
 use Rattle.std.proofs.Common.{◌≡◌, ◌≢◌, inl, inr, ℕ, suc, ◌+◌, ◌/◌, ◌≤◌, Bool, true, List, [], ◌∷◌, length, ◌++◌, None, Some, refl, sym, ap, subst, ◌∙◌, arith}
-use Rattle.call_rules.proofs.Common.{Agrees, Asks, Call, Core, Follows, Frame, Grows, InCall, IsHolding, IsMemory, IsOpening, IsOver, IsSettled, IsWithin, Keeps, LogRow, Next, Proceeds, Stands, Start, Step, View, after, asked, asked_from, came, held, in_transaction, is_inside, keeps_twice, memory_of, most, most_same, pending, reads_of, stage_at, starts_self, tries_at}
-use Rattle.norec_core.specs.Held.{ComesHeld}
-use Rattle.norec_core.specs.Proceeds.{AreRead, AsksFor, StaysOn}
-use Rattle.norec_core.proofs.Engines.KeptFields.{keeps_self, keeps_asked}
-use Rattle.shared_words.proofs.StoredWords.{length_stored, stored_fits}
-use Rattle.call_rules.specs.InCall.{Grew}
+use Rattle.call_rules.proofs.Common.{Agrees, AreRead, Asks, AsksFor, Call, ComesHeld, Core, Follows, Frame, Grew, Grows, InCall, IsHolding, IsMemory, IsOpening, IsOver, IsSettled, IsWithin, Keeps, LogRow, Next, Proceeds, Stands, Start, StaysOn, Step, View, after, asked, asked_from, came, held, in_transaction, is_inside, keeps_asked, keeps_self, keeps_twice, length_stored, memory_of, most, most_same, none_got, pending, reads_of, shut_revocable, stage_at, starts_self, stored_fits, tries_at}
 use Rattle.call_rules.proofs.Steps.Tries.{first_opens, first_tries}
 use Rattle.call_rules.proofs.Steps.LastLoads.{no_last}
-use Rattle.norec_core.proofs.Engines.HeldStores.{none_got, shut_revocable}
 use Rattle.call_rules.proofs.Steps.CallsInHand.{both, IsMid, IsHeldMid, Tried, whole_memory}
 
 -- the words that are held are a memory

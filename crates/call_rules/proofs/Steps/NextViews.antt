@@ -1,11 +1,7 @@
 -- What the next view has seen, and what the log comes to by it.
 use Rattle.std.proofs.Common.{◌≡◌, ◌⊎◌, inl, inr, ℕ, ◌+◌, ◌/◌, ◌%◌, ◌<◌, ◌≤◌, true, false, List, length, Some, sym, ap, subst, ◌∙◌, arith}
-use Rattle.call_rules.proofs.Common.{Agrees, Cas, Core, Grows, InCall, IsLawful, IsSettled, IsTied, Joins, Load, LogRow, Stand, Start, StartsWith, Step, View, Went, after, agrees_less, in_transaction, is_inside, length_after, memory_of, starts_le, starts_trans, take_all}
-use Rattle.norec_core.specs.Proceeds.{GoesBack, GoesOver, Settles}
-use Rattle.norec_core.proofs.Accesses.Logs.{snapshot_late, log_longer, still_logged}
-use Rattle.norec_core.proofs.Accesses.Logs as logs
-use Rattle.shared_words.specs.Commits.{memory_at}
-use Rattle.shared_words.proofs.StoredWords.{memory_stays}
+use Rattle.call_rules.proofs.Common.{Agrees, Cas, Core, GoesBack, GoesOver, Grows, InCall, IsLawful, IsSettled, IsTied, Joins, Load, LogRow, Settles, Stand, Start, StartsWith, Step, View, Went, after, agrees_less, in_transaction, is_inside, length_after, log_longer, memory_at, memory_of, memory_stays, snapshot_late, starts_le, starts_trans, still_logged, take_all}
+use Rattle.norec_core.proofs.Logs as logs
 use Rattle.call_rules.proofs.Steps.CallsInHand.{Before, both}
 
 abbrev pub Log : Type 0

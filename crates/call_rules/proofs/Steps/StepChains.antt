@@ -1,11 +1,8 @@
 -- From step to step of a call.
 use Rattle.std.proofs.Common.{◌≡◌, ◌≢◌, ℕ, zero, suc, ◌+◌, ◌/◌, ◌<◌, ◌≤◌, Bool, true, false, Option, None, Some, IsSome, slice_get, refl, sym, ap, subst, ◌∙◌, arith}
-use Rattle.call_rules.proofs.Common.{Answer, Answers, Asks, Busy, Call, Cas, Committed, Conflict, Core, Ends, Full, Got, Idle, InCall, IsCalled, IsDue, IsEnding, IsLawful, IsOpening, IsOver, IsPatient, IsResumed, IsTied, Lawful, Load, Next, Phase, Proceeds, Restarted, Served, Stands, Start, Step, StepTells, Store, View, asked_from, came, dite, ending_from, handed_is, handed_to, held, in_transaction, is_inside, left, most, most_same, pending, rests, stage_from, ℕ_discrete}
+use Rattle.call_rules.proofs.Common.{Answer, Answers, Asks, Busy, Call, Cas, Committed, Conflict, Core, Ends, EndsSo, Fits, FitsStep, Full, Got, Idle, InCall, IsCalled, IsDue, IsEnding, IsLawful, IsOpening, IsOver, IsPatient, IsResumed, IsTied, Lawful, Load, Next, Phase, Proceeds, Restarted, Served, Stands, Start, Step, StepTells, Store, View, WasFound, asked_from, came, cell_of, dite, ending_after, ending_from, handed_is, handed_to, held, in_transaction, is_inside, left, most, most_same, pending, rests, stage_from, ℕ_discrete}
 use Rattle.itm_types.specs.declared.limits.TheConstants.{MAX_COMMITS}
 use Rattle.norec_core.specs.declared.answer.Answer.TheVariants.{Reply}
-use Rattle.norec_core.specs.Endings.{EndsSo, ending_after}
-use Rattle.norec_core.specs.Proceeds.{Fits, FitsStep}
-use Rattle.shared_words.specs.Steps.{WasFound, cell_of}
 use Rattle.call_rules.proofs.Steps.CallsInHand.{IsMid, IsHeldMid, Tried}
 use Rattle.call_rules.proofs.Steps.NewCalls.{comes, comes_held, comes_tried}
 use Rattle.call_rules.proofs.Steps.HandedValues.{hands, closed_look}

@@ -1,22 +1,16 @@
 -- How often a call has tried as it gives up, and what asks for a step outside a transaction.
 use Rattle.std.proofs.Common.{◌≡◌, ◌≢◌, ℕ, zero, suc, ◌+◌, ◌*◌, ◌/◌, ◌%◌, ◌≤◌, ◌==◌, ◌&&◌, not, nat_le, nat_lt, Bool, true, false, List, [], ◌∷◌, length, if◌then◌else◌, is_none, Option, None, Some, refl, ap, subst, ◌∙◌, arith}
-use Rattle.call_rules.proofs.Common.{Answer, Busy, Call, Cas, Conflict, Core, Frame, Full, GoesBegin, Idle, IsEnding, IsLawful, IsOpening, Phase, Restarted, Step, StepTells, Store, View, asked, asked_from, commit_stage, dite, ending_from, in_transaction, is_inside, may_go, pending, stage_at, stage_from, stays_revocable, tries_at, ℕ_discrete}
-use Rattle.std.proofs.lemmas.Bool.{ltb-false}
+use Rattle.call_rules.proofs.Common.{Answer, Busy, Call, Cas, Confirm, Conflict, Core, Exchange, Frame, Free, Full, GoesBegin, Idle, IsEnding, IsLawful, IsOpening, Phase, Restarted, RoundBack, RoundEnd, RoundRow, RoundStart, Step, StepTells, Store, Take, TakesFor, View, again_stage, aimed_ending, asked, asked_from, begin_stage, commit_stage, copying_stage, dite, ending_from, fill_from, going_stage, in_transaction, is_inside, is_outermost, ltb-false, may_go, pending, place_from, placed_in, read_stage, row_stage, stage_at, stage_from, stays_revocable, tries_after, tries_at, try_stage, value_reading, value_writing, ℕ_discrete}
 use Rattle.itm_types.specs.Access.{size_of}
 use Rattle.itm_types.specs.declared.call.Call.TheVariants as calls
 use Rattle.itm_types.specs.declared.step.Step.TheVariants as steps
 use Rattle.norec_core.specs.Aims.{Aim}
 use Rattle.norec_core.specs.Aims as aims
 use Rattle.norec_core.specs.declared.call_parts.Opening.{Opening}
-use Rattle.norec_core.specs.Phases.{Begin, Take, Confirm, RoundStart, RoundRow, RoundEnd, RoundBack, Exchange, Free}
+use Rattle.norec_core.specs.Phases.{Begin}
 use Rattle.norec_core.specs.declared.call_parts.Taking.TheVariants as takings
 use Rattle.norec_core.specs.Copies.{copy_refusal}
-use Rattle.norec_core.specs.Core.{is_outermost}
-use Rattle.norec_core.specs.Endings.{aimed_ending}
-use Rattle.norec_core.specs.Order.{again_stage, begin_stage, copying_stage, fill_from, going_stage, place_from, placed_in, read_stage, row_stage, tries_after, try_stage, value_writing}
-use Rattle.norec_core.specs.Order.{value_reading}
 use Rattle.norec_core.specs.Rows.{row_at}
-use Rattle.norec_core.specs.Proceeds.{TakesFor}
 use Rattle.call_rules.proofs.Steps.CallsInHand.{both}
 
 -- ## Looks

@@ -1,6 +1,6 @@
 -- The limits of an actor, at its begin and later.
-use Rattle.event_rules.proofs.Common.{Actor, Limits, first_engine, limits_of}
 use Rattle.std.proofs.Common.{◌≡◌, ℕ}
+use Rattle.event_rules.proofs.Common.{Actor, Limits, first_engine, limits_of}
 
 -- they stay where the engine's and the retries do
 pub limits_stay : {P : Type 0} (a a' : Actor P) → a'.run.retries ≡ a.run.retries

@@ -1,15 +1,10 @@
 -- The commits stay in order over an event.
 use Rattle.std.proofs.Common.{◌≡◌, inl, inr, ℕ, ◌+◌, ◌*◌, ◌/◌, ◌%◌, ◌≤◌, ◌==◌, ◌&&◌, Bool, true, false, nat_lt, List, [], ◌∷◌, ◌++◌, Some, slice_get, slice_set, refl, sym, ap, subst, ◌∙◌, arith}
-use Rattle.event_rules.proofs.Common.{Actor, AreActors, AreCounted, AreUnfinished, Attempt, Cells, CommitsInOrder, EndsAt, IsEvent, IsFirst, Limits, Outcome, limits_of, Prior, Rows, Rules, Tries, World, begins, between, both_ways, count_at, count_committed, false_from_ne_true, is_committed, le-ltb, one_where, outrun, over, prior_of, runs, shut_out, turned_away}
-use Rattle.tx_attempts.specs.Attempts.{is_at}
+use Rattle.event_rules.proofs.Common.{Actor, AreActors, AreCounted, AreEnded, AreOutrun, AreUnfinished, Attempt, Cells, CommitsInOrder, EndsAt, IsEvent, IsFirst, Limits, Outcome, Prior, Rows, Rules, Tries, World, begins, between, both_ways, count_at, count_committed, false_from_ne_true, is_at, is_committed, le-ltb, limits_of, odd_or_even, one_where, outrun, outrun_none, over, prior_of, runs, set_place, shut_out, turned_away}
 use Rattle.event_rules.proofs.Commits.OutrunConflicts.{outrun_after}
-use Rattle.world_rules.proofs.Events.Worlds.{odd_or_even, set_place}
 use Rattle.event_rules.proofs.Events.SoundOthers.{held_after, held_apart, one_after}
-use Rattle.world_rules.specs.Rows.{AreEnded}
 use Rattle.event_rules.proofs.Commits.ActorLimits.{limits_stay}
 use Rattle.std.proofs.lemmas.Bool.Decides.{nat_tests}
-use Rattle.tx_attempts.proofs.LaterClocks.{outrun_none}
-use Rattle.tx_attempts.specs.Outrun.{AreOutrun}
 use Rattle.tx_attempts.specs.declared.attempt.Outcome.TheVariants as outcomes
 
 -- ## Counts

@@ -1,7 +1,6 @@
 -- The words and the memories that the commits left, once attempts have ended.
 use Rattle.std.proofs.Common.{inl, inr, ◌≡◌, ℕ, ◌+◌, ◌/◌, ◌%◌, ◌≤◌, List, length, refl, sym, ap, subst, ◌∙◌, arith}
-use Rattle.event_rules.proofs.Common.{AllFit, AreCounted, AreLaid, Cells, IsMemory, Rows, bytes_at, bytes_of, words_at, words_of, words_of-bytes_of}
-use Rattle.std.proofs.lemmas.Bool.{cases_eq}
+use Rattle.event_rules.proofs.Common.{AllFit, AreCounted, AreLaid, Cells, IsMemory, Rows, bytes_at, bytes_of, cases_eq, words_at, words_of, words_of-bytes_of}
 
 -- no commit is done by the event
 pub laid_on : (deepest : ℕ) (base : List ℕ) (cells cells' : Cells) (r r' : Rows) → AreLaid deepest base cells r → AreCounted cells'.clock r'.ended → cells'.clock / 2 ≡ cells.clock / 2 → length cells'.words ≡ length cells.words

@@ -1,10 +1,7 @@
 -- The clock has moved on from where each conflict had read, over an event too.
 use Rattle.std.proofs.Common.{◌≡◌, ℕ, ◌*◌, ◌<◌, ◌≤◌, List, [], ◌∷◌, ◌++◌, sym, subst, ◌∙◌}
+use Rattle.event_rules.proofs.Common.{Actor, AllByRecursion, AreOutrun, AreUnfinished, Attempt, EndsAt, Prior, Rows, Tries, begins, between, both_outrun, outrun, outrun_later, outrun_more, over, runs, shut_out, turned_away}
 use Rattle.std.proofs.lemmas.List.Elements.{All-from_recursion}
-use Rattle.std.specs.List.{AllByRecursion}
-use Rattle.event_rules.proofs.Common.{Actor, AreUnfinished, Attempt, EndsAt, Prior, Rows, Tries, begins, between, outrun, over, runs, shut_out, turned_away}
-use Rattle.tx_attempts.proofs.LaterClocks.{outrun_both as both_outrun, outrun_later, outrun_more}
-use Rattle.tx_attempts.specs.Outrun.{AreOutrun}
 use Rattle.tx_attempts.specs.declared.attempt.Outcome.TheVariants as outcomes
 
 open_outrun : (clock : ℕ) (xs : List Attempt) → AreUnfinished xs → AreOutrun clock xs

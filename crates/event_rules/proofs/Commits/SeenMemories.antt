@@ -1,10 +1,9 @@
 -- What an engine has seen of the memories that the commits left, over a step or a call.
 use Rattle.std.proofs.Common.{◌≡◌, inl, inr, [], ◌++◌, append-nil, take, ℕ, zero, suc, ◌+◌, ◌/◌, ◌%◌, ◌≤◌, ◌==◌, Bool, true, false, if◌then◌else◌, List, length, length-set, Some, refl, sym, ap, subst, ◌∙◌, arith, ◌<◌, slice_get, slice_set, slice_index, eqb-true}
-use Rattle.event_rules.proofs.Common.{Agrees, AreLaid, Call, Cas, Cells, Core, Got, IsLawful, IsMemory, IsTied, Load, Loaded, Rows, Sees, Step, Store, backed, both_ways, bytes_at, bytes_of, came, cells_after, cond-true, cond_both, found, handed_is, handed_to, in_transaction, is_inside, same_Some, slice_get-get_or, word_loaded, words_at, write_at}
-use Rattle.norec_core.specs.Proceeds.{StaysOn}
+use Rattle.event_rules.proofs.Common.{Agrees, AreLaid, AreRead, Call, Cas, Cells, Core, GoesBack, Got, IsLawful, IsMemory, IsTied, Joins, Load, Loaded, LogRow, Rows, Sees, Settles, StaysOn, Step, Store, backed, both_ways, bytes_at, bytes_of, came, cells_after, cond-true, cond_both, found, got_now, got_or, handed_is, handed_to, in_transaction, is_inside, same_Some, slice_get-get_or, word_loaded, words_at, write_at}
 use Rattle.event_rules.proofs.{Engines.ClockHolders.freed_by, Engines.ClockHolders.is_free, Engines.TiedEngines.held_even}
-use Rattle.norec_core.proofs.Accesses.Logs.{agrees_more, log_longer, snapshot_late, log_now as log_then, still_logged as log_of_before}
-use Rattle.{norec_core.proofs.Engines.HeldStores.got_now, norec_core.proofs.Engines.HeldStores.got_or, norec_core.specs.OwnAccesses.got_in, itm_types.specs.declared.row.LogRow.LogRow, norec_core.specs.Proceeds.AreRead, norec_core.specs.Proceeds.GoesBack, norec_core.specs.Proceeds.Joins, norec_core.specs.Proceeds.Settles, write_set.specs.Rows.overlay}
+use Rattle.norec_core.proofs.Logs.{agrees_more, log_longer, snapshot_late, log_now as log_then, still_logged as log_of_before}
+use Rattle.{norec_core.specs.OwnAccesses.got_in, write_set.specs.Rows.overlay}
 
 module _ (memory : ℕ → List ℕ) (cells : Cells) (e : Core) (t : IsTied cells e) (free : cells.clock % 2 ≡ 0 → cells.words ≡ memory (cells.clock / 2)) (fits : IsMemory (length cells.words) (memory (cells.clock / 2))) where
   -- ## The value is handed in

@@ -1,9 +1,8 @@
 -- What a call comes to in an irrevocable transaction, by the plain state that the attempt's calls alone lead to.
 use Rattle.std.proofs.Common.{◌≡◌, ℕ, suc, ◌/◌, Bool, true, false, List, length, Option, Some, slice_get, ap, ◌∙◌}
-use Rattle.event_rules.proofs.Common.{Attempt, Call, Cells, Commit, Core, Got, IsHeld, Next, Rows, State, Store, after, alone_whole, bytes_at, bytes_of, in_transaction, is_open, reply, stands_for, state_in}
-use Rattle.norec_core.specs.Held.{ComesTo}
+use Rattle.event_rules.proofs.Common.{Attempt, Call, Cells, ComesTo, Commit, Core, Got, IsHeld, Next, Rows, State, Store, after, alone_whole, bytes_at, bytes_of, in_transaction, is_open, reply, stands_for, state_in}
 use Rattle.norec_core.proofs.Engines.Machines.{commits}
-pub use Rattle.tx_runs.proofs.{ClockCalls.both_true, ClockCalls.no_true, ClockCalls.told_under, ClockCalls.wants_taking, EngineStates.stands_actions, EngineStates.stands_arena, EngineStates.stands_mode}
+pub use Rattle.run_rules.proofs.{ClockCalls.both_true, ClockCalls.no_true, ClockCalls.told_under, ClockCalls.wants_taking, EngineStates.stands_actions, EngineStates.stands_arena, EngineStates.stands_mode}
 
 -- the attempt's calls alone on the memory of its position lead to an open block, and the call comes to what the plain machine makes of it then
 pub record HasHeld (deepest : ℕ) (base : List ℕ) (cells cells' : Cells) (r : Rows) (o : Option Attempt) (mid new : Core) (call : Call) (what : Next) : Type 0 where

@@ -1,11 +1,8 @@
 -- An irrevocable attempt over a call that comes, and over a step.
 use Rattle.std.proofs.Common.{◌≡◌, ℕ, zero, suc, ◌/◌, true, false, List, Option, Some, slice_get, refl, sym, ap, subst, ◌∙◌, arith, unwrap_or, ◌+◌}
-use Rattle.event_rules.proofs.Common.{Actor, Answers, Asks, AsksFor, Attempt, Call, Cells, Core, Got, IsHeld, IsLawful, IsTied, Load, Next, Proceeds, Replied, Rows, Rules, StandsIn, State, Step, Store, active_of, after, alone_whole, asked_from, bytes_at, cells_after, found, handed_to, irrevocable_room, is_inside, reply, reserved, rests, slice_get-get_or, stage_from, stands_for}
-use Rattle.norec_core.specs.Held.{ComesTo}
+use Rattle.event_rules.proofs.Common.{Actor, Answers, Asks, AsksFor, Attempt, Call, Cells, ComesTo, Core, Got, IsFound, IsHeld, IsLawful, IsLoaded, IsTied, Load, Next, Proceeds, Replied, Rows, Rules, StandsIn, State, Step, Store, active_of, after, alone_whole, answers, asked_from, bytes_at, cells_after, found, got_stored, handed_to, irrevocable_room, is_inside, leaves, memory_after, none_got, reply, reserved, rests, shut_revocable, slice_get-get_or, stage_from, stands_for}
 use Rattle.event_rules.proofs.Engines.SoundSteps.{IsCalling, IsStepping, asked_row, mid, mid_step, rests as between_calls, same, waits, went}
 use Rattle.event_rules.proofs.Engines.HeldCalls.{HasHeld, held_same}
-use Rattle.norec_core.proofs.Engines.HeldStores.{IsLoaded, got_handed as got_stored, none_got, shut_revocable}
-use Rattle.norec_core.specs.Held.{IsFound, answers, leaves, memory_after}
 
 -- ## A call comes
 

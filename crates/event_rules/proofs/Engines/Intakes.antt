@@ -1,12 +1,8 @@
 -- The moment that a step and a call of the player share: the engine has taken in a value or a call, and what it gave is recorded next.
 use Rattle.std.proofs.Common.{◌≡◌, ◌≢◌, ◌⊎◌, None, ◌+◌, ◌*◌, ◌/◌, Bool, true, false, [], refl, ap, subst, ◌∙◌, sym, length, Some, ◌<◌, ◌≤◌, inl, inr, arith, ℕ}
-use Rattle.event_rules.proofs.Common.{Actor, Answer, AnswerFits, Answers, Asks, Attempt, BeginsAt, Call, Cells, Core, End, Ended, Ends, HasRow, IsActing, IsAnswered, IsAtOnce, IsDone, IsDue, IsNested, IsSettledBy, IsSound, IsTied, IsWaiting, Next, Proceeds, Ready, Records, RestsAs, Rows, Rules, Status, StatusIs, Step, Tells, Waits, active_of, asked, cases_Bool, count_of, ending_of, frees, in_transaction, is_ready, pending_of, rests, stage_of, wanted}
-use Rattle.world_rules.specs.Sound.{IsKept}
-use Rattle.norec_core.specs.Proceeds.{IsWithin}
+use Rattle.event_rules.proofs.Common.{Actor, Answer, AnswerFits, Answers, Asks, Attempt, BeganIn, BeginsAt, Call, Cells, Core, End, Ended, Ends, HasFew, HasFirst, HasPoints, HasRow, IsActing, IsAnswered, IsAtOnce, IsDone, IsDue, IsInCall, IsKept, IsNested, IsSettledBy, IsSound, IsTied, IsWaiting, IsWithin, LeavesRestarts, Next, Proceeds, Ready, Records, RestsAs, Rows, Rules, Status, StatusIs, Step, Tells, Waits, active_of, asked, cases_Bool, count_of, ending_of, frees, in_transaction, is_ready, pending_of, restarts_left, rests, row_same, stage_of, wanted}
 use Rattle.event_rules.{proofs.Engines.TiedEngines.answer_fits}
-use Rattle.world_rules.{proofs.Tries.Stages.row_same, specs.ActionRoom.BeganIn, specs.ActionRoom.HasFew, specs.ActionRoom.HasFirst, specs.Sound.HasPoints, specs.Sound.IsInCall, specs.Sound.LeavesRestarts}
 use Rattle.event_rules.proofs.Engines.RestartedEngines.{leaves_left}
-use Rattle.tx_runs.specs.Ranks.{restarts_left}
 
 pub ready_of : (s : Status) → is_ready s ≡ true → s ≡ Ready
 ready_of Ready e = refl

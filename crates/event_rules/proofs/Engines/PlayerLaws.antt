@@ -1,12 +1,9 @@
 -- The player's laws, over one answer: its depth, where it goes back to, and how much is left to do; and what comes of the answer once it is recorded.
 use Rattle.std.proofs.Common.{◌≡◌, ℕ, suc, ◌+◌, ◌/◌, ◌<◌, ◌≤◌, Bool, true, false, Some, refl, ap, subst, ◌∙◌, arith, nat_lt, [], Option, None, if◌then◌else◌, is_some, sym, ltb-false, List, length}
-use Rattle.event_rules.proofs.Common.{Actor, Answer, Attempt, Busy, Call, Committed, Conflict, Current, Done, End, Ended, Falls, Full, GaveUp, HasRow, IsAnswered, IsDeep, IsNested, IsSettledBy, Obeys, Ready, Records, Replied, Reply, Restarted, Rows, Rules, Savepoint, Stage, Status, Taken, TakesTo, begun_in, depth_after, in_transaction, open_in, over_as, pending_of, points_in, sent_back, stage_of, status_after, with_call}
-use Rattle.world_rules.proofs.Tries.Stages.{stage_begun, stage_open, stage_out, stand_at, taken_at, tally_at, told_again, told_nth, told_player, told_stage, within_at, tried_as, tried_at, is_cut}
-use Rattle.tx_runs.proofs.RestartsLeft.{left_most}
-use Rattle.world_rules.specs.Sound.{HasPoints}
-use Rattle.tx_attempts.specs.Restarts.{ran_on}
-use Rattle.tx_runs.{proofs.Players.Played, proofs.Players.nested_again, proofs.Players.nested_outside, proofs.Players.plays, proofs.Ranks.falls_back, proofs.Ranks.falls_close, proofs.Ranks.falls_reply, proofs.Ranks.falls_try, specs.Ranks.Falls as LessLeft, specs.Ranks.restarts_left, proofs.OpenCounts.open_deep, proofs.Players.is_opened, specs.Savepoints.cut_back, specs.Savepoints.savepoints_after, specs.Tallies.begins, specs.Tallies.outside}
-pub use Rattle.tx_runs.proofs.EngineDepths.{deep_of, was_open}
+use Rattle.event_rules.proofs.Common.{Actor, Answer, Attempt, Busy, Call, Committed, Conflict, Current, Done, End, Ended, Falls, Full, GaveUp, HasPoints, HasRow, IsAnswered, IsDeep, IsNested, IsSettledBy, LessLeft, Obeys, Ready, Records, Replied, Reply, Restarted, Rows, Rules, Savepoint, Stage, Status, Taken, TakesTo, begun_in, cut_back, depth_after, in_transaction, is_cut, left_most, open_deep, open_in, outside, over_as, pending_of, points_in, ran_on, restarts_left, savepoints_after, sent_back, stage_begun, stage_of, stage_open, stage_out, stand_at, status_after, taken_at, tally_at, told_again, told_nth, told_player, told_stage, tried_as, tried_at, with_call, within_at}
+use Rattle.run_rules.{proofs.Players.Played, proofs.Players.nested_again, proofs.Players.nested_outside, proofs.Players.plays, proofs.Ranks.falls_back, proofs.Ranks.falls_close, proofs.Ranks.falls_reply, proofs.Ranks.falls_try, proofs.Players.is_opened}
+use Rattle.tx_runs.{specs.Tallies.begins}
+pub use Rattle.run_rules.proofs.EngineDepths.{deep_of, was_open}
 use Rattle.tx_attempts.specs.declared.attempt.Outcome.TheVariants as outcomes
 
 -- ## The answer is recorded: the actor is between calls again, or has ended

@@ -1,18 +1,8 @@
 -- By which calls the innermost block may go back to its begin, and what that leaves of the engine.
 use Rattle.std.proofs.Common.{◌≡◌, ◌&&◌, not, nat_lt, ℕ, ◌+◌, ◌-◌, ◌<◌, ◌≤◌, Bool, true, false, List, [], ◌∷◌, ◌++◌, length, None, refl, sym, ap, subst, ◌∙◌, inl, inr, arith}
-use Rattle.std.proofs.lemmas.Bool.{and_parts, lt-ltb}
-use Rattle.nest_frames.specs.Nest.{renewed as blocks_renewed}
-use Rattle.norec_core.specs.Core.{is_within}
-use Rattle.norec_core.specs.Restarts.{Restarts}
+use Rattle.event_rules.proofs.Common.{Answer, Answers, Asks, Core, Ends, Frame, IsAtOnce, IsMemory, IsRestart, IsSettled, LeavesRestarts, Next, Proceeds, Ran, Restarted, Restarts, State, and_parts, blocks_renewed, cancel_runs, cases_Bool, in_transaction, is_inside, is_within, left_inside, left_most, left_outside, lt-ltb, may_go_back, restarts_left, rests, stands_arena, stands_for, total}
 use Rattle.norec_core.proofs.Engines.BlocksAgain.{restart_parts}
-use Rattle.norec_core.proofs.Replies.ActionCounts.{cancel_runs}
-use Rattle.tx_runs.proofs.RestartedLengths.{again_long, renewed_long}
-use Rattle.tx_runs.proofs.RestartsLeft.{left_inside, left_most, left_outside}
-use Rattle.world_rules.specs.ActionRoom.{may_go_back}
-use Rattle.world_rules.specs.Sound.{LeavesRestarts}
-use Rattle.tx_runs.specs.Ranks.{restarts_left}
-use Rattle.event_rules.proofs.Common.{Answer, Answers, Asks, Core, Ends, Frame, IsAtOnce, IsMemory, IsRestart, IsSettled, Next, Proceeds, Ran, Restarted, State, cases_Bool, in_transaction, is_inside, rests, stands_for, total}
-use Rattle.tx_runs.proofs.EngineStates.{stands_arena}
+use Rattle.run_rules.proofs.RestartedLengths.{again_long, renewed_long}
 
 -- ## Calls
 

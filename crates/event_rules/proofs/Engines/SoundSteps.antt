@@ -1,23 +1,14 @@
 -- A step was done, or a call of the player came: its value or the call went to the engine, and what the engine gave may be recorded.
 use Rattle.std.proofs.Common.{◌≡◌, ◌≢◌, ◌⊎◌, [], nat_lt, inl, ℕ, zero, suc, ◌+◌, ◌*◌, ◌/◌, ◌%◌, ◌<◌, ◌≤◌, ◌==◌, Bool, true, false, if◌then◌else◌, Option, None, Some, refl, sym, true≢false, ap, subst, ◌∙◌, arith, eqb-true, inr, length, unwrap_or}
-use Rattle.event_rules.proofs.Common.{Actor, AllFit, Answers, Asks, AsksAs, AsksFor, AsksOf, Attempt, Begin, BeginsAt, Call, Cas, Cells, ClocksOn, Core, Ended, Falls, HoldsOn, IsAsked, IsAtOnce, IsDone, IsPromised, IsLawful, IsNested, IsNoMore, IsReady, IsResumed, IsSettledBy, IsSound, IsTied, IsWaiting, Load, MayRunOn, Next, NoCancel, Phase, PlayerRun, Proceeds, Ready, RestsAs, Rows, Rules, Status, StatusIs, Step, Store, Tells, Waits, active_of, asked, asked_from, begins_again, begun_in, came, cells_after, cond_both, count_of, ending_of, found, handed_is, handed_to, in_transaction, irrevocable_room, is_inside, is_ready, is_waiting, may_go, none_inside, open_in, pending_of, rank, reserved, rests as rested, same_Some, stage_from, stage_of, told, total, wanted, whole}
-use Rattle.world_rules.specs.Sound.{GoesOn, steps_left}
-use Rattle.norec_core.specs.Order.{stage_at}
+use Rattle.event_rules.proofs.Common.{Actor, AllFit, Answers, Asks, AsksAs, AsksFor, AsksOf, Attempt, BacksIn, BeganIn, Begin, BeginsAt, Call, Cas, Cells, ClocksOn, Core, Ended, Falls, GoesOn, HasFew, HasPoints, HoldsOn, IsAsked, IsAtOnce, IsDone, IsLawful, IsNested, IsNoMore, IsPromised, IsReady, IsResumed, IsSettledBy, IsSound, IsTied, IsWaiting, Load, MayRunOn, NestsAs, Next, NoCancel, Phase, PlayerRun, Proceeds, Ready, RenewsAs, RestsAs, Rows, Rules, SameActor, Status, StatusIs, Step, Store, TakesIn, Tells, Waits, active_of, asked, asked_began, asked_begun, asked_from, asked_open, asked_points, begins_again, begun_in, came, came_restarted, cells_after, cond_both, count_of, ending_of, found, handed_is, handed_to, in_transaction, irrevocable_room, is_inside, is_ready, is_waiting, may_go, may_go_back, most, most_same, none_inside, open_in, pending_of, rank, rank_now, rank_of, reserved, restarts_left, rests as rested, row_open, row_same, same_Some, snapshot_from, stage_at, stage_from, stage_of, steps_left, told, told_in, total, wanted, whole}
 use Rattle.event_rules.proofs.Rooms.CallRoom.{promised_same, reserved_least, wanted_came, wanted_same}
 use Rattle.event_rules.proofs.Engines.ClockHolders.{clocks_of, clocks_still, clocks_twice, freed_by}
 use Rattle.event_rules.proofs.Engines.Intakes.{ClockMoves, HasTaken, in_call_of, ready_of}
 use Rattle.event_rules.proofs.Engines.TiedEngines.{IsMid, hands, held_even, holds_handed, clock_same, limit_same, tied, comes}
 use Rattle.event_rules.{proofs.Engines.RestartedEngines.left_same, proofs.Engines.RestartedEngines.may_same, proofs.Engines.RestartedEngines.revocable_back, proofs.Engines.RestartedEngines.restarted_more, proofs.Rooms.ActionRoom.gave_acting, proofs.Rooms.ActionRoom.registers_none, proofs.Rooms.HeldRoom.same_room, proofs.Rooms.LaterActions.first_here}
-use Rattle.world_rules.{proofs.Tries.Stages.asked_begun, proofs.Tries.Stages.asked_open, proofs.Tries.Stages.row_same, specs.LocalWork.SameActor, specs.LocalWork.TakesIn}
-use Rattle.norec_core.{proofs.Engines.KeptFields.most_same, specs.Keeps.Keeps, specs.Order.snapshot_from, specs.Proceeds.most, specs.declared.call_parts.Opening.Opening}
+use Rattle.norec_core.{specs.Keeps.Keeps, specs.declared.call_parts.Opening.Opening}
 use Rattle.norec_core.specs.Phases as at
-use Rattle.world_rules.specs.ActionRoom.{BacksIn, BeganIn, HasFew, NestsAs, RenewsAs, may_go_back}
-use Rattle.world_rules.specs.Sound.{HasPoints, rank_now}
-use Rattle.norec_core.proofs.Engines.KeptFields.{came_restarted}
 use Rattle.event_rules.proofs.Rooms.ActionRoom.{TakesRoom}
-use Rattle.world_rules.proofs.Tries.Stages.{asked_began, asked_points, row_open}
-use Rattle.tx_runs.specs.OpenAttempts.{told_in}
-use Rattle.tx_runs.specs.Ranks.{restarts_left, rank as rank_of}
 
 -- ## The clock over a step
 

@@ -1,9 +1,8 @@
 -- The engine and the cells, over one event: the engine's data stay as the cells have them.
 use Rattle.std.proofs.Common.{◌≡◌, List, [], None, ℕ, zero, suc, ◌+◌, ◌*◌, ◌/◌, ◌%◌, ◌^◌, ◌<◌, ◌≤◌, ◌==◌, Bool, true, false, length, Option, Some, slice_index, refl, sym, ap, subst, ◌∙◌, arith, if◌then◌else◌, eqb-true, length-set}
-use Rattle.event_rules.proofs.Common.{AllFit, Answer, AnswerFits, Answers, Asks, Begin, Busy, Call, Cas, Cells, Commit, Committed, Conflict, ConflictsIn, Core, Ends, Frame, Full, HoldsOn, Idle, IsBegin, IsLawful, IsSettled, IsTied, Load, Mode, Next, Proceeds, Reply, Restarted, Step, Store, WantsClock, after_undoing, both_ways, came, cells_after, cond-false, cond-true, cond_both, found, handed_to, in_transaction, is_begin, is_inside, none_inside, opening, reply_cases, rests, rolled_back, word_loaded}
-use Rattle.norec_core.proofs.Replies.ReplyCases.{replied_so}
+use Rattle.event_rules.proofs.Common.{AllFit, Answer, AnswerFits, Answers, AreRead, Asks, Begin, Busy, Call, Cas, Cells, Commit, Committed, Conflict, ConflictsIn, Core, Ends, Frame, Full, HoldsOn, Idle, IsBegin, IsLawful, IsLog, IsSettled, IsTied, Load, MAX_COMMITS, Mode, Next, Proceeds, Reply, Restarted, Step, Store, WantsClock, after_undoing, both_ways, came, cells_after, cond-false, cond-true, cond_both, found, handed_to, in_transaction, is_begin, is_inside, none_inside, opening, replied_so, reply_cases, rests, rolled_back, word_loaded}
 use Rattle.event_rules.proofs.Engines.RestartedEngines.{is_back}
-use Rattle.{itm_types.specs.declared.limits.TheConstants.MAX_COMMITS, norec_core.proofs.Accesses.Overlays.agreed, norec_core.specs.Proceeds.AreRead, norec_core.specs.Rows.IsLog, tx_runs.proofs.EngineDepths.reply_fits}
+use Rattle.{access_rules.proofs.Overlays.agreed, run_rules.proofs.EngineDepths.reply_fits}
 
 -- ## The engine with a call that came, or with the value of its step
 

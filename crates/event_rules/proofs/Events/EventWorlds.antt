@@ -1,19 +1,12 @@
 -- An actor of a world took an event, a step and the local work that follows it: the world that it leaves, and that the event says so.
 use Rattle.std.proofs.Common.{◌≡◌, ℕ, Bool, true, false, List, length-set, slice_get, slice_set, Option, None, Some, IsSome, refl, sym, ap, subst, ◌∙◌, arith}
-use Rattle.event_rules.proofs.Common.{Actor, AreOpaque, AreTied, Cells, ClocksOn, Continues, Finished, Goes, HasRead, HasStepped, HasWorked, IsEvent, IsWorld, KeepsOthers, Obeys, Rows, Rules, Tries, World, counted, ending_of, event_result, is_ready, is_waiting, observed, option_and_then, prior_of, same_Some, slice_get-set_same, slice_get_within, slice_index_or, waiting_step, waits_at}
-use Rattle.world_rules.specs.WorldEvents.{ActorGoes}
-use Rattle.world_rules.specs.Sound.{HasLess}
-use Rattle.world_rules.specs.Progress.{TellsCall, asks_further}
-use Rattle.world_rules.specs.World.{ending_at}
-use Rattle.world_rules.proofs.Tries.LaterTries.{continues_on}
+use Rattle.event_rules.proofs.Common.{Actor, ActorGoes, AreOpaque, AreTied, Cells, ClocksOn, Continues, Finished, Goes, HasLess, HasRead, HasStepped, HasWorked, IsEvent, IsWorld, KeepsOthers, Obeys, Rows, Rules, TellsCall, TellsCalls, Tries, World, asks_further, calls_of, continues_on, ending_at, ending_of, event_less, event_result, going_in, is_ready, is_waiting, lawful_at, observed, others_twice, prior_of, same_Some, slice_get-set_same, slice_get_within, slice_index_or, waiting_step, waits_at}
 use Rattle.event_rules.proofs.Events.FurtherSteps.{asks_as, waits_on}
 use Rattle.world_rules.proofs.Events.WorldEvents.{no_fault, told_event, waits_not_ended}
 use Rattle.event_rules.proofs.Runs.Others.{has_read, running_after, world_opaque, world_tied}
-use Rattle.std.specs.Option.{option_map_or}
-use Rattle.world_rules.specs.Progress.{TellsCalls}
-use Rattle.world_rules.specs.Stages.{calls_of}
+use Rattle.std.specs.Option.{option_map_or, option_and_then}
 use Rattle.event_rules.proofs.{Commits.CommitCounts.commits_after, Engines.ClockHolders.clocks_still, Engines.ClockHolders.clocks_twice, Engines.Intakes.ready_of, Engines.SoundSteps.rests, Events.SoundOthers.actors_after, Tries.Dates.dated_after, Tries.TryChains.tries_then}
-use Rattle.world_rules.proofs.{Events.Measures.event_less, Events.Worlds.going_in, Events.Worlds.lawful_at, Tries.Stages.others_twice}
+use Rattle.world_rules.specs.World.{counted}
 
 -- ## A step and its local work are one event
 

@@ -1,11 +1,7 @@
 -- Where a call in progress goes on: the engine, handed what its step found, stands at a further step just where it asks for one, and just then its actor waits once that is recorded.
 use Rattle.std.proofs.Common.{◌≡◌, ℕ, false, List, Option, None, Some, is_some, refl, sym, ap, ◌∙◌}
-use Rattle.itm_types.specs.declared.row.LogRow.{LogRow}
+use Rattle.event_rules.proofs.Common.{Actor, Answers, Asks, Call, Cells, Core, End, Idle, IsResumed, LogRow, Next, Phase, Proceeds, Rows, Rules, Status, Step, TakesIn, Tells, asked_from, asked_in, asks_further, is_step, is_waiting, rests, stage_after, status_after, waiting_step}
 use Rattle.write_set.specs.declared.row.Row.{Row}
-use Rattle.norec_core.specs.Order.{asked_in, stage_after}
-use Rattle.event_rules.proofs.Common.{Actor, Answers, Asks, Call, Cells, Core, End, Idle, IsResumed, Next, Phase, Proceeds, Rows, Rules, Status, Step, Tells, asked_from, is_waiting, rests, status_after, waiting_step}
-use Rattle.world_rules.specs.LocalWork.{TakesIn}
-use Rattle.world_rules.specs.Progress.{asks_further, is_step}
 
 -- the stage alone decides whether a step is asked for
 asks_by_stage : (log log' : List LogRow) (at at' : ℕ) (writes writes' : List Row) (bytes bytes' : List ℕ) (stage : Phase) → is_some (asked_in log at writes bytes stage) ≡ is_some (asked_in log' at' writes' bytes' stage)

@@ -1,12 +1,8 @@
 -- An event of one actor leaves the others sound.
 use Rattle.std.proofs.Common.{◌≡◌, ◌≢◌, ◌⊎◌, inl, inr, ℕ, zero, suc, ◌+◌, ◌%◌, ◌<◌, ◌≤◌, true, false, List, [], ◌∷◌, ◌++◌, length, length-append, Some, slice_get, slice_set, refl, sym, ap, subst, ◌∙◌, arith, eqb-true, ◌==◌, length-set, ◌/◌, is_some}
-use Rattle.event_rules.proofs.Common.{Actor, AllFit, AreActors, Attempt, Cells, ClocksOn, Ended, IsSound, IsTied, KeepsOthers, MAX_ACTORS, Ready, Rows, Rules, Stage, Status, StatusIs, Waits, both_ways, cases_Bool, count_in, count_of, false_from_ne_true, in_transaction, is_ready, slice_get-set_same, slice_get_within, stage_of, told}
-use Rattle.std.proofs.lemmas.Bool.{cases_lt, eqb-false}
-use Rattle.world_rules.specs.Stages.{count_all}
+use Rattle.event_rules.proofs.Common.{Actor, AllFit, AreActors, Attempt, Cells, ClocksOn, Ended, IsActor, IsInCall, IsSound, IsTied, KeepsOthers, MAX_ACTORS, Ready, Rows, Rules, Stage, Status, StatusIs, Waits, both_ways, cases_Bool, count_all, count_in, count_of, eqb-false, false_from_ne_true, in_transaction, is_ready, moved_begun, moved_count, moved_points, odd_or_even, others_same, outside, set_place, slice_get-set_other, slice_get-set_same, slice_get_within, stage_of, told, told_kept, within}
 use Rattle.event_rules.{proofs.Engines.TiedEngines.held_even, proofs.Rooms.ActionRoom.told_acting}
-use Rattle.world_rules.{proofs.Tries.Stages.moved_begun, proofs.Tries.Stages.moved_count, proofs.Tries.Stages.moved_points, proofs.Tries.Stages.others_same, proofs.Tries.ToldTries.told_kept, specs.Actors.IsActor, specs.Sound.IsInCall}
-use Rattle.{itm_types.proofs.Words.slice_get-set_other, tx_runs.specs.Tallies.begins, tx_runs.specs.Tallies.outside, tx_runs.specs.Tallies.within}
-use Rattle.world_rules.proofs.Events.Worlds.{odd_or_even, set_place}
+use Rattle.{tx_runs.specs.Tallies.begins}
 
 module _ {P : Type 0} (rules : Rules P) where
   -- another one, where the cells of the clock that it holds did not change

@@ -1,18 +1,11 @@
 -- Local work of an actor, one call of its player after the other: all that it leaves.
 use Rattle.std.proofs.Common.{◌≡◌, ℕ, zero, suc, true, false, List, ◌++◌, None, Some, refl, sym, ap, subst, ◌∙◌, arith}
-use Rattle.event_rules.proofs.Common.{Actor, Attempt, Call, Cells, Core, Ended, Finished, HasWorked, Idle, IsActing, IsPromised, IsDone, IsNoMore, IsSound, KeepsOthers, Next, Obeys, PlayerRun, Ready, Rows, Rules, Starves, StillRuns, Tells, Tries, after_undoing, cond_both, ending_of, in_transaction, is_ready, prior_of, rank, rolled_back, whole}
-use Rattle.world_rules.specs.LocalWork.{Acts, Works}
-use Rattle.world_rules.specs.Sound.{rank_now}
-use Rattle.world_rules.specs.Tries.{Extends}
-use Rattle.tx_runs.specs.Ranks.{restarts_left}
+use Rattle.event_rules.proofs.Common.{Actor, Acts, ActsOn, Attempt, Call, Cells, Core, Ended, Extends, Finished, HasWorked, Idle, IsActing, IsDone, IsNoMore, IsPromised, IsSound, KeepsOthers, Next, Obeys, PlayerRun, Ready, Rows, Rules, SameActor, Starves, StillRuns, Tells, Tries, Works, after_undoing, calls, cond_both, ending_of, extends_twice, finishes, in_transaction, is_ready, less_less, others_place, others_same, others_twice, prior_of, rank, rank_now, restarts_left, rolled_back, row_same, same_less, starves, whole}
 use Rattle.event_rules.proofs.Engines.RestartedEngines.{left_same}
-use Rattle.world_rules.proofs.Tries.LaterTries.{extends_twice}
-use Rattle.world_rules.proofs.Tries.Stages.{others_place, others_same, others_twice, row_same}
 use Rattle.event_rules.proofs.Runs.Calls.{call_runs, finish_runs, laid_calls, starve_runs, still_at}
 use Rattle.event_rules.proofs.Engines.SoundSteps.{IsCalling, call_less, call_taken, mid, player_same, rests, same_rank}
 use Rattle.event_rules.proofs.Engines.Intakes.{now, ready_of, recorded, still_going}
 use Rattle.event_rules.{proofs.Commits.CommitCounts.counted_after, proofs.Engines.TiedEngines.clock_same, proofs.Engines.TiedEngines.limit_same, proofs.Engines.TiedEngines.snapshot_still, proofs.Tries.AnswerEndings.not_finished, proofs.Tries.TryCalls.call_tries, proofs.Tries.TryCalls.finish_tries, proofs.Tries.TryCalls.starve_tries, proofs.Tries.TryChains.tries_still, proofs.Tries.TryChains.tries_then}
-use Rattle.world_rules.{proofs.Events.Measures.less_less, proofs.Events.Measures.same_less, specs.LocalWork.ActsOn, specs.LocalWork.SameActor, specs.LocalWork.calls, specs.LocalWork.finishes, specs.LocalWork.starves}
 
 not_still : {P : Type 0} {A : Type 0} (a : Actor P) → a.status ≡ Ready → is_ready a.status ≡ false → A
 not_still a ready n = absurd (let both : true ≡ false = ap is_ready (sym ready) ∙ n in cc)

@@ -1,19 +1,13 @@
 -- What an engine gives for a call leaves room for the actions that have run.
 use Rattle.std.proofs.Common.{◌≡◌, ℕ, ◌+◌, ◌/◌, ◌<◌, ◌≤◌, Bool, true, false, true≢false, [], length, is_some, Some, None, refl, sym, ap, subst, ◌∙◌, inl, inr, arith}
-use Rattle.itm_types.specs.Calls.{registered_by}
-use Rattle.world_rules.proofs.Tries.Stages.{moved_begun, moved_cancels, moved_ends, moved_open, open_only, row_open, row_shut}
-use Rattle.world_rules.specs.ActionRoom.{BacksIn, BeganIn, NestsAs, NestsBy, PromisesAs, RenewsAs, StartsEmpty, may_go_back}
+use Rattle.event_rules.proofs.Common.{Actor, Answer, Answers, Asks, AsksAs, AsksFor, Attempt, BacksIn, BeganIn, Call, Core, Current, Ended, Ends, HasPlace, HasRoomFor, HasRow, IsActing, IsRestart, IsSettled, LeavesActions, MayRunOn, NestsAs, NestsBy, Next, NoCancel, Outside, Proceeds, PromisesAs, Ran, Ready, RenewsAs, Restarted, StartsEmpty, Status, Step, Waits, Within, active_of, cancels_in, cases_Bool, ends_in, in_transaction, is_abort, is_held, may_go_back, moved_begun, moved_cancels, moved_ends, moved_open, moved_to, none-some, open_only, pending_of, registered_by, registers, rests, row_open, row_shut, stage_of, told, told_in, total, wanted}
 use Rattle.event_rules.proofs.Rooms.RestartRoom.{back_room, began_moved}
-use Rattle.tx_runs.specs.OpenAttempts.{told_in}
 use Rattle.event_rules.proofs.Rooms.CallRoom.{leaves_backed, promised_same, wanted_same}
 use Rattle.event_rules.proofs.Rooms.HeldRoom.{LeavesRoom, leaves_room, none_held, same_room}
-use Rattle.event_rules.proofs.Common.{Actor, Answer, Answers, Asks, AsksAs, AsksFor, Attempt, Call, Core, Current, Ended, Ends, HasRoomFor, HasRow, IsActing, IsRestart, IsSettled, LeavesActions, MayRunOn, Next, NoCancel, Outside, Proceeds, Ran, Ready, Restarted, Status, Step, Waits, Within, active_of, cancels_in, cases_Bool, ends_in, in_transaction, is_abort, is_held, moved_to, none-some, pending_of, rests, stage_of, told, total, wanted}
-use Rattle.world_rules.specs.ActionRoom.{HasPlace}
-use Rattle.norec_core.proofs.Replies.ActionCounts.{registers}
 use Rattle.event_rules.proofs.Rooms.LaterActions.{first_here}
 use Rattle.event_rules.proofs.Engines.RestartedEngines.{is_back}
-pub use Rattle.tx_runs.proofs.StepCalls.{registers_none}
-use Rattle.tx_runs.proofs.StepCalls.{cancels_register_none}
+pub use Rattle.run_rules.proofs.StepCalls.{registers_none}
+use Rattle.run_rules.proofs.StepCalls.{cancels_register_none}
 
 -- the call waits, or its innermost block went back
 abbrev pub TakesRoom : Next → Type 0

@@ -1,15 +1,8 @@
 -- What a call that comes, and its answer, leave of the places that the list of an irrevocable transaction's calls promises.
 pub use Rattle.tx_runs.proofs.OpenRooms.{reserved_least}
-use Rattle.tx_runs.proofs.OpenRooms.{none_asked}
 use Rattle.std.proofs.Common.{◌≡◌, ℕ, ◌+◌, ◌-◌, ◌≤◌, max, Bool, true, false, if◌then◌else◌, Option, None, Some, is_some, unwrap_or, refl, sym, ap, subst, ◌∙◌, inl, inr, arith}
-use Rattle.norec_core.specs.Proceeds.{MayStarve}
-use Rattle.world_rules.specs.LocalWork.{HasUsedUp}
+use Rattle.event_rules.proofs.Common.{Actor, Answer, Call, Core, Ends, HasUsedUp, IsPromised, IsRestart, IsSettled, MayStarve, MayStarveIn, Ready, Replied, Reply, asks_no_room, came, goes_in, goes_same, in_transaction, irrevocable_room, left_least, none_asked, plain_goes, promised, promised_held, promised_none, reply_cases, rests, room_left, starves_used, wanted}
 use Rattle.event_rules.proofs.Rooms.HeldRoom.{goes_in_same}
-use Rattle.tx_runs.proofs.IrrevocableCalls.{left_least, plain_goes, starves_used}
-use Rattle.event_rules.proofs.Common.{Actor, Answer, Call, Core, Ends, IsPromised, IsRestart, IsSettled, Ready, Replied, Reply, came, goes_in, goes_same, in_transaction, irrevocable_room, promised, reply_cases, rests, room_left, wanted}
-use Rattle.norec_core.specs.Proceeds.{MayStarveIn}
-use Rattle.tx_runs.proofs.IrrevocableCalls.{asks_no_room}
-use Rattle.tx_runs.proofs.OpenRooms.{promised_held, promised_none}
 
 -- ## An answer
 

@@ -1,18 +1,10 @@
 -- What a player that tells its room truly has left to call in an irrevocable transaction, over an answer: no more than its attempt has places for.
 use Rattle.std.proofs.Common.{◌≡◌, ℕ, zero, suc, ◌-◌, ◌<◌, ◌≤◌, ◌&&◌, not, Bool, true, false, true≢false, nat_lt, if◌then◌else◌, length, Option, None, Some, IsSome, unwrap_or, refl, sym, ap, subst, ◌∙◌, inl, inr, arith}
-use Rattle.world_rules.specs.PlayerRooms.{going_room}
-use Rattle.itm_types.specs.Calls.{abort_of, is_commit}
-use Rattle.itm_types.specs.declared.call.Reply.TheVariants.{Bytes, Code, Refused}
-use Rattle.std.proofs.lemmas.Bool.{ltb-false, ltb-true}
-use Rattle.tx_player.specs.Depth.{depth_by}
-use Rattle.norec_core.proofs.Replies.ReplyCases.{Ways}
-use Rattle.tx_runs.proofs.EngineReplies.{engine_may}
-use Rattle.tx_runs.proofs.TookIn.{OpensBy}
-use Rattle.world_rules.proofs.Tries.Stages.{begun_shut, open_by, row_open, row_shut, back_player, busy_player, conflict_player, reply_player, sent_same, stage_open, told_player, within_at}
+use Rattle.event_rules.proofs.Common.{Actor, Answer, Asks, Attempt, Begin, Busy, Bytes, Call, Cells, Code, Committed, Conflict, Core, Done, EndsWithin, Full, IsDeep, IsRestart, Mode, Obeys, OpensBy, Refused, Replied, Reply, Restarted, Rows, Rules, Step, TellsRoom, Waits, Ways, abort_of, active_of, back_player, begin_call, begun_in, begun_shut, busy_player, cases_Bool, cond-false, cond-true, conflict_player, depth_after, depth_by, engine_may, going_room, in_transaction, irrevocable_room, is_begin, is_commit, ltb-false, ltb-true, may_go, open_by, open_in, points_in, reply_cases, reply_player, row_open, row_shut, sent_same, stage_of, stage_open, stand_of, told_player, wanted, within_at}
 use Rattle.event_rules.proofs.Rooms.CallRoom.{wanted_as}
 use Rattle.event_rules.proofs.Engines.Intakes.{HasAnswered, HasTaken}
-use Rattle.event_rules.proofs.Common.{IsDeep, begun_in, open_in, points_in, stand_of, Actor, Answer, Asks, Attempt, Begin, Busy, Call, Cells, ComesTo, Committed, Conflict, Core, Done, EndsWithin, Full, IsRestart, Mode, Obeys, Replied, Reply, Restarted, Rows, Rules, Step, TellsRoom, Waits, active_of, begin_call, cases_Bool, cond-false, cond-true, depth_after, in_transaction, irrevocable_room, is_begin, may_go, reply_cases, stage_of, wanted}
 use Rattle.tx_player.specs.Replies.{MayReply}
+use Rattle.world_rules.specs.PlayerRooms.{ComesTo}
 
 -- ## Room
 

@@ -1,10 +1,7 @@
 -- What an answer leaves of the room of a transaction that is irrevocable, or becomes so.
 use Rattle.std.proofs.Common.{◌≡◌, ℕ, ◌+◌, ◌<◌, ◌≤◌, ◌||◌, Bool, true, false, true≢false, ◌⊎◌, if◌then◌else◌, Option, [], None, Some, is_some, unwrap_or, refl, sym, ap, subst, ◌∙◌, inl, inr, arith}
-use Rattle.tx_runs.proofs.IrrevocableCalls.{abort_runs, answered_idle, goes_no_action, goes_no_cancel, left_most, room_by_call}
-use Rattle.world_rules.specs.ActionRoom.{counted}
-use Rattle.itm_types.specs.declared.call.Call.TheVariants.{Abort}
-use Rattle.event_rules.proofs.Common.{Actor, Answer, Call, Core, Ends, Enters, HasRoomFor, IsRestart, IsSettled, LeavesActions, Replied, came, cancels_in, cases_Bool, ends_in, goes_in, goes_same, in_transaction, irrevocable_room, is_abort, is_held, reply_cases, rests, room_left, total}
-use Rattle.norec_core.specs.Proceeds.{RepliesHeld}
+use Rattle.event_rules.proofs.Common.{Abort, Actor, Answer, Call, Core, Ends, Enters, HasRoomFor, IsRestart, IsSettled, LeavesActions, Replied, RepliesHeld, abort_runs, answered_idle, came, cancels_in, cases_Bool, counted, ends_in, goes_in, goes_no_action, goes_no_cancel, goes_same, in_transaction, irrevocable_room, is_abort, is_held, reply_cases, rests, room_by_call, room_left, total}
+use Rattle.run_rules.proofs.IrrevocableCalls.{left_most}
 
 -- ## Whether a transaction is held
 

@@ -1,10 +1,7 @@
 -- How many of the actions that have come to run an actor's attempt tells, as its engine goes on.
 use Rattle.std.proofs.Common.{◌≡◌, ◌≤◌, Bool, true, false, length, Some, sym, ap, ◌∙◌, arith}
-use Rattle.std.proofs.lemmas.List.{length-append}
-use Rattle.norec_core.proofs.Replies.AnsweredEngines.{runs_on}
-use Rattle.event_rules.proofs.Common.{Actor, Attempt, Call, Core, HasRow, Next, Proceeds, Ran, active_of, in_transaction, none-some}
-use Rattle.tx_runs.specs.OpenAttempts.{told_in}
-pub use Rattle.tx_runs.proofs.GivenUp.{given_up_free, given_up_later, given_up_most}
+use Rattle.event_rules.proofs.Common.{Actor, Attempt, Call, Core, HasRow, Next, Proceeds, Ran, active_of, in_transaction, length-append, none-some, runs_on, told_in}
+pub use Rattle.run_rules.proofs.GivenUp.{given_up_free, given_up_later, given_up_most}
 
 -- the open attempt that told of all of them tells of no more than there are then
 pub first_here : {P : Type 0} (a : Actor P) (mid new : Core) (call : Call) (what : Next) (was : Bool) → in_transaction mid ≡ was → HasRow was a → mid.doing ≡ Some call → Proceeds mid what new

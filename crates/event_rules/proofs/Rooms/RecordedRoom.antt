@@ -1,21 +1,8 @@
 -- Once an answer is recorded there is room for what comes, and for what is left.
 use Rattle.std.proofs.Common.{inl, inr, if◌then◌else◌, suc, ℕ, ◌≡◌, ◌+◌, ◌<◌, ◌≤◌, Bool, true, false, [], ◌∷◌, List, drop, length, Option, None, Some, refl, sym, ap, subst, ◌∙◌, arith}
-use Rattle.std.proofs.lemmas.List.{length-append}
+use Rattle.event_rules.proofs.Common.{Actor, Answer, AsksAs, Attempt, BeganIn, Begins, Call, Core, Current, End, Ended, HasPoints, HasRow, IsActing, IsAnswered, IsPromised, IsRestart, KeepsPlaces, MayRun, MayTakeIn, NestsAs, NestsBy, NestsReady, NoCancel, OpensBy, Outside, Ran, Ready, Records, RenewsAs, Replied, Reply, Restarted, Rows, Rules, Savepoint, Stand, Status, Waits, Within, active_of, again_of, begun_in, begun_shut, cancels_in, count_undone, counted, cut_back, cut_told, earlier, ends_in, in_transaction, is_held, length-append, none-some, none_begun, open_by, open_calls, open_in, opened_by, opens_most, outside, pending_of, points_in, promised, same_Some, stage_of, stage_open, stage_out, stand_of, status_after, told_in, told_on, total, within}
 use Rattle.tx_attempts.proofs.KeptRecords.{before_short}
 use Rattle.tx_attempts.specs.declared.attempt.Again.{Again}
-use Rattle.tx_attempts.specs.Restarts.{before as earlier, count_undone, open_in as open_calls}
-use Rattle.tx_runs.proofs.OpenCounts.{cut_told, told_on}
-use Rattle.tx_runs.proofs.OpenRooms.{opens_most}
-use Rattle.tx_runs.specs.OpenAttempts.{told_in}
-use Rattle.tx_runs.specs.Savepoints.{again_of, cut_back}
-use Rattle.tx_runs.proofs.TookIn.{OpensBy}
-use Rattle.tx_runs.specs.PlayerRuns.{MayTakeIn}
-use Rattle.tx_runs.specs.Tallies.{outside}
-use Rattle.world_rules.specs.Sound.{HasPoints}
-use Rattle.world_rules.specs.ActionRoom.{BeganIn, IsPromised, MayRun, RenewsAs, NestsAs, NestsBy, NestsReady, counted, opened_by}
-use Rattle.world_rules.proofs.Tries.Stages.{begun_shut, none_begun, open_by, stage_open, stage_out}
-use Rattle.event_rules.proofs.Common.{Actor, Answer, AsksAs, Attempt, Begins, Call, Core, Current, End, HasRow, IsActing, IsAnswered, IsRestart, NoCancel, Outside, Ran, Ready, Records, Replied, Reply, Restarted, Rows, Rules, Savepoint, Stand, Status, Waits, Ended, Within, active_of, begun_in, cancels_in, ends_in, in_transaction, is_held, none-some, open_in, pending_of, points_in, promised, same_Some, stage_of, stand_of, status_after, total, within}
-use Rattle.tx_runs.specs.PlayerRuns.{KeepsPlaces}
 use Rattle.event_rules.proofs.Rooms.ActionRoom.{none_acting}
 use Rattle.event_rules.proofs.Rooms.RestartRoom.{began_after, began_back}
 

@@ -1,19 +1,10 @@
 -- The room for a block that goes back to its begin, and what the attempt has then.
 use Rattle.std.proofs.Common.{◌≡◌, ℕ, suc, ◌≤◌, Bool, true, false, List, [], ◌∷◌, ◌++◌, drop, length, map, Option, None, Some, refl, sym, ap, ◌∙◌, arith}
-use Rattle.std.proofs.lemmas.List.{length-append, length-take}
-use Rattle.itm_types.specs.Calls.{abort_of, is_commit}
-use Rattle.itm_types.specs.declared.call.Reply.TheVariants.{Bytes, Code, Done, Refused}
-use Rattle.tx_attempts.specs.declared.attempt.CallRecord.{CallRecord}
-use Rattle.tx_attempts.specs.Restarts.{open_after, open_by, open_in as open_calls}
-use Rattle.tx_runs.proofs.CallsAlone.{kept_by}
-use Rattle.tx_runs.proofs.OpenCalls.{open_cut, open_snoc}
-use Rattle.tx_runs.specs.OpenAttempts.{BeganBy, told_in}
-use Rattle.tx_runs.specs.PlayerRuns.{MayGoBack}
-use Rattle.tx_runs.specs.Savepoints.{cut_back, savepoints_after}
-use Rattle.tx_runs.proofs.OpenCounts.{due_told}
-use Rattle.world_rules.specs.ActionRoom.{BacksIn, BeganIn, BeganWith}
+use Rattle.event_rules.proofs.Common.{Attempt, BacksIn, BeganBy, BeganIn, BeganWith, Begins, Bytes, CallRecord, Code, Core, Current, Done, MayGoBack, Outside, Ran, Refused, Replied, Savepoint, Within, abort_of, cut_back, due_told, is_begin, is_commit, length-append, length-take, moved_to, open_after, open_calls, open_in, savepoints_after, stage_of, stand_of, told_in, total, within}
+use Rattle.tx_attempts.specs.Restarts.{open_by}
+use Rattle.run_rules.proofs.CallsAlone.{kept_by}
+use Rattle.run_rules.proofs.OpenCalls.{open_cut, open_snoc}
 use Rattle.event_rules.proofs.Engines.RestartedEngines.{IsBack}
-use Rattle.event_rules.proofs.Common.{Attempt, Begins, Core, Current, Outside, Ran, Replied, Savepoint, Within, is_begin, moved_to, open_in, stage_of, stand_of, total, within}
 
 -- ## Before it
 

@@ -1,22 +1,14 @@
 -- An actor's run, once an answer is recorded.
 use Rattle.std.proofs.Common.{◌≡◌, ℕ, ◌/◌, ◌%◌, ◌<◌, ◌≤◌, Bool, true, false, List, [], ◌∷◌, ◌++◌, Option, None, Some, refl, sym, true≢false, ap, subst, ◌∙◌, arith, inl, inr}
-use Rattle.event_rules.proofs.Common.{Actions, Actor, Agrees, Answers, Attempt, Between, Call, Cells, ComesTo, Core, End, GaveUp, IsBeforeTry, IsMadeAlone, IsMemory, IsRun, IsRunOf, IsTied, IsTryAt, NoMemory, Obeys, Ran, Replied, Reply, Restarted, Rows, Rules, RunsFrom, Savepoint, State, TellsRoom, active_of, after, after_try, alone_whole, append-nil, breaks_of, bytes_at, bytes_of, ending_of, in_transaction, is_open, none-some, of_thread, open_in, opened, pending_of, reply as plainly, reply_cases, run_after, run_with, stage_of, stands_for, state_then, with_call, within, words_at}
-use Rattle.world_rules.specs.Runs.{IsInTry}
-use Rattle.itm_model.specs.Machine.{undone}
-use Rattle.world_rules.proofs.Tries.Stages.{is_cut, taken_at, told_again, told_nth, told_player, told_stage}
-use Rattle.tx_attempts.proofs.ToldRuns.{telling}
-use Rattle.tx_attempts.specs.Restarts.{ran_on}
-use Rattle.tx_runs.proofs.Begins.{before_same}
-use Rattle.tx_runs.proofs.RunLists.{of_thread_own}
-use Rattle.tx_runs.proofs.TriesBack.{back_on}
-use Rattle.tx_runs.proofs.TriesHeld.{enters_on, held_on}
-use Rattle.tx_runs.proofs.TriesReply.{replies_on}
-use Rattle.tx_runs.specs.OpenTries.{IsOpenTry, ReadsFrom}
-use Rattle.tx_runs.specs.Savepoints.{cut_back, savepoints_after}
+use Rattle.event_rules.proofs.Common.{Actions, Actor, Agrees, Answers, Attempt, Between, Call, Cells, Core, End, GaveUp, IsBeforeTry, IsInTry, IsMadeAlone, IsMemory, IsOpenTry, IsRun, IsRunOf, IsTied, IsTryAt, NoMemory, Obeys, Ran, ReadsFrom, Replied, Reply, Restarted, Rows, Rules, RunsFrom, Savepoint, State, TellsRoom, active_of, after, after_try, alone_whole, append-nil, before_same, breaks_of, bytes_at, bytes_of, cut_back, ending_of, in_transaction, is_cut, is_open, none-some, of_thread, of_thread_own, open_in, opened, pending_of, ran_on, reply as plainly, reply_cases, run_after, run_with, savepoints_after, stage_of, stands_for, state_then, taken_at, telling, told_again, told_nth, told_player, told_stage, undone, with_call, within, words_at}
+use Rattle.run_rules.proofs.TriesBack.{back_on}
+use Rattle.run_rules.proofs.TriesHeld.{enters_on, held_on}
+use Rattle.run_rules.proofs.TriesReply.{replies_on}
 use Rattle.event_rules.proofs.Commits.SeenMemories.{HasSeen, memory_at, same_at}
 use Rattle.event_rules.proofs.Engines.Intakes.{HasAnswered, half_same}
 use Rattle.event_rules.proofs.Tries.OpenTries.{closes_over, made_over, open_over, reply_over, stands_over, stays_over, stops_over}
 use Rattle.event_rules.proofs.Engines.HeldCalls.{HasHeld, stands_actions}
+use Rattle.world_rules.specs.PlayerRooms.{ComesTo}
 
 pub top : (n : ℕ) → n ≤ n
 top n = omega arith

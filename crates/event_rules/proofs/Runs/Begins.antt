@@ -1,18 +1,12 @@
 -- An actor's run between two tries: calls outside a transaction, and begins.
 use Rattle.std.proofs.Common.{◌≡◌, ◌⊎◌, ℕ, ◌/◌, ◌≤◌, Bool, true, false, List, [], ◌++◌, None, Some, refl, sym, true≢false, ap, subst, ◌∙◌, arith, is_some, inl, inr}
-use Rattle.event_rules.proofs.Common.{Actor, Agrees, Answer, Attempt, Begin, Between, Busy, Call, Cells, Committed, Conflict, ConflictsIn, Core, Enters, Full, IsBeforeTry, IsLost, IsMemory, IsRun, Obeys, Outcome, Props, Ready, Replied, Replies, Reply, Restarted, Rows, Rules, Stage, Stand, TakesTo, Tally, active_of, alone_whole, append-nil, backed, begin_call, begun_in, bytes_at, ending_of, in_transaction, is_inside, may_go, none-some, open_in, over_as, plain_reply, reply_cases, same_Some, sent_back, stage_of, stand_of, stands_for, tally_of, tried, within, words_at}
-use Rattle.norec_core.specs.Effects.{blocks_after}
-use Rattle.norec_core.proofs.Engines.Blocks.{inside_all}
+use Rattle.event_rules.proofs.Common.{Actor, Agrees, Answer, Attempt, Begin, Between, Busy, Call, Cells, Committed, Conflict, ConflictsIn, Core, Enters, Full, IsBeforeTry, IsLost, IsMemory, IsOpenTry, IsRun, Obeys, Outcome, Props, Ready, Replied, Replies, Reply, Restarted, Rows, Rules, Stage, Stand, TakesTo, Tally, active_of, alone_whole, append-nil, backed, before_past, before_same, begin_call, begin_may, begun_in, blocks_after, bytes_at, ending_of, in_transaction, inside_all, is_inside, is_tried, may_go, none-some, open_in, over_as, plain_reply, reply_cases, same_Some, sent_back, sent_same, served_outside, stage_of, stand_of, stands_for, tally_of, tried, within, words_at}
 use Rattle.tx_attempts.specs.declared.attempt.Outcome.TheVariants as outcomes
-use Rattle.world_rules.proofs.Tries.Stages.{is_tried, sent_same}
 use Rattle.event_rules.proofs.Runs.Answers.{RunOf, gave_run, now_at, open_run, run_same, shut_run, top}
-use Rattle.tx_runs.proofs.Begins.{before_past, before_same}
-use Rattle.tx_runs.proofs.OutermostBegins.{begin_may, served_outside}
 use Rattle.event_rules.proofs.Tries.TryEnds.{IsBegun, RepliedOutside, begun_or_not, next_try}
 use Rattle.event_rules.proofs.Commits.SeenMemories.{HasSeen, memory_at, same_at}
 use Rattle.event_rules.proofs.Engines.Intakes.{HasAnswered, half_same, still_going}
-use Rattle.tx_runs.proofs.TriesBegin.{IsToOpen, begin_leaves, begins_held, begins_on}
-use Rattle.tx_runs.specs.OpenTries.{IsOpenTry}
+use Rattle.run_rules.proofs.TriesBegin.{IsToOpen, begin_leaves, begins_held, begins_on}
 
 -- where no attempt was open none is over
 pub none_over : (outcome : Outcome) (stand : Stand) (s : Stage) → open_in s ≡ None → over_as outcome stand s ≡ []

@@ -1,18 +1,11 @@
 -- An actor's run over a call, up to its first step, and over a step.
-use Rattle.tx_runs.proofs.OpenRooms.{reserved_more}
-use Rattle.world_rules.specs.LocalWork.{Stays}
 use Rattle.event_rules.proofs.Tries.ReadPositions.{still_reads}
-use Rattle.tx_runs.proofs.GivenUp.{given_up_as}
+use Rattle.run_rules.proofs.GivenUp.{given_up_as}
 use Rattle.std.proofs.Common.{unwrap_or, ◌≡◌, ℕ, ◌/◌, ◌<◌, ◌≤◌, ◌&&◌, Bool, true, false, not, List, [], ◌∷◌, ◌++◌, ◌+◌, Some, refl, sym, true≢false, ap, subst, ◌∙◌, arith, None, inl, inr}
-use Rattle.std.proofs.lemmas.Bool.{and_right, not_from_true}
-use Rattle.event_rules.proofs.Common.{Actor, AreCounted, AreLaid, Attempt, Begin, Between, Call, Cells, ComesTo, Commit, Core, Ended, EndsWithin, HasRow, Idle, IsBeforeTry, IsDeep, IsDone, IsHeld, IsNested, IsRun, IsSettled, IsSound, Next, Obeys, PlayerRun, Props, Ready, Rows, Rules, RunsFrom, Sees, Stage, Starves, Status, Step, StillRuns, Tells, active_of, append-nil, begins_again, begun_in, bytes_at, cases_Bool, cond-false, cond-true, ending_as, ending_of, found, handed_is, handed_to, in_transaction, irrevocable_room, is_inside, may_go, open_in, over_as, pending_of, reserved, rolled_back, same_Some, stage_of, stand_of, told, with_room, within, words_at}
-use Rattle.tx_runs.specs.Runs.{begins_at}
-use Rattle.norec_core.proofs.Engines.HeldStores.{shut_revocable}
+use Rattle.event_rules.proofs.Common.{Actor, AreCounted, AreLaid, Attempt, Begin, Between, Call, Cells, Commit, Core, Ended, EndsWithin, HasRow, Idle, IsBeforeTry, IsDeep, IsDone, IsHeld, IsNested, IsOpenTry, IsRun, IsSettled, IsSound, Next, Obeys, PlayerRun, Props, Ready, Rows, Rules, RunsFrom, Sees, Stage, Starves, Status, Stays, Step, StillRuns, Tells, active_of, and_right, append-nil, asked_at, asked_begun, before_led, before_same, begin_here, begins_again, begins_at, begun_in, bytes_at, bytes_stay, came_on, cases_Bool, cond-false, cond-true, ending_as, ending_of, found, handed_is, handed_on, handed_to, in_transaction, irrevocable_room, is_inside, may_begin, may_go, moved_begun, moved_open, moved_stage, not_from_true, open_in, over_as, pending_of, reserved, reserved_more, restarts_left, rolled_back, row_is_of, same_Some, shut_revocable, stage_of, stage_out, stand_of, told, told_active, told_player, with_room, within, words_at}
 use Rattle.tx_attempts.specs.declared.attempt.Outcome.TheVariants as outcomes
 use Rattle.tx_runs.specs.declared.ending.End.TheVariants as ends
-use Rattle.world_rules.proofs.Tries.Stages.{asked_at, asked_begun, moved_begun, moved_open, moved_stage, row_is_of, stage_out, told_active, told_player}
 use Rattle.event_rules.proofs.Engines.SoundSteps.{IsCalling, asked_row, call_taken, mid, player_same, rests, IsStepping, mid_step, same, step_taken, waits, went}
-use Rattle.world_rules.proofs.Commits.Memories.{bytes_stay}
 use Rattle.event_rules.proofs.Commits.LaidWords.{laid_on, laid_same}
 use Rattle.event_rules.proofs.Runs.Intakes.{runs_recorded}
 use Rattle.event_rules.proofs.Engines.HeldMoves.{call_held, step_held}
@@ -23,13 +16,10 @@ use Rattle.event_rules.proofs.Engines.Intakes.{recorded, now, still_going}
 use Rattle.event_rules.proofs.Rooms.FedPlayers.{HasLeft, answered_left, more_within, none_within, waits_left}
 use Rattle.event_rules.proofs.Runs.Answers.{RunOf, before_as, idle_from, now_at, open_run, run_on, run_same, top}
 use Rattle.event_rules.proofs.Runs.Endings.{stop_run}
-use Rattle.tx_runs.proofs.Begins.{before_led, before_same, begin_here}
 use Rattle.event_rules.proofs.Runs.Begins.{none_over}
-use Rattle.tx_runs.proofs.OutermostBegins.{may_begin}
-use Rattle.tx_runs.proofs.TriesStep.{came_on, handed_on, told_on}
-use Rattle.tx_runs.specs.OpenTries.{IsOpenTry}
-use Rattle.tx_runs.specs.Ranks.{restarts_left}
+use Rattle.run_rules.proofs.TriesStep.{told_on}
 use Rattle.std.proofs.Math.Bool.{and-true}
+use Rattle.world_rules.specs.PlayerRooms.{ComesTo}
 
 -- ## How many blocks may be open
 

@@ -1,26 +1,14 @@
 -- An actor's run, once its attempt has ended.
 use Rattle.std.proofs.Common.{◌≡◌, ℕ, ◌+◌, ◌/◌, ◌≤◌, Bool, true, false, if◌then◌else◌, List, [], ◌∷◌, ◌++◌, length, map, Option, Some, refl, sym, true≢false, ap, subst, ◌∙◌, arith, inl, inr}
-use Rattle.event_rules.proofs.Common.{Actions, Actor, Agrees, Answers, Attempt, Between, Call, CallRecord, Cells, ClosedBy, Commit, Committed, Conflict, Conflicts, ConflictsIn, Core, Done, Full, IsRun, Next, Obeys, Outcome, Ran, Replied, Reply, Rows, Rules, State, TakesTo, Tally, WantsClock, active_of, after, after_try, alone, alone_led, alone_whole, backed, begun_in, by_wrote, bytes_at, bytes_of, cancels, cases_Bool, closed as closed_by, ending_as, ending_of, false_from_ne_true, in_transaction, is_done, is_open, open_in, plain_reply, reply as plainly, spent, stands_for, state_in, try_stops, with_call, within, words_at}
-use Rattle.tx_attempts.specs.Opacity.{EndsAs, LacksClock, answered_all, begin_code, takes_clock}
-use Rattle.norec_core.specs.Effects.{recoded}
-use Rattle.norec_core.proofs.Replies.AnsweredEngines.{told_plainly}
-use Rattle.itm_model.specs.Machine.{undone}
-use Rattle.norec_core.specs.Held.{ComesTo}
-use Rattle.tx_attempts.specs.Opacity.{ran_of}
+use Rattle.event_rules.proofs.Common.{Actions, Actor, Agrees, Answers, Attempt, Between, Call, CallRecord, Cells, ClosedBy, ComesTo, Commit, Committed, Conflict, Conflicts, ConflictsIn, Core, Done, EndsAs, Full, IsRun, LacksClock, Next, Obeys, Outcome, Ran, ReadsFrom, Replied, Reply, Rows, Rules, State, TakesTo, Tally, WantsClock, active_of, after, after_try, alone, alone_led, alone_whole, answered_all, backed, begin_code, begun_in, by_wrote, bytes_at, bytes_of, cancelled, cancels, cases_Bool, closed as closed_by, closing_after, closing_left, ending_as, ending_of, false_from_ne_true, in_transaction, is_done, is_open, is_tried, lacks_clock, open_in, plain_reply, ran_of, recoded, reply as plainly, row_is_of, spent, stand_at, stands_for, stands_open, state_in, taken_at, takes_clock, tally_at, telling, told_again, told_nth, told_pending, told_plainly, told_player, try_closes, try_of_room, try_stops, undone, with_call, within, within_at, words_at}
 use Rattle.tx_attempts.specs.declared.attempt.Outcome.TheVariants as outcomes
-use Rattle.world_rules.proofs.Tries.Stages.{is_tried, row_is_of, stand_at, taken_at, tally_at, told_again, told_nth, told_pending, told_player, within_at}
-use Rattle.tx_runs.proofs.EngineReplies.{cancelled}
 use Rattle.event_rules.proofs.Engines.HeldCalls.{CommitsTo, HasHeld, commits_over, stands_actions, stands_arena, stands_mode, wants_taking}
 use Rattle.event_rules.proofs.Runs.Answers.{Made, RunOf, closes_at, ended_run, gave_run, led, made_at, now_at, open_at, reads_last, reply_at, rests_run, stands_at, stays_at, stops_at, told_ran, top, whole_led}
 use Rattle.event_rules.proofs.Tries.OpenTries.{agree_reads}
-use Rattle.tx_attempts.proofs.ToldRuns.{telling}
-use Rattle.tx_runs.specs.OpenTries.{ReadsFrom}
 use Rattle.event_rules.proofs.Commits.SeenMemories.{HasSeen, memory_at}
-use Rattle.tx_runs.proofs.EngineStates.{stands_open}
 use Rattle.event_rules.proofs.Engines.Intakes.{HasAnswered}
 use Rattle.event_rules.proofs.Tries.TryEnds.{next_try}
-use Rattle.tx_runs.proofs.PlainCalls.{commit_reply}
-use Rattle.tx_runs.proofs.Tries.{closing_after, closing_left, lacks_clock, try_closes, try_of_room}
+use Rattle.run_rules.proofs.PlainCalls.{commit_reply}
 
 -- the attempt once it has committed
 abbrev pub committed_row : Bool → ℕ → Core → Call → Attempt → Attempt

@@ -1,19 +1,12 @@
 -- A value or a call was taken in, and what the engine gave is recorded: the actor's run goes on, and the words are still those that the commits left.
 use Rattle.std.proofs.Common.{◌≡◌, ℕ, suc, ◌+◌, ◌/◌, ◌≤◌, ◌==◌, Bool, true, false, List, [], ◌∷◌, ◌++◌, Option, None, Some, refl, sym, true≢false, ap, subst, ◌∙◌, arith, eq-eqb, append-nil, length, inl, inr}
-use Rattle.event_rules.proofs.Common.{Actor, Agrees, Answer, Answers, AreCounted, AreLaid, Asks, Attempt, Between, Busy, Call, Cells, Committed, Conflict, Core, Full, HasRow, IsDone, IsHeld, IsRun, Loaded, Next, NoMemory, Obeys, Replied, Reply, Restarted, Rows, Rules, Sees, StandsIn, State, Step, Tells, Waits, active_of, after, alone, alone_whole, backed, bytes_at, cond-true, ending_of, frees, in_transaction, is_open, open_in, opened, reply_cases, rests, same_Some, stands_for, with_call, words_at}
-use Rattle.tx_attempts.specs.Attempts.{committed_at, memory_left}
+use Rattle.event_rules.proofs.Common.{Actor, Agrees, Answer, Answers, AreCounted, AreLaid, Asks, Attempt, Between, Busy, Call, Cells, Committed, Conflict, Core, Full, HasRow, IsDone, IsHeld, IsRun, Loaded, Next, NoMemory, Obeys, Replied, Reply, Restarted, Rows, Rules, Sees, StandsIn, State, Step, Tells, Waits, active_of, after, alone, alone_whole, asks_on, backed, bytes_at, bytes_stay, committed_at, cond-true, ending_of, found_later, frees, in_transaction, is_open, memory_left, none_next, open_by, open_in, opened, ran_on, reply_cases, restarts_left, rests, same_Some, stands_for, stands_open, taken_at, told_active, with_call, words_at}
 use Rattle.event_rules.proofs.Tries.OpenTries.{agree_reads}
 use Rattle.tx_attempts.proofs.RunsAgain.{state_more_in}
-use Rattle.tx_attempts.specs.Restarts.{ran_on}
-use Rattle.tx_runs.proofs.TriesStep.{asks_on}
-use Rattle.tx_runs.specs.Ranks.{restarts_left}
 use Rattle.event_rules.proofs.Commits.LaidWords.{laid_more, laid_on}
-use Rattle.world_rules.proofs.Commits.Memories.{bytes_stay, found_later, none_next}
 use Rattle.event_rules.proofs.Runs.Answers.{back_runs, before_as, held_position, reply_runs, run_on, stands_at, top}
 use Rattle.event_rules.proofs.Runs.Endings.{cancel_runs, commit_ended, committed_row, commit_memory, commit_runs, conflict_runs, full_runs}
 use Rattle.event_rules.proofs.Engines.HeldCalls.{HasHeld, stands_mode}
-use Rattle.world_rules.proofs.Tries.Stages.{open_by, taken_at, told_active}
-use Rattle.tx_runs.proofs.EngineStates.{stands_open}
 use Rattle.event_rules.proofs.Runs.Begins.{begin_holds, shut_runs}
 use Rattle.event_rules.proofs.Commits.SeenMemories.{HasSeen, memory_at}
 use Rattle.event_rules.proofs.Engines.Intakes.{HasAnswered, HasTaken, answered, still_going, clock_grows, half_same, unfreed}

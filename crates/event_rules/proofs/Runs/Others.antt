@@ -1,27 +1,14 @@
 -- The actors' runs: one's event leaves the others', and together they are the headline.
 use Rattle.std.proofs.Common.{◌≡◌, ◌≢◌, inl, inr, ℕ, ◌/◌, ◌%◌, ◌≤◌, Bool, true, false, List, [], ◌∷◌, ◌++◌, length, length-set, replicate, Option, Some, ◌+◌, ◌<◌, slice_get, slice_set, refl, sym, ap, subst, ◌∙◌, arith, nat_lt}
-use Rattle.event_rules.proofs.Common.{Actor, Agrees, AllFit, AllOf, AreActors, AreDated, AreLaid, AreOfActors, AreOpaque, AreTied, Attempt, Between, Cells, ClocksOn, Core, Current, Got, HasRead, HasRow, IsHeld, IsMadeAlone, IsMemory, IsRunOf, IsTied, IsTryAt, IsWorld, KeepsOthers, Obeys, Outside, Ready, Rows, Rules, RunsFrom, StandsIn, State, StillRuns, World, active_of, alone, alone_led, alone_whole, append-nil, attempts_of, backed, begun_in, breaks_of, bytes_at, bytes_of, cases_Bool, count_at, count_committed, first_of, in_transaction, is_open, le-ltb, observed, of_thread, one_where, open_in, opened, opening, run_after, run_with, same_Some, slice_get_within, stage_of, state_then, try_stops, with_open, words_at, words_of, words_of-bytes_of, write_at}
-use Rattle.event_rules.specs.Invariant.{AreRunning}
-use Rattle.tx_runs.proofs.RunLists.{run_still}
+use Rattle.event_rules.proofs.Common.{Actor, Agrees, AllFit, AllOf, AreActors, AreDated, AreLaid, AreOfActors, AreOpaque, AreOutrun, AreRunning, AreTied, Attempt, Between, Cells, ClocksOn, Core, Current, Got, HasRead, HasRow, IsHeld, IsMadeAlone, IsMemory, IsRunOf, IsTied, IsTryAt, IsWorld, KeepsOthers, Obeys, Outside, ReadsFrom, Ready, RestartAtMost, Rows, Rules, RunsFrom, StandsIn, State, StillRuns, World, active_of, alone, alone_led, alone_whole, append-nil, attempts_of, backed, begun_in, breaks_of, bytes_at, bytes_of, bytes_stay, bytes_still, cases_Bool, count_at, count_committed, first_of, in_transaction, is_open, le-ltb, length-bytes_of, observed, of_thread, of_thread_more, one_where, open_in, opened, opening, opens, positioned_on, row_open, row_unfinished, run_after, run_still, run_with, same_Some, set_place, slice_get_within, stage_of, state_then, there_is, try_stops, with_open, words_at, words_of, words_of-bytes_of, write_at}
 use Rattle.tx_attempts.specs.declared.attempt.Outcome.TheVariants as outcomes
-use Rattle.tx_attempts.specs.Outrun.{AreOutrun}
 use Rattle.event_rules.proofs.Tries.Dates.{all_dated, all_few}
-use Rattle.tx_runs.proofs.TriesStep.{positioned_on}
-use Rattle.tx_runs.specs.OpenTries.{ReadsFrom}
-use Rattle.tx_runs.specs.Restarts.{RestartAtMost}
-use Rattle.world_rules.proofs.Events.Worlds.{set_place}
 use Rattle.event_rules.proofs.Events.SoundOthers.{held_apart, odd_held}
-use Rattle.tx_runs.proofs.RunLists.{there_is}
-use Rattle.world_rules.proofs.Tries.Stages.{row_open, row_unfinished}
-use Rattle.world_rules.specs.Stages.{opens}
 use Rattle.event_rules.proofs.Runs.Answers.{before_as, idle_from, rests_run, run_on, top}
 use Rattle.event_rules.proofs.Tries.OpenTries.{agree_reads, made_over, open_over, ran_over, stands_over, stays_over}
 use Rattle.event_rules.proofs.Engines.HeldCalls.{stands_mode}
-use Rattle.itm_types.proofs.Words.{length-bytes_of}
 use Rattle.event_rules.proofs.Commits.CommitCounts.{counted_both}
 use Rattle.event_rules.proofs.Commits.OutrunConflicts.{outrun_both}
-use Rattle.world_rules.proofs.Commits.Memories.{bytes_still, bytes_stay}
-use Rattle.tx_runs.proofs.RunLists.{of_thread_more}
 use Rattle.event_rules.proofs.Tries.ThreadAttempts.{are_open, of_actors_all, of_actors_both, of_actors_each, of_thread_none, opens_each, opens_of, row_there, stand_there}
 
 module _ {P : Type 0} (rules : Rules P) (laws : Obeys rules) where

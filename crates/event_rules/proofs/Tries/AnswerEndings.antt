@@ -1,8 +1,7 @@
 -- An answer ends no actor but one that gives up.
 use Rattle.std.proofs.Common.{inl, inr, ◌≡◌, ◌∙◌, None, Some, sym, ap}
-use Rattle.event_rules.proofs.Common.{Actor, Answer, Call, End, Records, Rows, Rules, ending_of, status_after}
+use Rattle.event_rules.proofs.Common.{Actor, Answer, Call, End, Records, Rows, Rules, ending_of, status_after, taken_of}
 use Rattle.tx_runs.specs.declared.ending.End.TheVariants as ends
-use Rattle.world_rules.proofs.Tries.Stages.{taken_of}
 
 module _ {P : Type 0} (rules : Rules P) (r r1 : Rows) (a last : Actor P) (call : Call) where
   not_ended : (end : End) → (end ≡ ends.GaveUp → ⊥) → (ans : Answer) → Records rules r r1 a last call ans → ending_of last.status ≡ Some end → ⊥

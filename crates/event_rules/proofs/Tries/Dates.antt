@@ -1,23 +1,11 @@
 -- Which try of its block an attempt is, and when it began: an event keeps what the attempts before it say of that.
 use Rattle.std.proofs.Common.{◌≡◌, ℕ, ◌+◌, ◌/◌, ◌<◌, ◌≤◌, ◌==◌, Bool, true, false, nat_lt, List, [], ◌∷◌, ◌++◌, length, Option, None, Some, is_some, slice_get, slice_set, if◌then◌else◌, inl, inr, refl, sym, ap, subst, ◌∙◌, arith, eq-eqb, append_assoc}
-use Rattle.event_rules.proofs.Common.{Actor, AllByRecursion, AllOf, AreActors, AreDated, AreFrom, AreOfActors, Attempt, BeginsAt, Call, Cells, CommitsInOrder, Continues, Core, End, GaveUp, GoesOnAfter, HasRow, IsBetween, IsEvent, IsWorld, Limits, NoMemory, Outcome, Phase, Prior, Rows, Rules, Status, StatusIs, Tries, TriesAgain, Waits, World, active_of, append-nil, attempts_of, begins, between, both_ways, count_committed, current_of, ending_of, in_transaction, is_begin, is_committed, is_waiting, ne_eqb, none-some, one_where, outrun, over, pending_of, prior_of, runs, same_Some, shut_out, turned_away}
-use Rattle.world_rules.specs.Dates.{IsDated}
-use Rattle.std.proofs.lemmas.Bool.{ltb-false}
+use Rattle.event_rules.proofs.Common.{Actor, AllByRecursion, AllOf, AreActors, AreDated, AreFrom, AreOfActors, Attempt, BeginsAt, Call, Cells, CommitsInOrder, Continues, Core, End, GaveUp, GoesOnAfter, HasRow, HasStopped, IsBetween, IsDated, IsDatedActor, IsDatedWorld, IsEvent, IsSame, IsTry, IsWorld, Limits, NoMemory, Outcome, Phase, Prior, RestartAtMost, Rows, Rules, Status, StatusIs, Tries, TriesAgain, Waits, World, active_of, append-nil, attempts_of, begins, between, both_ways, continues_same, count_committed, current_of, ending_of, in_transaction, is_begin, is_committed, is_waiting, led_by, ltb-false, ne_eqb, none-some, one_where, open_only, opens, outrun, over, pending_of, prior_of, runs, same_Some, set_place, shut_out, tried_by, tried_in, turned_away, up_to_last, waiting_going}
 use Rattle.norec_core.specs.Phases as at
 use Rattle.tx_attempts.specs.declared.attempt.Outcome.TheVariants as outcomes
-use Rattle.world_rules.specs.Dates.{led_by, tried_by, tried_in, up_to_last}
-use Rattle.world_rules.specs.Tries.{HasStopped}
-use Rattle.event_rules.specs.Invariant.{IsDatedActor, IsDatedWorld, IsTry}
-use Rattle.tx_runs.proofs.RestartLists.{few_both, few_more}
-use Rattle.tx_runs.specs.Restarts.{RestartAtMost}
-use Rattle.world_rules.specs.Tries.{IsSame}
-use Rattle.world_rules.proofs.Tries.LaterTries.{continues_same}
-use Rattle.world_rules.specs.Stages.{opens}
-use Rattle.world_rules.proofs.Tries.Stages.{open_only}
+use Rattle.run_rules.proofs.RestartLists.{few_both, few_more}
 use Rattle.event_rules.proofs.Tries.ThreadAttempts.{are_open, opens_each}
 use Rattle.event_rules.proofs.Commits.CommitCounts.{count_committed_both}
-use Rattle.world_rules.proofs.Events.Worlds.{set_place}
-use Rattle.world_rules.proofs.Events.Worlds.{waiting_going}
 
 -- ## Up to a thread's last attempt
 

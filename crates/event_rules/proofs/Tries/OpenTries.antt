@@ -1,12 +1,7 @@
 -- An open attempt over a memory that it may have read, by other bytes: what its calls are alone, and what comes of one more.
 use Rattle.std.proofs.Common.{◌≡◌, ℕ, Bool, true, false, List, sym, subst, ◌∙◌}
-use Rattle.itm_model.specs.Machine.{undone}
-use Rattle.itm_types.specs.declared.row.LogRow.{LogRow}
-use Rattle.event_rules.proofs.Common.{Agrees, Attempt, Between, Call, Core, IsMadeAlone, IsMemory, Ran, Rules, Savepoint, State, after, alone_whole, bytes_of, in_transaction, is_open, opened, reply, state_then, stands_for}
-use Rattle.tx_attempts.proofs.ToldRuns.{telling}
-use Rattle.tx_attempts.specs.Restarts.{breaks_of, ran_on}
-use Rattle.tx_runs.specs.OpenTries.{IsOpenTry, ReadsFrom}
-use Rattle.tx_runs.proofs.TriesTold.{closes_as, made_alone, open_so, reply_as, stays_as, stops_as}
+use Rattle.event_rules.proofs.Common.{Agrees, Attempt, Between, Call, Core, IsMadeAlone, IsMemory, IsOpenTry, LogRow, Ran, ReadsFrom, Rules, Savepoint, State, after, alone_whole, breaks_of, bytes_of, in_transaction, is_open, opened, ran_on, reply, stands_for, state_then, telling, undone}
+use Rattle.run_rules.proofs.TriesTold.{closes_as, made_alone, open_so, reply_as, stays_as, stops_as}
 
 -- of one that is not irrevocable it is one that agrees with the log
 pub agree_reads : (position : List ℕ) (irrevocable : Bool) (log : List LogRow) (m : List ℕ) → irrevocable ≡ false → Agrees m log → ReadsFrom irrevocable position log m

@@ -1,9 +1,7 @@
 -- Where an open attempt stands, once a value or a call was taken in and what the engine gave is recorded.
 use Rattle.std.proofs.Common.{◌≡◌, ◌/◌, Bool, Some, inl, inr, sym, ap, ◌∙◌}
-use Rattle.event_rules.proofs.Common.{Actor, Answer, Attempt, Call, Cells, Core, IsDone, Next, ReadsAt, Rows, Rules, Tells, active_of, open_in, points_in, stage_of}
-use Rattle.tx_runs.specs.Ranks.{restarts_left}
+use Rattle.event_rules.proofs.Common.{Actor, Answer, Attempt, Call, Cells, Core, IsDone, Next, ReadsAt, Rows, Rules, Tells, active_of, is_cut, open_by, open_in, points_in, restarts_left, stage_of}
 use Rattle.event_rules.proofs.Engines.Intakes.{HasAnswered, HasTaken, recorded}
-use Rattle.world_rules.proofs.Tries.Stages.{is_cut, open_by}
 
 module _ {P : Type 0} {rules : Rules P} {cells cells' : Cells} {r : Rows} {mid : Core} {a : Actor P} {call : Call} (stood : (row : Attempt) → active_of a ≡ Some row → row.at ≡ a.engine.snapshot / 2) where
   -- where it is still open, it has one call more, or a begin's attempt; or its innermost block went back

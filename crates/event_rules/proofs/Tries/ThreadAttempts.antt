@@ -1,9 +1,7 @@
 -- Of all attempts those of one thread, the open attempts of actors, and the actors that attempts are of.
 use Rattle.std.proofs.Common.{◌≡◌, ℕ, zero, suc, ◌+◌, ◌<◌, ◌≤◌, List, [], ◌∷◌, ◌++◌, Option, None, Some, slice_get, refl, sym, ap, subst, ◌∙◌, arith, eq-eqb, if◌then◌else◌, Bool}
-use Rattle.world_rules.specs.Stages.{opens}
-use Rattle.event_rules.proofs.Common.{Actor, AllByRecursion, AllOf, AreActors, AreFrom, AreOfActors, AreOpen, AreUnfinished, Attempt, Cells, Rows, Rules, active_of, ne_eqb, of_thread, same_Some, with_open}
+use Rattle.event_rules.proofs.Common.{Actor, AllByRecursion, AllOf, AreActors, AreFrom, AreOfActors, AreOpen, AreUnfinished, Attempt, Cells, Rows, Rules, active_of, ne_eqb, of_thread, opens, row_is_of, row_unfinished, same_Some, with_open}
 use Rattle.tx_attempts.specs.declared.attempt.Outcome.TheVariants.{Unfinished}
-use Rattle.world_rules.proofs.Tries.Stages.{row_is_of, row_unfinished}
 
 -- ## The attempts of one thread
 

@@ -1,25 +1,16 @@
 -- What a call of an actor, up to its first step, and a step of it do to its try.
-use Rattle.tx_attempts.specs.Restarts.{ran_on}
-use Rattle.world_rules.specs.Tries.{Extends}
 use Rattle.std.proofs.Common.{unwrap_or, append-nil, ◌++◌, ◌≡◌, ℕ, ◌+◌, ◌/◌, ◌%◌, ◌≤◌, ◌==◌, if◌then◌else◌, Bool, true, false, Option, None, Some, refl, sym, ap, subst, ◌∙◌, arith}
-use Rattle.event_rules.proofs.Common.{Actor, Answer, Answers, Asks, Attempt, Begin, BeginsAt, Busy, Call, Cells, Conflict, Continues, Core, Ended, EndsAt, Full, HasRow, IsDone, IsSound, Next, Phase, PlayerRun, Prior, Props, ReadsAt, Ready, Replied, Reply, Restarted, Rows, Rules, Stage, Starves, Status, Step, Tells, Tries, Waits, active_of, begins, begun, begun_in, cond-true, ending_of, false_from_ne_true, found, handed_is, in_transaction, irrevocable_room, may_go, none-some, open_in, over_as, pending_of, prior_of, reserved, stage_of, stand_of, told, with_room}
-use Rattle.tx_attempts.specs.Kept.{Kept}
-use Rattle.norec_core.proofs.Replies.AnsweredEngines.{replied_outside}
-use Rattle.world_rules.proofs.Tries.Stages.{asked_at, asked_begun, stage_open, stage_out, told_nth, told_pending, told_stage}
+use Rattle.event_rules.proofs.Common.{Actor, Answer, Answers, Asks, Attempt, Begin, BeginsAt, Busy, Call, Cells, Conflict, Continues, Core, Ended, EndsAt, Extends, Full, HasRow, IsDone, IsHanded, IsSound, Kept, Next, Phase, PlayerRun, Prior, Props, ReadsAt, Ready, Replied, Reply, Restarted, Rows, Rules, Stage, Starves, Status, Step, Tells, Tries, Waits, active_of, asked_at, asked_begun, begins, begun, begun_in, cond-true, continues_as, current_open, ending_of, extends_calls, extends_twice, false_from_ne_true, found, handed_is, in_transaction, irrevocable_room, may_go, none-some, open_in, over_as, pending_of, prior_of, ran_on, replied_outside, reserved, restarts_left, stage_of, stage_open, stage_out, stand_of, stays, stays_between, stays_open, told, told_nth, told_pending, told_stage, told_tries, tries_from, tries_later, with_room}
 use Rattle.tx_attempts.specs.declared.attempt.Outcome.TheVariants as outcomes
 use Rattle.tx_runs.specs.declared.ending.End.TheVariants as ends
-use Rattle.tx_runs.specs.Ranks.{restarts_left}
 use Rattle.event_rules.proofs.Engines.RestartedEngines.{not_at_once}
 use Rattle.event_rules.proofs.Engines.TiedEngines.{limit_same, snapshot_still}
-use Rattle.norec_core.proofs.Engines.KeptFields.{IsHanded}
 use Rattle.norec_core.specs.Endings.{EndsSo, ending_after, ending_at, ending_from}
 use Rattle.norec_core.specs.Phases as at
 use Rattle.event_rules.proofs.Engines.SoundSteps.{IsCalling, call_taken, mid, rests, IsStepping, limit_is, mid_step, same, step_taken, waits, went}
 use Rattle.event_rules.proofs.Engines.Intakes.{HasAnswered, HasTaken, recorded}
-use Rattle.world_rules.proofs.Tries.LaterTries.{current_open, continues_as, extends_calls, extends_twice, stays, stays_between, stays_open, tries_from, tries_later}
 use Rattle.event_rules.proofs.Tries.TryEnds.{back_tries, begin_tries, begun_or_not, is_between, open_tries, stops_try}
 use Rattle.event_rules.proofs.Tries.AnswerEndings.{not_finished}
-use Rattle.world_rules.proofs.Tries.ToldTries.{told_tries}
 
 module _ {P : Type 0} (rules : Rules P)
     (cells : Cells) (r0 : Rows) (old : Actor P) (sound : IsSound rules cells r0 old) (ready : old.status ≡ Ready) where

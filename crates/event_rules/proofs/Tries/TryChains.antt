@@ -1,11 +1,9 @@
 -- Local work after an event, or after other local work: what becomes of the try.
 -- Also what holds of actors that have taken no step.
 use Rattle.std.proofs.Common.{◌≡◌, ℕ, ◌+◌, ◌/◌, Bool, true, false, nat_lt, List, [], ◌∷◌, ◌++◌, Option, None, Some, refl, sym, ap, subst, ◌∙◌, arith, zero, suc}
-use Rattle.event_rules.proofs.Common.{Actor, Attempt, Cells, EndsAt, GoesOnAfter, IsBetween, IsSound, NoMemory, Outcome, Prior, Ready, Rows, Rules, Tries, TriesAgain, begins, between, current_of, ending_in, ending_of, in_transaction, outrun, over, pending_of, prior_of, runs, shut_out, turned_away}
-use Rattle.world_rules.specs.Tries.{Extends}
+use Rattle.event_rules.proofs.Common.{Actor, Attempt, Cells, EndsAt, Extends, GoesOnAfter, IsBetween, IsSound, NoMemory, Outcome, Prior, Ready, Rows, Rules, Tries, TriesAgain, begins, between, current_of, ending_in, ending_of, in_transaction, outrun, over, pending_of, prior_of, runs, shut_out, stays, tries_from, turned_away}
 use Rattle.tx_attempts.specs.declared.attempt.Outcome.TheVariants as outcomes
 use Rattle.event_rules.proofs.Engines.SoundSteps.{rests}
-use Rattle.world_rules.proofs.Tries.LaterTries.{stays, tries_from}
 use Rattle.event_rules.proofs.Engines.Intakes.{still_going}
 
 -- none found no memory

@@ -1,21 +1,13 @@
 -- What an answer does to the try that its call belongs to.
 use Rattle.tx_runs.specs.Tallies.{begins as begins_at}
 use Rattle.std.proofs.Common.{true≢false, inl, inr, ◌≡◌, ℕ, ◌+◌, ◌*◌, ◌/◌, ◌%◌, ◌<◌, ◌≤◌, Bool, true, false, nat_lt, if◌then◌else◌, is_some, List, [], ◌∷◌, ◌++◌, length, map, Option, None, Some, refl, sym, ap, subst, ◌∙◌, arith, append-nil, ◌⊎◌}
+use Rattle.event_rules.proofs.Common.{Actor, Agrees, Answer, Attempt, BeganIn, Begin, Busy, Call, CallRecord, Cells, ClosedBy, Commit, Committed, Conflict, Conflicts, ConflictsIn, Continues, Core, EndsAt, Extends, Frame, Full, GoesOnAfter, HasPoints, HasRow, IsBegin, IsBetween, IsLost, IsReady, IsRestart, IsSettledBy, IsTied, Outcome, Props, Ran, Ready, Replied, Replies, Reply, Restarted, RestsAs, Rows, Rules, Savepoint, Status, TakesTo, Tally, Tries, TriesAgain, WantsClock, active_of, again_of, begin_call, begin_goes, begin_opens, by_wrote, call_begins, cancels, closed, continues_back, current_open, current_shut, cut_back, ending_as, ending_of, extends_calls, extends_to, goes_for, in_transaction, is_begin, is_done, is_tried, may_go, none-some, none_inside, not_closed, open_in, outrun, over, pending_of, plain_reply, points_in, prior_of, ran_on, runs, shut_out, spent, stage_begun, stage_of, stage_open, stage_out, stand_at, stays_between, stays_open, taken_at, tally_at, tally_of, told_active, told_again, told_nth, told_pending, told_player, told_stage, tried, turned_away, with_call, within, within_at}
 use Rattle.event_rules.proofs.Engines.PlayerLaws.{deep_of, was_open}
-use Rattle.tx_runs.proofs.OutermostBegins.{begin_goes, begin_opens, call_begins}
-use Rattle.event_rules.proofs.Common.{Actor, Agrees, Answer, Attempt, Begin, Busy, Call, CallRecord, Cells, ClosedBy, Commit, Committed, Conflict, Conflicts, ConflictsIn, Continues, Core, EndsAt, Frame, Full, GoesOnAfter, HasRow, IsBegin, IsBetween, IsLost, IsReady, IsRestart, IsSettledBy, IsTied, Outcome, Props, Ran, Ready, Replied, Replies, Reply, Restarted, RestsAs, Rows, Rules, Savepoint, Status, TakesTo, Tally, Tries, TriesAgain, WantsClock, active_of, begin_call, by_wrote, cancels, closed, ending_as, ending_of, in_transaction, is_begin, is_done, may_go, none-some, none_inside, open_in, outrun, over, pending_of, points_in, plain_reply, prior_of, runs, shut_out, spent, stage_of, tally_of, tried, turned_away, with_call, within}
 use Rattle.itm_types.specs.declared.call.Reply.TheVariants as replies
 use Rattle.tx_attempts.specs.declared.attempt.Outcome.TheVariants as outcomes
 use Rattle.tx_runs.specs.declared.ending.End.TheVariants as ends
-use Rattle.tx_runs.proofs.Tries.{not_closed}
-use Rattle.world_rules.specs.ActionRoom.{BeganIn}
-use Rattle.world_rules.specs.Sound.{HasPoints}
-use Rattle.world_rules.specs.Tries.{Extends, GoesBack}
-use Rattle.tx_attempts.specs.Restarts.{ran_on}
-use Rattle.tx_runs.specs.Savepoints.{again_of, cut_back}
+use Rattle.world_rules.specs.Tries.{GoesBack}
 use Rattle.event_rules.proofs.Engines.Intakes.{HasAnswered, half_same, still_going}
-use Rattle.world_rules.proofs.Tries.Stages.{is_tried, tally_at, stage_begun, stage_open, stage_out, stand_at, taken_at, told_active, told_again, told_nth, told_pending, told_player, told_stage, within_at}
-use Rattle.world_rules.proofs.Tries.LaterTries.{extends_to, extends_calls, continues_back, current_open, current_shut, goes_for, stays_between, stays_open}
 
 -- ## A try that ends
 

@@ -1,8 +1,7 @@
 -- Worked answers, computed: what the plain machine answers where an attempt is wrong.
 use Rattle.std.proofs.Common.{◌≡◌, [], ◌∷◌, refl, None, Some}
-use Rattle.history_checker.proofs.Common.{Bad, Bytes, Cancelled, Committed, Legal, at_call, at_head, fault_in, verdict_of}
+use Rattle.history_checker.proofs.Common.{Bad, Bytes, Cancelled, Committed, Legal, at_call, at_head, fault_in, finding_of, verdict_of}
 use Rattle.history_checker.specs.declared.verdict.BadKind.TheVariants as kind
-use Rattle.history_checker.specs.Answers.{finding_of}
 use Rattle.history_checker.proofs.Examples.Histories.{attempt, cancels, commits, eight, history, reader, reads, writer, writes}
 
 -- the second writer read what was before the first one, which wrote 1

@@ -1,13 +1,8 @@
 -- An attempt has no fault on a memory exactly where it is one alone on it.
 use Rattle.std.proofs.Common.{◌≡◌, ℕ, zero, suc, ◌-◌, ◌<◌, Bool, true, false, not, ◌&&◌, if◌then◌else◌, is_some, List, [], ◌∷◌, ◌++◌, length, map, take, Option, None, Some, refl, sym, ap, subst, ◌∙◌, arith, length-append, bytes_eq}
-use Rattle.history_checker.proofs.Common.{Abort, Again, Attempt, Begin, Breaks, Bytes, Call, CallRecord, Cancelled, Code, Commit, CommitAction, Committed, Conflict, Copy, Decides, Decides-and, Done, Fault, Fill, Full, InTransaction, IsAlone, Load, Log, LogBytes, Mode, NoMemory, Outcome, Read, ReadOnly, Refused, Reply, Save, State, UndoAction, Unfinished, Write, after, again_at, again_fault, alone, and_from, and_parts, are_again, arena_set, at_call, at_head, bytes_eq-Decides, calls_fault, cond-false, cond-true, end_fault, eqb-true, fault_in, first_of, is_abort_done, is_commit_done, is_open, last_is, may_stand, not-true, not_from_false, opened, pointwise, reply, same_ran, same_reply, state_through}
-use Rattle.std.proofs.Math.Seq.{take-append_seam}
-use Rattle.itm_model.specs.Runs.{replies_through}
-use Rattle.tx_attempts.specs.Attempts.{ByAbort, ByCommit, ClosedBy}
+use Rattle.history_checker.proofs.Common.{Abort, Again, Attempt, Begin, Breaks, ByAbort, ByCommit, Bytes, Call, CallRecord, Cancelled, ClosedBy, Code, Commit, CommitAction, Committed, Conflict, Copy, Decides, Decides-and, Done, EndsIn, Fault, Fill, Full, InTransaction, IsAlone, Load, Log, LogBytes, Mode, NoMemory, Outcome, Read, ReadOnly, Refused, Reply, Save, State, UndoAction, Unfinished, Write, after, again_at, again_fault, alone, and_from, and_parts, are_again, arena_set, at_call, at_head, bytes_eq-Decides, calls_fault, came_irrevocable, cond-false, cond-true, end_fault, ends_by_abort, ends_by_commit, eqb-true, fault_in, first_of, fits, is_abort_done, is_cancelled, is_commit_done, is_done, is_open, last_is, may_begin, may_stand, not-true, not_from_false, opened, pointwise, ran_alone, replies_through, reply, same_ran, same_reply, state_at, state_through, take-append_seam}
 use Rattle.tx_attempts.specs.Opacity.{StaysRevocable}
-use Rattle.tx_history.specs.Legal.{EndsIn, may_begin, ran_alone, state_at}
 use Rattle.history_checker.specs.declared.verdict.BadKind.TheVariants as kind
-use Rattle.history_checker.specs.Replays.{came_irrevocable, ends_by_abort, ends_by_commit, fits, is_cancelled, is_done}
 use Rattle.history_checker.proofs.Steps.Calls.{made}
 use Rattle.history_checker.proofs.Legality.Replies.{all_ran_decides, reply_decides}
 use Rattle.history_checker.proofs.Legality.Restarts.{again_decides, each_at, each_from}

@@ -1,9 +1,6 @@
 -- What a history's end says, by tests and by what it means.
 use Rattle.std.proofs.Common.{◌≡◌, ◌⊎◌, ℕ, ◌+◌, ◌*◌, ◌≤◌, ◌==◌, true, false, not, ◌&&◌, ◌||◌, nat_le, All, List, [], ◌∷◌, ◌++◌, length, refl, sym, ap, ◌∙◌, inl, inr, eq-eqb, eqb-true, bytes_eq}
-use Rattle.history_checker.proofs.Common.{All-cons, All-head, All-nil, All-tail, Attempt, Cancelled, Committed, Conflict, Decides, Decides-and, Full, History, NoMemory, Outcome, ReadOnly, Unfinished, and_cases, and_from, and_left, and_parts, and_right, bytes_eq-Decides, cases_Bool, count_holding, ends_free, ends_held, is_away, is_holding, is_unfinished, is_waiting, le-leb, memory_at, not-true, not_from_false, or_from, or_parts}
-use Rattle.std.proofs.lemmas.Bool.{leb-true, not-false, not_from_true, or_cases, or_left, or_right}
-use Rattle.std.proofs.lemmas.Bool.Decides.{Decides-eqb, Decides-or}
-use Rattle.tx_history.specs.Legal.{EndsFree, EndsHeld}
+use Rattle.history_checker.proofs.Common.{All-cons, All-head, All-nil, All-tail, Attempt, Cancelled, Committed, Conflict, Decides, Decides-and, Decides-eqb, Decides-or, EndsFree, EndsHeld, Full, History, NoMemory, Outcome, ReadOnly, Unfinished, and_cases, and_from, and_left, and_parts, and_right, bytes_eq-Decides, cases_Bool, count_holding, ends_free, ends_held, is_away, is_holding, is_unfinished, is_waiting, le-leb, leb-true, memory_at, not-false, not-true, not_from_false, not_from_true, or_cases, or_from, or_left, or_parts, or_right}
 
 -- ## Who holds the clock
 

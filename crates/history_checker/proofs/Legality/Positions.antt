@@ -1,7 +1,6 @@
 -- With as many positions as committed attempts, no attempt is misplaced exactly where each position is that of one of them.
 use Rattle.std.proofs.Common.{◌≡◌, ℕ, zero, suc, ◌+◌, ◌<◌, ◌≤◌, ◌==◌, Bool, true, false, ◌&&◌, ◌||◌, nat_lt, nat_le, List, [], ◌∷◌, ◌++◌, length, get_or, None, Some, refl, sym, ap, subst, ◌∙◌, inl, inr, arith}
-use Rattle.history_checker.proofs.Common.{Attempt, and_cases, and_from, and_left, and_parts, and_right, at_head, at_place, cases_Bool, cases_lt, cond-false, cond-true, count_at, count_committed, eq-eqb, eqb-true, is_at, is_committed, is_misplaced, le-ltb, lt-leb, lt-ltb, ltb-true, ne_eqb, one_where, or_from, or_parts, position_fault}
-use Rattle.std.proofs.lemmas.Bool.{cases_order, leb-false, ltb-false}
+use Rattle.history_checker.proofs.Common.{Attempt, and_cases, and_from, and_left, and_parts, and_right, at_head, at_place, cases_Bool, cases_lt, cases_order, cond-false, cond-true, count_at, count_committed, eq-eqb, eqb-true, is_at, is_committed, is_misplaced, le-ltb, leb-false, lt-leb, lt-ltb, ltb-false, ltb-true, ne_eqb, one_where, or_from, or_parts, position_fault}
 use Rattle.history_checker.specs.declared.verdict.BadKind.TheVariants as kind
 
 -- ## Counts

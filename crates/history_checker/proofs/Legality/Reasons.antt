@@ -1,8 +1,7 @@
 -- The machine's answer is told just where a call has another reply, and is its reply there.
 use Rattle.std.proofs.Common.{◌≡◌, ℕ, zero, suc, ◌+◌, ◌<◌, ◌≤◌, ◌⊎◌, Bool, true, false, not, ◌&&◌, ◌==◌, nat_lt, if◌then◌else◌, List, [], ◌∷◌, ◌++◌, length, take, Option, None, Some, refl, sym, ap, subst, ◌∙◌, inl, inr, arith, length-append, is_none, nat_le, slice_get}
-use Rattle.history_checker.proofs.Common.{Again, Attempt, Breaks, CallRecord, Fault, HasReason, History, Reply, Spot, State, after, again_at, again_fault, alone, and_from, and_parts, answer_at, answer_in, answer_of, answer_on, answer_to, arena_set, at_call, at_fault, at_head, at_place, call_answer, calls_fault, cases_Bool, cases_lt, committed_fault, cond-false, cond-true, count_committed, depth_of, end_fault, eqb-true, fault_at, fault_in, first_fault, first_of, is_at, is_beyond, is_committed, is_known, is_misplaced, is_open, is_reached, le-leb, lt-leb, ltb-true, may_stand, memory_at, opened, others_fault, position_fault, reply, same_reply, spot_answer, state_behind, state_through}
+use Rattle.history_checker.proofs.Common.{Again, Attempt, Breaks, CallRecord, Fault, HasReason, History, IsReason, IsReasonIn, Reply, Spot, State, after, again_at, again_fault, alone, and_from, and_parts, answer_at, answer_in, answer_of, answer_on, answer_to, arena_set, at_call, at_fault, at_head, at_place, call_answer, calls_fault, cases_Bool, cases_lt, committed_fault, cond-false, cond-true, count_committed, depth_of, end_fault, eqb-true, fault_at, fault_in, first_fault, first_of, is_at, is_beyond, is_committed, is_known, is_misplaced, is_open, is_reached, le-leb, lt-leb, ltb-true, may_stand, memory_at, opened, others_fault, position_fault, reply, same_reply, spot_answer, state_behind, state_through}
 use Rattle.history_checker.specs.declared.verdict.BadKind.TheVariants as kind
-use Rattle.history_checker.specs.Answers.{IsReason, IsReasonIn}
 use Rattle.history_checker.proofs.Steps.Answers.{second_fails}
 use Rattle.history_checker.proofs.Steps.Calls.{made}
 use Rattle.history_checker.proofs.Steps.Tables.{seen_within}

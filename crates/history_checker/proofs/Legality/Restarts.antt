@@ -1,9 +1,7 @@
 -- The tests of blocks that ran again are true exactly where they stand as they may.
 use Rattle.std.proofs.Common.{◌≡◌, ℕ, suc, ◌-◌, ◌<◌, true, ◌&&◌, ◌==◌, nat_lt, is_some, List, [], ◌∷◌, length, take, Option, None, Some, refl, sym, ap, subst, ◌∙◌, arith, inl, inr, slice_get}
-use Rattle.history_checker.proofs.Common.{Again, CallRecord, Code, Decides, Decides-and, again_at, and_from, and_parts, are_again, cases_Bool, cond-false, cond-true, eq-eqb, eqb-true, is_again, is_inner_begin, lt-ltb, ltb-true, same_reply}
-use Rattle.std.proofs.lemmas.Option.{slice_get_within}
+use Rattle.history_checker.proofs.Common.{Again, AreAgain, AtEach, CallRecord, Code, Decides, Decides-and, IsAgain, IsInnerBegin, again_at, and_from, and_parts, are_again, cases_Bool, cond-false, cond-true, eq-eqb, eqb-true, is_again, is_inner_begin, lt-ltb, ltb-true, same_reply, slice_get_within}
 use Rattle.itm_types.specs.Calls.{is_begin}
-use Rattle.tx_attempts.specs.Restarts.{AreAgain, AtEach, IsAgain, IsInnerBegin}
 use Rattle.history_checker.proofs.Legality.Replies.{reply_decides}
 
 -- ## Where they stand

@@ -1,7 +1,6 @@
 -- A history has the verdict that it is legal exactly where it is.
 use Rattle.std.proofs.Common.{◌≡◌, ◌↔◌, ℕ, Bool, true, false, ◌||◌, if◌then◌else◌, [], length, Option, None, Some, refl, sym, ap, ◌∙◌, arith}
-use Rattle.history_checker.proofs.Common.{Bad, History, Legal, Spot, at_fault, committed_fault, count_committed, ends_free, ends_held, final_verdict, first_fault, first_of, head_row, others_fault, position_fault, told_row, verdict_of, verdict_on}
-use Rattle.tx_history.specs.Legal.{IsLegal}
+use Rattle.history_checker.proofs.Common.{Bad, History, IsLegal, Legal, Spot, at_fault, committed_fault, count_committed, ends_free, ends_held, final_verdict, first_fault, first_of, head_row, others_fault, position_fault, told_row, verdict_of, verdict_on}
 use Rattle.history_checker.specs.declared.verdict.BadKind.{BadKind}
 use Rattle.history_checker.specs.declared.verdict.BadKind.TheVariants as kind
 use Rattle.history_checker.specs.declared.verdict.Verdict.{Verdict}

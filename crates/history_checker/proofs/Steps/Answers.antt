@@ -1,7 +1,6 @@
 -- What the machine answers, once the calls before one are made.
 use Rattle.std.proofs.Common.{◌≡◌, ℕ, ◌<◌, ◌≤◌, Bool, true, false, ◌&&◌, List, [], length, get_or, take, refl, sym, ap, subst, ◌∙◌, Option, None, Some, Result, Ok, Err, IfOk, is_none, is_some}
-use Rattle.history_checker.proofs.Common.{Again, Attempt, CallRecord, History, Reaches, Reply, Spot, State, Undoable, and_from, answer_of, answer_on, answer_to, breaks_of, call_answer, cond-false, cond-true, count_committed, depth_of, is_known, is_reached, memory_at, position_fault, reply, spot_answer, state_behind, state_through}
-use Rattle.std.proofs.lemmas.Option.{slice_get-get_or, slice_get_past, slice_get_read}
+use Rattle.history_checker.proofs.Common.{Again, Attempt, CallRecord, History, Reaches, Reply, Spot, State, Undoable, and_from, answer_of, answer_on, answer_to, breaks_of, call_answer, cond-false, cond-true, count_committed, depth_of, is_known, is_reached, memory_at, position_fault, reply, slice_get-get_or, slice_get_past, slice_get_read, spot_answer, state_behind, state_through}
 use Rattle.history_checker.proofs.Steps.Calls.{made}
 use Rattle.history_checker.proofs.Steps.Verdicts.{place_is}
 

@@ -1,9 +1,6 @@
 -- One call after the other.
 use Rattle.std.proofs.Common.{◌≡◌, ℕ, zero, suc, ◌+◌, ◌-◌, ◌<◌, Bool, true, List, [], ◌∷◌, length, get_or, take, drop, map, refl, ap, subst, ◌∙◌, arith, drop-cons, Option, None, Some}
-use Rattle.history_checker.proofs.Common.{Abort, Again, Begin, Breaks, Call, CallRecord, Commit, CommitAction, Copy, Fault, Fill, InTransaction, Load, Log, LogBytes, Mode, Read, Refusal, Save, State, UndoAction, Undoable, Write, after, again_fault, arena_set, calls_fault, cond-true, is_open, last_is, reply, same_reply, state_through}
-use Rattle.itm_model.specs.Machine.{refusal}
-use Rattle.itm_model.specs.Runs.{later}
-use Rattle.itm_model.specs.Undoable.{before_after, before_next, before_unless}
+use Rattle.history_checker.proofs.Common.{Abort, Again, Begin, Breaks, Call, CallRecord, Commit, CommitAction, Copy, Fault, Fill, InTransaction, Load, Log, LogBytes, Mode, Read, Refusal, Save, State, UndoAction, Undoable, Write, after, again_fault, arena_set, before_after, before_next, before_unless, calls_fault, cond-true, is_open, last_is, later, refusal, reply, same_reply, state_through}
 use Rattle.history_checker.specs.declared.verdict.BadKind.TheVariants as kind
 
 -- the last of some calls

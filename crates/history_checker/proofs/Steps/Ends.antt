@@ -1,7 +1,6 @@
 -- What a history's end says, one attempt after the other.
 use Rattle.std.proofs.Common.{◌≡◌, ℕ, zero, suc, ◌+◌, ◌<◌, ◌≤◌, Bool, true, false, not, ◌&&◌, ◌||◌, ◌==◌, if◌then◌else◌, is_some, List, [], ◌∷◌, length, get_or, take, map, sum_by, refl, ap, sym, ◌∙◌, arith, inl, inr, Option, None, Some}
-use Rattle.history_checker.proofs.Common.{AreTold, Attempt, Cancelled, Committed, Conflict, Fault, Full, History, IsTold, NoMemory, Outcome, ReadOnly, Spot, Told, Unfinished, Version, alone, at_fault, at_place, cases_lt, committed_fault, common_steps, count_holding, depth_of, fault_at, fault_in, first_of, head_row, is_away, is_beyond, is_committed, is_holding, is_unfinished, line_count, memory_at, nothing_told, one_where, others_fault, told_away, told_fault, told_holding, told_of, told_on, told_row, unless_fault}
-use Rattle.history_checker.specs.Verdicts.{first_row}
+use Rattle.history_checker.proofs.Common.{AreTold, Attempt, Cancelled, Committed, Conflict, Fault, Full, History, IsTold, NoMemory, Outcome, ReadOnly, Spot, Told, Unfinished, Version, alone, at_fault, at_place, cases_lt, committed_fault, common_steps, count_holding, depth_of, fault_at, fault_in, first_of, first_row, head_row, is_away, is_beyond, is_committed, is_holding, is_unfinished, line_count, memory_at, nothing_told, one_where, others_fault, told_away, told_fault, told_holding, told_of, told_on, told_row, unless_fault}
 use Rattle.history_checker.proofs.Steps.Tables.{none_beyond, seen_within}
 use Rattle.history_checker.proofs.Steps.Walks.{place_none}
 

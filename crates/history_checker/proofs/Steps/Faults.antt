@@ -1,8 +1,7 @@
 -- The fault of an attempt, by where it is found.
 use Rattle.std.proofs.Common.{◌≡◌, ℕ, Bool, true, false, ◌&&◌, is_some, List, refl, ap, sym, ◌∙◌, Option, None, Some}
-use Rattle.history_checker.proofs.Common.{Attempt, Cancelled, Committed, Conflict, Fault, Full, NoMemory, Outcome, ReadOnly, State, Unfinished, again_at, alone, at_head, calls_fault, cond-false, cond-true, end_fault, fault_in, first_of, is_unfinished, may_stand, opened, told_on, unless_fault}
+use Rattle.history_checker.proofs.Common.{Attempt, Cancelled, Committed, Conflict, Fault, Full, NoMemory, Outcome, ReadOnly, State, Unfinished, again_at, alone, at_head, calls_fault, cond-false, cond-true, end_fault, ended, fault_in, first_of, is_unfinished, may_stand, opened, told_on, unless_fault}
 use Rattle.history_checker.specs.declared.verdict.BadKind.TheVariants as kind
-use Rattle.history_checker.specs.Tables.{ended}
 
 pub fault_refused : (deepest : ℕ) (m : List ℕ) (a : Attempt) → may_stand a ≡ false → fault_in deepest m a ≡ Some (at_head kind.Shape)
 unfolding fault_in

@@ -1,11 +1,8 @@
 -- The blocks that ran again, met one after the other beside the calls.
 use Rattle.std.proofs.Common.{◌≡◌, ℕ, zero, suc, ◌+◌, ◌-◌, ◌<◌, ◌≤◌, Bool, true, false, ◌&&◌, ◌==◌, nat_lt, List, [], ◌∷◌, length, get_or, take, drop, refl, sym, ap, subst, ◌∙◌, arith, drop-cons, Option, None, Some, slice_get}
-use Rattle.history_checker.proofs.Common.{Again, CallRecord, State, after, again_at, again_fault, and_from, and_parts, are_again, arena_set, at_head, breaks_of, calls_fault, cond-false, cond-true, eqb-true, is_again, is_inner_begin, is_open, lt-ltb, ltb-true, ne_eqb, reply, same_reply, state_through}
-use Rattle.std.proofs.lemmas.Bool.{eqb-false}
-use Rattle.std.proofs.lemmas.Option.{get_or_from_slice_get}
+use Rattle.history_checker.proofs.Common.{Again, CallRecord, State, after, again_at, again_fault, and_from, and_parts, are_again, arena_set, at_head, breaks_of, calls_fault, cond-false, cond-true, eqb-false, eqb-true, get_or_from_slice_get, is_again, is_due, is_inner_begin, is_open, lt-ltb, ltb-true, ne_eqb, reply, same_reply, state_through}
 use Rattle.itm_model.proofs.ArenaSizes.{after_long}
 use Rattle.history_checker.specs.declared.verdict.BadKind.TheVariants as kind
-use Rattle.history_checker.specs.Replays.{is_due}
 use Rattle.history_checker.proofs.Steps.Calls.{calls_next, made, state_next}
 
 -- ## The next one

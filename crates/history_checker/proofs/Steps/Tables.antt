@@ -1,9 +1,6 @@
 -- Tables of attempts, with one attempt more.
 use Rattle.std.proofs.Common.{◌≡◌, inl, inr, ℕ, zero, suc, ◌+◌, ◌<◌, ◌≤◌, Bool, true, false, not, ◌&&◌, ◌||◌, ◌==◌, nat_lt, nat_le, if◌then◌else◌, is_some, List, [], ◌∷◌, ◌++◌, length, get_or, take, drop, refl, ap, sym, ◌∙◌, arith, add-one, zero-add, drop-cons, length-append, Option, None, Some}
-use Rattle.history_checker.proofs.Common.{AreLinks, AreSlots, Attempt, at_fault, at_head, at_place, cases_eq, cases_lt, cond-false, cond-true, count_at, count_committed, eq-eqb, eqb-true, first_at, first_of, get_or-set_other, get_or-set_same, is_at, is_beyond, is_committed, is_misplaced, is_other, last_other, le-leb, length-set, lt-ltb, one_where, position_fault, set}
-use Rattle.std.proofs.Math.Seq.{take-suc}
-use Rattle.std.proofs.lemmas.List.{length-take-le, get_or_append_left}
-use Rattle.std.proofs.Math.Seq.{get_or-append_seam}
+use Rattle.history_checker.proofs.Common.{AreLinks, AreSlots, Attempt, at_fault, at_head, at_place, cases_eq, cases_lt, cond-false, cond-true, count_at, count_committed, eq-eqb, eqb-true, first_at, first_of, get_or-append_seam, get_or-set_other, get_or-set_same, get_or_append_left, is_at, is_beyond, is_committed, is_misplaced, is_other, last_other, le-leb, length-set, length-take-le, lt-ltb, one_where, position_fault, set, take-suc}
 use Rattle.history_checker.specs.declared.verdict.BadKind.TheVariants as kind
 
 -- ## Counts

@@ -1,7 +1,6 @@
 -- The verdict, by what is found first.
 use Rattle.std.proofs.Common.{◌≡◌, ℕ, List, [], refl, ap, sym, ◌∙◌, Option, None, Some}
-use Rattle.history_checker.proofs.Common.{Attempt, History, Spot, at_fault, committed_fault, count_committed, final_verdict, first_fault, first_of, others_fault, position_fault, verdict_of, verdict_on}
-use Rattle.history_checker.specs.Verdicts.{bad}
+use Rattle.history_checker.proofs.Common.{Attempt, History, Spot, at_fault, bad, committed_fault, count_committed, final_verdict, first_fault, first_of, others_fault, position_fault, verdict_of, verdict_on}
 
 pub record Found (h : History) (ts : List Attempt) (n : ℕ) (p b c o : Option Spot) : Type 0 where
   pub attempts : ts ≡ h.attempts

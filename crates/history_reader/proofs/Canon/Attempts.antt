@@ -1,22 +1,12 @@
 -- The canonical attempt of one that is alone on a memory is alone there.
 use Rattle.std.proofs.Common.{◌≡◌, ℕ, true, false, List, [], ◌∷◌, ◌++◌, map, take, length, Option, None, Some, refl, sym, ap, subst, ◌∙◌}
-use Rattle.history_reader.proofs.Common.{Abort, Again, AreAgain, Attempt, Breaks, Call, CallRecord, Code, Commit, Committed, Done, IsAgain, IsAlone, IsInnerBegin, Outcome, ReadOnly, alone, breaks_of, canonical_again, canonical_attempt, canonical_call, canonical_entry, is_begin, opened, option_map, replies_through, slice_get, state_through, take-map}
-use Rattle.std.proofs.lemmas.Option.{slice_get-map}
+use Rattle.history_reader.proofs.Common.{Abort, Again, AreAgain, AtEach, Attempt, Breaks, ByAbort, ByCommit, Call, CallRecord, Cancelled, ClosedBy, Code, Commit, Committed, Done, EndsIn, IsAgain, IsAlone, IsInnerBegin, Outcome, ReadOnly, alone, breaks_of, canonical_again, canonical_attempt, canonical_call, canonical_entry, is_begin, is_open, map-append, opened, option_map, ran_alone, replies_through, slice_get, slice_get-map, state_at, state_through, take-map}
 use Rattle.itm_types.specs.declared.call.Call.TheVariants as calls
 use Rattle.itm_model.specs.State.{State}
-use Rattle.itm_model.specs.Machine.{is_open}
 use Rattle.tx_attempts.specs.Opacity.{AreRestarts, StaysRevocable}
-use Rattle.tx_attempts.specs.Restarts.{AtEach}
-use Rattle.tx_attempts.specs.declared.attempt.Outcome.TheVariants.{Cancelled, Conflict, Full, NoMemory, Unfinished}
-use Rattle.tx_attempts.specs.Attempts.{ByAbort, ByCommit, ClosedBy}
-use Rattle.tx_history.specs.Legal.{EndsIn, ran_alone, state_at}
 use Rattle.history_reader.proofs.Canon.Runs.{calls_in, same_alone, same_breaks, same_replies, same_state, same_told}
 
 -- ## Lists that a function made
-
-pub map_both : {A B : Type 0} (f : A → B) (xs ys : List A) → map f (xs ++ ys) ≡ map f xs ++ map f ys
-map_both f [] ys = refl
-map_both f (x ∷ xs) ys = ap (λ l. f x ∷ l) (map_both f xs ys)
 
 -- what stands around an element stood around what it was made of
 pub record Parts {A B : Type 0} (f : A → B) (all : List A) (before : List B) (rest : List B) : Type 0 where
@@ -44,38 +34,22 @@ none_left f (x ∷ xs) e = absurd (cc)
 -- ## An attempt
 
 by_commit : (calls : List CallRecord) → ByCommit calls → ByCommit (map canonical_entry calls)
-by_commit calls h = (map canonical_entry h.0, ap (map canonical_entry) h.1 ∙ map_both canonical_entry h.0 (record { call = Commit; reply = Done } ∷ []))
+by_commit calls h = (map canonical_entry h.0, ap (map canonical_entry) h.1 ∙ map-append canonical_entry h.0 (record { call = Commit; reply = Done } ∷ []))
 
 by_abort : (calls : List CallRecord) → ByAbort calls → ByAbort (map canonical_entry calls)
-by_abort calls h = (map canonical_entry h.0, h.1, ap (map canonical_entry) h.2 ∙ map_both canonical_entry h.0 (record { call = Abort h.1; reply = Code 24 } ∷ []))
+by_abort calls h = (map canonical_entry h.0, h.1, ap (map canonical_entry) h.2 ∙ map-append canonical_entry h.0 (record { call = Abort h.1; reply = Code 24 } ∷ []))
 
 closed_too : (o : Outcome) (calls : List CallRecord) → ClosedBy o calls → ClosedBy o (map canonical_entry calls)
 closed_too Committed calls h = by_commit calls h
 closed_too ReadOnly calls h = by_commit calls h
 closed_too Cancelled calls h = by_abort calls h
-closed_too Conflict calls h = tt
-closed_too Full calls h = tt
-closed_too NoMemory calls h = tt
-closed_too Unfinished calls h = tt
+closed_too o calls h = tt
 
 -- ## Blocks that ran again
 
 same_begin : (c : Call) → is_begin (canonical_call c) ≡ is_begin c
-same_begin (calls.Begin props room) = refl
 same_begin calls.Commit = refl
-same_begin (calls.Abort outer) = refl
-same_begin (calls.Mode room) = refl
-same_begin calls.InTransaction = refl
-same_begin (calls.Read hint width at) = refl
-same_begin (calls.Write hint at value) = refl
-same_begin (calls.Log width at) = refl
-same_begin (calls.LogBytes at size) = refl
-same_begin (calls.Copy c) = refl
-same_begin (calls.Fill hint to byte size) = refl
-same_begin (calls.CommitAction action) = refl
-same_begin (calls.UndoAction action) = refl
-same_begin (calls.Load width at) = refl
-same_begin (calls.Save at value) = refl
+same_begin c = refl
 
 begins_so : (o : Option CallRecord) → IsInnerBegin o → IsInnerBegin (option_map canonical_entry o)
 begins_so None b = b
@@ -128,13 +102,8 @@ module _ (deepest : ℕ) (memory : List ℕ) (a : Attempt) (h : IsAlone deepest 
       ap (λ (s : State). s.irrevocable) (same_at before [] p) ∙ r p.front p.here whole
 
   ends_so : (o : Outcome) (s : State) → EndsIn deepest o memory a s → EndsIn deepest o memory (canonical_attempt a) s
-  ends_so Committed s e = e
   ends_so ReadOnly s e = (e.0, e.1, was_revocable e.2)
-  ends_so Cancelled s e = e
-  ends_so Conflict s e = e
-  ends_so Full s e = e
-  ends_so NoMemory s e = e
-  ends_so Unfinished s e = e
+  ends_so o s e = e
 
   restarts_so : AreRestarts deepest (canonical_attempt a) memory
   restarts_so = record {

@@ -1,8 +1,7 @@
 -- Worked canonical calls and attempts, by computation.
 use Rattle.std.proofs.Common.{◌≡◌, ℕ, List, [], ◌∷◌, false, refl}
-use Rattle.history_reader.proofs.Common.{Attempt, Begin, CallRecord, Commit, Committed, Done, Props, canonical_attempt, canonical_call}
+use Rattle.history_reader.proofs.Common.{Attempt, Begin, CallRecord, Commit, Committed, Done, Fill, Mode, Props, canonical_attempt, canonical_call}
 use Rattle.itm_types.specs.declared.access.WriteHint.TheVariants.{W}
-use Rattle.itm_types.specs.declared.call.Call.TheVariants.{Fill, Mode}
 
 abbrev plain : Props
 plain = record { no_abort = false; no_irrevocable = false; goes_irrevocable = false }

@@ -1,13 +1,10 @@
 -- A reply of the plain machine is of the kind that its call has.
-use Rattle.std.proofs.Common.{◌≡◌, ℕ, ◌≤◌, Bool, true, false, if◌then◌else◌, List, [], ◌∷◌, map, All, Option, None, Some, refl, sym, subst, arith, lit≤}
-use Rattle.history_reader.proofs.Common.{All-cons, All-head, All-nil, All-tail, Breaks, Call, CallRecord, IsCall, IsEntry, IsReply, Refusal, ReplyKind, after, answer, answer_to, canonical_call, canonical_entry, later, refusal, replies_through as replies_to, reply, reply_unless, size_of}
+use Rattle.std.proofs.Common.{◌≡◌, ℕ, ◌≤◌, Bool, true, if◌then◌else◌, List, [], ◌∷◌, map, All, Option, None, Some, refl, sym, subst, arith, lit≤}
+use Rattle.history_reader.proofs.Common.{All-cons, All-head, All-nil, All-tail, Breaks, Call, CallFits, CallRecord, EntryFits, HasArenaWidth, IsCall, IsEntry, IsReply, OutOfArena, OutOfRange, Refusal, ReplyFits, ReplyKind, after, answer, answer_to, canonical_call, canonical_entry, later, later_none, length-slice, refusal, replies_through as replies_to, reply, reply_unless, size_of, standing}
 use Rattle.itm_types.specs.declared.call.Call.TheVariants as calls
-use Rattle.itm_types.specs.declared.call.Refusal.TheVariants.{OutOfRange, OutOfArena}
 use Rattle.itm_types.specs.declared.call.Reply.TheVariants as replies
 use Rattle.itm_model.specs.State.{State}
-use Rattle.itm_model.specs.Machine.{standing}
-use Rattle.tx_history.specs.Bounds.{CallFits, EntryFits, HasArenaWidth, ReplyFits}
-use Rattle.tx_history.proofs.PlainSizes.{later_none, length-slice, within}
+use Rattle.tx_history.proofs.PlainSizes.{within}
 use Rattle.history_reader.specs.declared.reply.ReplyKind.TheVariants as answers
 use Rattle.history_reader.proofs.Canon.Runs.{calls_in, replies_in}
 
@@ -15,31 +12,20 @@ use Rattle.history_reader.proofs.Canon.Runs.{calls_in, replies_in}
 
 few_codes : (inside irrevocable : Bool) → (if inside then (if irrevocable then 2 else 1) else 0) ≤ 255
 few_codes true true = lit≤ tt
-few_codes true false = lit≤ tt
-few_codes false irrevocable = lit≤ tt
+few_codes inside irrevocable = lit≤ tt
 
 refused_is : (a : ReplyKind) (refusal : Refusal) → IsReply a (replies.Refused refusal)
 refused_is answers.Done refusal = tt
-refused_is answers.Code refusal = tt
-refused_is (answers.Bytes width) refusal = tt
+refused_is a refusal = tt
 
 module _ (deepest : ℕ) where
   answer_is : (s : State) (c : Call) → refusal deepest s c ≡ None → ReplyFits (answer s c) → IsReply (answer_to c) (answer s c)
   answer_is s (calls.Begin props room) e f = lit≤ tt
-  answer_is s calls.Commit e f = tt
   answer_is s (calls.Abort outer) e f = lit≤ tt
-  answer_is s (calls.Mode room) e f = tt
   answer_is s calls.InTransaction e f = few_codes _ s.irrevocable
   answer_is s (calls.Read hint width at) e f = (length-slice s.memory at (size_of width) (within s.memory at (size_of width) OutOfRange (later_none (standing deepest s (calls.Read hint width at)) _ e)), f)
-  answer_is s (calls.Write hint at value) e f = tt
-  answer_is s (calls.Log width at) e f = tt
-  answer_is s (calls.LogBytes at size) e f = tt
-  answer_is s (calls.Copy c) e f = tt
-  answer_is s (calls.Fill hint to byte size) e f = tt
-  answer_is s (calls.CommitAction action) e f = tt
-  answer_is s (calls.UndoAction action) e f = tt
   answer_is s (calls.Load width at) e f = (length-slice s.arena at (size_of width) (within s.arena at (size_of width) OutOfArena (later_none (standing deepest s (calls.Load width at)) _ e)), f)
-  answer_is s (calls.Save at value) e f = tt
+  answer_is s c e f = tt
 
   by_refusal : (s : State) (c : Call) (o : Option Refusal) → refusal deepest s c ≡ o → ReplyFits (reply_unless o (answer s c)) → IsReply (answer_to c) (reply_unless o (answer s c))
   by_refusal s c None e f = answer_is s c e f
@@ -51,21 +37,8 @@ module _ (deepest : ℕ) where
 -- ## Entries
 
 same_kind : (c : Call) → answer_to (canonical_call c) ≡ answer_to c
-same_kind (calls.Begin props room) = refl
 same_kind calls.Commit = refl
-same_kind (calls.Abort outer) = refl
-same_kind (calls.Mode room) = refl
-same_kind calls.InTransaction = refl
-same_kind (calls.Read hint width at) = refl
-same_kind (calls.Write hint at value) = refl
-same_kind (calls.Log width at) = refl
-same_kind (calls.LogBytes at size) = refl
-same_kind (calls.Copy c) = refl
-same_kind (calls.Fill hint to byte size) = refl
-same_kind (calls.CommitAction action) = refl
-same_kind (calls.UndoAction action) = refl
-same_kind (calls.Load width at) = refl
-same_kind (calls.Save at value) = refl
+same_kind c = refl
 
 -- a text can tell the canonical call of one whose numbers fit
 call_is : (c : Call) → CallFits c → HasArenaWidth c → IsCall (canonical_call c)

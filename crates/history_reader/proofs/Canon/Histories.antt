@@ -1,12 +1,9 @@
 -- The canonical history of a legal one is legal.
 use Rattle.std.proofs.Common.{◌≡◌, ◌⊎◌, inl, inr, ℕ, zero, suc, ◌+◌, ◌≤◌, Bool, true, false, ◌&&◌, if◌then◌else◌, nat_lt, List, [], ◌∷◌, map, All, Option, None, Some, refl, sym, ap, subst, ◌∙◌}
-use Rattle.history_reader.proofs.Common.{All-map, All-weaker, Attempt, EndsFree, EndsHeld, History, IsAlone, IsLegal, alone, canonical, canonical_attempt, count_committed, memory_at, option_map}
+use Rattle.history_reader.proofs.Common.{All-map, All-weaker, Attempt, EndsFree, EndsHeld, History, IsAlone, IsLegal, alone, canonical, canonical_attempt, committed_at, count_at, count_committed, count_holding, is_at, is_committed, is_holding, is_unfinished, map-append, memory_after, memory_at, memory_left, one_where, option_map}
 use Rattle.itm_model.specs.State.{State}
-use Rattle.tx_attempts.specs.Attempts.{committed_at, is_at, is_committed, memory_after, memory_left}
-use Rattle.tx_attempts.specs.Counts.{count_at, one_where}
-use Rattle.tx_history.specs.Legal.{count_holding, is_holding, is_unfinished}
 use Rattle.history_reader.proofs.Canon.Runs.{same_alone}
-use Rattle.history_reader.proofs.Canon.Attempts.{canonical_alone, map_both}
+use Rattle.history_reader.proofs.Canon.Attempts.{canonical_alone}
 use Rattle.tx_history.specs.Versions.{depth_of}
 
 -- ## Positions
@@ -69,7 +66,7 @@ module _ (h : History) where
       map canonical_attempt e.holder.0,
       map canonical_attempt e.holder.1,
       canonical_attempt e.holder.2,
-      ap (map canonical_attempt) e.holder.3 ∙ map_both canonical_attempt e.holder.0 (e.holder.2 ∷ e.holder.1),
+      ap (map canonical_attempt) e.holder.3 ∙ map-append canonical_attempt e.holder.0 (e.holder.2 ∷ e.holder.1),
       e.holder.4,
       e.holder.5,
     );

@@ -1,10 +1,8 @@
 -- The plain machine gives the calls of a history and those of its canonical one the same replies and leaves the same state: it looks at no room, and of a fill's byte at the low 8 bits.
 use Rattle.std.proofs.Common.{◌≡◌, ℕ, replicate, Bool, true, false, if◌then◌else◌, ◌==◌, List, [], ◌∷◌, map, Some, refl, ap, ◌∙◌}
-use Rattle.history_reader.proofs.Common.{Again, Attempt, Breaks, Call, CallRecord, Reply, after, alone, answer, breaks_of, canonical_again, canonical_attempt, canonical_call, canonical_entry, later, opened, refusal, replies_through, reply, reply_unless, state_through}
+use Rattle.history_reader.proofs.Common.{Again, Attempt, Breaks, Call, CallRecord, Reply, after, after_unless, again_at, alone, answer, arena_set, breaks_of, canonical_again, canonical_attempt, canonical_call, canonical_entry, effect, later, opened, refusal, replies_through, reply, reply_unless, state_through, written}
 use Rattle.itm_types.specs.declared.call.Call.TheVariants as calls
 use Rattle.itm_model.specs.State.{State}
-use Rattle.itm_model.specs.Machine.{after_unless, effect, written}
-use Rattle.tx_attempts.specs.Restarts.{again_at, arena_set}
 use Rattle.history_reader.proofs.Canon.Texts.{low_again}
 
 -- the calls of entries
@@ -16,55 +14,16 @@ replies_in es = map (λ (e : CallRecord). e.reply) es
 
 module _ (deepest : ℕ) where
   same_refusal : (s : State) (c : Call) → refusal deepest s (canonical_call c) ≡ refusal deepest s c
-  same_refusal s (calls.Begin props room) = refl
   same_refusal s calls.Commit = refl
-  same_refusal s (calls.Abort outer) = refl
-  same_refusal s (calls.Mode room) = refl
-  same_refusal s calls.InTransaction = refl
-  same_refusal s (calls.Read hint width at) = refl
-  same_refusal s (calls.Write hint at value) = refl
-  same_refusal s (calls.Log width at) = refl
-  same_refusal s (calls.LogBytes at size) = refl
-  same_refusal s (calls.Copy c) = refl
-  same_refusal s (calls.Fill hint to byte size) = refl
-  same_refusal s (calls.CommitAction action) = refl
-  same_refusal s (calls.UndoAction action) = refl
-  same_refusal s (calls.Load width at) = refl
-  same_refusal s (calls.Save at value) = refl
+  same_refusal s c = refl
 
   same_answer : (s : State) (c : Call) → answer s (canonical_call c) ≡ answer s c
-  same_answer s (calls.Begin props room) = refl
   same_answer s calls.Commit = refl
-  same_answer s (calls.Abort outer) = refl
-  same_answer s (calls.Mode room) = refl
-  same_answer s calls.InTransaction = refl
-  same_answer s (calls.Read hint width at) = refl
-  same_answer s (calls.Write hint at value) = refl
-  same_answer s (calls.Log width at) = refl
-  same_answer s (calls.LogBytes at size) = refl
-  same_answer s (calls.Copy c) = refl
-  same_answer s (calls.Fill hint to byte size) = refl
-  same_answer s (calls.CommitAction action) = refl
-  same_answer s (calls.UndoAction action) = refl
-  same_answer s (calls.Load width at) = refl
-  same_answer s (calls.Save at value) = refl
+  same_answer s c = refl
 
   same_effect : (s : State) (c : Call) → effect s (canonical_call c) ≡ effect s c
-  same_effect s (calls.Begin props room) = refl
-  same_effect s calls.Commit = refl
-  same_effect s (calls.Abort outer) = refl
-  same_effect s (calls.Mode room) = refl
-  same_effect s calls.InTransaction = refl
-  same_effect s (calls.Read hint width at) = refl
-  same_effect s (calls.Write hint at value) = refl
-  same_effect s (calls.Log width at) = refl
-  same_effect s (calls.LogBytes at size) = refl
-  same_effect s (calls.Copy c) = refl
   same_effect s (calls.Fill hint to byte size) = ap (λ (low : ℕ). written s to (replicate size low)) (low_again byte)
-  same_effect s (calls.CommitAction action) = refl
-  same_effect s (calls.UndoAction action) = refl
-  same_effect s (calls.Load width at) = refl
-  same_effect s (calls.Save at value) = refl
+  same_effect s c = refl
 
   same_reply : (s : State) (c : Call) → reply deepest s (canonical_call c) ≡ reply deepest s c
   same_reply s c = λ i. reply_unless (same_refusal s c i) (same_answer s c i)

@@ -1,7 +1,6 @@
 -- A history and its canonical one have one text.
 use Rattle.std.proofs.Common.{◌≡◌, ℕ, ◌-◌, ◌%◌, List, [], ◌∷◌, ◌++◌, take, drop, map, refl, ap, ◌∙◌, arith, codes, decimal, flat_map}
-use Rattle.history_reader.proofs.Common.{Again, Attempt, Call, CallRecord, History, Ran, again_lines, arena_line, attempt_lines, body_text, call_line, call_lines, canonical, canonical_again, canonical_attempt, canonical_call, canonical_entry, canonical_undone, fill_text, first_lines, head_line, history_text, last_line, name_of, ran_line, reply_text, restart_line, take-map, try_text, undone_line}
-use Rattle.std.proofs.lemmas.List.{drop-map}
+use Rattle.history_reader.proofs.Common.{Again, Attempt, Call, CallRecord, History, Ran, again_lines, arena_line, attempt_lines, body_text, call_line, call_lines, canonical, canonical_again, canonical_attempt, canonical_call, canonical_entry, canonical_undone, drop-map, fill_text, first_lines, head_line, history_text, last_line, name_of, ran_line, reply_text, restart_line, take-map, try_text, undone_line}
 use Rattle.itm_types.specs.declared.call.Call.TheVariants as calls
 use Rattle.itm_entries.specs.declared.entry.Entry.TheVariants as points
 
@@ -11,22 +10,9 @@ low_again byte = omega arith
 
 canonical_body : (c : Call) → body_text (canonical_call c) ≡ body_text c
 unfolding body_text fill_text
-canonical_body (calls.Begin props room) = refl
-canonical_body calls.Commit = refl
-canonical_body (calls.Abort outer) = refl
-canonical_body (calls.Mode room) = refl
-canonical_body calls.InTransaction = refl
-canonical_body (calls.Read hint width at) = refl
-canonical_body (calls.Write hint at value) = refl
-canonical_body (calls.Log width at) = refl
-canonical_body (calls.LogBytes at size) = refl
-canonical_body (calls.Copy c) = refl
 canonical_body (calls.Fill hint to byte size) =
     ap (λ (low : ℕ). name_of (points.Fill hint) ++ codes " " ++ decimal to ++ codes " " ++ decimal low ++ codes " " ++ decimal size) (low_again byte)
-canonical_body (calls.CommitAction action) = refl
-canonical_body (calls.UndoAction action) = refl
-canonical_body (calls.Load width at) = refl
-canonical_body (calls.Save at value) = refl
+canonical_body c = refl
 
 canonical_line : (e : CallRecord) → call_line (canonical_entry e) ≡ call_line e
 unfolding call_line

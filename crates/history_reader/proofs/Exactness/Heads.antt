@@ -1,20 +1,19 @@
 -- What is read of the fields of a line that is no call's is so spelled.
-use Rattle.std.proofs.Common.{◌≡◌, ℕ, ◌+◌, ◌≤◌, List, [], ◌∷◌, length, Ok, refl, sym, ap, subst, ◌∙◌, decimal}
-use Rattle.history_reader.proofs.Common.{ActionKind, Depth, Head, IsBytes, IsMemory, IsRan, IsUndone, IsWord, MAX_ARENA, MAX_DEPTH, MAX_RETRIES, Outcome, Props, Ran, Undo, arena_bytes, arena_of, arena_text, block_props, both, depth, depth_from, depth_of, encode_lower, final_of, function, head_of, kind, kind_text, lookup, memory_bytes, memory_of, near_is, next, next_three, none, nth, number, one, outcome, outcome_name, outcome_of, props_text, ran_of, ranged, restart_bytes, restart_of, sized, thread, try_of, undone_of, ◌>>=◌}
-use Rattle.history_reader.specs.Words.{outcome_names, kind_names}
-use Rattle.history_reader.proofs.Exactness.Fields.{bind_ok, both_ok, lookup_exact, or_operand_ok, ranged_exact, function_exact}
-use Rattle.history_reader.proofs.Exactness.Bytes.{sized_exact, memory_exact, arena_exact, restart_exact}
-use Rattle.history_reader.proofs.Exactness.Calls.{next_exact, none_exact, one_exact, three_exact, number_is, props_is}
+use Rattle.std.proofs.Common.{◌≡◌, ℕ, ◌+◌, ◌≤◌, List, [], ◌∷◌, length, refl, sym, ap, ◌∙◌, decimal, Result}
+use Rattle.history_reader.proofs.Common.{AsmKind, Head, IfOk, IfOk-weaker, IsBytes, IsMemory, IsRan, IsUndone, IsWord, MAX_ARENA, MAX_DEPTH, MAX_RETRIES, arena_bytes, arena_of, arena_text, bind_if, block_props, both, both_if, depth, depth_of, encode_lower, final_of, function, head_of, kind, kind_names, kind_text, lookup, memory_bytes, memory_of, near_is, next, next_three, none, nth, number, one, outcome, outcome_name, outcome_names, outcome_of, props_text, ran_of, ranged, restart_bytes, restart_of, sized, thread, try_of, undone_of, ◌>>=◌}
+use Rattle.history_reader.proofs.Exactness.Calls.{next_exact, none_exact, one_exact, three_exact, props_is}
+use Rattle.history_reader.proofs.Exactness.Fields.{Exact, function_is, lookup_if, number_is, or_operand_if, ranged_is}
+use Rattle.history_reader.proofs.Exactness.Bytes.{arena_is, memory_is, restart_is, sized_is}
 
 -- ## Words
 
-outcome_exact : (f : List ℕ) (o : Outcome) → outcome f ≡ Ok o → f ≡ outcome_name o
+outcome_exact : (f : List ℕ) → IfOk (outcome f) (λ o. f ≡ outcome_name o)
 unfolding outcome
-outcome_exact f o e = lookup_exact outcome_name outcome_names f o (refl, (refl, (refl, (refl, (refl, (refl, (refl, tt))))))) (or_operand_ok (lookup outcome_names f) o e)
+outcome_exact f = or_operand_if _ (lookup outcome_names f) (lookup_if (λ g o. g ≡ outcome_name o) outcome_names f (refl, (refl, (refl, (refl, (refl, (refl, (refl, tt))))))))
 
-kind_exact : (f : List ℕ) (k : ActionKind) → kind f ≡ Ok k → f ≡ kind_text k
+kind_exact : (f : List ℕ) → IfOk (kind f) (λ k. f ≡ kind_text k)
 unfolding kind
-kind_exact f k e = lookup_exact kind_text kind_names f k (refl, (refl, tt)) (or_operand_ok (lookup kind_names f) k e)
+kind_exact f = or_operand_if _ (lookup kind_names f) (lookup_if (λ g k. g ≡ kind_text k) kind_names f (refl, (refl, tt)))
 
 -- ## The first line of an attempt
 
@@ -26,113 +25,68 @@ IsHead limit h = (h.thread ≤ limit) × ((1 ≤ h.nth) × (h.nth ≤ MAX_RETRIE
 abbrev pub told_fields : Head → List (List ℕ)
 told_fields h = decimal h.thread ∷ decimal h.nth ∷ decimal h.at ∷ outcome_name h.outcome ∷ props_text h.props ∷ []
 
-abbrev pub head_from : (ℕ × (ℕ × ℕ)) × (Outcome × Props) → Head
-head_from r = record { thread = r.0.0; nth = r.0.1.0; at = r.0.1.1; outcome = r.1.0; props = r.1.1 }
-
-pub head_exact : (limit : ℕ) (fs : List (List ℕ)) (h : Head) → head_of limit fs ≡ Ok h → (fs ≡ told_fields h) × IsHead limit h
+pub head_exact : (limit : ℕ) (fs : List (List ℕ)) → IfOk (head_of limit fs) (λ h. (fs ≡ told_fields h) × IsHead limit h)
 unfolding head_of
-head_exact limit fs h e =
-    let x = bind_ok (next_three fs) (λ x. next x.3 >>= λ y. one y.1 >>= λ last. both (try_of limit x.0 x.1 x.2) (outcome_of y.0 last) >>= λ r. Ok (head_from r)) h e in
-    let y = bind_ok (next x.0.3) (λ y. one y.1 >>= λ last. both (try_of limit x.0.0 x.0.1 x.0.2) (outcome_of y.0 last) >>= λ r. Ok (head_from r)) h x.2 in
-    let z = bind_ok (one y.0.1) (λ last. both (try_of limit x.0.0 x.0.1 x.0.2) (outcome_of y.0.0 last) >>= λ r. Ok (head_from r)) h y.2 in
-    let r = bind_ok (both (try_of limit x.0.0 x.0.1 x.0.2) (outcome_of y.0.0 z.0)) (λ r. Ok (head_from r)) h z.2 in
-    let b = both_ok (try_of limit x.0.0 x.0.1 x.0.2) (outcome_of y.0.0 z.0) r.0 r.1 in
-    let p = both_ok (thread limit x.0.0) (both (nth x.0.1) (number x.0.2)) r.0.0 b.0 in
-    let q = both_ok (nth x.0.1) (number x.0.2) r.0.0.1 p.1 in
-    let o = both_ok (outcome y.0.0) (block_props z.0) r.0.1 b.1 in
-    let first = ranged_exact 0 limit x.0.0 r.0.0.0 p.0 in
-    let second = ranged_exact 1 (MAX_RETRIES + 1) x.0.1 r.0.0.1.0 q.0 in
-    let third = number_is x.0.2 r.0.0.1.1 q.1 in
-    let fourth : y.0.0 ≡ outcome_name r.0.1.0 = outcome_exact y.0.0 r.0.1.0 o.0 in
-    let fifth : z.0 ≡ props_text r.0.1.1 = (props_is z.0 r.0.1.1 o.1).0 in
-    let is : head_from r.0 ≡ h = cc in
-    let all : fs ≡ told_fields (head_from r.0) =
-    cc (three_exact fs x.0 x.1, next_exact x.0.3 y.0 y.1, one_exact y.0.1 z.0 z.1, first.0, second.0, third.0, fourth, fifth) in
-    subst (λ (g : Head). (fs ≡ told_fields g) × IsHead limit g) is (all, (first.2, (second.1, second.2), third.1))
+head_exact limit fs =
+    bind_if _ _ (next_three fs) _ (three_exact fs) (λ x three. bind_if _ _ (next x.3) _ (next_exact x.3) (λ y fourth. bind_if _ _ (one y.1) _ (one_exact y.1) (λ last fifth.
+    bind_if _ _ (both (try_of limit x.0 x.1 x.2) (outcome_of y.0 last)) _
+    (both_if _ _ (try_of limit x.0 x.1 x.2) (outcome_of y.0 last)
+    (both_if _ _ (thread limit x.0) _ (ranged_is 0 limit x.0) (both_if _ _ (nth x.1) (number x.2) (ranged_is 1 (MAX_RETRIES + 1) x.1) (number_is x.2)))
+    (both_if _ _ (outcome y.0) (block_props last) (outcome_exact y.0) (props_is last)))
+    (λ r o. (cc (three, fourth, fifth, o.0.0.0, o.0.1.0.0, o.0.1.1.0, o.1.0, o.1.1.0), (o.0.0.1.1, o.0.1.0.1, o.0.1.1.1))))))
 
--- ## Bytes
+-- ## One field
 
-pub memory_of_exact : (limit : ℕ) (fs : List (List ℕ)) (bytes : List ℕ) → memory_of limit fs ≡ Ok bytes → (fs ≡ encode_lower bytes ∷ []) × IsMemory limit bytes
+-- what is read of one field alone
+alone_exact : {A : Type 0} (read : List ℕ → Result A AsmKind) (text : A → List ℕ) (Is : A → Type 0) → Exact read text Is → (fs : List (List ℕ)) → IfOk (one fs >>= read) (λ x. (fs ≡ text x ∷ []) × Is x)
+unfolding one next none
+alone_exact read text Is h (f ∷ []) = IfOk-weaker (read f) (λ x. (f ≡ text x) × Is x) _ (λ x e. (ap (λ (g : List ℕ). g ∷ []) e.0, e.1)) (h f)
+alone_exact read text Is h fs = tt
+
+pub memory_of_exact : (limit : ℕ) (fs : List (List ℕ)) → IfOk (memory_of limit fs) (λ bytes. (fs ≡ encode_lower bytes ∷ []) × IsMemory limit bytes)
 unfolding memory_of
-memory_of_exact limit fs bytes e =
-    let x = bind_ok (one fs) (memory_bytes limit) bytes e in
-    let m = memory_exact limit x.0 bytes x.2 in
-    (one_exact fs x.0 x.1 ∙ ap (λ (f : List ℕ). f ∷ []) m.0, m.1)
+memory_of_exact limit fs = alone_exact (memory_bytes limit) encode_lower (IsMemory limit) (memory_is limit) fs
 
-pub arena_of_exact : (fs : List (List ℕ)) (bytes : List ℕ) → arena_of fs ≡ Ok bytes → (fs ≡ arena_text bytes ∷ []) × (IsBytes bytes × (length bytes ≤ MAX_ARENA))
+pub arena_of_exact : (fs : List (List ℕ)) → IfOk (arena_of fs) (λ bytes. (fs ≡ arena_text bytes ∷ []) × (IsBytes bytes × (length bytes ≤ MAX_ARENA)))
 unfolding arena_of
-arena_of_exact fs bytes e =
-    let x = bind_ok (one fs) arena_bytes bytes e in
-    let a = arena_exact x.0 bytes x.2 in
-    (one_exact fs x.0 x.1 ∙ ap (λ (f : List ℕ). f ∷ []) a.0, (a.1, a.2))
+arena_of_exact fs = alone_exact arena_bytes arena_text (λ bytes. IsBytes bytes × (length bytes ≤ MAX_ARENA)) arena_is fs
 
-pub restart_of_exact : (size : ℕ) (fs : List (List ℕ)) (bytes : List ℕ) → restart_of size fs ≡ Ok bytes → (fs ≡ arena_text bytes ∷ []) × (IsBytes bytes × (length bytes ≡ size))
+pub restart_of_exact : (size : ℕ) (fs : List (List ℕ)) → IfOk (restart_of size fs) (λ bytes. (fs ≡ arena_text bytes ∷ []) × (IsBytes bytes × (length bytes ≡ size)))
 unfolding restart_of
-restart_of_exact size fs bytes e =
-    let x = bind_ok (one fs) (restart_bytes size) bytes e in
-    let a = restart_exact size x.0 bytes x.2 in
-    (one_exact fs x.0 x.1 ∙ ap (λ (f : List ℕ). f ∷ []) a.0, (a.1, a.2))
+restart_of_exact size fs = alone_exact (restart_bytes size) arena_text (λ bytes. IsBytes bytes × (length bytes ≡ size)) (restart_is size) fs
 
--- ## How many blocks may be open
+-- how many blocks may be open
+depth_is : Exact depth (λ d. decimal d.blocks) (λ d. Unit {0})
+unfolding depth
+depth_is f = bind_if _ _ (ranged 1 MAX_DEPTH f) _ (ranged_is 1 MAX_DEPTH f) (λ n w. (w.0 ∙ ap decimal (sym (near_is n w.1.0 w.1.1)), tt))
 
-pub depth_exact : (fs : List (List ℕ)) (d : Depth) → depth_of fs ≡ Ok d → fs ≡ decimal d.blocks ∷ []
-unfolding depth_of depth
-depth_exact fs d e =
-    let x = bind_ok (one fs) depth d e in
-    let n = bind_ok (ranged 1 MAX_DEPTH x.0) (λ n. Ok (depth_from n)) d x.2 in
-    let w = ranged_exact 1 MAX_DEPTH x.0 n.0 n.1 in
-    let is : depth_from n.0 ≡ d = cc in
-    let same : n.0 ≡ d.blocks = sym (near_is n.0 w.1 w.2) ∙ ap (λ (z : Depth). z.blocks) is in
-    one_exact fs x.0 x.1 ∙ ap (λ (f : List ℕ). f ∷ []) (w.0 ∙ ap decimal same)
+pub depth_exact : (fs : List (List ℕ)) → IfOk (depth_of fs) (λ d. (fs ≡ decimal d.blocks ∷ []) × Unit {0})
+unfolding depth_of
+depth_exact fs = alone_exact depth (λ d. decimal d.blocks) (λ d. Unit {0}) depth_is fs
 
 -- ## The end
 
 -- the clock, and as many bytes as are wanted
-pub final_exact : (size : ℕ) (fs : List (List ℕ)) (x : ℕ × List ℕ) → final_of size fs ≡ Ok x → (fs ≡ decimal x.0 ∷ encode_lower x.1 ∷ []) × IsWord x.0 × (IsBytes x.1 × (length x.1 ≡ size))
+pub final_exact : (size : ℕ) (fs : List (List ℕ)) → IfOk (final_of size fs) (λ x. (fs ≡ decimal x.0 ∷ encode_lower x.1 ∷ []) × IsWord x.0 × (IsBytes x.1 × (length x.1 ≡ size)))
 unfolding final_of
-final_exact size fs x e =
-    let a = bind_ok (next fs) (λ a. one a.1 >>= λ last. both (number a.0) (sized size last)) x e in
-    let b = bind_ok (one a.0.1) (λ last. both (number a.0.0) (sized size last)) x a.2 in
-    let p = both_ok (number a.0.0) (sized size b.0) x b.2 in
-    let n = number_is a.0.0 x.0 p.0 in
-    let s = sized_exact size b.0 x.1 p.1 in
-    let all : fs ≡ decimal x.0 ∷ encode_lower x.1 ∷ [] = cc (next_exact fs a.0 a.1, one_exact a.0.1 b.0 b.1, n.0, s.0) in
-    (all, n.1, (s.2, s.1))
+final_exact size fs =
+    bind_if _ _ (next fs) _ (next_exact fs) (λ x first. bind_if _ _ (one x.1) _ (one_exact x.1) (λ last second.
+    IfOk-weaker (both (number x.0) (sized size last)) (λ y. ((x.0 ≡ decimal y.0) × IsWord y.0) × ((last ≡ encode_lower y.1) × ((length y.1 ≡ size) × IsBytes y.1))) _
+    (λ y o. (cc (first, second, o.0.0, o.1.0), o.0.1, (o.1.1.1, o.1.1.0))) (both_if _ _ (number x.0) (sized size last) (number_is x.0) (sized_is size last))))
 
--- ## An action that ran
+-- ## Actions
 
-abbrev ran_from : ActionKind × (ℕ × ℕ) → Ran
-ran_from r = record { kind = r.0; action = record { fun = r.1.0; arg = r.1.1 } }
-
-pub ran_exact : (fs : List (List ℕ)) (r : Ran) → ran_of fs ≡ Ok r → (fs ≡ kind_text r.kind ∷ decimal r.action.fun ∷ decimal r.action.arg ∷ []) × IsRan r
+-- one that ran
+pub ran_exact : (fs : List (List ℕ)) → IfOk (ran_of fs) (λ r. (fs ≡ kind_text r.kind ∷ decimal r.action.fun ∷ decimal r.action.arg ∷ []) × IsRan r)
 unfolding ran_of
-ran_exact fs r e =
-    let x = bind_ok (next_three fs) (λ x. none x.3 >>= λ _. both (kind x.0) (both (function x.1) (number x.2)) >>= λ w. Ok (ran_from w)) r e in
-    let y = bind_ok (none x.0.3) (λ _. both (kind x.0.0) (both (function x.0.1) (number x.0.2)) >>= λ w. Ok (ran_from w)) r x.2 in
-    let w = bind_ok (both (kind x.0.0) (both (function x.0.1) (number x.0.2))) (λ w. Ok (ran_from w)) r y.2 in
-    let p = both_ok (kind x.0.0) (both (function x.0.1) (number x.0.2)) w.0 w.1 in
-    let q = both_ok (function x.0.1) (number x.0.2) w.0.1 p.1 in
-    let first : x.0.0 ≡ kind_text w.0.0 = kind_exact x.0.0 w.0.0 p.0 in
-    let second = function_exact x.0.1 w.0.1.0 q.0 in
-    let third = number_is x.0.2 w.0.1.1 q.1 in
-    let is : ran_from w.0 ≡ r = cc in
-    let all : fs ≡ kind_text w.0.0 ∷ decimal w.0.1.0 ∷ decimal w.0.1.1 ∷ [] = cc (three_exact fs x.0 x.1, none_exact x.0.3 y.0 y.1, first, second.0, third.0) in
-    subst (λ (g : Ran). (fs ≡ kind_text g.kind ∷ decimal g.action.fun ∷ decimal g.action.arg ∷ []) × IsRan g) is (all, (second.1, third.1))
+ran_exact fs =
+    bind_if _ _ (next_three fs) _ (three_exact fs) (λ x three. bind_if _ _ (none x.3) _ (none_exact x.3) (λ u no.
+    bind_if _ _ (both (kind x.0) (both (function x.1) (number x.2))) _
+    (both_if _ _ (kind x.0) _ (kind_exact x.0) (both_if _ _ (function x.1) (number x.2) (function_is x.1) (number_is x.2))) (λ r o. (cc (three, no, o.0, o.1.0.0, o.1.1.0), (o.1.0.1, o.1.1.1)))))
 
--- ## One that had run in a block before it ran again
-
-abbrev undone_from : ℕ × ℕ → Ran
-undone_from r = record { kind = Undo; action = record { fun = r.0; arg = r.1 } }
-
-pub undone_exact : (fs : List (List ℕ)) (r : Ran) → undone_of fs ≡ Ok r → (fs ≡ decimal r.action.fun ∷ decimal r.action.arg ∷ []) × IsUndone r
+-- one that had run in a block before it ran again
+pub undone_exact : (fs : List (List ℕ)) → IfOk (undone_of fs) (λ r. (fs ≡ decimal r.action.fun ∷ decimal r.action.arg ∷ []) × IsUndone r)
 unfolding undone_of
-undone_exact fs r e =
-    let x = bind_ok (next fs) (λ x. one x.1 >>= λ last. both (function x.0) (number last) >>= λ w. Ok (undone_from w)) r e in
-    let y = bind_ok (one x.0.1) (λ last. both (function x.0.0) (number last) >>= λ w. Ok (undone_from w)) r x.2 in
-    let w = bind_ok (both (function x.0.0) (number y.0)) (λ w. Ok (undone_from w)) r y.2 in
-    let p = both_ok (function x.0.0) (number y.0) w.0 w.1 in
-    let first = function_exact x.0.0 w.0.0 p.0 in
-    let second = number_is y.0 w.0.1 p.1 in
-    let is : undone_from w.0 ≡ r = cc in
-    let all : fs ≡ decimal w.0.0 ∷ decimal w.0.1 ∷ [] = cc (next_exact fs x.0 x.1, one_exact x.0.1 y.0 y.1, first.0, second.0) in
-    subst (λ (g : Ran). (fs ≡ decimal g.action.fun ∷ decimal g.action.arg ∷ []) × IsUndone g) is (all, (refl, (first.1, second.1)))
+undone_exact fs =
+    bind_if _ _ (next fs) _ (next_exact fs) (λ x first. bind_if _ _ (one x.1) _ (one_exact x.1) (λ last second.
+    bind_if _ _ (both (function x.0) (number last)) _ (both_if _ _ (function x.0) (number last) (function_is x.0) (number_is last)) (λ r o. (cc (first, second, o.0.0, o.1.0), (refl, (o.0.1, o.1.1))))))

@@ -1,10 +1,9 @@
 -- A line of a history is its fields with single spaces between them, and the feed.
 use Rattle.std.proofs.Common.{◌≡◌, ℕ, ◌%◌, Bool, true, false, cond, eqb, List, [], ◌∷◌, ◌++◌, length, refl, sym, ap, ◌∙◌, append_assoc, decimal, codes}
-use Rattle.history_reader.proofs.Common.{Attempt, Call, CallRecord, Depth, Ran, Reply, Three, Version, arena_fields, arena_line, body_text, call_fields, call_line, depth_fields, encode_lower, fill_text, final_fields, first_lines, head_fields, head_line, joined, kind_text, last_line, memory_fields, name_of, operands_of, outcome_name, props_text, ran_fields, ran_line, reply_fields, reply_text, restart_fields, restart_line, size_of, try_text, undone_fields, undone_line, verb_in, verb_text, version_lines}
+use Rattle.history_reader.proofs.Common.{Attempt, Call, CallRecord, Depth, Ran, Reply, Three, Version, arena_fields, arena_line, body_text, call_fields, call_line, commit_action_text, copy_text, depth_fields, encode_lower, fill_text, final_fields, first_lines, head_fields, head_line, joined, kind_text, last_line, memory_fields, name_of, operands_of, outcome_name, props_end, props_text, ran_fields, ran_line, reply_fields, reply_text, restart_fields, restart_line, size_of, try_text, undo_action_text, undone_fields, undone_line, verb_in, verb_text, version_lines}
 use Rattle.itm_types.specs.declared.call.Call.TheVariants as calls
 use Rattle.itm_types.specs.declared.call.Reply.TheVariants as replies
 use Rattle.itm_entries.specs.declared.entry.Entry.TheVariants as points
-use Rattle.tx_history.specs.Histories.{props_end, copy_text, commit_action_text, undo_action_text}
 
 -- ## Texts put together from the left, and from the right
 
@@ -76,11 +75,6 @@ ran_joined r = long_ending (codes "ran ") (kind_text r.kind) (codes " ") (decima
 -- what is called and its operands
 body_joined : (c : Call) → body_text c ≡ joined (verb_text (verb_in c) ∷ operands_of c)
 unfolding body_text copy_text fill_text commit_action_text undo_action_text
-body_joined (calls.Begin props room) = refl
-body_joined calls.Commit = refl
-body_joined (calls.Abort outer) = refl
-body_joined (calls.Mode room) = refl
-body_joined calls.InTransaction = refl
 body_joined (calls.Read hint width at) = append_assoc (name_of (points.Read hint width)) (codes " ") (decimal at)
 body_joined (calls.Write hint at value) = five (name_of (points.Write hint value.width)) (codes " ") (decimal at) (codes " ") (encode_lower value.bytes.items)
 body_joined (calls.Log width at) = append_assoc (name_of (points.Log width)) (codes " ") (decimal at)
@@ -91,13 +85,12 @@ body_joined (calls.CommitAction action) = four (codes "_ITM_addUserCommitAction 
 body_joined (calls.UndoAction action) = four (codes "_ITM_addUserUndoAction ") (decimal action.fun) (codes " ") (decimal action.arg)
 body_joined (calls.Load width at) = append_assoc (codes "ld" ++ decimal (size_of width)) (codes " ") (decimal at)
 body_joined (calls.Save at value) = five (codes "st" ++ decimal (size_of value.width)) (codes " ") (decimal at) (codes " ") (encode_lower value.bytes.items)
+body_joined c = refl
 
 reply_joined : (r : Reply) → codes " = " ++ reply_text r ≡ 32 ∷ joined (codes "=" ∷ reply_fields r)
 unfolding reply_text
 reply_joined replies.Done = refl
-reply_joined (replies.Bytes value) = refl
-reply_joined (replies.Code n) = refl
-reply_joined (replies.Refused refusal) = refl
+reply_joined r = refl
 
 -- fields that stand behind other ones
 joined_after : (f : List ℕ) (fs : List (List ℕ)) (g : List ℕ) (gs : List (List ℕ)) → joined (f ∷ fs ++ g ∷ gs) ≡ joined (f ∷ fs) ++ 32 ∷ joined (g ∷ gs)

@@ -1,7 +1,6 @@
 -- The text that a state stands for, and what holds of a state that lines have led to.
 use Rattle.std.proofs.Common.{◌≡◌, ℕ, suc, ◌≤◌, List, [], ◌∷◌, ◌++◌, length, refl, sym, ap, ◌∙◌, append_assoc, All, codes}
-use Rattle.history_reader.proofs.Common.{Again, AreAgain, Attempt, Behind, CallRecord, Head, IsAttempt, IsBytes, IsEntry, IsHistory, IsInnerBegin, IsMemory, IsRan, IsTold, MAX_ARENA, MayTell, One, Place, Ran, State, Three, Two, Version, append-nil, arena_line, attempt_lines, call_lines, first_lines, flat_map, history_text, last_line, memory_limit, ran_line, slice_get, thread_limit, version_lines}
-use Rattle.std.proofs.lemmas.List.{flat_map_more}
+use Rattle.history_reader.proofs.Common.{Again, AreAgain, Attempt, Behind, CallRecord, Head, IsAttempt, IsBytes, IsEntry, IsHistory, IsInnerBegin, IsMemory, IsRan, IsTold, MAX_ARENA, MayTell, One, Place, Ran, State, Three, Two, Version, append-nil, arena_line, attempt_lines, call_lines, first_lines, flat_map, flat_map_more, history_text, last_line, memory_limit, ran_line, slice_get, thread_limit, version_lines}
 use Rattle.history_reader.specs.declared.state.Behind.TheVariants as behinds
 use Rattle.history_reader.specs.declared.state.Place.TheVariants as places
 use Rattle.history_reader.proofs.BlocksAgain.{AreBetween}
@@ -114,6 +113,10 @@ IsSoFar (places.AtEnd clock) s = IsHistory (record { version = s.version; memory
 pub record Follows (p : Place) (s t : State) (line : List ℕ) : Type 0 where
   pub text : so_far t.place t ≡ so_far p s ++ line
   pub kept : IsSoFar t.place t
+
+-- and it is the line of these fields
+abbrev pub Grows : Place → State → List (List ℕ) → State → Type 0
+Grows p s fs t = Follows p s t (line_of fs)
 
 -- ## How the text grows
 

@@ -1,7 +1,6 @@
 -- The lines of attempts are read as these attempts.
 use Rattle.std.proofs.Common.{◌≡◌, ℕ, zero, suc, ◌+◌, ◌-◌, List, [], ◌∷◌, ◌++◌, length, take, drop, Option, None, Some, Ok, refl, sym, ap, subst, ◌∙◌, arith, append_assoc, append-nil, lit<, length-append, zero-add, codes, decimal, flat_map}
-use Rattle.history_reader.proofs.Common.{Again, AllByRecursion, AreAgain, Attempt, Behind, CallRecord, Head, IsAgain, IsAttempt, IsEntry, IsInnerBegin, IsRan, IsTold, IsUndone, MayTell, One, Place, Ran, State, Three, Two, Version, again_lines, arena_fields, arena_line, arena_text, attempt_lines, behind_call, call_fields, call_line, call_lines, fields_line, head_fields, head_line, is_five, joined, kind_text, meaning, outcome_name, props_text, ran_fields, ran_line, recursion_from_All, rest_of, restart_fields, restart_line, slice_get, slice_get_within, undone_fields, undone_line, verb_in, verb_text}
-use Rattle.std.proofs.lemmas.List.{length-take-le, take-append-drop}
+use Rattle.history_reader.proofs.Common.{Again, AllByRecursion, AreAgain, Attempt, Behind, CallRecord, Head, IsAgain, IsAttempt, IsEntry, IsInnerBegin, IsRan, IsTold, IsUndone, MayTell, One, Place, Ran, State, Three, Two, Version, again_lines, all_parts, arena_fields, arena_line, arena_text, attempt_lines, behind_call, call_fields, call_line, call_lines, fields_line, head_fields, head_line, is_five, joined, kind_text, length-take-le, meaning, outcome_name, props_text, ran_fields, ran_line, recursion_from_All, rest_of, restart_fields, restart_line, slice_get, slice_get_within, take-append-drop, undone_fields, undone_line, verb_in, verb_text}
 use Rattle.history_reader.specs.declared.state.Behind.TheVariants as behinds
 use Rattle.history_reader.specs.declared.state.Place.TheVariants as places
 use Rattle.history_reader.proofs.BlocksAgain.{undone_is}
@@ -148,11 +147,6 @@ LeadsIn head f s es agains text rest = (b : Behind) × Leads s (within (places.I
 parts_three : (a b c rest : List ℕ) → (a ++ b ++ c) ++ rest ≡ a ++ (b ++ (c ++ rest))
 parts_three a b c rest = simp append_assoc
 
-all_taken : {A : Type 0} (P : A → Type 0) (m : ℕ) (xs : List A) → AllByRecursion P xs → AllByRecursion P (take m xs) × AllByRecursion P (drop m xs)
-all_taken P zero xs h = (tt, h)
-all_taken P (suc m) [] h = (tt, tt)
-all_taken P (suc m) (x ∷ xs) h = (let r = all_taken P m xs h.1 in ((h.0, r.0), r.1))
-
 -- the lines of calls, and within them those of the blocks that ran again, leave both
 body_leads : (head : Head) (f : Frame) (b : Behind) (before es : List CallRecord) (agains more : List Again) (rest : List ℕ) → AllByRecursion IsEntry es → AllByRecursion IsTold more → MayTell f.version more
     → AreAgain (length f.arena) (length before) (before ++ es) more
@@ -172,7 +166,7 @@ body_leads head f b before es agains (a ∷ more) rest h t m g =
     let l = last_begins es j (slice_get (before ++ es) i.place) got i.begins in
     let first : List CallRecord = take (suc j) es in
     let later : List CallRecord = drop (suc j) es in
-    let parts = all_taken IsEntry (suc j) es h in
+    let parts = all_parts IsEntry (suc j) es h in
     let whole : (before ++ first) ++ later ≡ before ++ es = append_assoc before first later ∙ ap (λ (x : List CallRecord). before ++ x) (take-append-drop (suc j) es) in
     let size : length (before ++ first) ≡ a.kept = omega (arith, length-append before first, ap (length {A = CallRecord}) l.1, length-append (take j es) (l.0 ∷ []), there_is es j (slice_get (before ++ es) i.place) got i.begins, i.kept, g.1) in
     let begun : behind_calls f.version b first ≡ behinds.Begin = ap (behind_calls f.version b) l.1 ∙ behind_last f.version b (take j es) l.0 ∙ begins_there f.version l.0 a more m l.2 in
@@ -251,18 +245,7 @@ at_arena head f line = refl
 
 -- when its begin was called is not told
 told_again : (version : Version) (a : Attempt) → IsAttempt version a → told_by (head_in a) a.arena a.calls.list a.restarts a.ran ≡ a
-told_again version a h = λ i. record {
-  thread = a.thread;
-  nth = a.nth;
-  began = sym h.began i;
-  at = a.at;
-  props = a.props;
-  arena = a.arena;
-  calls = record { list = a.calls.list; room = sym h.room i };
-  restarts = a.restarts;
-  ran = a.ran;
-  outcome = a.outcome;
-}
+told_again version a h = λ i. record a { began = sym h.began i; calls = record { list = a.calls.list; room = sym h.room i } }
 
 -- parts in a row, each with all that stands behind it
 parts_apart : (a b c d e rest : List ℕ) → a ++ b ++ c ++ d ++ e ++ rest ≡ a ++ (b ++ (c ++ (d ++ (e ++ rest))))

@@ -1,15 +1,10 @@
 -- What is spelled in a field is read of it again.
-use Rattle.std.proofs.Common.{◌≡◌, ℕ, suc, ◌*◌, ◌/◌, ◌%◌, ◌^◌, ◌<◌, ◌≤◌, ◌+◌, Bool, true, false, cond, eqb, leb, List, [], ◌∷◌, ◌++◌, length, Option, Some, Result, Ok, Err, refl, sym, ap, subst, ◌∙◌, arith, lit<, inl, inr, decimal, bytes_eq, codes, slice_index}
-use Rattle.history_reader.proofs.Common.{ActionKind, AllPass-from_list_all, AsmKind, Datum, Depth, IsArenaWidth, IsBytes, IsDatum, IsMemory, MAX_ARENA, MAX_DEPTH, Outcome, Point, Props, Refusal, Verb, Width, access_names, are_words, arena_bytes, arena_text, block_props, bytes_eq-Decides, bytes_if, cases_Bool, datum, datum_of, decimal_digit, depth, depth_from, encode_lower, encode_with, entry_of-exact, is_lower_digit, is_lower_hex, kind, kind_text, le-leb, list_all, lookup, lower_digits, memory_bytes, name_of, ne_eqb, near_is, number_again, number_of, or_point, outcome, outcome_name, point_verb, props_text, ranged, refusal_of, restart_bytes, same_depth, size_of, sized, verb_of, verb_text, within, ◌>>=◌}
-use Rattle.std.proofs.lemmas.Bool.{eq-eqb}
-use Rattle.std.proofs.lemmas.List.Elements.{All-get_or}
-use Rattle.hex.proofs.HexLemmas.{decode_of-encode_lower, length-encode_with}
-use Rattle.itm_types.specs.declared.access.Width.TheVariants.{U1, U2, U4, U8, F, D, M64, M128, M256, CF, CD}
+use Rattle.std.proofs.Common.{◌≡◌, ℕ, ◌*◌, ◌/◌, ◌%◌, ◌^◌, ◌<◌, ◌≤◌, ◌+◌, Bool, true, false, cond, eqb, leb, List, [], ◌∷◌, ◌++◌, length, Option, Some, Result, Ok, Err, refl, sym, ap, subst, ◌∙◌, arith, lit<, inl, inr, decimal, bytes_eq, codes}
+use Rattle.history_reader.proofs.Common.{ActionKind, AsmKind, Datum, Depth, IsArenaWidth, IsBytes, IsDatum, IsMemory, MAX_ARENA, MAX_DEPTH, Outcome, Point, Props, Refusal, Verb, Width, access_names, are_words, arena_bytes, arena_text, block_props, bytes_eq-Decides, bytes_if, cases_Bool, datum, datum_of, decimal_digit, decode_of-encode_lower, decoded_is, depth, depth_from, encode_lower, entry_of-exact, eq-eqb, even_digits, is_lower_digit, kind, kind_text, le-leb, length-encode_with, lookup, lower_digits, memory_bytes, name_of, ne_eqb, near_is, number_again, number_of, or_point, outcome, outcome_name, point_verb, props_text, ranged, refusal_of, restart_bytes, same_depth, size_of, sized, verb_of, verb_text, within, within_again, ◌>>=◌}
+use Rattle.itm_types.specs.declared.access.Width.TheVariants.{U1, U2, U4, U8, F}
 use Rattle.itm_types.specs.declared.call.ActionKind.TheVariants as when
 use Rattle.itm_types.specs.declared.call.Refusal.TheVariants as refusals
 use Rattle.script_fields.specs.declared.fault.AsmKind.TheVariants as kinds
-use Rattle.script_fields.proofs.HexDigits.{decoded_is}
-use Rattle.script_fields.proofs.SpelledNumbers.{within_again}
 use Rattle.tx_attempts.specs.declared.attempt.Outcome.TheVariants as outcomes
 use Rattle.history_reader.specs.declared.verb.Verb.TheVariants as verbs
 use Rattle.history_reader.proofs.Values.{low_is, same_datum}
@@ -23,29 +18,9 @@ ranged_again low high n l h fits = ap (λ (r : Result ℕ AsmKind). r >>= within
 
 -- ## Bytes
 
--- what all digits pass, the digits of bytes pass
-digits_pass : (p : ℕ → Bool) → list_all p lower_digits ≡ true → (bytes : List ℕ) → IsBytes bytes → list_all p (encode_lower bytes) ≡ true
-unfolding encode_with
-digits_pass p t [] h = refl
-digits_pass p t (b ∷ rest) h =
-    let all = AllPass-from_list_all p lower_digits t in
-    let small : b < 256 = h 0 in
-    let high : p (slice_index lower_digits (b / 16)) ≡ true = All-get_or (λ (c : ℕ). p c ≡ true) lower_digits (b / 16) 0 (omega arith) all in
-    let low : p (slice_index lower_digits (b % 16)) ≡ true = All-get_or (λ (c : ℕ). p c ≡ true) lower_digits (b % 16) 0 (omega arith) all in
-    let more = digits_pass p t rest (λ (i : ℕ). h (suc i)) in
-    rw (high, low) more
-
--- the digits of some bytes are digits in lower case
-lower_again : (bytes : List ℕ) → IsBytes bytes → 1 ≤ length bytes → is_lower_hex (encode_lower bytes) ≡ true
-lower_again bytes h some =
-    let twice = length-encode_with lower_digits bytes in
-    let long : eqb (length (encode_lower bytes)) 0 ≡ false = ne_eqb _ 0 (λ e. omega arith) in
-    let even : eqb (length (encode_lower bytes) % 2) 0 ≡ true = eq-eqb _ 0 (omega arith) in
-    rw (long, even) (digits_pass is_lower_digit refl bytes h)
-
 -- where they are as many as may be, they are read as the bytes
 bytes_again : (fits : Bool) (bytes : List ℕ) → fits ≡ true → IsBytes bytes → 1 ≤ length bytes → bytes_if fits (encode_lower bytes) ≡ Ok bytes
-bytes_again fits bytes e h some = rw (lower_again bytes h some, e) (ap (λ (bs : List ℕ). Ok bs) (decoded_is _ _ (decode_of-encode_lower bytes h)))
+bytes_again fits bytes e h some = rw (even_digits is_lower_digit refl bytes h some, e) (ap (λ (bs : List ℕ). Ok bs) (decoded_is _ _ (decode_of-encode_lower bytes h)))
 
 -- so many bytes are read as they were
 pub sized_again : (n : ℕ) (bytes : List ℕ) → length bytes ≡ n → 1 ≤ n → IsBytes bytes → sized n (encode_lower bytes) ≡ Ok bytes
@@ -115,17 +90,8 @@ depth_again d =
 
 -- a value has bytes
 pub some_bytes : (w : Width) → 1 ≤ size_of w
-some_bytes U1 = omega arith
-some_bytes U2 = omega arith
-some_bytes U4 = omega arith
-some_bytes U8 = omega arith
 some_bytes F = omega arith
-some_bytes D = omega arith
-some_bytes M64 = omega arith
-some_bytes M128 = omega arith
-some_bytes M256 = omega arith
-some_bytes CF = omega arith
-some_bytes CD = omega arith
+some_bytes w = omega arith
 
 -- a value is read as it was
 pub datum_again : (d : Datum) → IsDatum d → datum d.width (encode_lower d.bytes.items) ≡ Ok d
@@ -140,13 +106,8 @@ datum_again d h =
 -- how an attempt stands is read as it was
 pub outcome_again : (o : Outcome) → outcome (outcome_name o) ≡ Ok o
 unfolding outcome
-outcome_again outcomes.Committed = refl
-outcome_again outcomes.ReadOnly = refl
-outcome_again outcomes.Cancelled = refl
-outcome_again outcomes.Conflict = refl
 outcome_again outcomes.Full = refl
-outcome_again outcomes.NoMemory = refl
-outcome_again outcomes.Unfinished = refl
+outcome_again o = refl
 
 -- when an action runs is read as it was
 pub kind_again : (k : ActionKind) → kind (kind_text k) ≡ Ok k
@@ -158,13 +119,10 @@ kind_again when.Undo = refl
 made_again : (abort irrevocable goes : Bool) → block_props (props_text (record { no_abort = abort; no_irrevocable = irrevocable; goes_irrevocable = goes })) ≡ Ok (record { no_abort = abort; no_irrevocable = irrevocable; goes_irrevocable = goes })
 unfolding block_props
 made_again false false false = refl
-made_again false false true = refl
 made_again false true false = refl
-made_again false true true = refl
 made_again true false false = refl
-made_again true false true = refl
 made_again true true false = refl
-made_again true true true = refl
+made_again abort irrevocable goes = refl
 
 -- the properties of a block are read as they were
 pub block_props_again : (p : Props) → block_props (props_text p) ≡ Ok p
@@ -175,25 +133,13 @@ block_props_again p = made_again p.no_abort p.no_irrevocable p.goes_irrevocable
 -- the number of a refusal is one of 8
 pub refusal_number : (r : Refusal) → (1 ≤ number_of r) × (number_of r ≤ 8)
 refusal_number refusals.Outside = (omega arith, omega arith)
-refusal_number refusals.OutOfRange = (omega arith, omega arith)
-refusal_number refusals.OutOfArena = (omega arith, omega arith)
-refusal_number refusals.Overlap = (omega arith, omega arith)
-refusal_number refusals.NoAbort = (omega arith, omega arith)
-refusal_number refusals.IsIrrevocable = (omega arith, omega arith)
-refusal_number refusals.NoIrrevocable = (omega arith, omega arith)
-refusal_number refusals.TooDeep = (omega arith, omega arith)
+refusal_number r = (omega arith, omega arith)
 
 -- the number of a refusal says the refusal
 pub refusal_again : (r : Refusal) → refusal_of (number_of r) ≡ r
 unfolding refusal_of
 refusal_again refusals.Outside = refl
-refusal_again refusals.OutOfRange = refl
-refusal_again refusals.OutOfArena = refl
-refusal_again refusals.Overlap = refl
-refusal_again refusals.NoAbort = refl
-refusal_again refusals.IsIrrevocable = refl
-refusal_again refusals.NoIrrevocable = refl
-refusal_again refusals.TooDeep = refl
+refusal_again r = refl
 
 -- ## Names
 

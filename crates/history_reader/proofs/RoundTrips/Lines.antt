@@ -1,11 +1,11 @@
 -- What a line's fields were spelled for is what they say where they stand.
 use Rattle.std.proofs.Common.{◌≡◌, ℕ, ◌+◌, ◌≤◌, List, [], ◌∷◌, ◌++◌, length, Option, None, Some, Result, Ok, refl, sym, ap, ◌∙◌, arith, decimal, codes}
-use Rattle.history_reader.proofs.Common.{ActionKind, AsmKind, Attempt, Behind, CallRecord, Depth, Head, IsAttempt, IsBytes, IsEntry, IsMemory, IsRan, IsUndone, IsWord, MAX_ARENA, MAX_RETRIES, Outcome, Place, Props, Ran, State, Three, Undo, again_or_later, arena_of, arena_text, behind_call, between_line, block_props, both, call_or_later, depth_line, depth_of, encode_lower, end_line, fields_line, final_line, final_of, function, function_again, head_of, joined, kind, kind_text, later_line, meaning, memory_limit, memory_line, memory_of, next, next_three, none, nth, number, number_again, one, outcome, outcome_name, outcome_of, placed, props_text, ran_of, rest_of, restart_of, sized, thread, thread_limit, told, try_of, undone_of, verb_in, verb_text, with_undone, ◌>>=◌}
+use Rattle.history_reader.proofs.Common.{ActionKind, AsmKind, Attempt, Behind, CallRecord, Depth, Head, IsAttempt, IsBytes, IsEntry, IsMemory, IsRan, IsUndone, IsWord, MAX_ARENA, MAX_RETRIES, Place, Ran, State, Three, again_or_later, arena_of, arena_text, behind_call, between_line, call_or_later, depth_line, depth_of, encode_lower, end_line, fields_line, final_line, final_of, function_again, head_of, joined, kind, kind_text, later_line, meaning, memory_limit, memory_line, memory_of, next, next_three, none, nth, number_again, one, outcome, outcome_name, placed, props_text, ran_of, rest_of, restart_of, thread, thread_limit, told, undone_of, verb_in, verb_text, with_undone, ◌>>=◌}
 use Rattle.history_reader.specs.declared.state.Behind.TheVariants as behinds
 use Rattle.history_reader.specs.declared.state.Place.TheVariants as places
 use Rattle.history_reader.specs.Lines as lines
 use Rattle.history_reader.proofs.RoundTrips.Fields.{depth_again, ranged_again, sized_again, memory_again, arena_again, restart_again, outcome_again, kind_again, block_props_again}
-use Rattle.history_reader.proofs.RoundTrips.Calls.{both_again, call_again}
+use Rattle.history_reader.proofs.RoundTrips.Calls.{call_again}
 use Rattle.history_reader.proofs.RoundTrips.Spellings.{AreFields, few_threads, fields_again}
 
 -- a line of fields says what its fields say where they stand
@@ -29,9 +29,7 @@ memory_says s bytes h = ap (λ (r : Result (List ℕ) AsmKind). r >>= λ b. Ok (
 pub final_says : (s : State) (clock : ℕ) (bytes : List ℕ) → IsWord clock → IsBytes bytes → length bytes ≡ length s.memory → 1 ≤ length s.memory
     → placed places.Between s (codes "final") (decimal clock ∷ encode_lower bytes ∷ []) ≡ Ok (record s { place = places.AtEnd clock; bytes = bytes })
 unfolding placed between_line final_line final_of next none one
-final_says s clock bytes w h e some =
-    ap (λ (r : Result (ℕ × List ℕ) AsmKind). r >>= λ x. Ok (record s { place = places.AtEnd x.0; bytes = x.1 }))
-    (both_again (number (decimal clock)) (sized (length s.memory) (encode_lower bytes)) clock bytes (number_again clock w) (sized_again (length s.memory) bytes e some h))
+final_says s clock bytes w h e some = rw (number_again clock w, sized_again (length s.memory) bytes e some h) refl
 
 -- what the first line of an attempt says of it
 abbrev pub head_in : Attempt → Head
@@ -43,14 +41,8 @@ pub head_says : (s : State) (a : Attempt) → IsAttempt s.version a
 unfolding placed between_line lines.head_line head_of next next_three none one
 head_says s a h =
     let limit = thread_limit s.version in
-    let th = ranged_again 0 limit a.thread (omega arith) h.thread (omega (arith, h.thread, few_threads s.version)) in
-    let try = ranged_again 1 (MAX_RETRIES + 1) a.nth h.nth.0 h.nth.1 (omega (arith, h.nth.1)) in
-    let tried = both_again (thread limit (decimal a.thread)) (both (nth (decimal a.nth)) (number (decimal a.at))) a.thread (a.nth, a.at) th
-    (both_again (nth (decimal a.nth)) (number (decimal a.at)) a.nth a.at try (number_again a.at h.at)) in
-    let came = both_again (outcome (outcome_name a.outcome)) (block_props (props_text a.props)) a.outcome a.props (outcome_again a.outcome) (block_props_again a.props) in
-    ap (λ (r : Result ((ℕ × (ℕ × ℕ)) × (Outcome × Props)) AsmKind).
-    r >>= (λ x. Ok (record { thread = x.0.0; nth = x.0.1.0; at = x.0.1.1; outcome = x.1.0; props = x.1.1 })) >>= λ head. Ok (record s { place = places.AtArena head }))
-    (both_again (try_of limit (decimal a.thread) (decimal a.nth) (decimal a.at)) (outcome_of (outcome_name a.outcome) (props_text a.props)) (a.thread, (a.nth, a.at)) (a.outcome, a.props) tried came)
+    let few = ranged_again 0 limit a.thread (omega arith) h.thread (omega (arith, h.thread, few_threads s.version)) in
+    rw (few, ranged_again 1 (MAX_RETRIES + 1) a.nth h.nth.0 h.nth.1 (omega (arith, h.nth.1)), number_again a.at h.at, outcome_again a.outcome, block_props_again a.props) refl
 
 -- the arena at its begin
 pub arena_says : (s : State) (head : Head) (bytes : List ℕ) → IsBytes bytes → length bytes ≤ MAX_ARENA
@@ -78,9 +70,8 @@ pub undone_says : (s : State) (head : Head) (r : Ran) → IsUndone r
     → placed (places.InCalls head behinds.Restart) s (codes "undone") (decimal r.action.fun ∷ decimal r.action.arg ∷ []) ≡ Ok (record s { restarts = with_undone s.restarts r })
 unfolding placed call_or_later again_or_later lines.undone_line undone_of next none one
 undone_says s head r h =
-    ap (λ (q : Result (ℕ × ℕ) AsmKind). q >>= (λ x. Ok (record { kind = Undo; action = record { fun = x.0; arg = x.1 } })) >>= λ y. Ok (record s { restarts = with_undone s.restarts y }))
-    (both_again (function (decimal r.action.fun)) (number (decimal r.action.arg)) r.action.fun r.action.arg (function_again r.action.fun (omega (arith, h.1.0))) (number_again r.action.arg h.1.1))
-    ∙ ap (λ (k : ActionKind). Ok (record s { restarts = with_undone s.restarts (record { kind = k; action = r.action }) })) (sym h.0)
+    rw (function_again r.action.fun (omega (arith, h.1.0)), number_again r.action.arg h.1.1)
+    (ap (λ (k : ActionKind). Ok (record s { restarts = with_undone s.restarts (record { kind = k; action = r.action }) })) (sym h.0))
 
 -- where an action that ran may stand, and the attempt's end: behind the calls, and behind an action
 abbrev pub late : Option Behind → Head → Place
@@ -91,24 +82,18 @@ late None head = places.InRan head
 ran_later : (o : Option Behind) (s : State) (head : Head) (fs : List (List ℕ)) → placed (late o head) s (codes "ran") fs ≡ lines.ran_line s head fs
 unfolding placed call_or_later again_or_later later_line
 ran_later (Some behinds.Call) s head fs = refl
-ran_later (Some behinds.Begin) s head fs = refl
-ran_later (Some behinds.Restart) s head fs = refl
-ran_later None s head fs = refl
+ran_later o s head fs = refl
 
 -- an action that ran
 pub ran_says : (o : Option Behind) (s : State) (head : Head) (r : Ran) → IsRan r
     → placed (late o head) s (codes "ran") (kind_text r.kind ∷ decimal r.action.fun ∷ decimal r.action.arg ∷ []) ≡ Ok (record s { place = places.InRan head; ran = s.ran ++ r ∷ [] })
 unfolding lines.ran_line ran_of next next_three none
 ran_says o s head r h =
-    let action = both_again (function (decimal r.action.fun)) (number (decimal r.action.arg)) r.action.fun r.action.arg (function_again r.action.fun (omega (arith, h.0))) (number_again r.action.arg h.1) in
     ran_later o s head (kind_text r.kind ∷ decimal r.action.fun ∷ decimal r.action.arg ∷ [])
-    ∙ ap (λ (q : Result (ActionKind × (ℕ × ℕ)) AsmKind). q >>= (λ x. Ok (record { kind = x.0; action = record { fun = x.1.0; arg = x.1.1 } })) >>= λ y. Ok (record s { place = places.InRan head; ran = s.ran ++ y ∷ [] }))
-    (both_again (kind (kind_text r.kind)) (both (function (decimal r.action.fun)) (number (decimal r.action.arg))) r.kind (r.action.fun, r.action.arg) (kind_again r.kind) action)
+    ∙ rw (function_again r.action.fun (omega (arith, h.0)), number_again r.action.arg h.1, kind_again r.kind) refl
 
 -- the end of an attempt
 pub end_says : (o : Option Behind) (s : State) (head : Head) → placed (late o head) s (codes "end") [] ≡ Ok (lines.ended s head)
 unfolding placed call_or_later again_or_later later_line end_line none
 end_says (Some behinds.Call) s head = refl
-end_says (Some behinds.Begin) s head = refl
-end_says (Some behinds.Restart) s head = refl
-end_says None s head = refl
+end_says o s head = refl

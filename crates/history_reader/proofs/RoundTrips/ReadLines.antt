@@ -1,9 +1,10 @@
 -- Lines that are read one after the other.
 use Rattle.std.proofs.Common.{◌≡◌, ℕ, ◌+◌, ◌<◌, Bool, true, false, cond, eqb, List, [], ◌∷◌, ◌++◌, length, Result, Ok, Err, refl, sym, ap, subst, ◌∙◌, arith, length-append, append_assoc, IfErr}
-use Rattle.history_reader.proofs.Common.{History, Place, ReadFault, ReadKind, State, Steps, end_of, in_line, initial, is_feed, meaning, parts_nonempty, parts_say, slice_split, whole}
+use Rattle.history_reader.proofs.Common.{Adds, Fails, Gives, History, Place, ReadKind, RunsOut, State, Steps, end_of, in_line, initial, is_feed, lines_leave, meaning, parts_nonempty, parts_say, slice_split, taken, whole}
+use Rattle.history_reader.specs.Reading.{◌>>=◌}
+use Rattle.history_reader.specs.declared.fault.ReadFault.{ReadFault}
 use Rattle.history_reader.specs.declared.fault.ReadKind.TheVariants as kinds
 use Rattle.history_reader.specs.declared.state.Place.TheVariants as places
-use Rattle.history_reader.specs.Reading.{◌>>=◌, lines_leave, taken, Adds, RunsOut, Fails, Gives}
 
 -- the lines before the rest of a text are well, so many, and leave this state
 pub record HasRead (text rest : List ℕ) (n : ℕ) (s : State) : Type 0 where
@@ -58,10 +59,7 @@ faulty s n rest after line kind read a e m =
 pub stopped : (amount : State → ℕ) (s new : State) (n : ℕ) (rest after line : List ℕ) (kind : ReadKind) (read : Result History ReadFault) → parts_say s n (slice_split is_feed rest) ≡ read
     → slice_split is_feed rest ≡ line ∷ slice_split is_feed after → Steps amount (Err kind) new (meaning s line) → Fails kind n read
 stopped amount s new n rest after line kinds.Memory read a e m = tt
-stopped amount s new n rest after line kinds.Header read a e m = faulty s n rest after line kinds.Header read a e m
-stopped amount s new n rest after line kinds.Line read a e m = faulty s n rest after line kinds.Line read a e m
-stopped amount s new n rest after line kinds.Size read a e m = faulty s n rest after line kinds.Size read a e m
-stopped amount s new n rest after line kinds.Cut read a e m = faulty s n rest after line kinds.Cut read a e m
+stopped amount s new n rest after line k read a e m = faulty s n rest after line k read a e m
 
 pub runs_out : (text rest after line : List ℕ) (n : ℕ) (s : State) → HasRead text rest n s → slice_split is_feed rest ≡ line ∷ slice_split is_feed after
     → Adds (taken s.place) (meaning s line) → RunsOut text (n + 1)
@@ -73,10 +71,7 @@ runs_out text rest after line n s h e m =
 in_its_line : (n : ℕ) (r : Result History ReadKind) → Gives n r (in_line n r)
 in_its_line n (Ok h) = refl
 in_its_line n (Err kinds.Memory) = tt
-in_its_line n (Err kinds.Header) = refl
-in_its_line n (Err kinds.Line) = refl
-in_its_line n (Err kinds.Size) = refl
-in_its_line n (Err kinds.Cut) = refl
+in_its_line n (Err k) = refl
 
 pub ends : (s : State) (n : ℕ) (rest : List ℕ) (result : Result History ReadKind) (read : Result History ReadFault) → parts_say s n (slice_split is_feed rest) ≡ read → slice_split is_feed rest ≡ rest ∷ []
     → result ≡ end_of s rest → Gives n result read
@@ -85,14 +80,8 @@ ends s n rest result read a e is =
     subst (λ (r : Result History ReadKind). Gives n r read) (sym is) (subst (λ (x : Result History ReadFault). Gives n (end_of s rest) x) says (in_its_line n (end_of s rest)))
 
 no_want : (p : Place) (s : State) → whole p s ≡ Err kinds.Memory → ⊥
-no_want places.AtHeader s e = cc
 no_want places.AtDepth s e = cc
-no_want places.AtMemory s e = cc
-no_want places.Between s e = cc
-no_want (places.AtArena h) s e = cc
-no_want (places.InCalls h b) s e = cc
-no_want (places.InRan h) s e = cc
-no_want (places.AtEnd clock) s e = cc
+no_want p s e = cc
 
 end_want : (b : Bool) (s : State) → cond b (whole s.place s) (Err kinds.Cut) ≡ Err kinds.Memory → ⊥
 end_want true s e = no_want s.place s e

@@ -1,20 +1,15 @@
 -- What is spelled stands in fields: visible bytes, with one space between each two fields of a line.
 use Rattle.std.proofs.Common.{◌≡◌, ℕ, ◌%◌, ◌<◌, ◌≤◌, Bool, true, false, cond, eqb, List, [], ◌∷◌, ◌++◌, length, All, refl, sym, ap, subst, ◌∙◌, arith, lit<, lit≤, decimal, codes, Contains}
-use Rattle.history_reader.proofs.Common.{ActionKind, All-weaker, AllByRecursion, AllPass-from_list_all, Attempt, Call, CallRecord, IsAttempt, IsBytes, IsCall, IsEntry, IsField, IsMemory, IsRan, IsReply, IsUndone, IsWord, Outcome, Point, Ran, Reply, ReplyKind, Verb, Version, and_parts, answer_to, arena_fields, arena_text, call_fields, depth_fields, encode_lower, fields, final_fields, head_fields, joined, kind_text, leb-true, list_all, memory_fields, name_of, ne_eqb, number_of, operands_of, outcome_name, ran_fields, reply_fields, restart_fields, size_of, slice_split_at, thread_limit, undone_fields, verb_in, verb_text}
-use Rattle.std.proofs.lemmas.List.Splits.{slice_split_none}
-use Rattle.itm_entries.specs.Entries.{entries}
+use Rattle.history_reader.proofs.Common.{ActionKind, All-weaker, AllByRecursion, Attempt, Call, CallRecord, IsAttempt, IsBytes, IsCall, IsEntry, IsField, IsMemory, IsRan, IsReply, IsUndone, IsWord, Outcome, Point, Ran, Reply, ReplyKind, Verb, Version, all_append, and_parts, answer_to, arena_fields, arena_text, call_fields, decimal_field, depth_fields, encode_lower, entries, fields, final_fields, head_fields, hex_field, is_field_byte, is_space, joined, kind_text, leb-true, list_all, memory_fields, mode_field, name_of, ne_eqb, no_transaction_field, number_of, operands_of, outcome_name, props_field, ran_fields, reply_fields, restart_fields, scope_field, size_of, slice_split_at, slice_split_none, thread_limit, undone_fields, verb_in, verb_text}
+use Rattle.std.proofs.lemmas.List.Sums.{AllPass-from_list_all}
 use Rattle.itm_entries.proofs.AllEntries.{listed}
 use Rattle.itm_types.specs.declared.call.ActionKind.TheVariants as when
 use Rattle.itm_types.specs.declared.call.Call.TheVariants as calls
 use Rattle.itm_types.specs.declared.call.Reply.TheVariants as replies
-use Rattle.script_fields.specs.Text.{is_field_byte}
-use Rattle.script_fields.proofs.SpelledNumbers.{decimal_field}
-use Rattle.script_fields.proofs.SpelledOperands.{hex_field, props_field, scope_field, mode_field, no_transaction_field}
 use Rattle.tx_attempts.specs.declared.attempt.Outcome.TheVariants as outcomes
 use Rattle.tx_history.specs.declared.history.Version.TheVariants as versions
 use Rattle.history_reader.specs.declared.reply.ReplyKind.TheVariants as answers
 use Rattle.history_reader.specs.declared.verb.Verb.TheVariants as verbs
-use Rattle.history_reader.specs.Fields.{is_space}
 use Rattle.history_reader.proofs.RoundTrips.Fields.{some_bytes, refusal_number, IsCalled, arena_cases}
 use Rattle.history_reader.proofs.RoundTrips.Calls.{called}
 
@@ -40,11 +35,6 @@ pub fields_again : (f : List ℕ) (fs : List (List ℕ)) → AreFields (f ∷ fs
 unfolding fields
 fields_again f [] h = slice_split_none is_space f (all_unspaced f h.0)
 fields_again f (g ∷ gs) h = slice_split_at is_space f 32 (joined (g ∷ gs)) (all_unspaced f h.0) refl ∙ ap (λ (l : List (List ℕ)). f ∷ l) (fields_again g gs h.1)
-
--- fields and more fields are fields
-both_fields : (fs gs : List (List ℕ)) → AreFields fs → AreFields gs → AreFields (fs ++ gs)
-both_fields [] gs h k = k
-both_fields (f ∷ fs) gs h k = (h.0, both_fields fs gs h.1 k)
 
 -- ## What is spelled in a field
 
@@ -101,14 +91,9 @@ operand_fields (calls.Save at value) h = (decimal_field at h.1, (bytes_field (si
 replied_fields : (answer : ReplyKind) (r : Reply) → IsReply answer r → AreFields (reply_fields r)
 replied_fields answer (replies.Refused refusal) h = ((lit< tt, refl), (decimal_field (number_of refusal) (omega (arith, (refusal_number refusal).1)), tt))
 replied_fields answers.Done replies.Done h = ((lit< tt, refl), tt)
-replied_fields answers.Done (replies.Bytes value) h = absurd h
-replied_fields answers.Done (replies.Code n) h = absurd h
-replied_fields answers.Code replies.Done h = absurd h
-replied_fields answers.Code (replies.Bytes value) h = absurd h
 replied_fields answers.Code (replies.Code n) h = ((lit< tt, refl), (decimal_field n (omega (arith, h)), tt))
-replied_fields (answers.Bytes width) replies.Done h = absurd h
 replied_fields (answers.Bytes width) (replies.Bytes value) h = (bytes_field (size_of width) value.items h.0 (some_bytes width) h.1, tt)
-replied_fields (answers.Bytes width) (replies.Code n) h = absurd h
+replied_fields answer r h = absurd h
 
 -- the line of a call is of fields
 pub call_are : (e : CallRecord) → IsEntry e → AreFields (call_fields e)
@@ -116,7 +101,7 @@ call_are e h = (
   (lit< tt, refl),
   (
     verb_field (verb_in e.call) (called e.call h.0),
-    both_fields (operands_of e.call) (codes "=" ∷ reply_fields e.reply) (operand_fields e.call h.0) ((lit< tt, refl), replied_fields (answer_to e.call) e.reply h.1),
+    all_append IsField (operands_of e.call) (codes "=" ∷ reply_fields e.reply) (operand_fields e.call h.0) ((lit< tt, refl), replied_fields (answer_to e.call) e.reply h.1),
   ),
 )
 
@@ -131,19 +116,13 @@ ran_are r h = ((lit< tt, refl), (kind_field r.kind, (decimal_field r.action.fun 
 
 -- how an attempt stands
 outcome_field : (o : Outcome) → IsField (outcome_name o)
-outcome_field outcomes.Committed = (lit< tt, refl)
-outcome_field outcomes.ReadOnly = (lit< tt, refl)
-outcome_field outcomes.Cancelled = (lit< tt, refl)
-outcome_field outcomes.Conflict = (lit< tt, refl)
 outcome_field outcomes.Full = (lit< tt, refl)
-outcome_field outcomes.NoMemory = (lit< tt, refl)
-outcome_field outcomes.Unfinished = (lit< tt, refl)
+outcome_field o = (lit< tt, refl)
 
 -- threads are few
 pub few_threads : (version : Version) → thread_limit version ≤ 63
 few_threads versions.One = lit≤ tt
-few_threads versions.Two = lit≤ tt
-few_threads (versions.Three depth) = lit≤ tt
+few_threads version = lit≤ tt
 
 -- the first line of an attempt is of fields
 pub head_are : (version : Version) (a : Attempt) → IsAttempt version a → AreFields (head_fields a)

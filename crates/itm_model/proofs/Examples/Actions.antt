@@ -1,7 +1,6 @@
 -- Worked cases of actions, computed.
 use Rattle.std.proofs.Common.{◌≡◌, ◌+◌, ℕ, List, [], ◌∷◌, ◌++◌, true, false, map, refl, replicate}
-use Rattle.itm_model.proofs.Common.{Abort, Action, Begin, Call, Commit, CommitAction, Ran, State, UndoAction, after, as_commit, outside, state_after, takes_memory}
-use Rattle.user_actions.specs.Actions.{as_undo}
+use Rattle.itm_model.proofs.Common.{Abort, Action, Begin, Call, Commit, CommitAction, Ran, State, UndoAction, after, as_commit, as_undo, outside, state_after, takes_memory}
 use Rattle.itm_model.proofs.Examples.Machines.{plain, eight, start_with}
 
 abbrev action : ℕ → Action

@@ -1,8 +1,7 @@
 -- Worked cases of copies and fills, computed.
 use Rattle.std.proofs.Common.{◌≡◌, ℕ, ◌+◌, Bool, List, [], ◌∷◌, true, false, map, refl, replicate}
-use Rattle.itm_model.proofs.Common.{Abort, Begin, Call, Copy, CopyPair, Done, Fill, In, Out, OutOfArena, OutOfRange, Refused, State, W, Within, Write, after, opened, outside, replies, state_after, takes_memory}
+use Rattle.itm_model.proofs.Common.{Abort, Begin, Call, Copy, CopyPair, Done, Fill, In, Out, OutOfArena, OutOfRange, Overlap, Refused, State, W, Within, Write, after, opened, outside, replies, state_after, takes_memory}
 use Rattle.itm_types.specs.declared.copy.SharedSide.TheVariants.{T}
-use Rattle.itm_types.specs.declared.call.Refusal.TheVariants.{Overlap}
 use Rattle.itm_model.proofs.Examples.Machines.{plain, start_with, byte}
 
 abbrev copy : Bool → CopyPair → ℕ → ℕ → ℕ → Call

@@ -1,8 +1,6 @@
 -- Worked cases of irrevocable transactions, computed.
 use Rattle.std.proofs.Common.{◌≡◌, ◌+◌, ℕ, List, [], ◌∷◌, ◌++◌, None, true, false, map, refl, replicate}
-use Rattle.itm_model.proofs.Common.{Abort, Action, Begin, Block, Bytes, Call, Code, Commit, CommitAction, Done, InTransaction, Log, LogBytes, Mode, NoAbort, Outside, Props, R, Ran, Read, Refused, State, TooDeep, U1, UndoAction, Undoable, W, Write, after, as_commit, back, before_after, opened, outside, replies, state_after, takes_memory, undone}
-use Rattle.itm_types.specs.declared.call.Refusal.TheVariants.{IsIrrevocable, NoIrrevocable}
-use Rattle.user_actions.specs.Actions.{no_actions}
+use Rattle.itm_model.proofs.Common.{Abort, Action, Begin, Block, Bytes, Call, Code, Commit, CommitAction, Done, InTransaction, IsIrrevocable, Log, LogBytes, Mode, NoAbort, NoIrrevocable, Outside, Props, R, Ran, Read, Refused, State, TooDeep, U1, UndoAction, Undoable, W, Write, after, as_commit, back, before_after, no_actions, opened, outside, replies, state_after, takes_memory, undone}
 use Rattle.itm_model.proofs.Examples.Machines.{plain, eight, byte, start_with}
 
 -- a block that makes its transaction irrevocable as it begins

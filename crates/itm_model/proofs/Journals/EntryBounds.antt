@@ -1,8 +1,7 @@
 -- A bound on a journal's length: in each open block no piece has two entries.
 use Rattle.std.proofs.Common.{◌≡◌, inl, inr, ℕ, zero, suc, ◌+◌, ◌-◌, ◌*◌, ◌<◌, ◌≤◌, Bool, true, false, cond, ltb, List, [], ◌∷◌, ◌++◌, length, take, drop, refl, ap, sym, subst, ◌∙◌, arith, length-append, length-drop}
-use Rattle.itm_model.proofs.Common.{Adds, AreAmong, AreFirst, AreLinked, AreOnce, AreUnder, Mark, Old, cases_eq, drop-append-le, length-take-le, lt-ltb, newest_in, piece_of, take-append-le, top_of}
+use Rattle.itm_model.proofs.Common.{Adds, AreAmong, AreFirst, AreLinked, AreOnce, AreUnder, Mark, Old, cases_eq, drop-append-le, le-ltb, length-take-le, lt-ltb, newest_in, piece_of, take-append-le, top_of}
 use Rattle.std.proofs.Math.Nat.{mul-suc}
-use Rattle.std.proofs.lemmas.Bool.{le-ltb}
 use Rattle.itm_model.proofs.Journals.NewestEntries.{newest_of_it, newest_of_another, among_take, among_drop, linked_take, linked_drop, first_append}
 
 -- ## Blocks

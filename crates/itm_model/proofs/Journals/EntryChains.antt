@@ -1,8 +1,6 @@
 -- Laws of entries that come one after the other, each unless its piece has one since the journal had so many.
 use Rattle.std.proofs.Common.{◌≡◌, ℕ, ◌<◌, ◌≤◌, Bool, true, false, ltb, List, [], ◌∷◌, length, take, drop, refl, ap, sym, subst, ◌∙◌, arith, length-append}
-use Rattle.itm_model.proofs.Common.{Adds, AreCovered, AreLinked, ArePieces, IsPiece, Old, Restores, drop-append-le, handed_on, length-take-le, newest_in, piece_of, put_back, take-append-drop, with_slice}
-use Rattle.std.proofs.lemmas.Bool.{ltb-true, ltb-false}
-use Rattle.itm_model.specs.Pieces.{joined}
+use Rattle.itm_model.proofs.Common.{Adds, AreCovered, AreLinked, ArePieces, IsPiece, Old, Restores, drop-append-le, handed_on, joined, length-take-le, ltb-false, ltb-true, newest_in, piece_of, put_back, take-append-drop, with_slice}
 use Rattle.itm_model.proofs.Journals.Rollbacks.{length-put_back, put_back-append, AreWithin-drop}
 use Rattle.itm_model.proofs.Journals.CoveredBytes.{covered_write}
 use Rattle.itm_model.proofs.Journals.NewestEntries.{pieces_push, pieces_within, pieces_take, pieces_drop, linked_push, newest_covers, covered_drop, adds_none, adds_more}

@@ -1,9 +1,6 @@
 -- Laws of logs of an arena: what is kept of it, and that it stands again once they are put back.
 use Rattle.std.proofs.Common.{◌≡◌, ℕ, zero, suc, ◌+◌, ◌≤◌, List, [], ◌∷◌, ◌++◌, length, take, drop, refl, ap, sym, ◌∙◌, arith, Option, Some}
-use Rattle.itm_model.proofs.Common.{AreWithin, Logged, Old, also_kept, drop-append-le, kept_of, merged, put_back, restored, slice, take-append-le, with_slice}
-use Rattle.itm_types.specs.KeptBytes.{first_of_two, nothing}
-use Rattle.itm_types.proofs.KeptBytes.{length-nothing, nothing_same, also_kept_none, also_kept_more, merged_assoc, first_none, merged_nothing, restored_none, restored_merged}
-use Rattle.itm_model.specs.Undoing.{laid, kept_from}
+use Rattle.itm_model.proofs.Common.{AreWithin, Logged, Old, also_kept, also_kept_more, also_kept_none, drop-append-le, first_none, first_of_two, kept_from, kept_of, laid, length-nothing, merged, merged_assoc, merged_nothing, nothing, nothing_same, put_back, restored, restored_merged, restored_none, slice, take-append-le, with_slice}
 use Rattle.itm_model.proofs.Journals.Rollbacks.{length-put_back}
 
 length-laid : (ks : List (Option ℕ)) (p : ℕ) (bs : List ℕ) → length (laid ks p bs) ≡ length ks

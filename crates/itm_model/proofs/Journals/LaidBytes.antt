@@ -1,8 +1,6 @@
 -- Laws of laying what stands at the places of a journal over what stood there before.
 use Rattle.std.proofs.Common.{◌≡◌, ◌⊎◌, inl, inr, ℕ, zero, suc, ◌+◌, ◌-◌, ◌<◌, ◌≤◌, List, [], ◌∷◌, ◌++◌, length, get_or, take, drop, ap, sym, subst, ◌∙◌, arith, add-one, drop-cons}
-use Rattle.itm_model.proofs.Common.{AreWithin, Old, cases_lt, common_steps, put_back, same_number_lists, slice, take-append-drop, with_slice}
-use Rattle.std.proofs.Math.Seq.{take-add}
-use Rattle.std.proofs.lemmas.List.{get_or-take, get_or-drop}
+use Rattle.itm_model.proofs.Common.{AreWithin, Old, cases_lt, common_steps, get_or-drop, get_or-take, put_back, same_number_lists, slice, take-add, take-append-drop, with_slice}
 use Rattle.itm_model.proofs.Journals.Rollbacks.{length-with_slice, length-slice, length-put_back}
 
 -- a byte outside a slice that is replaced

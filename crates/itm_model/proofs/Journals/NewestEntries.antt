@@ -1,9 +1,6 @@
 -- Laws of the newest entry of a piece, and of the table that has it for each.
 use Rattle.std.proofs.Common.{◌≡◌, inl, inr, ℕ, zero, suc, ◌+◌, ◌*◌, ◌<◌, ◌≤◌, Bool, true, false, cond, eqb, List, [], ◌∷◌, ◌++◌, length, get_or, set, take, drop, refl, ap, sym, subst, ◌∙◌, arith, append_assoc, length-append}
-use Rattle.itm_model.proofs.Common.{Adds, AreAmong, AreFirst, AreLinked, AreNewest, ArePieces, AreWithin, IsCovered, IsIndexed, IsPiece, Old, cases_eq, cond-true, get_or-set_other, get_or-set_same, length-set, newest_in, piece_of, pieces_in}
-use Rattle.std.proofs.lemmas.Bool.{eqb-true, eq-eqb, ne_eqb, cond-false}
-use Rattle.std.proofs.lemmas.List.{append-nil, take_more}
-use Rattle.itm_model.specs.Pieces.{with_one_before}
+use Rattle.itm_model.proofs.Common.{Adds, AreAmong, AreFirst, AreLinked, AreNewest, ArePieces, AreWithin, IsCovered, IsIndexed, IsPiece, Old, append-nil, cases_eq, cond-false, cond-true, eq-eqb, eqb-true, get_or-set_other, get_or-set_same, length-set, ne_eqb, newest_in, piece_of, pieces_in, take_more, with_one_before}
 
 -- ## The newest entry of a piece
 

@@ -1,13 +1,8 @@
 -- A block that goes back to its begin: what the engine stands for then.
 use Rattle.std.proofs.Common.{◌≡◌, ℕ, ◌<◌, ◌≤◌, ◌&&◌, nat_le, nat_lt, Bool, true, false, List, [], ◌∷◌, length, take, Some, refl, sym, ap, ◌∙◌, if◌then◌else◌}
-use Rattle.norec_core.proofs.Common.{Core, Frame, State, back, begun_again, blocks_over, bytes_of, is_some_row, leb-true, length-take-le, may_restart, overlay, pushed, reads_of, renewed, stands_for}
-use Rattle.std.proofs.lemmas.Bool.{and_parts, ltb-true}
+use Rattle.norec_core.proofs.Common.{Core, Frame, State, and_parts, back, begun_again, blocks_over, bytes_of, irrevocable_from, is_some_row, is_within, kept_from, kept_of, leb-true, length-take-le, log_of, ltb-true, may_restart, overlay, pushed, put_back, reads_of, renewed, stands_for}
 use Rattle.itm_types.specs.KeptBytes.{nothing, restored}
 use Rattle.itm_types.proofs.KeptBytes.{nothing_same}
-use Rattle.nest_frames.specs.Nest.{log_of}
-use Rattle.undo_log.specs.Rollback.{kept_from, kept_of, put_back}
-use Rattle.itm_model.specs.Machine.{irrevocable_from}
-use Rattle.norec_core.specs.Core.{is_within}
 
 -- what blocks keep of an arena tells no more of it than how long it is
 pub blocks_sized : (bs : List Frame) (a b m : List ℕ) → nothing a ≡ nothing b → blocks_over bs a m ≡ blocks_over bs b m

@@ -1,12 +1,7 @@
 -- What a holder's load found is the word that it stores next.
 use Rattle.std.proofs.Common.{◌≡◌, ◌⊎◌, inl, inr, ℕ, zero, suc, ◌+◌, Bool, true, false, List, Option, None, Some, if◌then◌else◌, slice_get, refl, sym, ap, subst, ◌∙◌}
-use Rattle.norec_core.proofs.Common.{Aim, Answers, Asks, Cas, Core, IsSettled, Next, Phase, Proceeds, Step, Store, asked_from, got_in, handed_to, in_transaction, word_loaded, write_at}
-use Rattle.std.proofs.lemmas.Bool.{both_ways, false_from_ne_true}
-use Rattle.itm_types.specs.declared.step.Step.TheVariants.{Load}
+use Rattle.norec_core.proofs.Common.{Aim, Answers, Asks, Cas, Core, Got, IsLawful, IsSettled, Load, Next, Phase, Proceeds, Step, Store, asked_from, both_ways, false_from_ne_true, got_in, handed_to, in_transaction, memory_after, stage_from, word_loaded, write_at}
 use Rattle.norec_core.proofs.Replies.AnsweredEngines.{rests}
-use Rattle.norec_core.specs.Held.{memory_after}
-use Rattle.norec_core.specs.Order.{stage_from}
-use Rattle.norec_core.specs.Proceeds.{Got, IsLawful}
 use Rattle.norec_core.specs.Phases as at
 
 -- outside a transaction none is irrevocable

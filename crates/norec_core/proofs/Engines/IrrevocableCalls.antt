@@ -1,11 +1,6 @@
 -- A transaction that becomes irrevocable, by the plain machine.
 use Rattle.std.proofs.Common.{◌≡◌, ℕ, suc, ◌<◌, ◌&&◌, ◌||◌, not, nat_lt, Bool, true, false, List, [], ◌∷◌, length, map, Option, None, Some, refl, sym, ap, ◌∙◌}
-use Rattle.norec_core.proofs.Common.{Actions, Begin, Block, Code, Done, Frame, Mode, Outside, Props, Refusal, Row, State, after, after_unless, begun, blocks_over, bytes_of, cond-true, effect, is_inside, lt-ltb, made_irrevocable, may_go, or_else, overlay, pushed, refusal, reply, reply_unless, state_over, unless}
-use Rattle.itm_types.specs.declared.call.Refusal.TheVariants.{NoIrrevocable, TooDeep}
-use Rattle.nest_frames.specs.Nest.{stays_revocable}
-use Rattle.itm_model.specs.Machine.{entered, keeps_revocable, made_irrevocable as made_so}
-use Rattle.norec_core.specs.Accesses.{mode_refusal}
-use Rattle.norec_core.specs.Stands.{block_kept, state_kept}
+use Rattle.norec_core.proofs.Common.{Actions, Begin, Block, Code, Done, Frame, Mode, NoIrrevocable, Outside, Props, Refusal, Row, State, TooDeep, after, after_unless, begun, block_kept, blocks_over, bytes_of, cond-true, effect, entered, is_inside, keeps_revocable, lt-ltb, made_irrevocable, made_so, may_go, mode_refusal, or_else, overlay, pushed, refusal, reply, reply_unless, state_kept, state_over, stays_revocable, unless}
 use Rattle.norec_core.proofs.Engines.Machines.{open_is}
 
 -- its blocks go back to nothing

@@ -1,13 +1,8 @@
 -- What no step changes in an engine, and what follows from that.
 use Rattle.std.proofs.Common.{◌≡◌, ℕ, zero, suc, ◌+◌, ◌*◌, ◌==◌, ◌&&◌, not, Bool, true, false, List, [], ◌∷◌, ◌++◌, length, if◌then◌else◌, Option, None, Some, refl, ap, ◌∙◌}
-use Rattle.norec_core.proofs.Common.{AsksFor, Call, Cas, Core, LogRow, Phase, Step, Store, came, count_of, got_in, handed_to, in_transaction, is_inside, may_go, size_of, source_words, word_loaded}
+use Rattle.norec_core.proofs.Common.{AsksFor, Call, Cas, Core, Load, LogRow, Phase, Step, Store, begins_anew, came, count_of, gathered_in, got_in, handed_to, in_transaction, is_inside, may_go, most, saved_in, size_of, source_words, word_loaded, words_read, words_written}
 use Rattle.itm_types.specs.declared.call.Call.TheVariants as calls
-use Rattle.itm_types.specs.declared.step.Step.TheVariants.{Load}
 use Rattle.norec_core.specs.Phases as at
-use Rattle.norec_core.specs.Core.{begins_anew}
-use Rattle.norec_core.specs.OwnAccesses.{gathered_in, saved_in}
-use Rattle.norec_core.specs.Proceeds.{most}
-use Rattle.norec_core.specs.Copies.{words_read, words_written}
 use Rattle.norec_core.specs.Keeps.{Keeps}
 
 -- within a transaction no outermost block begins

@@ -1,19 +1,7 @@
 -- By which calls the innermost block may go back to its begin.
 use Rattle.std.proofs.Common.{◌≡◌, ℕ, ◌+◌, ◌*◌, ◌&&◌, not, nat_le, nat_lt, Bool, true, false, true≢false, if◌then◌else◌, List, [], ◌∷◌, length, None, Some, refl, sym, ap, ◌∙◌}
-use Rattle.std.proofs.lemmas.Bool.{and_parts, cond-true}
-use Rattle.itm_types.specs.Access.{size_of}
-use Rattle.itm_types.specs.declared.call.Call.{Call}
-use Rattle.itm_types.specs.declared.call.Call.TheVariants.{Begin, Commit, Copy, CommitAction, Fill, Mode, Read, UndoAction, Write}
-use Rattle.itm_types.specs.declared.call.Copying.{Copying}
-use Rattle.itm_types.specs.declared.call.Props.{Props}
-use Rattle.itm_types.specs.declared.copy.CopyPair.{CopyPair}
-use Rattle.itm_types.specs.declared.copy.CopyPair.TheVariants.{In, Out, Within}
-use Rattle.nest_frames.specs.Nest.{Frame}
-use Rattle.norec_core.specs.Core.{Core, in_transaction, is_outermost, is_within, may_go}
+use Rattle.norec_core.proofs.Common.{Begin, Call, Commit, CommitAction, Copy, CopyPair, Copying, Core, Fill, Frame, Idle, In, Mode, Out, Phase, Props, Read, UndoAction, Within, Write, and_parts, chunk_from, commit_stage, cond-true, copy_stage, going_stage, in_transaction, is_outermost, is_within, may_go, placed_in, size_of, stage_at}
 use Rattle.norec_core.specs.declared.call_parts.Taking.TheVariants as takings
-use Rattle.norec_core.specs.Order.{chunk_from, commit_stage, copy_stage, going_stage, placed_in, stage_at}
-use Rattle.norec_core.specs.Phases.{Phase}
-use Rattle.norec_core.specs.Phases.{Idle}
 use Rattle.norec_core.proofs.Replies.ActionCounts.{registers}
 use Rattle.norec_core.specs.RestartingCalls.{arena_ahead, can_restart, may_validate, reads_shared}
 

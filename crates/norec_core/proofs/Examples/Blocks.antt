@@ -1,10 +1,8 @@
 -- Worked cases of blocks within one another, computed.
 use Rattle.std.proofs.Common.{◌≡◌, ℕ, List, [], ◌∷◌, true, false, None, Some, refl}
-use Rattle.norec_core.proofs.Common.{Code, Core, Done, Frame, Old, Refused, Row, U2, after_undoing, arena_after, block_over, blocks_after, ended, rolled_back, stands_for, writes_after}
+use Rattle.norec_core.proofs.Common.{Code, Core, Done, Frame, NoAbort, Old, Refused, Row, U2, after_undoing, arena_after, block_over, blocks_after, ended, rolled_back, stands_for, undone_of, writes_after}
 use Rattle.itm_types.specs.declared.call.Call.TheVariants as calls
-use Rattle.itm_types.specs.declared.call.Refusal.TheVariants.{NoAbort}
 use Rattle.norec_core.specs.declared.answer.Undone.TheVariants as undoings
-use Rattle.norec_core.specs.Undoing.{undone_of}
 use Rattle.norec_core.proofs.Examples.StepOrder.{Ends, lines, no_props, inside, logged, all_of, byte_of, begin}
 
 -- ## Where they come

@@ -1,8 +1,10 @@
 -- Worked cases of copies and fills, computed: what is refused, and what is written.
 use Rattle.std.proofs.Common.{◌≡◌, ℕ, List, [], ◌∷◌, true, false, None, Some, drop, refl}
-use Rattle.norec_core.proofs.Common.{Copy, CopyPair, Copying, Core, Done, Down, Fill, In, Load, Out, OutOfArena, OutOfRange, Outside, Overlap, Row, T, Up, W, Within, arena_after, chunks_in, copy_refusal, direction_of, load_chunks, row, source_words, writes_after}
+use Rattle.norec_core.proofs.Common.{Copy, CopyPair, Copying, Core, Done, Fill, In, Out, OutOfArena, OutOfRange, Outside, Overlap, Row, T, W, Within, arena_after, chunks_in, copy_refusal, direction_of, load_chunks, row, source_words, writes_after}
+use Rattle.word_pieces.specs.declared.chunk.Direction.TheVariants.{Down, Up}
 use Rattle.norec_core.specs.declared.call_parts.Purpose.TheVariants as for
 use Rattle.norec_core.proofs.Examples.StepOrder.{inside, all_of, byte_of, logged}
+use Rattle.norec_core.specs.Phases.{Load}
 
 -- with `memcpy`, and with `memmove`
 abbrev copy : CopyPair → ℕ → ℕ → ℕ → Copying

@@ -1,14 +1,13 @@
 -- Worked cases of irrevocable transactions, computed: what their calls ask for, step by step, and what they come to.
 use Rattle.std.proofs.Common.{◌≡◌, ℕ, List, [], ◌∷◌, true, false, None, Some, refl}
-use Rattle.norec_core.proofs.Common.{BackLoad, Busy, Bytes, Call, Committed, Conflict, Core, Datum, Exchange, Free, In, Props, RoundEnd, RoundRow, RoundStart, T, U8, W, Within, after, irrevocable_room, stands_for}
+use Rattle.norec_core.proofs.Common.{BackLoad, Busy, Bytes, Call, Committed, Conflict, Core, Datum, Exchange, Fetch, Free, In, Place, Props, RoundEnd, RoundRow, RoundStart, T, Take, U8, W, Within, after, answers, irrevocable_room, leaves, stands_for}
 use Rattle.itm_types.specs.declared.call.Call.TheVariants as calls
 use Rattle.norec_core.specs.declared.call_parts.Opening.{Opening}
 use Rattle.norec_core.specs.declared.call_parts.Writing.{Writing}
 use Rattle.norec_core.specs.declared.call_parts.Target.TheVariants as into
 use Rattle.norec_core.specs.Aims as aims
 use Rattle.norec_core.specs.declared.call_parts.Taking.TheVariants as takings
-use Rattle.norec_core.specs.Phases.{Begin, Take, Store, Fetch, Place}
-use Rattle.norec_core.specs.Held.{answers, leaves}
+use Rattle.norec_core.specs.Phases.{Begin, Store}
 use Rattle.norec_core.proofs.Examples.StepOrder.{all_of, byte_of, engine_after, exchanges, inside, lines, loads, logged, outside, read, stores}
 use Rattle.norec_core.proofs.Examples.StepOrder.Line.{Asks, Ends}
 

@@ -1,9 +1,9 @@
 -- Worked cases of a block that goes back to its begin: the steps up to it, and what it leaves.
 use Rattle.std.proofs.Common.{◌≡◌, ℕ, [], ◌∷◌, true, None, Some, refl}
-use Rattle.norec_core.proofs.Common.{Aim, Confirm, Conflict, Core, Exchange, Frame, Load, Old, Restarted, RoundRow, RoundStart, as_undo, back, begun_again, handed, log_after, may_restart, no_actions, renewed, snapshot_after, stands_for}
+use Rattle.norec_core.proofs.Common.{Aim, Confirm, Conflict, Core, Exchange, Frame, Old, Restarted, RoundBack, RoundRow, RoundStart, as_undo, back, begun_again, handed, log_after, may_restart, no_actions, renewed, snapshot_after, stands_for}
 use Rattle.itm_types.specs.declared.call.Call.TheVariants as calls
 use Rattle.norec_core.specs.Aims as aims
-use Rattle.norec_core.specs.Phases.{RoundBack}
+use Rattle.norec_core.specs.Phases.{Load}
 use Rattle.norec_core.specs.declared.call_parts.Taking.TheVariants as takings
 use Rattle.norec_core.proofs.Examples.StepOrder.{Asks, Ends, lines, engine_after, no_props, inside, logged, all_of, first, read, loads, exchanges}
 

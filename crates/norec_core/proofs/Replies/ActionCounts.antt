@@ -1,14 +1,8 @@
 -- Over an answer, no action that has run is lost, and there are no more actions in all than before, but for one that is registered.
 use Rattle.std.proofs.Common.{◌≡◌, ℕ, ◌+◌, ◌≤◌, Bool, true, false, true≢false, if◌then◌else◌, List, [], ◌∷◌, ◌++◌, length, map, take, drop, reverse, refl, sym, ap, inl, inr, ◌∙◌, arith, append-nil, append_assoc, length-append}
-use Rattle.norec_core.proofs.Common.{Abort, Action, Actions, Begin, Call, Code, Commit, CommitAction, Core, Done, Frame, Idle, Log, LogBytes, Old, Replied, State, UndoAction, actions_after, actions_back, after_undoing, as_commit, as_undo, block_over, blocks_after, blocks_over, cases_Bool, committed, in_transaction, is_abort, is_inside, is_outermost, length-map, rolled_back, size_of, total}
-use Rattle.std.proofs.lemmas.List.{length-reverse, take-append-drop}
+use Rattle.norec_core.proofs.Common.{Abort, Action, Actions, Begin, Call, Code, Commit, CommitAction, Core, Done, Frame, Idle, Log, LogBytes, Old, Replied, State, UndoAction, actions_after, actions_back, actions_cancelled, actions_closed, after_undoing, as_commit, as_undo, block_over, blocks_after, blocks_over, cases_Bool, closed, committed, cut_back, found, in_transaction, is_abort, is_begin, is_inside, is_outermost, length-map, length-reverse, logged, plainly_back, registered, rolled_back, size_of, take-append-drop, total, undone_from}
 use Rattle.itm_types.specs.declared.call.Ran.{Ran}
-use Rattle.itm_types.specs.Calls.{is_begin}
-use Rattle.user_actions.specs.Actions.{cut_back, registered}
-use Rattle.nest_frames.specs.Nest.{actions_cancelled, actions_closed, closed, logged}
-use Rattle.undo_log.specs.Rollback.{found}
 use Rattle.norec_core.proofs.Engines.Blocks.{none_inside}
-use Rattle.itm_model.specs.Machine.{rolled_back as plainly_back, undone_from}
 use Rattle.norec_core.proofs.Replies.ReplyCases.{IsReplied}
 use Rattle.itm_types.specs.declared.call.ActionKind.TheVariants as kinds
 

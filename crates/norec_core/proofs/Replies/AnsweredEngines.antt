@@ -1,10 +1,7 @@
 -- What holds of an engine after any answer.
 use Rattle.norec_core.proofs.Engines.Blocks.{none_inside}
 use Rattle.std.proofs.Common.{arith, ◌≡◌, ◌⊎◌, inl, inr, ℕ, Bool, true, false, true≢false, List, [], Option, None, Some, refl, ap, subst, sym, ◌∙◌}
-use Rattle.norec_core.proofs.Common.{Actions, Answer, Answers, Asks, Begin, Busy, Call, Committed, Conflict, ConflictsIn, Core, Ends, EndsSo, Full, IsEnding, Next, Phase, Proceeds, Replied, RepliesTo, Reply, Restarted, actions_back, committed, ended, ending_at, in_transaction, total}
-use Rattle.nest_frames.specs.Nest.{arena_back}
-use Rattle.norec_core.specs.Effects.{recoded}
-use Rattle.norec_core.specs.Restarts.{IsRestart}
+use Rattle.norec_core.proofs.Common.{Actions, Answer, Answers, Asks, Begin, Busy, Call, Committed, Conflict, ConflictsIn, Core, Ends, EndsSo, Full, IsEnding, IsRestart, Next, Phase, Proceeds, Replied, RepliesTo, Reply, Restarted, actions_back, arena_back, committed, ended, ending_at, in_transaction, recoded, total}
 use Rattle.norec_core.proofs.Replies.ReplyCases.{Ways, replied_so, reply_cases}
 use Rattle.norec_core.proofs.Replies.ActionCounts.{LeavesActions, RunsOn, all_run, cancel_runs, commits_run, end_leaves, registers, reply_leaves, still}
 

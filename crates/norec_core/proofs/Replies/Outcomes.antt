@@ -1,9 +1,7 @@
 -- What an engine gives, and what it is then, follow from what it was and what it is handed.
 use Rattle.std.proofs.Common.{◌≡◌, ℕ, ◌+◌, Bool, true, false, List, [], map, Option, None, Some, refl, sym, ap, subst, ◌∙◌}
-use Rattle.norec_core.proofs.Common.{Agrees, Answer, Answers, Asks, AsksFor, Busy, Call, Committed, Conflict, ConflictsIn, Core, Ends, EndsSo, Full, IsEnding, IsMemory, IsSettled, Next, Phase, Proceeds, Replied, RepliesBy, RepliesTo, Reply, Restarted, Step, actions_after, arena_after, asked, asked_from, blocks_after, came, ended, ending_after, ending_at, finished, gathered_at, handed, in_transaction, is_inside, made_irrevocable, renewed, rolled_back, tries_after, tries_at, writes_after}
+use Rattle.norec_core.proofs.Common.{Agrees, Answer, Answers, Asks, AsksFor, Busy, Call, Committed, Conflict, ConflictsIn, Core, Ends, EndsSo, Full, IsEnding, IsMemory, IsSettled, Next, Phase, Proceeds, Replied, RepliesBy, RepliesTo, Reply, Restarted, Step, actions_after, arena_after, arena_held, asked, asked_from, asked_in, blocks_after, came, ended, ending_after, ending_at, finished, gathered_at, handed, in_transaction, is_inside, made_irrevocable, renewed, rolled_back, room_left, tries_after, tries_at, writes_after}
 use Rattle.norec_core.specs.Phases as at
-use Rattle.norec_core.specs.Order.{asked_in}
-use Rattle.norec_core.specs.Effects.{arena_held, room_left}
 use Rattle.norec_core.proofs.Replies.AnsweredEngines.{rests}
 use Rattle.norec_core.specs.Moves.{IsCalled, IsResumed}
 
@@ -49,21 +47,17 @@ module _ (mid new new' : Core) (end : Option Answer)
       by_open true false a b = let m = settled.agreed in (m.0, subst (λ (n : ℕ). IsMemory n m.0) w m.1, m.2, subst (Agrees m.0) (sym (settled'.closed b).0) tt)
       by_open false other a b = let m = settled'.agreed in (m.0, subst (λ (n : ℕ). IsMemory n m.0) w' m.1, subst (Agrees m.0) (sym (settled.closed a).0) tt, m.2)
 
+  -- the engine where it waits for nothing
+  abbrev at_rest : Phase → ℕ → Core
+  at_rest s n = record mid { stage = s; tries = n; waits = None; doing = None; again = false; fresh = []; done = 0; gathered = [] }
+
   replies_by : (holds irrevocable : Bool) (call : Call) (r r' : Replied) → RepliesBy holds irrevocable mid call r new → RepliesBy holds irrevocable mid call r' new' → (r ≡ r') × (new ≡ new')
   replies_by true false call r r' g g' =
       let one : r ≡ r' = g.reply_is [] ∙ sym (g'.reply_is []) in (
         one,
         g.stays
-            ∙ ((λ i. record mid {
-              stage = stage i;
-              tries = tries i;
-              waits = None;
-              doing = None;
-              again = false;
-              fresh = [];
-              done = 0;
+            ∙ ((λ i. record (at_rest (stage i) (tries i)) {
               got = None;
-              gathered = [];
               log = [];
               writes = [];
               blocks = map made_irrevocable (blocks_after mid call (one i));
@@ -75,16 +69,8 @@ module _ (mid new new' : Core) (end : Option Answer)
       let one : r ≡ r' = g.reply_is ∙ sym g'.reply_is in (
         one,
         g.stays
-            ∙ ((λ i. record mid {
-              stage = stage i;
-              tries = tries i;
-              waits = None;
-              doing = None;
-              again = false;
-              fresh = [];
-              done = 0;
+            ∙ ((λ i. record (at_rest (stage i) (tries i)) {
               got = None;
-              gathered = [];
               blocks = blocks_after mid call (one i);
               actions = actions_after mid call (one i);
               arena = arena_held mid call (one i);
@@ -102,14 +88,7 @@ module _ (mid new new' : Core) (end : Option Answer)
       let actions : new.actions ≡ new'.actions = g.actions ∙ (ap (actions_after mid call) one ∙ sym g'.actions) in
       let log = same_log (ap is_inside blocks) in (
         one,
-        e ∙ ((λ i. record mid {
-          stage = stage i;
-          tries = tries i;
-          waits = None;
-          doing = None;
-          again = false;
-          fresh = [];
-          done = 0;
+        e ∙ ((λ i. record (at_rest (stage i) (tries i)) {
           log = log i;
           snapshot = snapshot i;
           writes = writes i;
@@ -117,7 +96,6 @@ module _ (mid new new' : Core) (end : Option Answer)
           actions = actions i;
           arena = arena i;
           room = room_left mid call (one i);
-          gathered = [];
         }) ∙ sym e'),
       )
 

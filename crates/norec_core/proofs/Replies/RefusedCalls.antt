@@ -1,7 +1,6 @@
 -- A refused call leaves all as it was.
 use Rattle.std.proofs.Common.{◌≡◌, ℕ, List, refl}
-use Rattle.norec_core.proofs.Common.{Abort, Begin, Call, Commit, CommitAction, Copy, Core, Fill, Log, LogBytes, Refusal, Refused, UndoAction, Write, actions_after, arena_after, blocks_after, writes_after}
-use Rattle.itm_types.specs.declared.call.Call.TheVariants.{Save}
+use Rattle.norec_core.proofs.Common.{Abort, Begin, Call, Commit, CommitAction, Copy, Core, Fill, Log, LogBytes, Refusal, Refused, Save, UndoAction, Write, actions_after, arena_after, blocks_after, writes_after}
 
 pub writes_kept : (c : Core) (m : List ℕ) (call : Call) (why : Refusal) → writes_after c m call (Refused why) ≡ c.writes
 writes_kept c m (Write hint at value) why = refl

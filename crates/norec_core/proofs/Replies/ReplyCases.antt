@@ -1,7 +1,6 @@
 -- The three ways of a reply: in a transaction that is not irrevocable, as it becomes so, and once it is; and what holds after each.
 use Rattle.std.proofs.Common.{◌≡◌, ◌≤◌, ◌⊎◌, inl, inr, [], Bool, true, false, Option, Some, IsSome, length, refl, sym, ap, subst, ◌∙◌, arith}
-use Rattle.norec_core.proofs.Common.{Actions, Begin, Call, Code, Core, Ends, Mode, Replied, RepliesBy, RepliesTo, Reply, actions_after, blocks_after, in_transaction, irrevocable_room, is_abort, is_inside, length-map, made_irrevocable, total}
-use Rattle.norec_core.specs.Proceeds.{Enters, Replies, RepliesHeld}
+use Rattle.norec_core.proofs.Common.{Actions, Begin, Call, Code, Core, Ends, Enters, Mode, Replied, Replies, RepliesBy, RepliesHeld, RepliesTo, Reply, actions_after, blocks_after, in_transaction, irrevocable_room, is_abort, is_inside, length-map, made_irrevocable, total}
 use Rattle.norec_core.proofs.Engines.Blocks.{inside_all}
 
 module _ (mid new : Core) (call : Call) (r : Replied) where

@@ -1,13 +1,9 @@
 -- The chunks of a copy, as an irrevocable transaction takes them.
 use Rattle.std.proofs.Common.{◌≡◌, ℕ, suc, ◌+◌, ◌*◌, ◌^◌, ◌<◌, ◌≤◌, nat_lt, true, false, List, [], ◌∷◌, length, drop, take, Option, None, Some, slice_get, refl, sym, ap, ◌∙◌, arith, add-one, option_map}
-use Rattle.norec_irrevocable.proofs.Common.{Chunk, Copy, CopyPair, Copying, Data, Idle, In, IsHeld, IsServed, Load, MayCopy, Out, Phase, Reading, Within, WritesShared, accepted_sides, arena_within, chunk_from, chunk_reading, chunk_there, chunk_within, chunks_in, cond-true, count_of, counted, direction_of, held, in_call, is_in, is_out, lt-ltb, none_drop, place_from, read_from, read_past, shared_within, some_drop, source_refusal, word-pieces_of, word_of, words_in-next}
+use Rattle.norec_irrevocable.proofs.Common.{AsksFor, Chunk, Copy, CopyPair, Copying, Data, Idle, In, IsHeld, IsServed, IsSoundHeld, Load, MayCopy, Out, Phase, Reading, Within, WritesShared, accepted_sides, arena_within, chunk_from, chunk_read, chunk_reading, chunk_stage, chunk_there, chunk_within, chunk_writing, chunks_in, cond-true, copy_steps, count_of, counted, direction_of, held, in_call, is_in, is_out, lt-ltb, none_drop, place_from, placed_before, read_from, read_past, shared_within, some_drop, source_refusal, target_refusal, word-pieces_of, word_of, words_in, words_in-next}
 use Rattle.itm_types.specs.declared.limits.TheConstants.{MAX_WORDS}
 use Rattle.itm_types.specs.declared.step.Step.TheVariants as steps
-use Rattle.norec_core.specs.Copies.{target_refusal, words_in}
-use Rattle.norec_core.specs.Order.{chunk_stage, chunk_read, chunk_writing}
-use Rattle.norec_core.specs.Proceeds.{AsksFor}
 use Rattle.norec_core.specs.declared.call_parts.Purpose.TheVariants as for
-use Rattle.norec_irrevocable.specs.Phases.{IsSoundHeld, copy_steps, placed_before}
 use Rattle.norec_irrevocable.proofs.Pieces.HeldCopies.{chunk_in_memory, some_chunk}
 use Rattle.norec_irrevocable.proofs.Pieces.PlacedPieces.{some_count_of}
 

@@ -1,8 +1,6 @@
 -- What copies and fills of an irrevocable transaction come to, chunk by chunk.
 use Rattle.std.proofs.Common.{◌≡◌, ℕ, suc, ◌+◌, ◌-◌, ◌*◌, ◌%◌, ◌<◌, ◌≤◌, true, false, List, length, drop, replicate, Option, None, Some, slice_get, refl, sym, ap, ◌∙◌, arith, add-one}
-use Rattle.norec_irrevocable.proofs.Common.{Chunk, Copy, CopyPair, Copying, Data, Direction, Done, Down, Fill, In, IsMemory, IsServed, Out, Refusal, State, Up, Within, WriteHint, accepted_sides, after, after_unless, bytes_of, chunk_of, chunk_source, chunk_there, chunk_within, chunks_in, chunks_of, copied, copied_each, direction_of, effect, filled_each, gathered, gathered-pieces_of, in_block, is_out, kept, length-bytes_of, none_drop, pieces_of, reply, reply_unless, shared_within, slice, some_drop, source_refusal, target_written, written_at}
-use Rattle.itm_model.specs.Machine.{source_bytes}
-use Rattle.norec_core.specs.Parts.{chunk_copying}
+use Rattle.norec_irrevocable.proofs.Common.{Chunk, Copy, CopyPair, Copying, Data, Direction, Done, Down, Fill, In, IsMemory, IsServed, Out, Refusal, State, Up, Within, WriteHint, accepted_sides, after, after_unless, bytes_of, chunk_copying, chunk_of, chunk_source, chunk_there, chunk_within, chunks_in, chunks_of, copied, copied_each, direction_of, effect, filled_each, gathered, gathered-pieces_of, in_block, is_out, kept, length-bytes_of, none_drop, pieces_of, reply, reply_unless, shared_within, slice, some_drop, source_bytes, source_refusal, target_written, written_at}
 use Rattle.norec_irrevocable.proofs.Replies.HeldAccesses.{access_served}
 use Rattle.norec_irrevocable.proofs.Replies.Completions.{copy_served}
 use Rattle.norec_irrevocable.proofs.Pieces.PartCopies.{copied_by_chunks, filled_by_chunks}

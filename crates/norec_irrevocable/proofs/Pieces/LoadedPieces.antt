@@ -1,13 +1,7 @@
 -- A read of an irrevocable transaction goes on from piece to piece.
 use Rattle.std.proofs.Common.{◌≡◌, ℕ, suc, ◌+◌, ◌/◌, ◌<◌, ◌≤◌, nat_lt, true, false, List, [], ◌++◌, length, drop, take, Option, None, Some, is_some, slice_get, length-append, refl, sym, ap, ◌∙◌, arith, slice_index}
-use Rattle.norec_irrevocable.proofs.Common.{Data, IsPiece, Phase, Piece, Purpose, Reading, State, cond-false, copy_refusal, count_of, drop_all, gathered, length-map-range_with_len, part_of, piece_of, pieces_of, read_from, reading_of}
-use Rattle.std.proofs.lemmas.Bool.{le-ltb}
-use Rattle.std.proofs.lemmas.List.{append-nil}
-use Rattle.word_pieces.proofs.Covers.{take_all-pieces_of}
+use Rattle.norec_irrevocable.proofs.Common.{Data, IsPiece, LoadsFor, Phase, Piece, Purpose, Reading, State, append-nil, cond-false, copy_refusal, count_of, drop_all, gathered, le-ltb, length-gathered-all, length-map-range_with_len, length-part_of, part_of, piece_of, pieces_of, read_from, reading_of, take_all-pieces_of}
 use Rattle.norec_core.specs.declared.call_parts.Purpose.TheVariants as for
-use Rattle.norec_core.proofs.Accesses.CopyChunks.{length-gathered-all}
-use Rattle.norec_core.proofs.Accesses.Readings.{length-part_of}
-use Rattle.norec_irrevocable.specs.Phases.{LoadsFor}
 use Rattle.norec_irrevocable.proofs.Replies.HeldAccesses.{gathers_on}
 use Rattle.norec_irrevocable.proofs.Pieces.PlacedPieces.{none_there, piece_there}
 

@@ -1,12 +1,9 @@
 -- The piece that an access that writes comes to next.
 use Rattle.std.proofs.Common.{◌≡◌, ℕ, ◌+◌, ◌*◌, ◌≤◌, true, length, sym, subst, ◌∙◌, inl, inr}
-use Rattle.norec_irrevocable.proofs.Common.{Data, InPhase, IsHeld, IsPlacing, IsSoundAfter, Target, Wait, Writing, chunk_source, copy_refusal, counted}
+use Rattle.norec_irrevocable.proofs.Common.{Data, InPhase, IsHeld, IsNext, IsOn, IsPlacing, IsSoundAfter, PlacesFor, Target, Wait, Writing, chunk_source, copy_refusal, counted, phase_of}
 use Rattle.norec_core.specs.declared.call_parts.Target.TheVariants as into
 use Rattle.norec_data.specs.declared.pending.Pending.{Pending}
-use Rattle.norec_data.specs.Turns.{IsOn}
 use Rattle.norec_data.proofs.CallsInProgress.{is_waiting}
-use Rattle.norec_data.specs.View.{phase_of}
-use Rattle.norec_irrevocable.specs.Phases.{IsNext, PlacesFor}
 
 -- what is written is so whatever the piece, and however many steps were asked for
 pub places_later : (d new : Data) (target : Target) (start size : ℕ) → new.words ≡ d.words → new.arena ≡ d.arena → new.gathered.items ≡ d.gathered.items → new.value.width ≡ d.value.width → PlacesFor d target start size → PlacesFor new target start size

@@ -1,12 +1,7 @@
 -- The pieces of an access that writes, one by one.
 use Rattle.std.proofs.Common.{◌≡◌, ◌≢◌, ℕ, zero, suc, ◌+◌, ◌/◌, ◌%◌, ◌<◌, ◌≤◌, ◌==◌, List, [], ◌∷◌, drop, Option, None, Some, slice_get, refl, sym, ap, subst, ◌∙◌, arith, eq-eqb}
-use Rattle.norec_irrevocable.proofs.Common.{AllByRecursion, Data, Fetch, InPhase, IsPiece, IsPlacing, Phase, Piece, Place, Writing, cond-false, cond-true, count_of, drop_all, length-map-range_with_len, mask_of, ne_eqb, none_drop, piece_mask, piece_of, pieces_of, place_from, some_drop, whole}
-use Rattle.std.proofs.lemmas.Bool.{cond_both, eqb-true}
-use Rattle.std.proofs.lemmas.List.FromFn.{get_or-map-range_with_len}
+use Rattle.norec_irrevocable.proofs.Common.{AllByRecursion, AllByRecursion-pieces_of, Data, Fetch, InPhase, IsPiece, IsPlacing, Phase, Piece, Place, Writing, cond-false, cond-true, cond_both, count_of, drop_all, eqb-true, get_or-map-range_with_len, length-map-range_with_len, mask_of, ne_eqb, none_count, none_drop, piece_mask, piece_of, pieces_of, place_among, place_from, some_count, some_drop, whole}
 use Rattle.std.proofs.lemmas.Option.{get_or_from_slice_get}
-use Rattle.word_pieces.proofs.Covers.{AllByRecursion-pieces_of}
-use Rattle.norec_core.specs.Order.{place_among}
-use Rattle.norec_core.proofs.Accesses.Readings.{none_count, some_count}
 
 -- a piece that is there is one of as many, and the access's of this number
 pub piece_there : (at size n : ℕ) (p : Piece) → slice_get (pieces_of at size) n ≡ Some p → (n < count_of at size) × (p ≡ piece_of at size (at / 8 + n))

@@ -1,14 +1,9 @@
 -- What reads and writes of an irrevocable transaction come to.
 use Rattle.std.proofs.Common.{◌≡◌, ℕ, suc, ◌+◌, ◌*◌, ◌^◌, ◌<◌, ◌≤◌, nat_le, Bool, true, false, List, ◌++◌, length, drop, Option, None, Some, slice_get, slice_set, refl, sym, ap, subst, ◌∙◌, inl, inr, arith, slice_index}
-use Rattle.norec_irrevocable.proofs.Common.{AllFit, AreBytes, Call, Data, Datum, Done, Got, IsMemory, IsPiece, OutOfRange, Outside, Piece, Read, ReadHint, Refusal, State, Width, Write, WriteHint, Writing, access_of, access_refusal, after, after_unless, answer, bytes_reply, effect, gathered, gathered-pieces_of, in_block, kept, mask_of, or_else, part_of, piece_mask, pieces_of, placed_piece, placed_value, refusal, reply, reply_unless, size_of, some_drop, unless, whole, written, written_at}
-use Rattle.std.proofs.lemmas.Bool.{cases_Bool, le-leb, leb-true}
-use Rattle.std.proofs.lemmas.List.{append_assoc, length-set}
-use Rattle.word_pieces.specs.Masks.{merge}
-use Rattle.word_pieces.specs.Pieces.{scattered, with_piece}
+use Rattle.norec_irrevocable.proofs.Common.{AllFit, AllFit-at, AreBytes, Call, Data, Datum, Done, Got, IsMemory, IsPiece, OutOfRange, Outside, Piece, Read, ReadHint, Refusal, State, Width, Write, WriteHint, Writing, access_of, access_refusal, after, after_unless, answer, append_assoc, bytes_of-written, bytes_reply, cases_Bool, effect, gathered, gathered-pieces_of, in_block, index_of, kept, le-leb, leb-true, length-set, mask_of, merge, or_else, part_of, piece_mask, pieces_of, placed_piece, placed_value, refusal, reply, reply_unless, scattered, size_of, some_drop, unless, whole, with_piece, written, written_at}
 use Rattle.word_pieces.proofs.Bits.{merge-lt, merge-whole}
-use Rattle.word_pieces.proofs.Covers.{AllFit-at, AllFit-set, bytes_of-written}
-use Rattle.norec_core.proofs.Accesses.Overlays.{index_of}
-use Rattle.norec_core.proofs.Accesses.Writings.{scattered_lt}
+use Rattle.itm_types.proofs.WordLists.{fit-set}
+use Rattle.access_rules.proofs.Writings.{scattered_lt}
 use Rattle.norec_irrevocable.proofs.Replies.KeptStates.{access_kept}
 
 -- ## What is served
@@ -95,4 +90,4 @@ value_fits m bytes w (Some seen) fits fit is found =
 pub fits_stored : (words : ℕ) (m bytes : List ℕ) (w : Writing) (got : Option ℕ) → IsMemory words m → AreBytes bytes → IsPiece (placed_piece w) → Got got (slice_get m (placed_piece w).word)
     → IsMemory words (slice_set m (placed_piece w).word (placed_value w bytes got))
 fits_stored words m bytes w got mem fit is found =
-    (length-set m (placed_piece w).word (placed_value w bytes got) ∙ mem.0, AllFit-set m (placed_piece w).word (placed_value w bytes got) mem.1 (value_fits m bytes w got mem.1 fit is found))
+    (length-set m (placed_piece w).word (placed_value w bytes got) ∙ mem.0, fit-set m (placed_piece w).word (placed_value w bytes got) mem.1 (value_fits m bytes w got mem.1 fit is found))

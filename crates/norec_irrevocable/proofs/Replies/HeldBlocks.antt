@@ -1,10 +1,7 @@
 -- Blocks that begin in an irrevocable transaction, and a call that would make it irrevocable.
 use Rattle.std.proofs.Common.{◌≡◌, ℕ, ◌<◌, Bool, true, false, List, [], ◌∷◌, length, replicate, Option, None, if◌then◌else◌, refl, sym, ap, subst, ◌∙◌}
-use Rattle.norec_irrevocable.proofs.Common.{Begin, ComesBy, Core, Data, Done, EndIrrevocable, HeldTurns, Mode, NoIrrevocable, Props, Refusal, RepliesHeld, State, TooDeep, after, after_unless, begun, came, cond-true, core_held, effect, in_block, is_inside, kept, lt-ltb, may_go, mode_refusal, or_else, refusal, reply, reply_unless, stays_revocable, unless}
-use Rattle.itm_types.specs.declared.call.Reply.TheVariants.{Code}
-use Rattle.itm_model.specs.Machine.{entered, pushed}
+use Rattle.norec_irrevocable.proofs.Common.{Begin, Code, ComesBy, Core, Data, Done, EndIrrevocable, HeldTurns, Mode, NoIrrevocable, Props, Refusal, RepliesHeld, State, TooDeep, after, after_unless, begun, came, came_restarted, cond-true, core_held, effect, entered, in_block, is_inside, kept, lt-ltb, may_go, mode_refusal, or_else, pushed, refusal, reply, reply_unless, stays_revocable, unless}
 use Rattle.norec_data.specs.declared.end.CallEnd.TheVariants as ends
-use Rattle.norec_core.proofs.Engines.KeptFields.{came_restarted}
 use Rattle.norec_irrevocable.proofs.Replies.KeptStates.{begin_kept, mode_kept, open_kept}
 use Rattle.norec_irrevocable.proofs.Replies.HeldReplies.{room_kept}
 

@@ -1,20 +1,9 @@
 -- Replies in an irrevocable transaction that leave the engine as it was, but for the counts.
-use Rattle.std.proofs.Common.{◌≡◌, ℕ, zero, suc, ◌&&◌, not, Bool, true, false, List, length, replicate, Option, None, Some, unwrap_or, nat_lt, refl, sym, ap, ◌∙◌, arith, if◌then◌else◌}
-use Rattle.norec_irrevocable.proofs.Common.{AllFit, Begin, Call, Core, Data, IsMemory, Mode, Read, Refusal, RepliesHeld, State, after, after_unless, answer, bytes_reply, came, core_held, effect, in_block, kept, length-replicate, may_go, refusal, reply, reply_unless, stays_revocable}
-use Rattle.itm_types.specs.declared.call.Call.TheVariants.{CommitAction, Save}
-use Rattle.itm_types.specs.declared.call.Reply.TheVariants.{Refused}
-use Rattle.norec_core.specs.Stands.{stands_for}
-use Rattle.norec_core.specs.Core.{irrevocable_room}
-use Rattle.norec_core.specs.Proceeds.{reply_held}
-use Rattle.norec_core.specs.Effects.{arena_held, room_left}
-use Rattle.norec_core.proofs.Engines.KeptFields.{anew_within}
+use Rattle.std.proofs.Common.{◌≡◌, ℕ, ◌&&◌, not, Bool, true, false, List, length, replicate, Option, None, Some, unwrap_or, nat_lt, refl, sym, ap, ◌∙◌, if◌then◌else◌}
+use Rattle.norec_irrevocable.proofs.Common.{Begin, Call, CommitAction, Core, Data, IsMemory, Mode, Read, Refusal, Refused, RepliesHeld, Save, State, after, after_unless, anew_within, answer, arena_held, bytes_reply, came, core_held, effect, fit-zeros, in_block, irrevocable_room, kept, length-replicate, may_go, refusal, reply, reply_held, reply_unless, room_left, stands_for, stays_revocable}
 use Rattle.norec_core.proofs.Replies.RefusedCalls.{actions_kept, blocks_kept}
 
 -- a memory of zeros
-fit-zeros : (n : ℕ) → AllFit (replicate n 0)
-fit-zeros zero = tt
-fit-zeros (suc n) = (omega arith, fit-zeros n)
-
 pub zeros : (words : ℕ) → IsMemory words (replicate words 0)
 zeros words = (length-replicate words 0, fit-zeros words)
 

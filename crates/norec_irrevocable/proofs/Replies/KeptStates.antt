@@ -1,14 +1,9 @@
 -- What the plain machine refuses of an irrevocable transaction.
-use Rattle.std.proofs.Common.{◌≡◌, ℕ, suc, ◌+◌, ◌*◌, ◌&&◌, ◌||◌, not, nat_le, nat_lt, Bool, true, false, List, [], ◌∷◌, length, map, Option, None, Some, if◌then◌else◌, refl, ap, ◌∙◌, arith}
-use Rattle.norec_irrevocable.proofs.Common.{Abort, Begin, Call, Copy, Copying, IsMemory, Mode, NoIrrevocable, OutOfRange, Outside, Props, Refusal, State, TooDeep, access_of, access_refusal, bytes_of, copy_refusal, is_inside, length-bytes_of, lt-ltb, may_go, mode_refusal, or_else, refusal, stays_revocable, unless}
-use Rattle.itm_types.specs.declared.call.Refusal.TheVariants.{Overlap, NoAbort, IsIrrevocable}
+use Rattle.std.proofs.Common.{◌≡◌, ℕ, suc, ◌+◌, ◌*◌, ◌&&◌, ◌||◌, not, nat_le, nat_lt, Bool, true, false, List, [], ◌∷◌, length, map, Some, if◌then◌else◌, refl, ap, ◌∙◌, arith}
+use Rattle.norec_irrevocable.proofs.Common.{Abort, Begin, Call, Copy, Copying, Frame, IsIrrevocable, IsMemory, Mode, NoAbort, NoIrrevocable, OutOfRange, Outside, Overlap, Props, State, TooDeep, access_of, access_refusal, begin_refusal, block_kept, bytes_of, copy_refusal, is_clear, is_inside, is_kept, is_open, keeps_any, keeps_innermost, keeps_revocable, length-bytes_of, lt-ltb, may_go, mode_refusal, or_else, refusal, source_is, state_kept, stays_revocable, target_is, unless}
 use Rattle.user_actions.specs.Actions.{Actions}
-use Rattle.nest_frames.specs.Nest.{Frame, is_kept}
-use Rattle.itm_model.specs.Machine.{is_open, is_clear, keeps_any, keeps_innermost, keeps_revocable}
-use Rattle.norec_core.specs.Accesses.{begin_refusal}
-use Rattle.norec_core.specs.Stands.{block_kept, state_kept}
-use Rattle.norec_core.proofs.Replies.CopyRefusals.{source_is, target_is}
 use Rattle.norec_core.proofs.Engines.Machines.{refusal_of}
+use Rattle.norec_core.proofs.Engines.IrrevocableCalls.{or_none}
 
 -- ## Blocks
 
@@ -32,10 +27,6 @@ abort_kept blocks false = innermost_kept blocks
 length-kept : (blocks : List Frame) → length (map block_kept blocks) ≡ length blocks
 length-kept [] = refl
 length-kept (b ∷ bs) = ap suc (length-kept bs)
-
-or_none : (o : Option Refusal) → or_else o None ≡ o
-or_none None = refl
-or_none (Some why) = refl
 
 no_abort : (kept : Bool) → or_else (unless (not kept) NoAbort) (unless (not true) IsIrrevocable) ≡ Some (if kept then NoAbort else IsIrrevocable)
 no_abort true = refl

@@ -1,9 +1,8 @@
 -- Calls of an irrevocable transaction that are refused, and what is said of those that make another one irrevocable.
 use Rattle.std.proofs.Common.{◌≡◌, ℕ, Bool, true, false, List, length, Option, None, Some, refl, sym, ap, subst, ◌∙◌, if◌then◌else◌, is_none}
-use Rattle.norec_irrevocable.proofs.Common.{Answer, Begin, Call, Copy, Copying, Data, EndIrrevocable, Idle, IsHeld, IsMemory, Mode, Props, Refusal, TurnEndsSo, access_of, access_refusal, cond-false, cond-true, copy_refusal, core_held, in_block, kept, refusal}
+use Rattle.norec_irrevocable.proofs.Common.{Answer, Begin, Call, Copy, Copying, Data, EndIrrevocable, Idle, IsHeld, IsMemory, Mode, Props, Refusal, TurnEndsSo, access_of, access_refusal, cond-false, cond-true, copy_refusal, core_held, going_stage, in_block, kept, refusal, stage_at}
 use Rattle.norec_core.specs.declared.call_parts.Taking.TheVariants as takings
 use Rattle.norec_core.specs.Endings.{ending_at, going_ending}
-use Rattle.norec_core.specs.Order.{going_stage, stage_at}
 use Rattle.norec_data.proofs.RefusedAccesses.{access_ending, refused_stage}
 use Rattle.norec_data.specs.declared.end.CallEnd.TheVariants as ends
 use Rattle.norec_irrevocable.specs.Moves.{HeldCallTurns}

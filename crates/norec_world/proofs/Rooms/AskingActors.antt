@@ -1,6 +1,6 @@
 -- A call goes to the engine of an actor, or memory is refused to it.
-pub use Rattle.tx_runs.proofs.Tries.{no_begin}
-use Rattle.tx_runs.proofs.StepCalls.{wants_none, places_for}
+pub use Rattle.run_rules.proofs.Tries.{no_begin}
+use Rattle.run_rules.proofs.StepCalls.{wants_none, places_for}
 use Rattle.tx_runs.proofs.OpenRooms.{again_none, begins_none, outside_current, reserved_least, reserved_most}
 use Rattle.std.proofs.Common.{◌≡◌, inl, inr, ℕ, zero, suc, ◌+◌, ◌/◌, ◌<◌, ◌≤◌, max, length, not, Bool, true, false, true≢false, List, [], append-nil, Result, Ok, Err, IfOk, OnErr, Option, None, Some, is_some, unwrap_or, refl, sym, ap, subst, ◌∙◌, arith, if◌then◌else◌}
 use Rattle.norec_core.specs.Moves.{IsCalled}
@@ -17,7 +17,7 @@ use Rattle.world_rules.specs.ActionRoom.{HasPlace, IsRefused}
 use Rattle.world_rules.proofs.Common.{IsKept}
 use Rattle.world_rules.specs.Sound.{IsUnasked}
 use Rattle.tx_attempts.specs.Kept.{Kept}
-use Rattle.tx_runs.proofs.IrrevocableCalls.{asks_no_room}
+use Rattle.run_rules.proofs.IrrevocableCalls.{asks_no_room}
 use Rattle.world_rules.specs.declared.actor.Status.TheVariants.{Ready}
 use Rattle.world_rules.specs.declared.actor.Status.{Status}
 use Rattle.norec_world.proofs.Common.{ComesInto, next_in}

@@ -1,5 +1,5 @@
 -- A call goes to the engine: what its result tells leaves room for what comes of it, and where memory is refused, what was asked for is used up.
-use Rattle.std.proofs.Common.{◌≡◌, ◌&&◌, not, nat_lt, ℕ, ◌+◌, ◌-◌, ◌<◌, ◌≤◌, Bool, true, false, [], length, None, Some, refl, sym, ap, ◌∙◌, inl, inr, arith, true≢false, Result, Ok, Err, IfOk, OnErr, Option, zero, suc, if◌then◌else◌, unwrap_or}
+use Rattle.std.proofs.Common.{◌≡◌, ◌&&◌, not, nat_lt, ℕ, ◌+◌, ◌<◌, ◌≤◌, Bool, true, false, [], length, None, Some, refl, sym, ap, ◌∙◌, inl, inr, arith, true≢false, Result, Ok, Err, IfOk, OnErr, Option, zero, suc, if◌then◌else◌, unwrap_or}
 use Rattle.std.proofs.lemmas.Bool.{and_parts}
 use Rattle.std.proofs.Math.Bool.{and-true}
 use Rattle.norec_core.specs.Core.{is_within}
@@ -10,7 +10,7 @@ use Rattle.event_rules.proofs.Common.{Answer, Answers, Asks, Call, Core, IsAtOnc
 use Rattle.norec_core.specs.Order.{stage_at}
 use Rattle.world_rules.specs.ActionRoom.{HasPlace}
 use Rattle.norec_core.proofs.Replies.ActionCounts.{registers}
-use Rattle.tx_runs.proofs.IrrevocableCalls.{asks_no_room}
+use Rattle.run_rules.proofs.IrrevocableCalls.{asks_no_room}
 use Rattle.tx_runs.proofs.OpenRooms.{promised_held}
 use Rattle.norec_world.proofs.Common.{ComesInto, next_in}
 use Rattle.world_rules.proofs.Tries.Stages.{row_open}
@@ -18,7 +18,7 @@ use Rattle.norec_core.proofs.Engines.KeptFields.{came_restarted}
 use Rattle.tx_runs.specs.OpenAttempts.{told_in, LacksPlaces, Open}
 use Rattle.event_rules.proofs.Rooms.HeldRoom.{held_as}
 use Rattle.event_rules.proofs.Engines.RestartedEngines.{may_inside, not_at_once, not_not, within_inside}
-use Rattle.tx_runs.proofs.StepCalls.{gave_plainly, starves_shut}
+use Rattle.run_rules.proofs.StepCalls.{gave_plainly, starves_shut}
 use Rattle.world_rules.specs.LocalWork.{HasUsedUp}
 use Rattle.event_rules.proofs.Rooms.ActionRoom.{TakesRoom, gave_acting}
 

@@ -1,14 +1,8 @@
 -- What the items of a schedule are that were read.
-use Rattle.std.proofs.Common.{◌≡◌, ℕ, ◌+◌, ◌-◌, ◌<◌, ◌≤◌, ltb, eqb, List, [], ◌∷◌, length, take, drop, get_or, replicate, Option, Some, None, Ok, arith, subst, inl, inr, position, length-append}
-use Rattle.script_print.proofs.Common.{AllByRecursion, Item, MAX_EVENTS, MAX_ITEMS, Out, Take, both, chosen, events, is_times, item_of, ltb-true, number, planned, schedule_of, stray_of, thread_number, within, ⊤}
-use Rattle.std.proofs.lemmas.List.{length-replicate}
+use Rattle.std.proofs.Common.{◌≡◌, ℕ, ◌+◌, ◌-◌, ◌<◌, ◌≤◌, ltb, eqb, List, [], ◌∷◌, length, take, drop, get_or, replicate, Option, Some, None, Ok, arith, inl, inr, position, length-append}
+use Rattle.script_print.proofs.Common.{AllByRecursion, IfOk, Item, MAX_EVENTS, MAX_ITEMS, Out, Schedule, Take, after_if, all_append, any_if, bind_if, both, both_if, choice_if, chosen, events, is_times, item_of, items_of, length-replicate, ltb-true, number, planned, schedule_of, stray_of, take_of, thread_number, thread_of, within, within_if, ⊤}
 use Rattle.script_fields.specs.Operands.{◌>>=◌}
-use Rattle.script_asm.specs.Items.{take_of, items_of}
-use Rattle.script_program.specs.Listing.{thread_of}
-use Rattle.script_program.specs.Schedules.{Schedule}
 use Rattle.script_print.proofs.Printable.{IsItem}
-use Rattle.script_print.proofs.Assembly.Lists.{all_append}
-use Rattle.script_print.proofs.Assembly.Operands.{bind_ok, both_ok, within_form}
 
 -- an item of any thread
 abbrev pub HasEvents : Item → Type 0
@@ -17,42 +11,33 @@ HasEvents (Out thread) = ⊤
 
 -- ## Items that are read
 
-take_form : (f : List ℕ) (x : Option ℕ) (i : Item) → take_of f x ≡ Ok i → HasEvents i
+events_if : (f : List ℕ) → IfOk (events f) (λ n. (1 ≤ n) × (n ≤ MAX_EVENTS))
 unfolding events
-take_form f None i e = absurd cc
-take_form f (Some k) i e =
-    let read = bind_ok (both (number (take k f)) (events (drop (k + 1) f))) (λ x. Ok (Take (thread_number x.0) x.1)) i e in
-    let each = both_ok (number (take k f)) (events (drop (k + 1) f)) read.0 read.1 in
-    let more = bind_ok (number (drop (k + 1) f)) (within 1 MAX_EVENTS) read.0.1 each.1 in
-    let is : Take (thread_number read.0.0) read.0.1 ≡ i = cc in
-    subst HasEvents is (within_form 1 MAX_EVENTS more.0 read.0.1 more.2)
+events_if f = after_if (λ n. (1 ≤ n) × (n ≤ MAX_EVENTS)) (number f) (within 1 MAX_EVENTS) (λ n. within_if 1 MAX_EVENTS n (λ m. (1 ≤ m) × (m ≤ MAX_EVENTS)) (λ low high. (low, high)))
 
-out_form : (f : List ℕ) (i : Item) → (number f >>= λ t. Ok (Out (thread_number t))) ≡ Ok i → HasEvents i
-out_form f i e =
-    let read = bind_ok (number f) (λ t. Ok (Out (thread_number t))) i e in
-    let is : Out (thread_number read.0) ≡ i = cc in
-    subst HasEvents is tt
+take_if : (f : List ℕ) (x : Option ℕ) → IfOk (take_of f x) HasEvents
+take_if f None = tt
+take_if f (Some k) =
+    bind_if (λ x. ⊤ × ((1 ≤ x.1) × (x.1 ≤ MAX_EVENTS))) HasEvents (both (number (take k f)) (events (drop (k + 1) f))) (λ x. Ok (Take (thread_number x.0) x.1))
+    (both_if (λ n. ⊤) (λ n. (1 ≤ n) × (n ≤ MAX_EVENTS)) (number (take k f)) (events (drop (k + 1) f)) (any_if (number (take k f))) (events_if (drop (k + 1) f))) (λ x h. h.1)
 
-item_form : (f : List ℕ) (i : Item) → item_of f ≡ Ok i → HasEvents i
+item_if : (f : List ℕ) → IfOk (item_of f) HasEvents
 unfolding item_of
-item_form f i e =
-    elim (chosen (eqb (get_or f (length f - 1) 0) 33) (number (take (length f - 1) f) >>= λ t. Ok (Out (thread_number t))) (take_of f (position is_times f)) (Ok i) e) [
-      | inl out ↦ out_form (take (length f - 1) f) i out.1
-      | inr other ↦ take_form f (position is_times f) i other.1
-    ]
+item_if f =
+    let number_in = number (take (length f - 1) f) in
+    choice_if HasEvents (eqb (get_or f (length f - 1) 0) 33) (number_in >>= λ t. Ok (Out (thread_number t))) (take_of f (position is_times f))
+    (λ out. after_if HasEvents number_in (λ t. Ok (Out (thread_number t))) (λ t. tt)) (λ other. take_if f (position is_times f))
 
-items_form : (fs : List (List ℕ)) (items : List Item) → items_of fs ≡ Ok items → AllByRecursion HasEvents items
-items_form [] items e = let is : [] ≡ items = cc in subst (AllByRecursion HasEvents) is tt
-items_form (f ∷ fs) items e =
-    let read = bind_ok (both (item_of f) (items_of fs)) (λ x. Ok (x.0 ∷ x.1)) items e in
-    let each = both_ok (item_of f) (items_of fs) read.0 read.1 in
-    let is : read.0.0 ∷ read.0.1 ≡ items = cc in
-    subst (AllByRecursion HasEvents) is (item_form f read.0.0 each.0, items_form fs read.0.1 each.1)
+items_if : (fs : List (List ℕ)) → IfOk (items_of fs) (AllByRecursion HasEvents)
+items_if [] = tt
+items_if (f ∷ fs) =
+    bind_if (λ x. HasEvents x.0 × AllByRecursion HasEvents x.1) (AllByRecursion HasEvents) (both (item_of f) (items_of fs)) (λ x. Ok (x.0 ∷ x.1))
+    (both_if HasEvents (AllByRecursion HasEvents) (item_of f) (items_of fs) (item_if f) (items_if fs)) (λ x h. h)
 
-schedule_form : (fs : List (List ℕ)) (items : List Item) → schedule_of fs ≡ Ok items → AllByRecursion HasEvents items
+pub schedule_if : (fs : List (List ℕ)) → IfOk (schedule_of fs) (AllByRecursion HasEvents)
 unfolding schedule_of
-schedule_form [] items e = absurd cc
-schedule_form (f ∷ fs) items e = items_form (f ∷ fs) items e
+schedule_if [] = tt
+schedule_if (f ∷ fs) = items_if (f ∷ fs)
 
 -- ## A schedule
 
@@ -62,10 +47,10 @@ pub record IsPlanned (p : Schedule) : Type 0 where
   pub each : AllByRecursion HasEvents p.items
   pub in_lines : length p.items ≡ length p.lines
 
-pub plans_more : (p : Schedule) (n : ℕ) (fs : List (List ℕ)) (items : List Item) → IsPlanned p → schedule_of fs ≡ Ok items → length p.items + length items ≤ MAX_ITEMS → IsPlanned (planned p n items)
-plans_more p n fs items h e few = record {
+pub plans_more : (p : Schedule) (n : ℕ) (items : List Item) → IsPlanned p → AllByRecursion HasEvents items → length p.items + length items ≤ MAX_ITEMS → IsPlanned (planned p n items)
+plans_more p n items h each few = record {
   few = omega (arith, length-append p.items items);
-  each = all_append HasEvents p.items items h.each (schedule_form fs items e);
+  each = all_append HasEvents p.items items h.each each;
   in_lines = omega (arith, length-append p.items items, length-append p.lines (replicate (length items) n), length-replicate {A = ℕ} (length items) n, h.in_lines);
 }
 

@@ -1,8 +1,6 @@
 -- What is open after the code so far, as lines begin and end blocks, groups and repeats.
 use Rattle.std.proofs.Common.{◌≡◌, ℕ, zero, suc, ◌<◌, ◌≤◌, Bool, true, false, cond, ◌||◌, List, [], ◌∷◌, ◌++◌, length, take, drop, Option, Some, None, refl, sym, ap, ◌∙◌, arith, subst}
-use Rattle.script_print.proofs.Common.{Beginning, Group, Instruction, MAX_LEVELS, innermost, lt-ltb, outer, repeat, second_part, stands_never, take-append-drop, within_never, ⊤}
-use Rattle.std.proofs.lemmas.List.{length-take, length-append, take-append-le, take-take}
-use Rattle.std.proofs.Math.Seq.{take-length}
+use Rattle.script_print.proofs.Common.{Beginning, Group, Instruction, MAX_LEVELS, innermost, length-append, length-take, lt-ltb, outer, repeat, second_part, stands_never, take-append-drop, take-append-le, take-length, take-take, within_never, ⊤}
 use Rattle.script_asm.specs.declared.groups.Group.TheVariants as groups
 use Rattle.script_print.proofs.Printable.{pushed, open_after, then_after, open_after_all}
 
@@ -21,10 +19,8 @@ kinds [] = []
 kinds (b ∷ more) = with_kind b.group (kinds more)
 
 kind_length : (g : Group) (gs : List Group) (n : ℕ) → length gs ≤ n → length (with_kind g gs) ≤ suc n
-kind_length (groups.Repeat start times) gs n h = omega arith
 kind_length groups.Block gs n h = omega arith
-kind_length groups.First gs n h = omega arith
-kind_length groups.Second gs n h = omega arith
+kind_length g gs n h = omega arith
 
 kinds_length : (ls : List Beginning) → length (kinds ls) ≤ length ls
 kinds_length [] = omega arith
@@ -75,9 +71,7 @@ Starts code limit (b ∷ more) = StandsFrom code limit b.group (kinds more) (λ 
 
 stands_later : (code : List Instruction) (g : Group) (gs : List Group) (low high : ℕ) (rest : ℕ → Type 0) → low ≤ high → ((m n : ℕ) → m ≤ n → rest m → rest n) → StandsFrom code low g gs rest → StandsFrom code high g gs rest
 stands_later code (groups.Repeat start times) gs low high rest h f s = (omega arith, s.1, s.2)
-stands_later code groups.Block gs low high rest h f s = f low high h s
-stands_later code groups.First gs low high rest h f s = f low high h s
-stands_later code groups.Second gs low high rest h f s = f low high h s
+stands_later code g gs low high rest h f s = f low high h s
 
 -- a later limit
 starts_later : (code : List Instruction) (ls : List Beginning) (low high : ℕ) → low ≤ high → Starts code low ls → Starts code high ls
@@ -87,9 +81,7 @@ starts_later code (b ∷ more) low high h s = stands_later code b.group (kinds m
 stands_again : (c d : List Instruction) (g : Group) (gs : List Group) (limit : ℕ) (rest more : ℕ → Type 0) → ((n : ℕ) → n ≤ limit → take n c ≡ take n d) → ((n : ℕ) → n ≤ limit → rest n → more n)
     → StandsFrom c limit g gs rest → StandsFrom d limit g gs more
 stands_again c d (groups.Repeat start times) gs limit rest more same f s = (s.0, ap (open_after_all []) (sym (same start s.0)) ∙ s.1, f start s.0 s.2)
-stands_again c d groups.Block gs limit rest more same f s = f limit (omega arith) s
-stands_again c d groups.First gs limit rest more same f s = f limit (omega arith) s
-stands_again c d groups.Second gs limit rest more same f s = f limit (omega arith) s
+stands_again c d g gs limit rest more same f s = f limit (omega arith) s
 
 -- other code that begins alike up to the limit
 starts_again : (c d : List Instruction) (ls : List Beginning) (limit : ℕ) → ((n : ℕ) → n ≤ limit → take n c ≡ take n d) → Starts c limit ls → Starts d limit ls
@@ -127,9 +119,7 @@ second_kind (b ∷ more) e = refl
 
 stands_within : (code : List Instruction) (g : Group) (gs : List Group) (limit : ℕ) (rest : ℕ → Type 0) → ((m n : ℕ) → m ≤ n → rest m → rest n) → StandsFrom code limit g gs rest → rest limit
 stands_within code (groups.Repeat start times) gs limit rest f s = f start limit s.0 s.2
-stands_within code groups.Block gs limit rest f s = s
-stands_within code groups.First gs limit rest f s = s
-stands_within code groups.Second gs limit rest f s = s
+stands_within code g gs limit rest f s = s
 
 -- the innermost ends, or its second part begins
 pub starts_outer : (code : List Instruction) (ls : List Beginning) (limit : ℕ) → Starts code limit ls → Starts code limit (outer ls)

@@ -1,165 +1,88 @@
 -- What operands are that were read: their ranges.
-use Rattle.std.proofs.Common.{◌≡◌, ℕ, ◌*◌, ◌%◌, ◌^◌, ◌<◌, ◌≤◌, true, cond, leb, ltb, eqb, ◌&&◌, List, length, Result, Ok, Err, refl, arith, subst, inl, inr}
-use Rattle.script_print.proofs.Common.{AsmKind, IsBytes, IsLiteral, IsPlace, IsSize, MAX_INIT_DIGITS, MAX_MEMORY, and_parts, both, chosen, commit_action, init_of, leb-true, limit_of, ltb-false, not-true, number, one_place, place_register, register_literal, register_number, register_place, size_of, three_places, two_places, undo_action, within}
-use Rattle.std.proofs.lemmas.Bool.{eqb-true, eqb-false}
+use Rattle.std.proofs.Common.{ℕ, ◌*◌, ◌%◌, ◌^◌, ◌<◌, ◌≤◌, leb, eqb, ◌&&◌, List, length, Result, Ok, Err, arith}
+use Rattle.script_print.proofs.Common.{AsmKind, IfOk, IsBytes, IsLiteral, IsPlace, IsSize, MAX_INIT_DIGITS, MAX_MEMORY, and_parts, any_if, bind_if, both, both_if, choice_if, commit_action, digits, digits_if, eqb-true, function, init_of, leb-true, limit_of, literal, literal_form, memory_size, no_transaction, number, number_form, one, one_place, place, place_form, place_register, register, register_literal, register_number, register_place, size_of, three, three_places, two, two_places, undo_action, within, within_if, ⊤}
 use Rattle.script_fields.specs.declared.fault.AsmKind.TheVariants as kinds
-use Rattle.script_fields.specs.declared.literal.Literal.{Literal}
-use Rattle.script_fields.specs.declared.place.Place.{Place}
-use Rattle.script_fields.specs.declared.register.Register.{Register}
-use Rattle.script_fields.specs.Operands.{◌>>=◌, function, register, place, is_hex, decoded, digits, literal, no_transaction}
-use Rattle.script_fields.specs.Shapes.{one, two, three, memory_size}
-use Rattle.script_fields.proofs.HexDigits.{decode_of-hex}
-use Rattle.script_fields.proofs.SpelledNumbers.{number_form}
-use Rattle.script_fields.proofs.SpelledOperands.{place_form, literal_form}
-
--- ## Several operands
-
--- what came first was read, and then the rest
-pub bind_ok : {A B : Type 0} (r : Result A AsmKind) (f : A → Result B AsmKind) (y : B) → (r >>= f) ≡ Ok y → (x : A) × (r ≡ Ok x) × (f x ≡ Ok y)
-bind_ok (Ok x) f y e = (x, refl, e)
-bind_ok (Err k) f y e = absurd cc
-
--- each of two was read
-pub both_ok : {A B : Type 0} (p : Result A AsmKind) (q : Result B AsmKind) (x : A × B) → both p q ≡ Ok x → (p ≡ Ok x.0) × (q ≡ Ok x.1)
-both_ok (Ok a) (Ok b) x e = let is : (a, b) ≡ x = cc in (cc, cc)
-both_ok (Ok a) (Err k) x e = absurd cc
-both_ok (Err k) (Ok b) x e = absurd cc
-both_ok (Err kinds.Operand) (Err k) x e = absurd cc
-both_ok (Err j) (Err k) x e = absurd cc
+use Rattle.script_fields.specs.Operands.{◌>>=◌}
+use Rattle.script_fields.proofs.HexDigits.{hex_said}
 
 -- ## Numbers and bytes
 
-pub within_form : (low high n m : ℕ) → within low high n ≡ Ok m → (low ≤ m) × (m ≤ high)
-within_form low high n m e =
-    elim (chosen (leb low n && leb n high) (Ok n) (Err kinds.Range) (Ok m) e) [
-      | inl h ↦
-          let is : n ≡ m = cc in
-          let parts = and_parts (leb low n) (leb n high) h.0 in
-          let least = leb-true low n parts.0 in
-          let most = leb-true n high parts.1 in
-          (omega arith, omega arith)
-      | inr h ↦ absurd cc
-    ]
-
-function_form : (f : List ℕ) (n : ℕ) → function f ≡ Ok n → n < 2 ^ 32
+function_if : (f : List ℕ) → IfOk (function f) (λ n. n < 2 ^ 32)
 unfolding function
-function_form f n e =
-    let read = bind_ok (number f) (within 0 4294967295) n e in
-    omega (arith, within_form 0 4294967295 read.0 n read.2)
+function_if f = bind_if (λ n. ⊤) (λ n. n < 2 ^ 32) (number f) (within 0 4294967295) (any_if (number f)) (λ n h. within_if 0 4294967295 n (λ m. m < 2 ^ 32) (λ low high. omega arith))
 
-hex_form : (f : List ℕ) → is_hex f ≡ true → IsBytes (decoded f) × (1 ≤ length (decoded f))
-hex_form f h =
-    let d = decode_of-hex f h in
-    let some = eqb-false (length f) 0 (not-true _ (and_parts _ _ h).0) in
-    (d.2, omega (arith, d.1, some))
+-- bytes for the memory: at least one, and of no more digits than a line may have
+abbrev IsInitial : List ℕ → Type 0
+IsInitial bytes = IsBytes bytes × (1 ≤ length bytes) × (2 * length bytes ≤ MAX_INIT_DIGITS)
 
--- bytes that were read for the memory: at least one, and of no more digits than a line may have
-digits_form : (f bytes : List ℕ) → digits f ≡ Ok bytes → IsBytes bytes × (1 ≤ length bytes) × (2 * length bytes ≤ MAX_INIT_DIGITS)
+digits_form : (f : List ℕ) → IfOk (digits f) IsInitial
 unfolding digits
-digits_form f bytes e =
-    elim (chosen (is_hex f) (cond (ltb MAX_INIT_DIGITS (length f)) (Err kinds.Range) (Ok (decoded f))) (Err kinds.Operand) (Ok bytes) e) [
-      | inl hex ↦ elim (chosen (ltb MAX_INIT_DIGITS (length f)) (Err kinds.Range) (Ok (decoded f)) (Ok bytes) hex.1) [
-        | inl many ↦ absurd cc
-        | inr few ↦
-            let is : decoded f ≡ bytes = cc in
-            let form = hex_form f hex.0 in
-            let most = ltb-false MAX_INIT_DIGITS (length f) few.0 in
-            subst (λ (bs : List ℕ). IsBytes bs × (1 ≤ length bs) × (2 * length bs ≤ MAX_INIT_DIGITS)) is (form.0, form.1, omega (arith, (decode_of-hex f hex.0).1, most))
-      ]
-      | inr bad ↦ absurd cc
-    ]
+digits_form f = digits_if MAX_INIT_DIGITS f IsInitial (λ hex few. let said = hex_said f hex in (said.0, said.1, omega (arith, said.2, few)))
 
 -- ## Operands of instructions
 
-pub register_number_form : (fs : List (List ℕ)) (x : Register × ℕ) → register_number fs ≡ Ok x → x.1 < 2 ^ 64
+two_if : {A B : Type 0} (P : A → Type 0) (Q : B → Type 0) (f : List ℕ → Result A AsmKind) (g : List ℕ → Result B AsmKind) (fs : List (List ℕ)) → ((x : List ℕ) → IfOk (f x) P) → ((x : List ℕ) → IfOk (g x) Q)
+    → IfOk (two fs >>= λ x. both (f x.0) (g x.1)) (λ y. P y.0 × Q y.1)
+two_if P Q f g fs p q =
+    bind_if (λ x. ⊤) (λ y. P y.0 × Q y.1) (two fs) (λ x. both (f x.0) (g x.1)) (any_if (two fs)) (λ x h. both_if P Q (f x.0) (g x.1) (p x.0) (q x.1))
+
+pub register_number_if : (fs : List (List ℕ)) → IfOk (register_number fs) (λ x. ⊤ × (x.1 < 2 ^ 64))
 unfolding register_number
-register_number_form fs x e =
-    let read = bind_ok (two fs) (λ y. both (register y.0) (number y.1)) x e in
-    number_form read.0.1 x.1 (both_ok (register read.0.0) (number read.0.1) x read.2).1
+register_number_if fs = two_if (λ r. ⊤) (λ n. n < 2 ^ 64) register number fs (λ f. any_if (register f)) number_form
 
-pub register_literal_form : (fs : List (List ℕ)) (x : Register × Literal) → register_literal fs ≡ Ok x → IsLiteral x.1
+pub register_literal_if : (fs : List (List ℕ)) → IfOk (register_literal fs) (λ x. ⊤ × IsLiteral x.1)
 unfolding register_literal
-register_literal_form fs x e =
-    let read = bind_ok (two fs) (λ y. both (register y.0) (literal y.1)) x e in
-    literal_form read.0.1 x.1 (both_ok (register read.0.0) (literal read.0.1) x read.2).1
+register_literal_if fs = two_if (λ r. ⊤) IsLiteral register literal fs (λ f. any_if (register f)) literal_form
 
-pub register_place_form : (fs : List (List ℕ)) (x : Register × Place) → register_place fs ≡ Ok x → IsPlace x.1
+pub register_place_if : (fs : List (List ℕ)) → IfOk (register_place fs) (λ x. ⊤ × IsPlace x.1)
 unfolding register_place
-register_place_form fs x e =
-    let read = bind_ok (two fs) (λ y. both (register y.0) (place y.1)) x e in
-    place_form read.0.1 x.1 (both_ok (register read.0.0) (place read.0.1) x read.2).1
+register_place_if fs = two_if (λ r. ⊤) IsPlace register place fs (λ f. any_if (register f)) place_form
 
-pub place_register_form : (fs : List (List ℕ)) (x : Place × Register) → place_register fs ≡ Ok x → IsPlace x.0
+pub place_register_if : (fs : List (List ℕ)) → IfOk (place_register fs) (λ x. IsPlace x.0 × ⊤)
 unfolding place_register
-place_register_form fs x e =
-    let read = bind_ok (two fs) (λ y. both (place y.0) (register y.1)) x e in
-    place_form read.0.0 x.0 (both_ok (place read.0.0) (register read.0.1) x read.2).0
+place_register_if fs = two_if IsPlace (λ r. ⊤) place register fs place_form (λ f. any_if (register f))
 
-pub one_place_form : (fs : List (List ℕ)) (p : Place) → one_place fs ≡ Ok p → IsPlace p
+pub one_place_if : (fs : List (List ℕ)) → IfOk (one_place fs) IsPlace
 unfolding one_place
-one_place_form fs p e =
-    let read = bind_ok (one fs) place p e in
-    place_form read.0 p read.2
+one_place_if fs = bind_if (λ f. ⊤) IsPlace (one fs) place (any_if (one fs)) (λ f h. place_form f)
 
-pub two_places_form : (fs : List (List ℕ)) (x : Place × Place) → two_places fs ≡ Ok x → IsPlace x.0 × IsPlace x.1
+pub two_places_if : (fs : List (List ℕ)) → IfOk (two_places fs) (λ x. IsPlace x.0 × IsPlace x.1)
 unfolding two_places
-two_places_form fs x e =
-    let read = bind_ok (two fs) (λ y. both (place y.0) (place y.1)) x e in
-    let each = both_ok (place read.0.0) (place read.0.1) x read.2 in
-    (place_form read.0.0 x.0 each.0, place_form read.0.1 x.1 each.1)
+two_places_if fs = two_if IsPlace IsPlace place place fs place_form place_form
 
-pub three_places_form : (fs : List (List ℕ)) (x : Place × (Place × Place)) → three_places fs ≡ Ok x → IsPlace x.0 × (IsPlace x.1.0 × IsPlace x.1.1)
+pub three_places_if : (fs : List (List ℕ)) → IfOk (three_places fs) (λ x. IsPlace x.0 × (IsPlace x.1.0 × IsPlace x.1.1))
 unfolding three_places
-three_places_form fs x e =
-    let read = bind_ok (three fs) (λ y. both (place y.0) (both (place y.1) (place y.2))) x e in
-    let first = both_ok (place read.0.0) (both (place read.0.1) (place read.0.2)) x read.2 in
-    let each = both_ok (place read.0.1) (place read.0.2) x.1 first.1 in
-    (place_form read.0.0 x.0 first.0, (place_form read.0.1 x.1.0 each.0, place_form read.0.2 x.1.1 each.1))
+three_places_if fs =
+    bind_if (λ x. ⊤) (λ x. IsPlace x.0 × (IsPlace x.1.0 × IsPlace x.1.1)) (three fs) (λ x. both (place x.0) (both (place x.1) (place x.2))) (any_if (three fs))
+    (λ x h. both_if IsPlace (λ y. IsPlace y.0 × IsPlace y.1) _ _ (place_form x.0) (both_if IsPlace IsPlace _ _ (place_form x.1) (place_form x.2)))
 
-pub commit_action_form : (fs : List (List ℕ)) (x : ℕ × Place) → commit_action fs ≡ Ok x → (x.0 < 2 ^ 32) × IsPlace x.1
+pub commit_action_if : (fs : List (List ℕ)) → IfOk (commit_action fs) (λ x. (x.0 < 2 ^ 32) × IsPlace x.1)
 unfolding commit_action
-commit_action_form fs x e =
-    let read = bind_ok (three fs) (λ y. both (function y.0) (both (no_transaction y.1) (place y.2)) >>= λ z. Ok (z.0, z.1.1)) x e in
-    let parts = bind_ok (both (function read.0.0) (both (no_transaction read.0.1) (place read.0.2))) (λ z. Ok (z.0, z.1.1)) x read.2 in
-    let is : (parts.0.0, parts.0.1.1) ≡ x = cc in
-    let each = both_ok (function read.0.0) (both (no_transaction read.0.1) (place read.0.2)) parts.0 parts.1 in
-    let more = both_ok (no_transaction read.0.1) (place read.0.2) parts.0.1 each.1 in
-    subst (λ (y : ℕ × Place). (y.0 < 2 ^ 32) × IsPlace y.1) is (function_form read.0.0 parts.0.0 each.0, place_form read.0.2 parts.0.1.1 more.1)
+commit_action_if fs =
+    bind_if (λ x. ⊤) (λ x. (x.0 < 2 ^ 32) × IsPlace x.1) (three fs) (λ x. both (function x.0) (both (no_transaction x.1) (place x.2)) >>= λ y. Ok (y.0, y.1.1)) (any_if (three fs))
+    (λ x h. bind_if (λ y. (y.0 < 2 ^ 32) × (⊤ × IsPlace y.1.1)) (λ y. (y.0 < 2 ^ 32) × IsPlace y.1) (both (function x.0) (both (no_transaction x.1) (place x.2))) (λ y. Ok (y.0, y.1.1))
+    (both_if (λ n. n < 2 ^ 32) (λ y. ⊤ × IsPlace y.1) _ _ (function_if x.0) (both_if (λ u. ⊤) IsPlace _ _ (any_if (no_transaction x.1)) (place_form x.2))) (λ y k. (k.0, k.1.1)))
 
-pub undo_action_form : (fs : List (List ℕ)) (x : ℕ × Place) → undo_action fs ≡ Ok x → (x.0 < 2 ^ 32) × IsPlace x.1
+pub undo_action_if : (fs : List (List ℕ)) → IfOk (undo_action fs) (λ x. (x.0 < 2 ^ 32) × IsPlace x.1)
 unfolding undo_action
-undo_action_form fs x e =
-    let read = bind_ok (two fs) (λ y. both (function y.0) (place y.1)) x e in
-    let each = both_ok (function read.0.0) (place read.0.1) x read.2 in
-    (function_form read.0.0 x.0 each.0, place_form read.0.1 x.1 each.1)
+undo_action_if fs = two_if (λ n. n < 2 ^ 32) IsPlace function place fs function_if place_form
 
 -- ## Operands of directives
 
-memory_size_form : (n m : ℕ) → memory_size n ≡ Ok m → IsSize m
-memory_size_form n m e =
-    elim (chosen (leb 8 n && leb n MAX_MEMORY && eqb (n % 8) 0) (Ok n) (Err kinds.Range) (Ok m) e) [
-      | inl h ↦
-          let is : n ≡ m = cc in
-          let more = and_parts (leb 8 n && leb n MAX_MEMORY) (eqb (n % 8) 0) h.0 in
-          let parts = and_parts (leb 8 n) (leb n MAX_MEMORY) more.0 in
-          subst IsSize is (leb-true 8 n parts.0, leb-true n MAX_MEMORY parts.1, eqb-true (n % 8) 0 more.1)
-      | inr h ↦ absurd cc
-    ]
+memory_size_if : (n : ℕ) → IfOk (memory_size n) IsSize
+memory_size_if n =
+    choice_if IsSize (leb 8 n && leb n MAX_MEMORY && eqb (n % 8) 0) (Ok n) (Err kinds.Range)
+    (λ h. let more = and_parts _ _ h in let parts = and_parts _ _ more.0 in (leb-true 8 n parts.0, leb-true n MAX_MEMORY parts.1, eqb-true (n % 8) 0 more.1)) (λ h. tt)
 
-pub size_of_form : (fs : List (List ℕ)) (n : ℕ) → size_of fs ≡ Ok n → IsSize n
+pub size_of_if : (fs : List (List ℕ)) → IfOk (size_of fs) IsSize
 unfolding size_of
-size_of_form fs n e =
-    let read = bind_ok (one fs >>= number) memory_size n e in
-    memory_size_form read.0 n read.2
+size_of_if fs = bind_if (λ n. ⊤) IsSize (one fs >>= number) memory_size (any_if (one fs >>= number)) (λ n h. memory_size_if n)
 
-pub limit_of_form : (low high : ℕ) (fs : List (List ℕ)) (n : ℕ) → limit_of low high fs ≡ Ok n → (low ≤ n) × (n ≤ high)
+pub limit_of_if : (low high : ℕ) (fs : List (List ℕ)) → IfOk (limit_of low high fs) (λ n. (low ≤ n) × (n ≤ high))
 unfolding limit_of
-limit_of_form low high fs n e =
-    let read = bind_ok (one fs >>= number) (within low high) n e in
-    within_form low high read.0 n read.2
+limit_of_if low high fs =
+    bind_if (λ n. ⊤) (λ n. (low ≤ n) × (n ≤ high)) (one fs >>= number) (within low high) (any_if (one fs >>= number)) (λ n h. within_if low high n (λ m. (low ≤ m) × (m ≤ high)) (λ l m. (l, m)))
 
-pub init_of_form : (fs : List (List ℕ)) (x : ℕ × List ℕ) → init_of fs ≡ Ok x → IsBytes x.1 × (1 ≤ length x.1) × (2 * length x.1 ≤ MAX_INIT_DIGITS)
+pub init_of_if : (fs : List (List ℕ)) → IfOk (init_of fs) (λ x. ⊤ × (IsBytes x.1 × (1 ≤ length x.1) × (2 * length x.1 ≤ MAX_INIT_DIGITS)))
 unfolding init_of
-init_of_form fs x e =
-    let read = bind_ok (two fs) (λ y. both (number y.0) (digits y.1)) x e in
-    digits_form read.0.1 x.1 (both_ok (number read.0.0) (digits read.0.1) x read.2).1
+init_of_if fs = two_if (λ n. ⊤) IsInitial number digits fs (λ f. any_if (number f)) digits_form

@@ -1,15 +1,12 @@
 -- What a text says is a program that a text can say.
-use Rattle.std.proofs.Common.{◌≡◌, ℕ, ◌<◌, ◌≤◌, ltb, List, [], ◌∷◌, length, Option, Some, None, Ok, refl, sym, arith, subst, inl, inr, length-append}
-use Rattle.script_print.proofs.Common.{AllByRecursion, AreWithin, Bounds, IfSome, Listing, MAX_ARENA, MAX_COMMITS, MAX_DEPTH, MAX_PATIENCE, MAX_RESTARTS, MAX_RETRIES, MAX_TEXT, Sections, Shared, State, USUAL_DEPTH, chosen, end_of, fault, has_begun, initial, innermost_line, lines, lines_say, ltb-true, parts_of, program_of, stray_of, thread_total, ◌>>=◌}
-use Rattle.std.specs.Option.{unwrap_or}
+use Rattle.std.proofs.Common.{◌≡◌, ℕ, ◌<◌, ◌≤◌, ltb, List, [], ◌∷◌, length, Option, Some, None, refl, sym, arith, subst, length-append}
+use Rattle.script_print.proofs.Common.{AllByRecursion, AreWithin, Bounds, IfOk, IfSome, MAX_ARENA, MAX_COMMITS, MAX_DEPTH, MAX_PATIENCE, MAX_RESTARTS, MAX_RETRIES, MAX_TEXT, Sections, Shared, State, USUAL_DEPTH, arena_of, bind_if, choice_if, closed, complete, end_of, fault, has_begun, initial, innermost_line, limits_of, lines, lines_say, listing_of, ltb-true, named, parts_of, program_of, stray_of, thread_total, unwrap_or, ◌>>=◌}
 use Rattle.script_fields.specs.declared.fault.AsmKind.TheVariants as faults
-use Rattle.script_asm.specs.Assembly.{listing_of, named, complete, closed}
-use Rattle.script_program.specs.Listing.{arena_of, limits_of}
 use Rattle.script_print.proofs.Printable.{IsPrintable, IsItem}
 use Rattle.script_print.proofs.Assembly.Items.{none_stray}
 use Rattle.script_print.proofs.Assembly.Lines.{lines_sound}
 use Rattle.script_print.proofs.Assembly.Sections.{IsReading, read_parts, threads_read, instructions_read}
-use Rattle.script_print.proofs.Assembly.States.{IsShared, AreBounds, IsSound, initial_sound, then_ok, nothing_open}
+use Rattle.script_print.proofs.Assembly.States.{IsShared, AreBounds, IsSound, initial_sound, nothing_open}
 
 -- ## Limits
 
@@ -50,35 +47,28 @@ listing_printable s m h k r some e = record {
   instructions = omega (arith, instructions_read s.threads, r.instructions);
 }
 
-named_printable : (s : State) (m : Shared) (p : Listing) (stray : Option ℕ) → stray_of (thread_total s.threads) s.schedule.items s.schedule.lines ≡ stray
-    → IsSound s → IsShared m → IsReading s.threads [] → 0 < s.threads.count → named s m stray ≡ Ok p → IsPrintable p
-named_printable s m p (Some line) same h k r some e = absurd cc
-named_printable s m p None same h k r some e = let is : listing_of s m ≡ p = cc in subst IsPrintable is (listing_printable s m h k r some same)
+named_printable : (s : State) (m : Shared) (stray : Option ℕ) → stray_of (thread_total s.threads) s.schedule.items s.schedule.lines ≡ stray
+    → IsSound s → IsShared m → IsReading s.threads [] → 0 < s.threads.count → IfOk (named s m stray) IsPrintable
+named_printable s m (Some line) same h k r some = tt
+named_printable s m None same h k r some = listing_printable s m h k r some same
 
-complete_printable : (s : State) (m : Option Shared) (p : Listing) → IsSound s → IfSome m IsShared → IsReading s.threads [] → complete s m ≡ Ok p → IsPrintable p
-complete_printable s None p h k r e = absurd cc
-complete_printable s (Some m) p h k r e =
+complete_printable : (s : State) (m : Option Shared) → IsSound s → IfSome m IsShared → IsReading s.threads [] → IfOk (complete s m) IsPrintable
+complete_printable s None h k r = tt
+complete_printable s (Some m) h k r =
     let stray = stray_of (thread_total s.threads) s.schedule.items s.schedule.lines in
-    elim (chosen (has_begun s) (named s m stray) (fault 0 faults.Misplaced) (Ok p) e) [
-      | inl begun ↦ named_printable s m p stray refl h k r (ltb-true 0 s.threads.count begun.0) begun.1
-      | inr none ↦ absurd cc
-    ]
+    choice_if IsPrintable (has_begun s) (named s m stray) (fault 0 faults.Misplaced) (λ begun. named_printable s m stray refl h k r (ltb-true 0 s.threads.count begun)) (λ none. tt)
 
-closed_printable : (s : State) (p : Listing) (line : Option ℕ) → innermost_line s.levels ≡ line → IsSound s → closed s line ≡ Ok p → IsPrintable p
-closed_printable s p (Some line) same h e = absurd cc
-closed_printable s p None same h e = complete_printable s s.memory p h h.memory (subst (IsReading s.threads) (nothing_open s.levels same) h.sections) e
+closed_printable : (s : State) (line : Option ℕ) → innermost_line s.levels ≡ line → IsSound s → IfOk (closed s line) IsPrintable
+closed_printable s (Some line) same h = tt
+closed_printable s None same h = complete_printable s s.memory h h.memory (subst (IsReading s.threads) (nothing_open s.levels same) h.sections)
 
-end_printable : (s : State) (p : Listing) → IsSound s → end_of s ≡ Ok p → IsPrintable p
+end_printable : (s : State) → IsSound s → IfOk (end_of s) IsPrintable
 unfolding end_of
-end_printable s p h e = closed_printable s p (innermost_line s.levels) refl h e
+end_printable s h = closed_printable s (innermost_line s.levels) refl h
 
 -- the program of a text is one that a text can say
-pub assembled : (text : List ℕ) (p : Listing) → program_of text ≡ Ok p → IsPrintable p
+pub assembled : (text : List ℕ) → IfOk (program_of text) IsPrintable
 unfolding program_of
-assembled text p e =
-    elim (chosen (ltb MAX_TEXT (length text)) (fault 0 faults.TooLong) (lines_say initial 1 (lines text) >>= end_of) (Ok p) e) [
-      | inl long ↦ absurd cc
-      | inr short ↦
-          let read = then_ok (lines_say initial 1 (lines text)) end_of p short.1 in
-          end_printable read.0 p (lines_sound (lines text) initial read.0 1 initial_sound read.1) read.2
-    ]
+assembled text =
+    choice_if IsPrintable (ltb MAX_TEXT (length text)) (fault 0 faults.TooLong) (lines_say initial 1 (lines text) >>= end_of)
+    (λ long. tt) (λ short. bind_if IsSound IsPrintable (lines_say initial 1 (lines text)) end_of (lines_sound (lines text) initial 1 initial_sound) end_printable)

@@ -1,11 +1,10 @@
 -- What is kept of the sections as lines are read.
 use Rattle.std.proofs.Common.{◌≡◌, ℕ, ◌+◌, ◌<◌, ◌≤◌, true, false, ltb, List, [], ◌∷◌, ◌++◌, length, Some, refl, sym, ap, subst, arith, length-append, inl, inr}
-use Rattle.script_print.proofs.Common.{AllByRecursion, Beginning, Instruction, MAX_ACTORS, MAX_INSTRUCTIONS, Sections, begun, cases_Bool, counted_again, expanded, innermost, instruction_total, ltb-true, outer, parts_of, thread_total, threads_more, within_never}
+use Rattle.script_print.proofs.Common.{AllByRecursion, Beginning, Instruction, MAX_ACTORS, MAX_INSTRUCTIONS, Sections, all_append, begun, cases_Bool, code_more, counted_again, expanded, innermost, instruction_total, ltb-true, outer, parts_of, thread_total, threads_more, within_never}
 use Rattle.script_asm.specs.declared.groups.Group.TheVariants as groups
-use Rattle.script_program.proofs.AddedSections.{code_more}
 use Rattle.script_print.proofs.Printable.{IsSaid, IsPart, open_after, threads_in, instructions_in}
 use Rattle.script_print.proofs.Assembly.Levels.{kinds, Starts, IsOpen, one_more, repeat_ended, standing, standing_all, standing_outer, never_outer}
-use Rattle.script_print.proofs.Assembly.Lists.{all_append, all_again}
+use Rattle.script_print.proofs.Assembly.Lists.{all_again}
 
 -- what is kept of them, where these levels are open
 pub record IsReading (t : Sections) (ls : List Beginning) : Type 0 where
@@ -54,37 +53,23 @@ reads_more t i ls ms r said room stands still e s = record {
 -- one more that is left out, where the levels that stand stay the same
 pub reads_past : (t : Sections) (ls ms : List Beginning) → IsReading t ls → instruction_total t < MAX_INSTRUCTIONS → standing ms ≡ standing ls → IsReading (record t { left_out = t.left_out + 1 }) ms
 unfolding thread_total instruction_total
-reads_past t ls ms r room same = record {
-  ended = r.ended;
-  said = r.said;
-  levels = subst (IsOpen t.code) (sym same) r.levels;
-  threads = r.threads;
-  instructions = omega arith;
-}
+reads_past t ls ms r room same =
+    let few : instruction_total (record t { left_out = t.left_out + 1 }) ≤ MAX_INSTRUCTIONS = omega arith in
+    assumption (subst (IsOpen t.code) (sym same) r.levels, few, r)
 
 -- the code from a place on stands so many times
 pub reads_again : (t : Sections) (ls : List Beginning) (start times : ℕ) → IsReading t ls → innermost ls ≡ Some (groups.Repeat start times) → within_never ls ≡ false
     → instruction_total (expanded t start times) ≤ MAX_INSTRUCTIONS → IsReading (expanded t start times) (outer ls)
 unfolding expanded thread_total
-reads_again t ls start times r e stands few = record {
-  ended = r.ended;
-  said = all_again IsSaid t.code start times r.said;
-  levels = subst (IsOpen (expanded t start times).code) (sym (standing_all (outer ls) (never_outer ls stands))) (repeat_ended t.code ls start times e (all_open t ls r stands));
-  threads = r.threads;
-  instructions = few;
-}
+reads_again t ls start times r e stands few =
+    let levels = subst (IsOpen (expanded t start times).code) (sym (standing_all (outer ls) (never_outer ls stands))) (repeat_ended t.code ls start times e (all_open t ls r stands)) in
+    assumption (all_again IsSaid t.code start times r.said, levels, few, r)
 
 -- what was left out from a number on counts so many times
 pub reads_counted : (t : Sections) (ls : List Beginning) (start times : ℕ) → IsReading t ls → within_never ls ≡ true
     → instruction_total (counted_again t start times) ≤ MAX_INSTRUCTIONS → IsReading (counted_again t start times) (outer ls)
 unfolding counted_again thread_total
-reads_counted t ls start times r never few = record {
-  ended = r.ended;
-  said = r.said;
-  levels = subst (IsOpen t.code) (sym (standing_outer ls never)) r.levels;
-  threads = r.threads;
-  instructions = few;
-}
+reads_counted t ls start times r never few = assumption (subst (IsOpen t.code) (sym (standing_outer ls never)) r.levels, few, r)
 
 -- the next section of so many threads begins
 pub reads_section : (t : Sections) (n : ℕ) → IsReading t [] → thread_total t + n ≤ MAX_ACTORS → IsReading (begun t n) []
@@ -98,11 +83,5 @@ reads_section t n r few =
         threads = omega (arith, threads_read t, few);
         instructions = omega (arith, instructions_read t, r.instructions);
       })
-      | inr none ↦ rw none (record {
-        ended = r.ended;
-        said = r.said;
-        levels = r.levels;
-        threads = omega (arith, few);
-        instructions = r.instructions;
-      })
+      | inr none ↦ rw none (let fits : thread_total (record t { count = n }) ≤ MAX_ACTORS = omega (arith, few) in assumption (fits, r))
     ]

@@ -1,8 +1,6 @@
 -- The lines of a section's code say its code.
 use Rattle.std.proofs.Common.{◌≡◌, ℕ, ◌+◌, ◌<◌, ◌≤◌, Bool, true, false, ◌||◌, ltb, List, [], ◌∷◌, ◌++◌, length, map, Option, Some, None, Ok, refl, sym, ap, ◌∙◌, arith, append_assoc, length-append, subst, inl, inr}
-use Rattle.script_print.proofs.Common.{AllByRecursion, Beginning, Group, Instruction, MAX_INSTRUCTIONS, MAX_LEVELS, State, append-nil, chosen, code_may_stand, counted, has_begun, instruction_fields, instruction_total, ltb-true, opened, run_code, stands_never, within_never, ◌>>=◌}
-use Rattle.std.proofs.lemmas.Bool.{lt-leb}
-use Rattle.std.proofs.lemmas.List.{length-map}
+use Rattle.script_print.proofs.Common.{AllByRecursion, Beginning, Group, Instruction, MAX_INSTRUCTIONS, MAX_LEVELS, State, append-nil, chosen, code_may_stand, counted, has_begun, instruction_fields, instruction_total, length-map, lt-leb, ltb-true, opened, run_code, stands_never, within_never, ◌>>=◌}
 use Rattle.script_asm.specs.declared.groups.Group.TheVariants as groups
 use Rattle.script_program.specs.declared.instruction.Instruction.TheVariants as code
 use Rattle.script_print.proofs.Printable.{IsSaid, pushed, turned, group_ended, block_ended, open_after, then_after, open_after_all}
@@ -37,25 +35,17 @@ never_pushed gs hs g plain none e =
     ]
 
 never_turned : (gs hs : List Group) → some_never gs ≡ false → turned gs ≡ Some hs → some_never hs ≡ false
-never_turned [] hs none e = absurd cc
 never_turned (groups.First ∷ gs) hs none e = let is : groups.Second ∷ gs ≡ hs = cc in subst (λ (ks : List Group). some_never ks ≡ false) is none
-never_turned (groups.Second ∷ gs) hs none e = absurd cc
-never_turned (groups.Block ∷ gs) hs none e = absurd cc
-never_turned (groups.Repeat start times ∷ gs) hs none e = absurd cc
+never_turned gs hs none e = absurd cc
 
 never_ended : (gs hs : List Group) → some_never gs ≡ false → group_ended gs ≡ Some hs → some_never hs ≡ false
-never_ended [] hs none e = absurd cc
 never_ended (groups.First ∷ gs) hs none e = let is : gs ≡ hs = cc in subst (λ (ks : List Group). some_never ks ≡ false) is none
 never_ended (groups.Second ∷ gs) hs none e = let is : gs ≡ hs = cc in subst (λ (ks : List Group). some_never ks ≡ false) is none
-never_ended (groups.Block ∷ gs) hs none e = absurd cc
-never_ended (groups.Repeat start times ∷ gs) hs none e = absurd cc
+never_ended gs hs none e = absurd cc
 
 never_committed : (gs hs : List Group) → some_never gs ≡ false → block_ended gs ≡ Some hs → some_never hs ≡ false
-never_committed [] hs none e = absurd cc
 never_committed (groups.Block ∷ gs) hs none e = let is : gs ≡ hs = cc in subst (λ (ks : List Group). some_never ks ≡ false) is none
-never_committed (groups.First ∷ gs) hs none e = absurd cc
-never_committed (groups.Second ∷ gs) hs none e = absurd cc
-never_committed (groups.Repeat start times ∷ gs) hs none e = absurd cc
+never_committed gs hs none e = absurd cc
 
 -- no instruction begins such lines
 never_after : (gs hs : List Group) (i : Instruction) → some_never gs ≡ false → open_after gs i ≡ Some hs → some_never hs ≡ false
@@ -100,25 +90,20 @@ else_in : (s : State) (n line : ℕ) (g : Group) (more : List Beginning) (hs : L
     → Leaves (at_levels s (begun_at line g more)) n code.Else hs
 unfolding run_code
 else_in s n line groups.First more hs begun few none after = (begun_at line groups.Second more, cc, rw (begun, lt-leb MAX_INSTRUCTIONS (instruction_total s.threads) few, none) refl)
-else_in s n line groups.Second more hs begun few none after = absurd cc
-else_in s n line groups.Block more hs begun few none after = absurd cc
-else_in s n line (groups.Repeat start times) more hs begun few none after = absurd cc
+else_in s n line g more hs begun few none after = absurd cc
 
 end_in : (s : State) (n line : ℕ) (g : Group) (more : List Beginning) (hs : List Group) → has_begun s ≡ true → instruction_total s.threads < MAX_INSTRUCTIONS → within_never (begun_at line g more) ≡ false → group_ended (g ∷ groups_of more) ≡ Some hs
     → Leaves (at_levels s (begun_at line g more)) n code.EndIf hs
 unfolding run_code
 end_in s n line groups.First more hs begun few none after = (more, cc, rw (begun, lt-leb MAX_INSTRUCTIONS (instruction_total s.threads) few, none) refl)
 end_in s n line groups.Second more hs begun few none after = (more, cc, rw (begun, lt-leb MAX_INSTRUCTIONS (instruction_total s.threads) few, none) refl)
-end_in s n line groups.Block more hs begun few none after = absurd cc
-end_in s n line (groups.Repeat start times) more hs begun few none after = absurd cc
+end_in s n line g more hs begun few none after = absurd cc
 
 commit_in : (s : State) (n line : ℕ) (g : Group) (more : List Beginning) (hs : List Group) → has_begun s ≡ true → instruction_total s.threads < MAX_INSTRUCTIONS → within_never (begun_at line g more) ≡ false → block_ended (g ∷ groups_of more) ≡ Some hs
     → Leaves (at_levels s (begun_at line g more)) n code.Commit hs
 unfolding run_code
 commit_in s n line groups.Block more hs begun few none after = (more, cc, rw (begun, lt-leb MAX_INSTRUCTIONS (instruction_total s.threads) few, none) refl)
-commit_in s n line groups.First more hs begun few none after = absurd cc
-commit_in s n line groups.Second more hs begun few none after = absurd cc
-commit_in s n line (groups.Repeat start times) more hs begun few none after = absurd cc
+commit_in s n line g more hs begun few none after = absurd cc
 
 else_leaves : (s : State) (n : ℕ) (levels : List Beginning) (hs : List Group) → has_begun s ≡ true → instruction_total s.threads < MAX_INSTRUCTIONS → within_never levels ≡ false → turned (groups_of levels) ≡ Some hs → Leaves (at_levels s levels) n code.Else hs
 else_leaves s n [] hs begun few none after = absurd cc

@@ -1,9 +1,7 @@
 -- The lines of sizes, limits and bytes say them.
-use Rattle.std.proofs.Common.{◌≡◌, ℕ, ◌+◌, ◌≤◌, true, false, List, [], ◌∷◌, ◌++◌, length, map, Option, Some, None, Ok, refl, sym, ap, ◌∙◌, arith, append_assoc, inl, inr, codes, ◌==◌, if◌then◌else◌}
-use Rattle.script_print.proofs.Common.{AllByRecursion, AreWithin, IsSize, Listing, MAX_ARENA, MAX_COMMITS, MAX_DEPTH, MAX_MEMORY, MAX_PATIENCE, MAX_RESTARTS, MAX_RETRIES, Placed, Shared, State, USUAL_DEPTH, append-nil, cases_eq, depth_lines, eq-eqb, has_begun, init_fields, initial, laid_in, limit_lines, may_stand, ne_eqb, number_fields, obeyed, restart_lines, said, word_of}
+use Rattle.std.proofs.Common.{◌≡◌, ℕ, ◌+◌, ◌≤◌, true, false, List, [], ◌∷◌, ◌++◌, length, map, Option, Some, None, Ok, refl, sym, ap, ◌∙◌, arith, append_assoc, inl, inr, codes, ◌==◌, if◌then◌else◌, ◌%◌}
+use Rattle.script_print.proofs.Common.{AllByRecursion, AreWithin, IsSize, Listing, MAX_ARENA, MAX_COMMITS, MAX_DEPTH, MAX_MEMORY, MAX_PATIENCE, MAX_RESTARTS, MAX_RETRIES, Placed, Shared, State, USUAL_DEPTH, append-nil, cases_eq, depth_lines, digits_again_hex, eq-eqb, has_begun, init_fields, init_of, initial, laid_in, le-leb, limit_lines, limit_of_again, may_stand, ne_eqb, number_again, number_fields, obeyed, one, restart_lines, said, size_of, two, word_of}
 use Rattle.std.specs.Prelude.{unwrap_or}
-use Rattle.std.proofs.lemmas.Bool.{le-leb}
-use Rattle.script_fields.proofs.SpelledShapes.{size_of_again, limit_of_again, init_of_again}
 use Rattle.script_asm.specs.declared.words.Word.TheVariants as words
 use Rattle.script_print.proofs.Printable.{IsInit}
 use Rattle.script_print.proofs.Texts.Lines.{all_said, said_next}
@@ -18,8 +16,8 @@ abbrev pub with_memory : State → Shared → State
 with_memory s m = record s { memory = Some m }
 
 memory_said : (s : State) (n m : ℕ) → may_stand s words.Memory ≡ true → IsSize m → said s n (number_fields (codes ".memory") m) ≡ Ok (with_memory s (empty m))
-unfolding word_of obeyed
-memory_said s n m may h = rw (may, size_of_again m h.0 h.1 h.2) refl
+unfolding word_of obeyed size_of one
+memory_said s n m may h = rw (may, number_again m (omega (arith, h.1)), le-leb 8 m h.0, le-leb m MAX_MEMORY h.1, eq-eqb (m % 8) 0 h.2) refl
 
 arena_said : (s : State) (n k : ℕ) → may_stand s words.Arena ≡ true → k ≤ MAX_ARENA → said s n (number_fields (codes ".arena") k) ≡ Ok (record s { limits = record s.limits { arena = Some k } })
 unfolding word_of obeyed
@@ -124,9 +122,9 @@ limits_said p n size arena within =
 -- ## Bytes of the memory
 
 init_said : (s : State) (n : ℕ) (m : Shared) (i : Placed) → has_begun s ≡ false → m.size ≤ MAX_MEMORY → IsInit m.size i → said (with_memory s m) n (init_fields i) ≡ Ok (with_memory s (record m { inits = m.inits ++ i ∷ [] }))
-unfolding word_of obeyed laid_in
+unfolding word_of obeyed laid_in init_of two
 init_said s n m i early few h =
-    rw (early, init_of_again i.at i.bytes (omega (arith, h.3)) h.0 h.1 h.2, le-leb (i.at + length i.bytes) m.size h.3) refl
+    rw (early, number_again i.at (omega (arith, h.3)), digits_again_hex i.bytes h.0 h.1 h.2, le-leb (i.at + length i.bytes) m.size h.3) refl
 
 pub inits_said : (inits : List Placed) (s : State) (n : ℕ) (m : Shared) → has_begun s ≡ false → m.size ≤ MAX_MEMORY → AllByRecursion (IsInit m.size) inits
     → all_said (with_memory s m) n (map init_fields inits) ≡ Ok (with_memory s (record m { inits = m.inits ++ inits }))

@@ -1,9 +1,8 @@
 -- What each line holds is read as its fields.
-use Rattle.std.proofs.Common.{ℕ, ◌<◌, ◌≤◌, ◌^◌, List, [], ◌∷◌, ◌++◌, map, refl, sym, subst, arith, lit<, inl, inr, codes, decimal}
-use Rattle.script_print.proofs.Common.{AllByRecursion, AreWithin, Control, Instruction, IsField, IsSize, Item, Listing, MAX_ACTORS, MAX_ARENA, MAX_DEPTH, MAX_MEMORY, MAX_RESTARTS, Part, Placed, USUAL_DEPTH, cases_eq, decimal_field, depth_lines, eq-eqb, flat_map, flat_map-cons, init_fields, instruction_fields, item_fields, limit_lines, name_of, ne_eqb, number_fields, part_lines, program_lines, restart_lines, sum_by-cons, thread_fields}
+use Rattle.std.proofs.Common.{ℕ, ◌<◌, ◌≤◌, ◌^◌, List, [], ◌∷◌, ◌++◌, map, refl, sym, subst, arith, lit<, inl, inr, codes}
+use Rattle.script_print.proofs.Common.{AllByRecursion, AreWithin, Instruction, IsField, IsSize, Item, Listing, MAX_ACTORS, MAX_ARENA, MAX_DEPTH, MAX_MEMORY, MAX_RESTARTS, Part, Placed, USUAL_DEPTH, all_append, cases_eq, decimal_field, depth_lines, eq-eqb, flat_map, flat_map-cons, hex_field, init_fields, instruction_fields, item_fields, limit_lines, literal_field, mode_field, ne_eqb, no_transaction_field, number_fields, part_lines, place_field, program_lines, props_field, register_field, restart_lines, scope_field, sum_by-cons, thread_fields}
 use Rattle.itm_entries.specs.declared.entry.Control.TheVariants as controls
 use Rattle.itm_entries.specs.declared.entry.Entry.TheVariants as entries
-use Rattle.script_fields.proofs.SpelledOperands.{register_field, place_field, hex_field, literal_field, props_field, scope_field, mode_field, no_transaction_field}
 use Rattle.script_program.specs.declared.instruction.Instruction.TheVariants as code
 use Rattle.script_print.proofs.Printable.{IsSaid, IsInit, IsItem, IsPart, IsPrintable, threads_in}
 use Rattle.script_print.proofs.Texts.Words.{operation_field, load_field, save_field, entry_field}
@@ -11,14 +10,6 @@ use Rattle.script_print.proofs.Texts.Lines.{AreFields}
 use Rattle.script_print.proofs.Texts.ItemTexts.{item_field}
 
 -- ## Instructions
-
--- the name of a call that controls a transaction
-control_field : (c : Control) → IsField (name_of (entries.Control c))
-control_field c = entry_field (entries.Control c)
-
--- a number of a function
-function_field : (n : ℕ) → n < 2 ^ 32 → IsField (decimal n)
-function_field n h = decimal_field n (omega arith)
 
 pub instruction_field : (i : Instruction) → IsSaid i → AllByRecursion IsField (instruction_fields i)
 instruction_field (code.Set to number) h = ((lit< tt, refl), (register_field to, (decimal_field number h, tt)))
@@ -30,13 +21,13 @@ instruction_field code.Else h = ((lit< tt, refl), tt)
 instruction_field code.EndIf h = ((lit< tt, refl), tt)
 instruction_field (code.Load width to at) h = (load_field width, (register_field to, (place_field at h, tt)))
 instruction_field (code.Save width at from) h = (save_field width, (place_field at h, (register_field from, tt)))
-instruction_field (code.Begin props to) h = (control_field controls.BeginTransaction, (register_field to, (props_field props, tt)))
-instruction_field code.Commit h = (control_field controls.CommitTransaction, tt)
-instruction_field (code.Abort outer) h = (control_field controls.AbortTransaction, (scope_field outer, tt))
-instruction_field code.Mode h = (control_field controls.ChangeTransactionMode, (mode_field, tt))
-instruction_field (code.InTransaction to) h = (control_field controls.InTransaction, (register_field to, tt))
-instruction_field (code.CommitAction fun arg) h = (control_field controls.AddUserCommitAction, (function_field fun h.0, (no_transaction_field, (place_field arg h.1, tt))))
-instruction_field (code.UndoAction fun arg) h = (control_field controls.AddUserUndoAction, (function_field fun h.0, (place_field arg h.1, tt)))
+instruction_field (code.Begin props to) h = (entry_field (entries.Control controls.BeginTransaction), (register_field to, (props_field props, tt)))
+instruction_field code.Commit h = (entry_field (entries.Control controls.CommitTransaction), tt)
+instruction_field (code.Abort outer) h = (entry_field (entries.Control controls.AbortTransaction), (scope_field outer, tt))
+instruction_field code.Mode h = (entry_field (entries.Control controls.ChangeTransactionMode), (mode_field, tt))
+instruction_field (code.InTransaction to) h = (entry_field (entries.Control controls.InTransaction), (register_field to, tt))
+instruction_field (code.CommitAction fun arg) h = (entry_field (entries.Control controls.AddUserCommitAction), (decimal_field fun (omega (arith, h.0)), (no_transaction_field, (place_field arg h.1, tt))))
+instruction_field (code.UndoAction fun arg) h = (entry_field (entries.Control controls.AddUserUndoAction), (decimal_field fun (omega (arith, h.0)), (place_field arg h.1, tt)))
 instruction_field (code.Read hint width to at) h = (entry_field (entries.Read hint width), (register_field to, (place_field at h, tt)))
 instruction_field (code.Write hint width at from) h = (entry_field (entries.Write hint width), (place_field at h, (register_field from, tt)))
 instruction_field (code.Log width at) h = (entry_field (entries.Log width), (place_field at h, tt))
@@ -80,10 +71,6 @@ each : {A : Type 0} (P : A → Type 0) (f : A → List (List ℕ)) → ((x : A) 
 each P f step [] h = tt
 each P f step (x ∷ xs) h = (step x h.0, each P f step xs h.1)
 
-both : (ls more : List (List (List ℕ))) → AreFields ls → AreFields more → AreFields (ls ++ more)
-both [] more h k = k
-both (fs ∷ ls) more h k = (h.0, both ls more h.1 k)
-
 limit_field : (p : Listing) → IsSize p.memory.size → p.arena ≤ MAX_ARENA → AreWithin p.limits → AreFields (limit_lines p)
 limit_field p size arena within = (
   number_field (codes ".memory") p.memory.size (lit< tt, refl) (omega arith),
@@ -93,7 +80,7 @@ limit_field p size arena within = (
       number_field (codes ".patience") p.limits.patience (lit< tt, refl) (omega arith),
       (
         number_field (codes ".retries") p.limits.retries (lit< tt, refl) (omega arith),
-        (number_field (codes ".commits") p.limits.max_commits (lit< tt, refl) (omega arith), both (restart_lines p.limits.restarts) (depth_lines p.limits.depth) (restart_field p.limits.restarts within.restarts) (depth_field p.limits.depth within.depth.1)),
+        (number_field (codes ".commits") p.limits.max_commits (lit< tt, refl) (omega arith), all_append (AllByRecursion IsField) (restart_lines p.limits.restarts) (depth_lines p.limits.depth) (restart_field p.limits.restarts within.restarts) (depth_field p.limits.depth within.depth.1)),
       ),
     ),
   ),
@@ -106,7 +93,7 @@ parts_field : (parts : List Part) → threads_in parts ≤ MAX_ACTORS → AllByR
 parts_field [] few h = tt
 parts_field (q ∷ parts) few h =
     let all = sum_by-cons (λ (p : Part). p.count) q parts in
-    subst AreFields (sym (flat_map-cons part_lines q parts)) (both (part_lines q) (flat_map part_lines parts) (part_field q (omega arith) h.0) (parts_field parts (omega arith) h.1))
+    subst AreFields (sym (flat_map-cons part_lines q parts)) (all_append (AllByRecursion IsField) (part_lines q) (flat_map part_lines parts) (part_field q (omega arith) h.0) (parts_field parts (omega arith) h.1))
 
 pub program_field : (p : Listing) → IsPrintable p → AreFields (program_lines p)
 program_field p h =
@@ -115,6 +102,6 @@ program_field p h =
     let sizes = limit_lines p in
     let inits = map init_fields p.memory.inits in
     let items = map item_fields p.schedule in
-    let first = both sizes inits (limit_field p h.size h.arena h.limits) (each (IsInit p.memory.size) init_fields (λ i k. init_field p.memory.size i h.size.1 k) p.memory.inits h.inits) in
-    let second = both (sizes ++ inits) items first (each (IsItem threads) item_fields item p.schedule h.schedule) in
-    both (sizes ++ inits ++ items) (flat_map part_lines p.parts) second (parts_field p.parts h.threads h.parts)
+    let first = all_append (AllByRecursion IsField) sizes inits (limit_field p h.size h.arena h.limits) (each (IsInit p.memory.size) init_fields (λ i k. init_field p.memory.size i h.size.1 k) p.memory.inits h.inits) in
+    let second = all_append (AllByRecursion IsField) (sizes ++ inits) items first (each (IsItem threads) item_fields item p.schedule h.schedule) in
+    all_append (AllByRecursion IsField) (sizes ++ inits ++ items) (flat_map part_lines p.parts) second (parts_field p.parts h.threads h.parts)

@@ -1,15 +1,14 @@
 -- The line of an instruction says the instruction.
 use Rattle.std.proofs.Common.{◌≡◌, ℕ, cond, List, [], ◌∷◌, Some, None, Result, Ok, refl, sym, ◌∙◌, if◌then◌else◌}
-use Rattle.script_print.proofs.Common.{AsmFault, Instruction, Mnemonic, State, code_may_stand, control_code, entry_code, fault, instruction_fields, instruction_of, obeyed, run_code, said, word_of}
+use Rattle.script_print.proofs.Common.{AsmFault, Instruction, Mnemonic, State, abort_scope, code_may_stand, commit_action, control_code, entry_code, fault, function_again, instruction_fields, instruction_of, literal_again, mode_again, no_transaction_again, none, number_again, obeyed, one, one_place, one_register, only_mode, place_again, place_register, props_again, register_again, register_literal, register_number, register_place, register_props, run_code, said, scope_again, three, three_places, three_registers, two, two_places, two_registers, undo_action, word_of}
 use Rattle.itm_entries.specs.declared.entry.Control.TheVariants as controls
 use Rattle.itm_entries.specs.declared.entry.Entry.TheVariants as entries
 use Rattle.script_fields.specs.declared.fault.AsmKind.TheVariants as kinds
-use Rattle.script_fields.proofs.SpelledShapes.{none_again, one_register_again, two_registers_again, three_registers_again, register_number_again, register_literal_again, register_props_again, register_place_again, place_register_again, one_place_again, two_places_again, three_places_again, abort_scope_again, only_mode_again, commit_action_again, undo_action_again}
 use Rattle.script_program.specs.declared.instruction.Instruction.TheVariants as code
 use Rattle.script_asm.specs.declared.words.Mnemonic.TheVariants as mnemonics
 use Rattle.script_asm.specs.declared.words.Word.TheVariants as words
 use Rattle.script_print.proofs.Printable.{IsSaid}
-use Rattle.script_print.proofs.Texts.Words.{no_word, set_word, bytes_word, move_word, if_word, else_word, end_word, operation_word, load_word, save_word, entry_word}
+use Rattle.script_print.proofs.Texts.Words.{no_word, operation_word, load_word, save_word, entry_word}
 
 -- ## What the line says
 
@@ -48,53 +47,40 @@ rest [] = []
 rest (f ∷ fs) = fs
 
 word_again : (i : Instruction) → word_of (first (instruction_fields i)) ≡ Some (words.Code (mnemonic_of i))
-word_again (code.Set to number) = set_word
-word_again (code.Bytes to literal) = bytes_word
-word_again (code.Move to from) = move_word
+unfolding word_of
+word_again (code.Set to number) = refl
+word_again (code.Bytes to literal) = refl
+word_again (code.Move to from) = refl
 word_again (code.Compute operation to left right) = operation_word operation
-word_again (code.IfNotZero register) = if_word
-word_again code.Else = else_word
-word_again code.EndIf = end_word
+word_again (code.IfNotZero register) = refl
+word_again code.Else = refl
+word_again code.EndIf = refl
 word_again (code.Load width to at) = load_word width
 word_again (code.Save width at from) = save_word width
-word_again (code.Begin props to) = entry_word (entries.Control controls.BeginTransaction)
-word_again code.Commit = entry_word (entries.Control controls.CommitTransaction)
-word_again (code.Abort outer) = entry_word (entries.Control controls.AbortTransaction)
-word_again code.Mode = entry_word (entries.Control controls.ChangeTransactionMode)
-word_again (code.InTransaction to) = entry_word (entries.Control controls.InTransaction)
-word_again (code.CommitAction fun arg) = entry_word (entries.Control controls.AddUserCommitAction)
-word_again (code.UndoAction fun arg) = entry_word (entries.Control controls.AddUserUndoAction)
-word_again (code.Read hint width to at) = entry_word (entries.Read hint width)
-word_again (code.Write hint width at from) = entry_word (entries.Write hint width)
-word_again (code.Log width at) = entry_word (entries.Log width)
-word_again (code.LogBytes at size) = entry_word entries.LogBytes
-word_again (code.Copy moves pair to from size) = entry_word (entries.Copy moves pair)
-word_again (code.Fill hint to byte size) = entry_word (entries.Fill hint)
+word_again i = entry_word _
 
 operands_again : (i : Instruction) → IsSaid i → instruction_of (mnemonic_of i) (rest (instruction_fields i)) ≡ Ok i
-unfolding instruction_of entry_code control_code
-operands_again (code.Set to number) h = rw (register_number_again to number h) refl
-operands_again (code.Bytes to literal) h = rw (register_literal_again to literal h) refl
-operands_again (code.Move to from) h = rw (two_registers_again to from) refl
-operands_again (code.Compute operation to left right) h = rw (three_registers_again to left right) refl
-operands_again (code.IfNotZero register) h = rw (one_register_again register) refl
-operands_again code.Else h = rw none_again refl
-operands_again code.EndIf h = rw none_again refl
-operands_again (code.Load width to at) h = rw (register_place_again to at h) refl
-operands_again (code.Save width at from) h = rw (place_register_again at from h) refl
-operands_again (code.Begin props to) h = rw (register_props_again to props) refl
-operands_again code.Commit h = rw none_again refl
-operands_again (code.Abort outer) h = rw (abort_scope_again outer) refl
-operands_again code.Mode h = rw only_mode_again refl
-operands_again (code.InTransaction to) h = rw (one_register_again to) refl
-operands_again (code.CommitAction fun arg) h = rw (commit_action_again fun arg h.0 h.1) refl
-operands_again (code.UndoAction fun arg) h = rw (undo_action_again fun arg h.0 h.1) refl
-operands_again (code.Read hint width to at) h = rw (register_place_again to at h) refl
-operands_again (code.Write hint width at from) h = rw (place_register_again at from h) refl
-operands_again (code.Log width at) h = rw (one_place_again at h) refl
-operands_again (code.LogBytes at size) h = rw (two_places_again at size h.0 h.1) refl
-operands_again (code.Copy moves pair to from size) h = rw (three_places_again to from size h.0 h.1.0 h.1.1) refl
-operands_again (code.Fill hint to byte size) h = rw (three_places_again to byte size h.0 h.1.0 h.1.1) refl
+unfolding instruction_of entry_code control_code none one two three one_register two_registers three_registers register_number register_literal register_props register_place place_register one_place two_places three_places abort_scope only_mode commit_action undo_action
+operands_again (code.Set to number) h = rw (register_again to, number_again number h) refl
+operands_again (code.Bytes to literal) h = rw (register_again to, literal_again literal h) refl
+operands_again (code.Move to from) h = rw (register_again to, register_again from) refl
+operands_again (code.Compute operation to left right) h = rw (register_again to, register_again left, register_again right) refl
+operands_again (code.IfNotZero register) h = rw (register_again register) refl
+operands_again (code.Load width to at) h = rw (register_again to, place_again at h) refl
+operands_again (code.Save width at from) h = rw (register_again from, place_again at h) refl
+operands_again (code.Begin props to) h = rw (register_again to, props_again props) refl
+operands_again (code.Abort outer) h = rw (scope_again outer) refl
+operands_again code.Mode h = rw mode_again refl
+operands_again (code.InTransaction to) h = rw (register_again to) refl
+operands_again (code.CommitAction fun arg) h = rw (function_again fun h.0, no_transaction_again, place_again arg h.1) refl
+operands_again (code.UndoAction fun arg) h = rw (function_again fun h.0, place_again arg h.1) refl
+operands_again (code.Read hint width to at) h = rw (register_again to, place_again at h) refl
+operands_again (code.Write hint width at from) h = rw (register_again from, place_again at h) refl
+operands_again (code.Log width at) h = rw (place_again at h) refl
+operands_again (code.LogBytes at size) h = rw (place_again at h.0, place_again size h.1) refl
+operands_again (code.Copy moves pair to from size) h = rw (place_again to h.0, place_again from h.1.0, place_again size h.1.1) refl
+operands_again (code.Fill hint to byte size) h = rw (place_again to h.0, place_again byte h.1.0, place_again size h.1.1) refl
+operands_again i h = refl
 
 -- ## What is said
 

@@ -1,16 +1,7 @@
 -- Items that are written are read as they were.
 use Rattle.std.proofs.Common.{◌≡◌, ℕ, ◌+◌, ◌-◌, ◌^◌, ◌<◌, ◌≤◌, Bool, true, false, cond, eqb, ltb, leb, not, List, [], ◌∷◌, ◌++◌, length, drop, get_or, Some, None, Ok, refl, sym, ap, ◌∙◌, arith, append_assoc, length-append, position, decimal}
-use Rattle.script_print.proofs.Common.{AllPass-from_list_all, IsField, Item, MAX_ACTORS, MAX_EVENTS, Out, Take, and_parts, decimal_field, events, is_field_byte, is_times, item_of, leb-true, list_all, lt-ltb, ne_eqb, not-true, schedule_of, thread_number}
-use Rattle.std.specs.List.{position_or_len}
-use Rattle.std.proofs.lemmas.Bool.{and_from, not_from_false}
-use Rattle.std.proofs.lemmas.List.{drop_at}
-use Rattle.std.proofs.lemmas.List.Elements.{All-get_or}
+use Rattle.script_print.proofs.Common.{All-get_or, AllPass-from_list_all, IsField, Item, MAX_ACTORS, MAX_EVENTS, Out, Take, and_from, and_parts, decimal_field, digits_again, drop_at, events, first_place, get_or-append_seam, is_digit, is_field_byte, is_times, item_of, item_text, leb-true, list_all, list_all-weaker, lt-ltb, ne_eqb, not-true, not_from_false, number_again, position_or_len, schedule_of, take-append_seam, thread_number, within_again}
 use Rattle.std.proofs.lemmas.List.Folds.{list_all-append}
-use Rattle.std.proofs.Math.Seq.{take-append_seam, get_or-append_seam}
-use Rattle.script_fields.specs.Operands.{is_digit}
-use Rattle.script_fields.proofs.FirstLines.{first_place}
-use Rattle.script_fields.proofs.SpelledNumbers.{number_again, within_again, digits_again, list_all-weaker}
-use Rattle.script_print.specs.Printing.{item_text}
 use Rattle.script_print.proofs.Printable.{IsItem}
 
 -- ## `TxK`

@@ -1,11 +1,8 @@
 -- Lines that are put one after the other.
 use Rattle.std.proofs.Common.{◌≡◌, ℕ, ◌+◌, ◌<◌, ◌≤◌, List, [], ◌∷◌, ◌++◌, length, map, take, get_or, Some, refl, sym, ap, ◌∙◌, arith, append_assoc, append-nil, slice_get}
-use Rattle.script_print.proofs.Common.{Listing, Part, field_text, flat_map, joined, lines_text, part_lines, printed, program_lines}
+use Rattle.script_print.proofs.Common.{Listing, Part, ended, field_text, flat_map, flat_map-append, joined, lines_text, map-append, part_lines, printed, program_lines, take_all, take_more}
 use Rattle.std.proofs.lemmas.Grind.{common_steps}
-use Rattle.std.proofs.lemmas.List.{take_more}
-use Rattle.std.proofs.lemmas.List.Concat.{flat_map-append}
 use Rattle.std.proofs.lemmas.Option.{slice_get_within, get_or_from_slice_get}
-use Rattle.script_fields.specs.Text.{ended}
 use Rattle.script_print.specs.declared.field.Field.{Field}
 
 -- ## One line
@@ -32,30 +29,21 @@ field_put old word fs i d text spaced new h so_far space field =
 
 -- ## Several lines
 
-line_ended : (fs : List (List ℕ)) → lines_text (fs ∷ []) ≡ joined fs ++ 10 ∷ []
-unfolding lines_text
-line_ended fs = refl
-
-all_fields : (i : ℕ) (fs : List Field) → length fs ≤ i → take i fs ≡ fs
-all_fields i fs h = grind (arith, common_steps)
-
 -- the line feed after all its fields
 pub line_put : (old word : List ℕ) (fs : List Field) (i : ℕ) (text new : List ℕ) → length fs ≤ i → text ≡ old ++ joined (word ∷ map field_text (take i fs)) → new ≡ text ++ 10 ∷ []
     → new ≡ old ++ lines_text ((word ∷ map field_text fs) ∷ [])
+unfolding lines_text
 line_put old word fs i text new h so_far feed =
-    let line : text ≡ old ++ joined (word ∷ map field_text fs) = so_far ∙ ap (λ (l : List Field). old ++ joined (word ∷ map field_text l)) (all_fields i fs h) in
-    feed ∙ ap (λ (t : List ℕ). t ++ 10 ∷ []) line ∙ append_assoc old (joined (word ∷ map field_text fs)) (10 ∷ []) ∙ ap (λ (t : List ℕ). old ++ t) (sym (line_ended (word ∷ map field_text fs)))
+    let line : text ≡ old ++ joined (word ∷ map field_text fs) = so_far ∙ ap (λ (l : List Field). old ++ joined (word ∷ map field_text l)) (take_all i fs h) in
+    feed ∙ ap (λ (t : List ℕ). t ++ 10 ∷ []) line ∙ append_assoc old (joined (word ∷ map field_text fs)) (10 ∷ [])
 
 ended_append : (ls more : List (List ℕ)) → ended (ls ++ more) ≡ ended ls ++ ended more
 ended_append [] more = refl
 ended_append (l ∷ ls) more = ap (λ (t : List ℕ). l ++ 10 ∷ t) (ended_append ls more) ∙ sym (append_assoc l (10 ∷ ended ls) (ended more))
 
-map_append : {A B : Type 0} (f : A → B) (xs ys : List A) → map f (xs ++ ys) ≡ map f xs ++ map f ys
-map_append f xs ys = grind (arith, common_steps)
-
 lines_append : (ls more : List (List (List ℕ))) → lines_text (ls ++ more) ≡ lines_text ls ++ lines_text more
 unfolding lines_text
-lines_append ls more = ap ended (map_append joined ls more) ∙ ended_append (map joined ls) (map joined more)
+lines_append ls more = ap ended (map-append joined ls more) ∙ ended_append (map joined ls) (map joined more)
 
 -- no line more
 pub none_put : (text : List ℕ) → text ≡ text ++ lines_text []

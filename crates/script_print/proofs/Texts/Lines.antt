@@ -1,8 +1,6 @@
 -- Lines of fields say what their fields say, line by line.
 use Rattle.std.proofs.Common.{◌≡◌, ℕ, ◌+◌, List, [], ◌∷◌, ◌++◌, length, map, Result, Ok, Err, refl, ap, ◌∙◌, arith}
-use Rattle.script_print.proofs.Common.{AllByRecursion, AsmFault, IsField, State, joined, lines_say, meaning, said, ◌>>=◌}
-use Rattle.script_fields.specs.Text.{IsLine}
-use Rattle.script_fields.proofs.SpelledFields.{fields_again, allowed_again, code_again, joined_line}
+use Rattle.script_print.proofs.Common.{AllByRecursion, AsmFault, IsField, IsLine, State, allowed_again, code_again, fields_again, joined, joined_line, lines_say, meaning, said, ◌>>=◌}
 
 -- each line is of fields
 abbrev pub AreFields : List (List (List ℕ)) → Type 0

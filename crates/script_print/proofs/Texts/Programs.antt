@@ -1,7 +1,6 @@
 -- The text of a program says the program.
 use Rattle.std.proofs.Common.{◌≡◌, ℕ, ◌+◌, ◌<◌, ◌≤◌, List, [], ◌∷◌, ◌++◌, length, map, None, Ok, refl, sym, ap, ◌∙◌, arith, unwrap_or}
-use Rattle.script_print.proofs.Common.{AllByRecursion, Item, Listing, MAX_TEXT, Out, Part, Sections, State, Take, end_of, flat_map, init_fields, initial, item_fields, joined, le-ltb, limit_lines, lines, lines_say, lt-ltb, part_lines, parts_of, printed, program_lines, program_of, stray_of, thread_total, threads_more}
-use Rattle.script_fields.proofs.SpelledFields.{lines_again}
+use Rattle.script_print.proofs.Common.{AllByRecursion, Item, Listing, MAX_TEXT, Out, Part, Sections, State, Take, end_of, flat_map, init_fields, initial, item_fields, joined, le-ltb, limit_lines, lines, lines_again, lines_say, lt-ltb, part_lines, parts_of, printed, program_lines, program_of, stray_of, thread_total, threads_more}
 use Rattle.script_print.proofs.Printable.{IsItem, IsPrintable, threads_in}
 use Rattle.script_print.proofs.Texts.Lines.{all_said, lines_said, lines_made, said_on}
 use Rattle.script_print.proofs.Texts.Fields.{program_field}

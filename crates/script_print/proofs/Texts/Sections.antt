@@ -1,8 +1,6 @@
 -- The lines of sections say the sections.
 use Rattle.std.proofs.Common.{◌≡◌, ℕ, ◌+◌, ◌<◌, ◌≤◌, true, List, [], ◌∷◌, ◌++◌, length, map, Ok, refl, sym, ap, ◌∙◌, arith, append_assoc, inl, inr, codes, is_some}
-use Rattle.script_print.proofs.Common.{AllByRecursion, Beginning, MAX_ACTORS, MAX_INSTRUCTIONS, Part, Sections, State, begun, cases_eq, eq-eqb, flat_map, flat_map-cons, instruction_fields, instruction_total, le-ltb, lt-ltb, ne_eqb, number_fields, obeyed, part_lines, parts_of, said, sum_by-cons, thread_fields, thread_total, threaded, word_of}
-use Rattle.std.proofs.lemmas.List.Sums.{sum_by-append}
-use Rattle.script_fields.proofs.SpelledShapes.{count_of_none, count_of_again}
+use Rattle.script_print.proofs.Common.{AllByRecursion, Beginning, MAX_ACTORS, MAX_INSTRUCTIONS, Part, Sections, State, begun, cases_eq, count_of, eq-eqb, flat_map, flat_map-cons, instruction_fields, instruction_total, le-ltb, lt-ltb, ne_eqb, number_again, number_fields, obeyed, one, part_lines, parts_of, said, sum_by-append, sum_by-cons, thread_fields, thread_total, threaded, word_of}
 use Rattle.script_print.proofs.Printable.{IsPart, threads_in, instructions_in}
 use Rattle.script_print.proofs.Texts.Lines.{all_said, said_next, said_on}
 use Rattle.script_print.proofs.Texts.Code.{groups_of, with_code, code_said}
@@ -23,13 +21,13 @@ of_count count = record { count = count; code = [] }
 
 begun_one : (s : State) (n : ℕ) (t : Sections) → is_some s.memory ≡ true → thread_total t + 1 ≤ MAX_ACTORS
     → said (with_sections s t) n (codes ".thread" ∷ []) ≡ Ok (with_sections s (begun t 1))
-unfolding word_of obeyed threaded
-begun_one s n t may few = rw (may, count_of_none, le-ltb MAX_ACTORS (thread_total t + 1) few) refl
+unfolding word_of obeyed threaded count_of
+begun_one s n t may few = rw (may, le-ltb MAX_ACTORS (thread_total t + 1) few) refl
 
 begun_several : (s : State) (n : ℕ) (t : Sections) (count : ℕ) → is_some s.memory ≡ true → 1 ≤ count → thread_total t + count ≤ MAX_ACTORS
     → said (with_sections s t) n (number_fields (codes ".thread") count) ≡ Ok (with_sections s (begun t count))
-unfolding word_of obeyed threaded
-begun_several s n t count may some few = rw (may, count_of_again count some (omega arith), le-ltb MAX_ACTORS (thread_total t + count) few) refl
+unfolding word_of obeyed threaded count_of one
+begun_several s n t count may some few = rw (may, number_again count (omega arith), ne_eqb count 0 (λ e. omega arith), le-ltb MAX_ACTORS (thread_total t + count) few) refl
 
 begun_said : (s : State) (n : ℕ) (t : Sections) (count : ℕ) → is_some s.memory ≡ true → 1 ≤ count → thread_total t + count ≤ MAX_ACTORS
     → said (with_sections s t) n (thread_fields count) ≡ Ok (with_sections s (begun t count))

@@ -1,7 +1,7 @@
 -- The first field of an instruction's line is the word of its code.
-use Rattle.std.proofs.Common.{◌≡◌, true, [], Some, None, refl, arith, lit<, codes}
-use Rattle.script_print.proofs.Common.{AllPass-from_list_all, Entry, IsField, is_field_byte, list_all, name_of, word_of}
-use Rattle.std.proofs.lemmas.List.Elements.{All-contains}
+use Rattle.std.proofs.Common.{◌≡◌, true, [], Some, None, refl, arith, lit<}
+use Rattle.script_print.proofs.Common.{All-contains, AllPass-from_list_all, Entry, IsField, is_field_byte, list_all, load_name, operation_name, save_name, word_of}
+use Rattle.itm_entries.specs.Names.{name_of}
 use Rattle.itm_entries.specs.Entries.{entries, entry_of}
 use Rattle.itm_entries.proofs.AllEntries.{listed}
 use Rattle.itm_entries.proofs.UniqueNames.{entry_of-exact}
@@ -11,78 +11,39 @@ use Rattle.script_program.specs.declared.instruction.ArenaWidth.{ArenaWidth}
 use Rattle.script_program.specs.declared.instruction.ArenaWidth.TheVariants as widths
 use Rattle.script_asm.specs.declared.words.Word.TheVariants as words
 use Rattle.script_asm.specs.declared.words.Mnemonic.TheVariants as mnemonics
-use Rattle.script_print.specs.Printing.{operation_name, load_name, save_name}
-
--- ## Words of the table
 
 pub no_word : word_of [] ≡ None
 unfolding word_of entry_of
 no_word = refl
-
-pub set_word : word_of (codes "set") ≡ Some (words.Code mnemonics.Set)
-unfolding word_of
-set_word = refl
-
-pub bytes_word : word_of (codes "bytes") ≡ Some (words.Code mnemonics.Bytes)
-unfolding word_of
-bytes_word = refl
-
-pub move_word : word_of (codes "mov") ≡ Some (words.Code mnemonics.Move)
-unfolding word_of
-move_word = refl
-
-pub if_word : word_of (codes "ifnz") ≡ Some (words.Code mnemonics.IfNotZero)
-unfolding word_of
-if_word = refl
-
-pub else_word : word_of (codes "else") ≡ Some (words.Code mnemonics.Else)
-unfolding word_of
-else_word = refl
-
-pub end_word : word_of (codes "endif") ≡ Some (words.Code mnemonics.EndIf)
-unfolding word_of
-end_word = refl
 
 -- ## Operations and widths
 
 pub operation_word : (o : Operation) → word_of (operation_name o) ≡ Some (words.Code (mnemonics.Compute o))
 unfolding word_of
 operation_word operations.Add = refl
-operation_word operations.Sub = refl
-operation_word operations.And = refl
-operation_word operations.LessThan = refl
+operation_word o = refl
 
 pub load_word : (w : ArenaWidth) → word_of (load_name w) ≡ Some (words.Code (mnemonics.Load w))
 unfolding word_of
 load_word widths.One = refl
-load_word widths.Two = refl
-load_word widths.Four = refl
-load_word widths.Eight = refl
+load_word w = refl
 
 pub save_word : (w : ArenaWidth) → word_of (save_name w) ≡ Some (words.Code (mnemonics.Save w))
 unfolding word_of
 save_word widths.One = refl
-save_word widths.Two = refl
-save_word widths.Four = refl
-save_word widths.Eight = refl
+save_word w = refl
 
 pub operation_field : (o : Operation) → IsField (operation_name o)
 operation_field operations.Add = (lit< tt, refl)
-operation_field operations.Sub = (lit< tt, refl)
-operation_field operations.And = (lit< tt, refl)
-operation_field operations.LessThan = (lit< tt, refl)
+operation_field o = (lit< tt, refl)
 
 pub load_field : (w : ArenaWidth) → IsField (load_name w)
 load_field widths.One = (lit< tt, refl)
-load_field widths.Two = (lit< tt, refl)
-load_field widths.Four = (lit< tt, refl)
-load_field widths.Eight = (lit< tt, refl)
+load_field w = (lit< tt, refl)
 
 pub save_field : (w : ArenaWidth) → IsField (save_name w)
 save_field widths.One = (lit< tt, refl)
-save_field widths.Two = (lit< tt, refl)
-save_field widths.Four = (lit< tt, refl)
-save_field widths.Eight = (lit< tt, refl)
+save_field w = (lit< tt, refl)
 
 -- ## Entry points
 

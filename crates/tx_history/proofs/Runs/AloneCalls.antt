@@ -1,9 +1,6 @@
 -- An opaque attempt is one alone on the memory of its position.
 use Rattle.std.proofs.Common.{◌≡◌, ℕ, zero, suc, Bool, true, false, true≢false, if◌then◌else◌, List, [], ◌∷◌, ◌++◌, map, Option, None, Some, refl, sym, ap, subst, ◌∙◌}
-use Rattle.tx_history.proofs.Common.{Attempt, Breaks, Call, CallRecord, Cancelled, Committed, Conflict, Full, IsAlone, NoMemory, Outcome, ReadOnly, Reply, Rules, State, Unfinished, after, alone, breaks_of, gets_through, is_open, later, may_begin, opened, pair_of, reply, state_through, turn}
-use Rattle.itm_model.specs.Runs.{replies_through}
-use Rattle.tx_history.specs.Legal.{EndsIn, ran_alone}
-use Rattle.tx_attempts.specs.Opacity.{EndsAs, IsOpaque, ran_of}
+use Rattle.tx_history.proofs.Common.{Attempt, Breaks, Call, CallRecord, Cancelled, Committed, EndsAs, EndsIn, Full, IsAlone, IsOpaque, Outcome, ReadOnly, Reply, Rules, State, after, alone, breaks_of, gets_through, is_open, later, may_begin, opened, pair_of, ran_alone, ran_of, replies_through, reply, state_through, turn}
 use Rattle.tx_history.proofs.Runs.UnwrittenTransactions.{AllInside, IsFixed, Keeps, StandsOn, fixed_after, fixed_again, fixed_from, stands_after, stands_again, stands_opened}
 
 -- the calls of entries
@@ -80,13 +77,8 @@ module _ (deepest : ℕ) where
 
 -- the actions that have run are told alike
 ran_same : (o : Outcome) (s : State) → ran_of o s ≡ ran_alone o s
-ran_same Committed s = refl
-ran_same ReadOnly s = refl
-ran_same Cancelled s = refl
-ran_same Conflict s = refl
 ran_same Full s = refl
-ran_same NoMemory s = refl
-ran_same Unfinished s = refl
+ran_same o s = refl
 
 module _ {P : Type 0} (rules : Rules P) (deepest : ℕ) (p : P) (a : Attempt) (n : ℕ) (memory : List ℕ) (opaque : IsOpaque rules deepest p a n memory) where
   abbrev breaks : Breaks
@@ -108,10 +100,7 @@ module _ {P : Type 0} (rules : Rules P) (deepest : ℕ) (p : P) (a : Attempt) (n
         (ap (λ (xs : List CallRecord). (state_through deepest breaks start (calls_in xs)).wrote) (sym is) ∙ e.1),
   )
   ends_in Cancelled e = e.0
-  ends_in Conflict e = e
-  ends_in Full e = e
-  ends_in NoMemory e = e
-  ends_in Unfinished e = e
+  ends_in o e = e
 
   pub is_alone : may_begin a.props ≡ true → IsAlone deepest memory a
   is_alone begins = record {

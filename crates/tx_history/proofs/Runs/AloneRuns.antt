@@ -1,7 +1,6 @@
 -- Every attempt of a player's run is one alone on the memory of its position.
 use Rattle.std.proofs.Common.{◌≡◌, ℕ, zero, suc, ◌≤◌, Bool, true, false, not, ◌&&◌, ◌||◌, is_none, if◌then◌else◌, All, List, [], ◌∷◌, Option, None, Some, refl, sym, ap, ◌∙◌}
-use Rattle.tx_history.proofs.Common.{All-cons, All-nil, Attempt, Begin, Beginning, Between, Call, IsAlone, IsRunOf, IsTryAt, Refusal, Rules, after, after_try, begin_of, begin_within, may_begin, or_else, outside, refusal, reply, unless}
-use Rattle.itm_types.specs.declared.call.Refusal.TheVariants.{NoIrrevocable}
+use Rattle.tx_history.proofs.Common.{All-cons, All-nil, Attempt, Begin, Beginning, Between, Call, IsAlone, IsRunOf, IsTryAt, NoIrrevocable, Refusal, Rules, after, after_try, begin_of, begin_within, may_begin, or_else, outside, refusal, reply, unless}
 use Rattle.tx_history.proofs.Runs.AloneCalls.{is_alone}
 
 -- ## Begins

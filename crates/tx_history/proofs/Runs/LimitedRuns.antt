@@ -1,7 +1,6 @@
 -- What a player's run has in common: its attempts have the player's arena, are numbered from 1, and make the calls that the player makes.
 use Rattle.std.proofs.Common.{◌≡◌, ℕ, zero, suc, ◌≤◌, Bool, true, false, is_none, if◌then◌else◌, All, List, [], ◌∷◌, ◌++◌, length, map, Option, None, Some, refl, sym, ap, subst, ◌∙◌, arith, IfSome}
-use Rattle.tx_history.proofs.Common.{All-cons, All-nil, AreAgain, Attempt, Begin, Beginning, Between, Breaks, Call, CallRecord, Cancelled, Committed, Conflict, Full, IsRunOf, IsTryAt, NoMemory, Outcome, ReadOnly, Reply, Rules, State, Unfinished, after, after_try, alone, begin_of, begin_within, breaks_of, gets_through, is_open, later, opened, outside, pair_of, refusal, reply, turn}
-use Rattle.tx_attempts.specs.Opacity.{begin_code, follows}
+use Rattle.tx_history.proofs.Common.{All-cons, All-nil, AreAgain, Attempt, Begin, Beginning, Between, Breaks, Call, CallRecord, Conflict, Full, IsRunOf, IsTryAt, NoMemory, Outcome, Reply, Rules, State, Unfinished, after, after_try, alone, begin_code, begin_of, begin_within, breaks_of, follows, gets_through, is_open, later, opened, outside, pair_of, refusal, reply, turn}
 use Rattle.tx_history.proofs.PlainSizes.{IsSized, from_whole, sized_after, sized_alone, sized_undone}
 use Rattle.tx_history.proofs.Runs.AloneCalls.{same_head, same_tail}
 
@@ -71,13 +70,11 @@ module _ {P : Type 0} (rules : Rules P) (Q : Call → Type 0) (made : (p : P) (c
   }
 
   follows_sized : (o : Outcome) (p : P) (a : Attempt) (s : State) (m : ℕ) → IsSized m (λ i. i ≡ k) s → IfSome (follows rules deepest o p a s) (λ (b : Between P). length b.arena ≡ k)
-  follows_sized Committed p a s m h = h.arena
-  follows_sized ReadOnly p a s m h = h.arena
-  follows_sized Cancelled p a s m h = h.arena
   follows_sized Conflict p a s m h = (sized_undone m (λ i. i ≡ k) s h).arena
   follows_sized Full p a s m h = tt
   follows_sized NoMemory p a s m h = tt
   follows_sized Unfinished p a s m h = tt
+  follows_sized o p a s m h = h.arena
 
   after_sized : (b : Between P) (o : Option (Beginning P)) (a : Attempt) → length a.arena ≡ k → IsTryAt rules deepest n memory b o a → IfSome (after_try rules deepest memory b o a) (λ (b : Between P). length b.arena ≡ k)
   after_sized b None a l t = tt

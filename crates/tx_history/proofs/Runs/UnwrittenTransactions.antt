@@ -1,10 +1,8 @@
 -- A transaction on the plain machine that has written nothing stands on the memory that it was opened on, and was never irrevocable.
 use Rattle.std.proofs.Common.{◌≡◌, ℕ, suc, ◌+◌, ◌%◌, Bool, true, false, true≢false, ◌||◌, nat_lt, if◌then◌else◌, length, replicate, take, drop, List, [], ◌∷◌, ◌++◌, Option, None, Some, refl, sym, ap, subst, ◌∙◌, arith, map, append-nil, lt-ltb}
-use Rattle.tx_history.proofs.Common.{Abort, Again, Begin, Block, Breaks, Call, Commit, CommitAction, Copy, CopyPair, Fill, In, InTransaction, Load, Log, LogBytes, Mode, Out, Props, Read, Refusal, Save, Saved, State, UndoAction, Within, Write, after, after_unless, again_at, also_kept, arena_set, back, back_from, breaks_of, closed_in, effect, entered, handed, irrevocable_from, is_open, later, logged_in, made_irrevocable, opened, option_map, outside, pushed, refusal, rolled_back, size_of, source_bytes, state_through, take-append-drop, target_written, undone, undone_from, with_action, with_slice, written}
-use Rattle.itm_types.specs.KeptBytes.{nothing}
+use Rattle.tx_history.proofs.Common.{Abort, Again, Begin, Block, Breaks, Call, Commit, CommitAction, Copy, CopyPair, Fill, In, Log, LogBytes, Mode, Out, Props, Refusal, Save, Saved, State, UndoAction, Within, Write, after, after_unless, again_at, also_kept, arena_set, back, back_from, breaks_of, closed, closed_in, closed_irrevocable, effect, entered, handed, irrevocable_from, is_open, later, logged, logged_in, made_irrevocable, nothing, opened, option_map, outside, pushed, refusal, rolled_back, size_of, source_bytes, state_through, take-append-drop, target_written, undone, undone_from, with_action, with_slice, with_undo, written}
 use Rattle.itm_types.specs.declared.call.Action.{Action}
 use Rattle.itm_types.specs.declared.call.ActionKind.TheVariants as kinds
-use Rattle.itm_model.specs.Machine.{closed, closed_irrevocable, logged, with_undo}
 
 -- what a block goes back to, if nothing was written before it, is this memory
 abbrev pub GoesBackTo : List ℕ → Option Saved → Type 0
@@ -184,8 +182,6 @@ module _ (m : List ℕ) where
   effect_so s Commit o h = closed_so s h
   effect_so s (Abort outer) o h = abort_so s outer h
   effect_so s (Mode room) o h = mode_so s h
-  effect_so s InTransaction o h = h
-  effect_so s (Read hint width at) o h = h
   effect_so s (Write hint at value) o h = written_so s at value.bytes.items h
   effect_so s (Log width at) o h = record { memory = h.memory; back = logged_back m s.blocks s.arena at (size_of width) h.back; lasts = λ i. ((h.lasts i).0, logged_last s.blocks s.arena at (size_of width) (h.lasts i).1) }
   effect_so s (LogBytes at size) o h = record { memory = h.memory; back = logged_back m s.blocks s.arena at size h.back; lasts = λ i. ((h.lasts i).0, logged_last s.blocks s.arena at size (h.lasts i).1) }
@@ -193,8 +189,8 @@ module _ (m : List ℕ) where
   effect_so s (Fill hint to byte size) o h = written_so s to (replicate size (byte % 256)) h
   effect_so s (CommitAction action) o h = record { memory = h.memory; back = h.back; lasts = h.lasts }
   effect_so s (UndoAction action) o h = undo_so s action h
-  effect_so s (Load width at) o h = h
   effect_so s (Save at value) o h = record { memory = h.memory; back = h.back; lasts = h.lasts }
+  effect_so s call o h = h
 
 unless_so : (S : State → Type 0) (o : Option Refusal) (old new : State) → S old → S new → S (after_unless o old new)
 unless_so S None old new h g = g
@@ -254,8 +250,6 @@ fixed_effect s (Begin props room) o h = subst (λ (b : Bool). IsFixed (if b then
 fixed_effect s Commit o h = fixed_closed s h
 fixed_effect s (Abort outer) o h = fixed_abort s outer h
 fixed_effect s (Mode room) o h = fixed_mode s h
-fixed_effect s InTransaction o h = h
-fixed_effect s (Read hint width at) o h = h
 fixed_effect s (Write hint at value) o h = fixed_written s at value.bytes.items h
 fixed_effect s (Log width at) o h = fixed_logged s at (size_of width) o h
 fixed_effect s (LogBytes at size) o h = fixed_logged s at size o h
@@ -263,8 +257,8 @@ fixed_effect s (Copy c) o h = fixed_target s c.pair c.to (source_bytes s c.pair 
 fixed_effect s (Fill hint to byte size) o h = fixed_written s to (replicate size (byte % 256)) h
 fixed_effect s (CommitAction action) o h = record { wrote = h.wrote; lasts = h.lasts; mode = h.mode }
 fixed_effect s (UndoAction action) o h = fixed_undo s action h
-fixed_effect s (Load width at) o h = h
 fixed_effect s (Save at value) o h = record { wrote = h.wrote; lasts = h.lasts; mode = h.mode }
+fixed_effect s call o h = h
 
 -- ## Many calls
 

@@ -1,6 +1,5 @@
 use Rattle.std.proofs.Common.{◌≡◌, ℕ, ◌+◌, ◌<◌, Option, None, Some, IsSome, get_or, length, take, unwrap_or, ap, arith, refl, subst, sym, below_more}
-use Rattle.std.proofs.lemmas.List.Sums.{sum_by_more}
-use Rattle.tx_map.specs.Told.{told_in_all}
+use Rattle.tx_map.proofs.Common.{sum_by_more, told_in_all}
 use Rattle.tx_map.proofs.added_by.Goals as goal
 
 pub loop-by_one-init : goal.loop-by_one-init

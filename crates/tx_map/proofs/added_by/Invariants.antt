@@ -1,5 +1,5 @@
 use Rattle.std.proofs.Common.{◌≡◌, ℕ, ◌-◌, ◌^◌, ◌<◌, min, None, IsSome, get_or, take}
-use Rattle.tx_map.specs.Told.{told_in_all}
+use Rattle.tx_map.proofs.Common.{told_in_all}
 use Rattle.tx_map.proofs.added_by.Given as goal
 
 abbrev pub invariant-loop-by_one : goal.invariant-loop-by_one

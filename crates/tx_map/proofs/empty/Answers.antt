@@ -1,6 +1,5 @@
 use Rattle.std.proofs.Common.{sym, subst}
-use Rattle.std.proofs.lemmas.Result.{IfOk-weaker}
-use Rattle.tx_map.specs.Tables.{IsEmpty}
+use Rattle.tx_map.proofs.Common.{IfOk-weaker, IsEmpty}
 use Rattle.tx_map.proofs.Bytes.{zeros_empty}
 use Rattle.tx_map.proofs.empty.Goals as goal
 

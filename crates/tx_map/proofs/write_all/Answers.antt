@@ -1,6 +1,5 @@
 use Rattle.std.proofs.Common.{◌∙◌, ℕ, ◌+◌, ◌*◌, ◌%◌, arith, refl, subst, sym}
-use Rattle.shared_words.specs.Passes.{view_of}
-use Rattle.tx_map.specs.Written.{HasWritten}
+use Rattle.tx_map.proofs.Common.{HasWritten, view_of}
 use Rattle.tx_map.proofs.Written.{none_written, some_on, written_on}
 use Rattle.tx_map.proofs.write_all.Goals as goal
 

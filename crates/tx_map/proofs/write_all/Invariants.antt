@@ -1,5 +1,5 @@
 use Rattle.std.proofs.Common.{◌≡◌, ◌*◌, ◌%◌, ◌≤◌}
-use Rattle.tx_map.specs.Written.{HasWritten}
+use Rattle.tx_map.proofs.Common.{HasWritten}
 use Rattle.tx_map.proofs.write_all.Given as goal
 
 abbrev pub invariant-loop-n : goal.invariant-loop-n

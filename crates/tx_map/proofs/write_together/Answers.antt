@@ -1,7 +1,6 @@
-use Rattle.std.proofs.Common.{ℕ, ◌≡◌, ◌-◌, ◌*◌, ◌/◌, ◌^◌, length, min, Option, IfSome, ap, arith, rules, subst, sym}
+use Rattle.std.proofs.Common.{ℕ, ◌≡◌, ◌-◌, ◌*◌, ◌/◌, ◌^◌, min, Option, IfSome, ap, arith, rules, subst, sym}
+use Rattle.tx_map.proofs.Common.{AllTell, HasOnlyPairs, told_in_all}
 use Rattle.shared_words.specs.Good.{EndsWith}
-use Rattle.tx_map.specs.Pairs.{HasOnlyPairs}
-use Rattle.tx_map.specs.Told.{AllTell, told_in_all}
 use Rattle.tx_map.proofs.Pairs.{empty_only}
 use Rattle.tx_map.proofs.Threads.{all_added, all_commits, all_pairs, only_pairs}
 use Rattle.tx_map.proofs.write_together.Goals as goal

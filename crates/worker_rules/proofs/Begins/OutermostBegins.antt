@@ -1,16 +1,13 @@
 -- An outermost begin.
 use Rattle.std.proofs.Common.{inl, inr, ◌≡◌, ℕ, ◌/◌, ◌<◌, ◌≤◌, ◌&&◌, not, Bool, true, false, true≢false, if◌then◌else◌, List, [], ◌++◌, length, Option, None, Some, refl, sym, ap, subst, ◌∙◌, arith}
-use Rattle.worker_rules.proofs.Common.{Account, Actions, Agrees, Answer, Attempt, Begin, Busy, Call, Code, Committed, Conflict, Core, Course, Full, HasRun, IsMemory, IsNested, IsOpenTry, IsRunning, IsTry, IsUndone, Meets, Obeys, Props, Refusal, Replied, Reply, Rules, Served, Stands, Start, State, View, Ways, Went, after, after_unless, before_led, begin_code, begins_at, begun, bytes_of, came_over, commits_known, depth_after, in_transaction, irrevocable_from, is_inside, is_open, left_over, memory_in, memory_of, mine_after, none_inside, opened, plays, positions, pushed, recoded, refusal, reply, reply_cases, reply_unless, rests, stands_for, undone, within}
-use Rattle.user_actions.specs.Actions.{no_actions}
+use Rattle.worker_rules.proofs.Common.{Account, Actions, Agrees, Answer, Attempt, Begin, Busy, Call, Code, Committed, Conflict, Core, Course, Full, HasRun, IsMemory, IsNested, IsOpenTry, IsOutside, IsRunning, IsTry, IsUndone, Meets, Obeys, Props, Refusal, Replied, Reply, Rules, Served, Stands, Start, State, View, Ways, Went, after, after_unless, before_led, before_same, begin_code, begin_here, begins_at, begun, bytes_of, came_over, commits_known, depth_after, in_transaction, irrevocable_from, is_inside, is_open, left_over, memory_in, memory_of, mine_after, no_actions, none_inside, opened, plays, positions, pushed, recoded, refusal, reply, reply_cases, reply_unless, rests, stands_for, undone, within}
 use Rattle.itm_model.specs.Machine.{outside}
 use Rattle.shared_words.specs.Views.{held}
-use Rattle.tx_runs.proofs.Begins.{before_same, begin_here}
-use Rattle.tx_runs.proofs.TriesBegin.{IsToOpen, begins_held, begins_on}
+use Rattle.run_rules.proofs.TriesBegin.{IsToOpen, begins_held, begins_on}
 use Rattle.worker_rules.proofs.Machines.LastEvents.{IsLast}
 use Rattle.worker_rules.proofs.Runs.LaterCommits.{run_later}
 use Rattle.worker_rules.proofs.Begins.OutsideCalls.{answered_outside, left_outside, nested_outside, opened_one, revocable_outside, shut_state, stands_outside}
 use Rattle.worker_rules.proofs.Machines.PlainStates.{stands_actions, stands_arena, stands_blocks, stands_open}
-use Rattle.worker_rules.specs.Progress.{IsOutside}
 use Rattle.worker_rules.proofs.Shapes.{tried}
 
 -- ## The plain machine

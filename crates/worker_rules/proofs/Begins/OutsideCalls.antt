@@ -1,16 +1,9 @@
 -- A call outside a transaction that leaves none open.
 use Rattle.std.proofs.Common.{◌≡◌, ℕ, ◌&&◌, not, nat_lt, Bool, true, false, true≢false, if◌then◌else◌, List, [], length, is_some, Option, None, Some, refl, sym, ap, subst, ◌∙◌, arith}
-use Rattle.worker_rules.proofs.Common.{Account, Actions, Answer, Begin, Busy, Call, Code, Commit, CommitAction, Committed, Conflict, Copy, Core, Course, Full, IsNested, IsRunning, MayStarve, MayStarveIn, Mode, Obeys, Props, Refusal, Replied, Reply, Restarted, Rules, Served, Stands, Start, State, UndoAction, View, WantsClock, after, after_unless, came_over, depth_after, in_transaction, irrevocable_from, irrevocable_room, is_begin, is_open, left_over, none_inside, opened, plays, pushed, recoded, refusal, reply, reply_unless, stands_for, state_in, stays_revocable}
+use Rattle.worker_rules.proofs.Common.{Account, Actions, Answer, Begin, Busy, Call, Code, Commit, CommitAction, Committed, Conflict, Copy, Core, Course, Fill, Full, GoesBegin, IsBegin, IsNested, IsRunning, Load, Log, LogBytes, MayStarve, MayStarveIn, MayStarveOpen, Mode, Obeys, Props, Read, Refusal, Refused, Replied, Reply, Restarted, Rules, Save, Served, Stands, Start, State, UndoAction, View, WantsClock, Write, after, after_unless, before_past, came_over, depth_after, in_arena, in_transaction, irrevocable_from, irrevocable_room, is_begin, is_open, left_over, none_inside, opened, opened_arena, plays, pushed, recoded, refusal, reply, reply_unless, same_arena, stands_for, state_in, state_over, stays_outside, stays_revocable}
 use Rattle.itm_types.specs.Access.{size_of}
-use Rattle.itm_types.specs.declared.call.Call.TheVariants.{Fill, Load, Log, LogBytes, Read, Save, Write}
-use Rattle.itm_types.specs.declared.call.Reply.TheVariants.{Refused}
-use Rattle.itm_model.specs.Machine.{in_arena, outside}
+use Rattle.itm_model.specs.Machine.{outside}
 use Rattle.norec_core.specs.Copies.{copy_refusal}
-use Rattle.norec_core.specs.Proceeds.{IsBegin, MayStarveOpen}
-use Rattle.norec_core.specs.Stands.{state_over}
-use Rattle.call_rules.specs.Served.{GoesBegin}
-use Rattle.tx_attempts.specs.Opacity.{stays_outside}
-use Rattle.tx_runs.proofs.Begins.{before_past, opened_arena, same_arena}
 use Rattle.worker_rules.proofs.Runs.LaterCommits.{run_later}
 use Rattle.worker_rules.proofs.Machines.PlainStates.{stands_arena, stands_open, stands_shut}
 

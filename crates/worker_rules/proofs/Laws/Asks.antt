@@ -1,9 +1,7 @@
 -- A worker between its player's next call and what comes of it.
 use Rattle.std.proofs.Common.{◌≡◌, ℕ, Bool, true, false, List, refl, sym, ap, subst, ◌∙◌, inl, inr, Some, unwrap_or}
-use Rattle.worker_rules.proofs.Common.{Answer, Attempt, Begin, Begins, Bounds, Call, Course, Current, HasPlaces, IsAnswered, IsAsked, IsHungry, IsReadyFor, IsRoomier, IsUnprepared, IsWorking, LacksFor, MayStarve, Outside, Props, Rules, Savepoint, Standing, Tally, Within, Words, Worker, again_for, begins, begins_again, begun, commits_known, in_transaction, irrevocable_room, is_begin, outside, stage_at, stage_of, start_of, view_of, within}
-use Rattle.call_rules.specs.CallResults.{IsThreadStarved}
+use Rattle.worker_rules.proofs.Common.{Answer, Attempt, Begin, Begins, Bounds, Call, Course, Current, HasPlaces, IsAnswered, IsAsked, IsHungry, IsPrepared, IsReadyFor, IsRoomier, IsThreadStarved, IsUnprepared, IsWorking, LacksFor, MayStarve, Outside, Props, Rules, Savepoint, Standing, Tally, Within, Words, Worker, again_for, begins, begins_again, begun, commits_known, in_transaction, irrevocable_room, is_begin, outside, stage_at, stage_of, start_of, view_of, within}
 use Rattle.tx_runs.specs.declared.player_run.PlayerRun.{PlayerRun}
-use Rattle.worker_rules.specs.Workers.{IsPrepared}
 use Rattle.worker_rules.proofs.Begins.OutsideCalls.{never_starves}
 use Rattle.worker_rules.proofs.Laws.Rooms.{again_prepared, never_begins}
 

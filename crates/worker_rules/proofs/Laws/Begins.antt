@@ -1,11 +1,7 @@
 -- A worker before its first call.
 use Rattle.std.proofs.Common.{◌≡◌, ℕ, ◌^◌, ◌<◌, ◌≤◌, Bool, false, true≢false, List, [], ◌∷◌, length, Vec, Global, refl, sym, ap, subst, ◌∙◌, arith, append-nil}
-use Rattle.worker_rules.proofs.Common.{AreFew, AreOver, Attempt, Frame, HasRun, IsNested, IsRunning, IsWorking, Outside, Owns, Rules, Standing, Stands, Words, Worker, account_of, bounds_of, commits_known, in_transaction, is_inside, nested_outside, view_of, went_self}
+use Rattle.worker_rules.proofs.Common.{AreFew, AreOver, Attempt, Frame, HasRun, IsNested, IsRunning, IsWorking, Outside, Owns, Rules, Standing, Stands, Words, Worker, account_of, bounds_of, commits_known, course_of, first_account, in_transaction, is_inside, nested_outside, outrun_none, view_of, went_self, whole}
 use Rattle.itm_types.specs.declared.limits.TheConstants.{MAX_RETRIES}
-use Rattle.tx_attempts.proofs.LaterClocks.{outrun_none}
-use Rattle.tx_runs.specs.Nesting.{whole}
-use Rattle.worker_rules.specs.Accounts.{first_account}
-use Rattle.worker_rules.specs.Works.{course_of}
 
 none_open : (bs : List Frame) → is_inside bs ≡ false → length bs ≡ 0
 none_open [] e = refl

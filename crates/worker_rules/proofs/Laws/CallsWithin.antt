@@ -1,10 +1,8 @@
 -- A call of the open transaction, by its answer.
 use Rattle.std.proofs.Common.{◌≡◌, ◌⊎◌, ℕ, ◌+◌, ◌≤◌, Bool, true, false, true≢false, nat_lt, if◌then◌else◌, List, [], ◌++◌, length, Option, None, Some, refl, sym, subst, ◌∙◌, arith, inl, inr, append-nil, ltb-false}
-use Rattle.worker_rules.proofs.Common.{Account, Answer, Attempt, Busy, Call, Committed, Conflict, Core, Course, Done, End, Falls, Full, HasRun, IsDeep, IsNested, IsRunning, Obeys, Replied, Reply, Restarted, Rules, Savepoint, Served, Stands, Start, Taken, Tally, View, account_after, falls_reply, falls_try, in_transaction, ltb-true, outside, over_as, plays, positions, restarts_left, savepoints_after, stand_of, tally_in, took_in, went_on, with_call, within}
+use Rattle.worker_rules.proofs.Common.{Account, Answer, Attempt, Busy, Call, Committed, Conflict, Core, Course, Done, End, Falls, Full, HasRun, IsDeep, IsNested, IsRunning, Obeys, Played, Replied, Reply, Restarted, Rules, Savepoint, Served, Stands, Start, Taken, Tally, View, account_after, falls_back, falls_close, falls_reply, falls_try, in_transaction, ltb-true, outside, over_as, plays, positions, restarts_left, savepoints_after, stand_of, tally_in, took_in, went_on, with_call, within}
 use Rattle.tx_attempts.specs.declared.attempt.Outcome.TheVariants as outcomes
-use Rattle.tx_runs.proofs.Players.{Played}
 use Rattle.tx_runs.specs.declared.ending.End.TheVariants as ends
-use Rattle.tx_runs.proofs.Ranks.{falls_back, falls_close}
 use Rattle.worker_rules.proofs.Machines.LastEvents.{IsLast}
 use Rattle.worker_rules.proofs.Machines.RestartsLeft.{left_back, left_still, left_within}
 use Rattle.worker_rules.proofs.Shapes.{with_room}

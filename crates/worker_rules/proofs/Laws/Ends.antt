@@ -1,14 +1,11 @@
 -- What a run leaves, however it ended.
 use Rattle.std.proofs.Common.{true≢false, ◌≡◌, ◌⊎◌, ℕ, zero, suc, ◌+◌, ◌/◌, ◌≤◌, Bool, true, false, if◌then◌else◌, List, [], ◌∷◌, ◌++◌, length, None, Some, Result, Ok, Err, refl, sym, ap, subst, ◌∙◌, inl, inr, append-nil}
-use Rattle.worker_rules.proofs.Common.{Account, AreFew, AreOver, Attempt, Commit, Core, Course, End, HasRun, Idle, IsMade, IsRunning, Obeys, Owns, Rules, Stage, Standing, Stands, StopsAs, View, Words, alone, before_led, begins, bytes_at, in_transaction, outside, over_as, positions, rolled_back, shut_revocable, stand_of, start_of, view_of, within}
+use Rattle.worker_rules.proofs.Common.{Account, AreFew, AreHeld, AreOver, Attempt, Commit, Core, Course, End, EndsOpen, HasRun, Idle, IsBack, IsFinished, IsMade, IsRunning, IsStarved, Obeys, Owns, Parts, Rules, Stage, Standing, Stands, StopsAs, View, Words, alone, before_led, begin_within, begins, bytes_at, in_transaction, is_held, outside, over_as, positions, rolled_back, shut_revocable, stand_of, start_of, told, view_left, view_of, within}
 use Rattle.shared_words.specs.declared.pass.Pass.{Pass}
 use Rattle.tx_attempts.specs.declared.attempt.Outcome.TheVariants as outcomes
-use Rattle.tx_attempts.specs.Opacity.{begin_within}
 use Rattle.tx_runs.specs.declared.ending.End.TheVariants as ends
 use Rattle.worker_rules.specs.Worked.{Worked}
-use Rattle.worker_rules.specs.Accounts.{told}
-use Rattle.worker_rules.specs.Calls.{IsStarved}
-use Rattle.worker_rules.specs.Works.{AreHeld, EndsAs, EndsOpen, IsBack, IsFinished, Parts, is_held, view_left}
+use Rattle.worker_rules.specs.Works.{EndsAs}
 use Rattle.worker_rules.proofs.Laws.Answers.{both}
 use Rattle.worker_rules.proofs.Laws.Rows.{few_more}
 use Rattle.worker_rules.proofs.Shapes.{ended_at}

@@ -1,13 +1,6 @@
 -- Places in the open attempt for what comes of a call.
 use Rattle.std.proofs.Common.{◌≡◌, inl, inr, ℕ, suc, ◌+◌, ◌<◌, ◌≤◌, Bool, true, false, nat_lt, if◌then◌else◌, List, [], ◌∷◌, length, is_some, refl, ap, arith, ltb-false}
-use Rattle.worker_rules.proofs.Common.{Answer, Attempt, BeganBy, Begins, Between, Busy, Call, CommitAction, Committed, Conflict, Core, Current, Frame, Full, HasBlockPlaces, IsOpenTry, IsPromised, IsRestart, KeepsPlaces, Open, OpensBy, Outside, Ran, Reply, Restarted, Rules, Savepoint, Stand, UndoAction, Within, cut_back, is_begin, promised, registers, reserved, stage_of, within}
-use Rattle.itm_types.specs.Calls.{registered_by}
-use Rattle.norec_core.specs.Core.{is_within}
-use Rattle.tx_attempts.specs.Kept.{Kept}
-use Rattle.tx_runs.proofs.OpenRooms.{opens_most}
-use Rattle.tx_runs.specs.OpenTries.{Bounds as Most, HaveBegun, bounds_now, entered_by}
-use Rattle.tx_runs.specs.Savepoints.{due_at}
-use Rattle.worker_rules.specs.Workers.{KeepsBlockPlaces}
+use Rattle.worker_rules.proofs.Common.{Answer, Attempt, BeganBy, Begins, Between, Busy, Call, CommitAction, Committed, Conflict, Core, Current, Frame, Full, HasBlockPlaces, HaveBegun, IsOpenTry, IsPromised, IsRestart, KeepsBlockPlaces, KeepsPlaces, Kept, Most, Open, OpensBy, Outside, Ran, Reply, Restarted, Rules, Savepoint, Stand, UndoAction, Within, bounds_now, cut_back, due_at, entered_by, is_begin, is_within, opens_most, promised, registered_by, registers, reserved, stage_of, within}
 
 -- ## Places
 

@@ -1,11 +1,7 @@
 -- The room that is made before a call serves whatever comes of its answer.
 use Rattle.std.proofs.Common.{◌≡◌, inl, inr, ℕ, ◌+◌, ◌<◌, ◌≤◌, Bool, true, false, true≢false, if◌then◌else◌, List, [], ◌++◌, length, length-append, None, Some, refl, sym, ap, subst, ◌∙◌, arith, unwrap_or}
-use Rattle.worker_rules.proofs.Common.{Answer, Attempt, BeganBy, Begin, Begins, Bounds, Busy, Call, Committed, Conflict, Core, Course, Current, Full, HasActionPlaces, IsAsked, IsDeep, IsPromised, IsReadyFor, IsRestart, IsRoomier, IsRunning, IsToldBy, MayTell, Open, OpensBy, Outcome, Outside, Props, Ran, Reply, Restarted, Rules, Savepoint, Served, Stage, Stand, Start, Within, Words, Worker, account_of, again_for, arena_ahead, begins, begins_again, begun, cells_of, commits_known, in_transaction, irrevocable_room, is_abort, outside, over_as, promised, registers, reserved, stage_at, stage_of, stand_of, start_of, told_in, total, view_in, view_of, within}
-use Rattle.tx_runs.proofs.OpenRooms.{reserved_most}
-use Rattle.tx_runs.proofs.StepCalls.{cancels_register_none}
-use Rattle.tx_runs.proofs.TriesBack.{began_now}
-use Rattle.tx_runs.specs.OpenAttempts.{HasRoom, MayRenew}
-use Rattle.tx_runs.specs.PlayerRuns.{MayGoBack, MayTakeIn}
+use Rattle.worker_rules.proofs.Common.{Answer, Attempt, BeganBy, Begin, Begins, Bounds, Busy, Call, Committed, Conflict, Core, Course, Current, Full, HasActionPlaces, HasRoom, IsAsked, IsDeep, IsPromised, IsReadyFor, IsRestart, IsRoomier, IsRunning, IsToldBy, MayGoBack, MayRenew, MayTakeIn, MayTell, Open, OpensBy, Outcome, Outside, Props, Ran, Reply, Restarted, Rules, Savepoint, Served, Stage, Stand, Start, Within, Words, Worker, account_of, again_for, arena_ahead, began_now, begins, begins_again, begun, cells_of, commits_known, in_transaction, irrevocable_room, is_abort, outside, over_as, promised, registers, reserved, reserved_most, stage_at, stage_of, stand_of, start_of, told_in, total, view_in, view_of, within}
+use Rattle.run_rules.proofs.StepCalls.{cancels_register_none}
 use Rattle.worker_rules.proofs.Laws.Places.{some_room, room_after, has_points, began_later, promised_in, cut_room}
 use Rattle.worker_rules.proofs.Machines.ActionRooms.{goes_plainly, leaves_promised, ran_held, room_asked, room_on}
 use Rattle.worker_rules.proofs.Machines.LastEvents.{IsLast, last_event}

@@ -1,11 +1,8 @@
 -- What a worker's next call makes of it.
 use Rattle.std.proofs.Common.{◌≡◌, ℕ, ◌+◌, ◌/◌, ◌<◌, ◌≤◌, Bool, true, false, true≢false, nat_lt, if◌then◌else◌, List, [], ◌∷◌, ◌++◌, length, Option, None, Some, refl, sym, ap, subst, ◌∙◌, arith, inr, unwrap_or, vec_len, vec_capacity}
-use Rattle.worker_rules.proofs.Common.{Account, Answer, AreFew, AreOver, Attempt, Begin, Begins, Bounds, Busy, Call, Committed, Conflict, Core, Course, Current, Done, End, Falls, Full, GoesOnOrStops, HasActionPlaces, HasBlockPlaces, HasPlaces, IsAsked, IsMade, IsPromised, IsReadyFor, IsRunning, IsSame, IsStopped, IsWorking, KeepsPlaces, MayStop, MayTell, Obeys, Open, OpensBy, Outcome, Outside, Owns, Props, Replied, Reply, Restarted, Rules, Savepoint, Served, Stage, Stand, Standing, Stands, Start, StopsAs, Taken, Tally, View, Within, Words, Worker, account_after, account_of, asked, begins, begins_again, bounds_of, in_transaction, irrevocable_room, is_committed, outside, over_as, restarts_left, savepoints_after, shut_revocable, stage_of, stand_of, start_of, took_in, total, view_in, view_of, went_on, with_call, within}
+use Rattle.worker_rules.proofs.Common.{Account, Answer, AreFew, AreOver, Attempt, Begin, Begins, Bounds, Busy, Call, Committed, Conflict, Core, Course, Current, Done, End, Falls, Full, GoesOnOrStops, HasActionPlaces, HasBlockPlaces, HasPlaces, IsAsked, IsMade, IsPromised, IsReadyFor, IsRunning, IsSame, IsStopped, IsWorking, KeepsPlaces, MayStop, MayTell, Obeys, Open, OpensBy, Outcome, Outside, Owns, Props, Replied, Reply, Restarted, Rules, Savepoint, Served, Stage, Stand, Standing, Stands, Start, StopsAs, Taken, Tally, View, Within, Words, Worker, account_after, account_of, asked, begins, begins_again, bounds_of, in_transaction, irrevocable_room, is_committed, is_taken, outside, over_as, replied, restarts_left, savepoints_after, sent_back, shut_revocable, stage_of, stage_with, stand_of, start_of, tally_of, took_in, total, view_in, view_of, went_on, with_call, within, within_untold}
 use Rattle.tx_attempts.specs.declared.attempt.Outcome.TheVariants as outcomes
-use Rattle.tx_runs.proofs.TookIn.{is_taken, within_untold}
 use Rattle.tx_runs.specs.declared.ending.End.TheVariants as ends
-use Rattle.tx_runs.specs.PlayerRuns.{tally_of}
-use Rattle.tx_runs.specs.Tallies.{replied, sent_back, stage_with}
 use Rattle.worker_rules.proofs.Begins.OutermostBegins.{begins_actions, no_commit}
 use Rattle.worker_rules.proofs.Laws.Places.{blocks_opened}
 use Rattle.worker_rules.proofs.Laws.Rooms.{begins_call, held_inside, last, open_places, promises_opened, room_back, still_within}

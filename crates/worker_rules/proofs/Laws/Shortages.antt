@@ -1,10 +1,7 @@
 -- Where memory is refused to a player's next call, or to the room for it.
 use Rattle.std.proofs.Common.{inl, inr, ◌≡◌, ℕ, zero, suc, ◌<◌, ◌≤◌, Bool, true, true≢false, List, Option, unwrap_or, Result, Ok, Err, OnErr, refl, sym, ap, subst, ◌∙◌, arith}
-use Rattle.worker_rules.proofs.Common.{Attempt, Begins, Bounds, Call, Core, Course, Current, HasActionPlaces, HasBlockPlaces, HasPlaces, IsHungry, IsPromised, IsRoomier, IsUnprepared, IsWorking, LacksFor, MayStarve, MayStarveIn, Open, Outside, Rules, Savepoint, Within, Words, Worker, arena_ahead, asks_no_room, begins, irrevocable_room, outside, promised_held, stage_of, total, within}
+use Rattle.worker_rules.proofs.Common.{Attempt, Begins, Bounds, Call, Core, Course, Current, HasActionPlaces, HasBlockPlaces, HasPlaces, IsHungry, IsPromised, IsRoomier, IsUnprepared, IsWorking, LacksFor, LacksPlaces, MayStarve, MayStarveIn, Open, Outside, Rules, Savepoint, Within, Words, Worker, ahead_revocable, arena_ahead, asks_no_room, begins, irrevocable_room, outside, promised_held, stage_of, starves_used, total, within}
 use Rattle.std.specs.declared.alloc.AllocError.{AllocError}
-use Rattle.norec_core.proofs.Engines.RestartingCalls.{ahead_revocable}
-use Rattle.tx_runs.specs.OpenAttempts.{LacksPlaces}
-use Rattle.tx_runs.proofs.IrrevocableCalls.{starves_used}
 
 -- ## An irrevocable transaction has used up the room that it asked for
 

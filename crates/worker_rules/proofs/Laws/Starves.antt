@@ -1,8 +1,7 @@
 -- A worker to whose player's next call memory was refused.
 use Rattle.std.proofs.Common.{◌≡◌, ◌/◌, Bool, true, false, true≢false, if◌then◌else◌, List, ◌++◌, ◌≤◌, length, length-append, refl, sym, ap, subst, ◌∙◌, arith}
-use Rattle.worker_rules.proofs.Common.{Account, AreFew, AreOver, Attempt, Begins, Bounds, Call, Commit, Core, Course, Current, HasPlaces, Idle, IsHungry, IsRoomier, IsSame, IsStopped, IsToldBy, MayStop, MayTell, Open, Outside, Owns, Ran, Rules, RunsOn, Stage, Standing, Stands, Within, Words, Worker, account_of, after_undoing, begins, bounds_of, in_transaction, outside, over_as, rolled_back, stage_of, stand_of, start_of, told_in, total, view_of, within}
+use Rattle.worker_rules.proofs.Common.{Account, AreFew, AreOver, Attempt, Begins, Bounds, Call, Commit, Core, Course, Current, HasPlaces, Idle, IsHungry, IsRoomier, IsSame, IsStopped, IsToldBy, MayStop, MayTell, Open, Outside, Owns, Ran, Rules, RunsOn, Stage, Standing, Stands, Within, Words, Worker, account_of, after_undoing, begins, bounds_of, in_transaction, outside, over_as, rolled_back, stage_of, stand_of, start_of, told_in, total, undone_of, view_of, within}
 use Rattle.norec_core.specs.declared.answer.Undone.TheVariants.{Done, Held, Nothing}
-use Rattle.norec_core.specs.Undoing.{undone_of}
 use Rattle.tx_attempts.specs.declared.attempt.Outcome.TheVariants as outcomes
 use Rattle.tx_runs.specs.declared.ending.End.TheVariants as ends
 use Rattle.worker_rules.proofs.Laws.Rooms.{same_over, within_inside}

@@ -1,10 +1,8 @@
 -- A worker that stops where it stands, and one whose calls are counted.
 use Rattle.std.proofs.Common.{◌≡◌, inl, inr, ℕ, ◌+◌, ◌/◌, Bool, false, true≢false, length, Option, None, Some, refl, sym, ap, subst, ◌∙◌, arith}
-use Rattle.worker_rules.proofs.Common.{Account, Begins, Bounds, Course, Current, End, GoesOnOrStops, HasPlaces, IsSame, IsStopped, IsWorking, MayStop, MayTell, Outside, Rules, Standing, StopsAs, Within, Words, Worker, account_of, stage_of, told_in}
+use Rattle.worker_rules.proofs.Common.{Account, Begins, Bounds, Course, Current, End, GoesOnOrStops, GoesOnOrStopsAt, HasPlaces, IsSame, IsStopped, IsWorking, MayStop, MayTell, Outside, Rules, Standing, StopsAs, StopsAt, Within, Words, Worker, account_of, stage_of, told_in}
 use Rattle.tx_runs.specs.declared.ending.End.TheVariants.{Finished, GaveUp, NoMemory}
-use Rattle.worker_rules.specs.Calls.{StopsAt}
 use Rattle.worker_rules.specs.Gates.{Gating, IsLet, call_number}
-use Rattle.worker_rules.specs.Workers.{GoesOnOrStopsAt}
 use Rattle.worker_rules.proofs.Laws.Rooms.{within_inside}
 
 module _ {P : Type 0} {rules : Rules P} {words : Words} {c : Course P} {b : Bounds} {w : Worker P} (k : IsWorking rules words c b w) where

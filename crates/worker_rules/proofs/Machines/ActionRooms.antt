@@ -1,11 +1,7 @@
 -- The room of an irrevocable transaction for commit actions, over a reply, and with it the room for its calls.
 use Rattle.std.proofs.Common.{inl, inr, ◌≡◌, ℕ, ◌+◌, ◌-◌, ◌<◌, ◌≤◌, max, true, false, true≢false, Option, None, Some, IsSome, is_some, unwrap_or, refl, sym, ap, subst, ◌∙◌, arith}
-use Rattle.worker_rules.proofs.Common.{Abort, Actions, Call, Core, Replied, Reply, Served, Stands, Start, View, Ways, asks_no_room, came, in_transaction, irrevocable_room, is_abort, promised, promised_held, registers, reply_cases, total}
-use Rattle.norec_core.specs.Effects.{room_left}
-use Rattle.norec_core.specs.Proceeds.{Replies, RepliesHeld}
+use Rattle.worker_rules.proofs.Common.{Abort, Actions, Call, Core, Replied, Replies, RepliesHeld, Reply, Served, Stands, Start, View, Ways, abort_runs, asks_no_room, came, goes_no_action, goes_no_cancel, goes_same, in_transaction, irrevocable_room, is_abort, left_least, none_asked, plain_goes, promised, promised_held, promised_none, registers, reply_cases, room_by_call, room_left, total}
 use Rattle.call_rules.proofs.Calls.ActionRoom.{room_entered}
-use Rattle.tx_runs.proofs.IrrevocableCalls.{abort_runs, goes_no_action, goes_no_cancel, goes_same, left_least, plain_goes, room_by_call}
-use Rattle.tx_runs.proofs.OpenRooms.{none_asked, promised_none}
 use Rattle.worker_rules.proofs.Machines.LastEvents.{IsLast}
 use Rattle.worker_rules.proofs.Machines.PlainActions.{served_ran, served_runs}
 

@@ -1,10 +1,8 @@
 -- A call that wants the clock.
 use Rattle.std.proofs.Common.{◌≡◌, ◌&&◌, Bool, true, false, not, nat_lt, length, Some, refl, sym, true≢false}
-use Rattle.worker_rules.proofs.Common.{Begin, Call, Commit, Core, Mode, WantsClock, in_transaction, stays_revocable}
-use Rattle.norec_core.specs.Core.{may_go}
-use Rattle.norec_core.specs.Proceeds.{IsSettled}
-use Rattle.tx_runs.proofs.ClockCalls.{both_true, no_true, told_under}
-pub use Rattle.tx_runs.proofs.ClockCalls.{wants_taking}
+use Rattle.worker_rules.proofs.Common.{Begin, Call, Commit, Core, IsSettled, Mode, WantsClock, in_transaction, may_go, stays_revocable}
+use Rattle.run_rules.proofs.ClockCalls.{both_true, no_true, told_under}
+pub use Rattle.run_rules.proofs.ClockCalls.{wants_taking}
 
 -- an irrevocable transaction wants it no more
 pub wants_revocable : (c : Core) → IsSettled c → (call : Call) → WantsClock c (Some call) → c.irrevocable ≡ false

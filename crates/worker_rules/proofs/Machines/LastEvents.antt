@@ -1,18 +1,13 @@
 -- The last event of a driven call: the engine with the call that came, or with the value of its last step, and its answer.
 use Rattle.std.proofs.Common.{◌≡◌, ℕ, suc, ◌≤◌, true, false, List, [], ◌∷◌, ◌++◌, Option, Some, inl, inr, sym, ap, subst, ◌∙◌, arith, append-nil}
-use Rattle.worker_rules.proofs.Common.{Answer, Core, IsRestart, LogRow, Stands, Start, View, came, in_transaction, is_inside, rests}
+use Rattle.worker_rules.proofs.Common.{Answer, Core, Ends, IsHanded, IsMid, IsOver, IsRestart, LogRow, Proceeds, Stands, Start, View, both, came, handed_is, handed_to, in_transaction, is_inside, rests}
 use Rattle.itm_types.specs.declared.step.Step.{Step}
 use Rattle.norec_core.specs.declared.answer.Next.{Next}
 use Rattle.norec_core.specs.declared.answer.Next.TheVariants.{Step as Asks, Answer as Answers}
-use Rattle.norec_core.specs.Core.{handed_to}
 use Rattle.norec_core.specs.Moves.{IsCalled, IsResumed}
-use Rattle.norec_core.specs.Proceeds.{Ends, Proceeds}
-use Rattle.norec_core.proofs.Engines.KeptFields.{IsHanded, handed_is}
-use Rattle.shared_words.specs.Passes.{IsOver}
 use Rattle.shared_words.specs.Steps.{StepTells}
 use Rattle.call_rules.specs.Drives.{Drives, IsDriven, LeadsOn}
 use Rattle.call_rules.specs.InCall.{InCall, IsDue}
-use Rattle.call_rules.proofs.Steps.CallsInHand.{IsMid, both}
 use Rattle.call_rules.proofs.Steps.HandedValues.{hands}
 use Rattle.call_rules.proofs.Steps.NewCalls.{comes}
 use Rattle.call_rules.proofs.Steps.StepChains.{goes, starts}

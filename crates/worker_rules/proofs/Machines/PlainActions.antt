@@ -1,17 +1,13 @@
 -- Over a call of an open transaction no action that has run is lost, and there are no more actions in all than before, but for one that is registered.
 use Rattle.std.proofs.Common.{◌≡◌, ℕ, Bool, true, false, if◌then◌else◌, nat_lt, List, [], ◌∷◌, ◌++◌, length, drop, take, Option, None, Some, refl, sym, ap, subst, ◌∙◌, arith, append-nil, append_assoc, length-append}
-use Rattle.worker_rules.proofs.Common.{Abort, Actions, Agrees, Answer, Begin, Block, Busy, Call, Commit, CommitAction, Committed, Conflict, Copy, Core, Frame, Full, IsUndone, LogRow, Mode, Props, Ran, Refusal, Replied, Reply, Restarted, RunsOn, Served, Stands, Start, State, UndoAction, View, after, after_undoing, after_unless, came_over, in_transaction, irrevocable_from, is_abort, is_open, left_over, opened, pushed, reads_of, refusal, registers, stands_for, undone}
+use Rattle.worker_rules.proofs.Common.{Abort, Actions, Agrees, Answer, Begin, Block, Busy, Call, Commit, CommitAction, Committed, Conflict, Copy, Core, Frame, Full, IsUndone, LogRow, Mode, Props, Ran, Refusal, Replied, Reply, Restarted, RunsOn, Saved, Served, Stands, Start, State, UndoAction, View, after, after_undoing, after_unless, all_run, back, back_from, begun_again, came_over, closed_actions, closed_in, commits_run, effect, entered, given_up_actions, in_transaction, irrevocable_from, is_abort, is_open, left_over, made_irrevocable, opened, pushed, reads_of, refusal, registered, registers, source_bytes, stands_for, still, target_written, undone, undone_from, with_undo}
 use Rattle.std.proofs.lemmas.List.{take-append-drop}
 use Rattle.itm_types.specs.declared.call.Action.{Action}
 use Rattle.itm_types.specs.declared.call.ActionKind.TheVariants as kinds
 use Rattle.itm_types.specs.declared.copy.CopyPair.{CopyPair}
 use Rattle.itm_types.specs.declared.copy.CopyPair.TheVariants.{In, Out, Within}
-use Rattle.user_actions.specs.Actions.{registered}
-use Rattle.itm_model.specs.Machine.{back, back_from, closed_actions, closed_in, effect, entered, made_irrevocable, rolled_back, source_bytes, target_written, undone_from, with_undo}
-use Rattle.itm_model.specs.State.{Saved}
-use Rattle.norec_core.proofs.Accesses.Logs.{agrees_less}
-use Rattle.norec_core.proofs.Replies.ActionCounts.{all_run, commits_run, given_up_actions, still}
-use Rattle.norec_core.specs.Restarts.{begun_again}
+use Rattle.itm_model.specs.Machine.{rolled_back}
+use Rattle.norec_core.proofs.Logs.{agrees_less}
 use Rattle.worker_rules.proofs.Machines.PlainStates.{stands_actions, stands_open}
 
 -- where there are no more, there are at most so many more

@@ -1,7 +1,7 @@
 -- The plain state that an engine stands for.
 use Rattle.std.proofs.Common.{◌≡◌, ℕ, ◌/◌, Bool, true, false, List, [], ◌∷◌, length, refl, ap, arith, nat_lt}
 use Rattle.worker_rules.proofs.Common.{Core, Frame, MayRead, ReadsFrom, Stands, View, in_transaction, is_inside, is_memory, is_open, memory_of, stands_for}
-pub use Rattle.tx_runs.proofs.EngineStates.{stands_actions, stands_arena, stands_blocks, stands_mode, stands_open}
+pub use Rattle.run_rules.proofs.EngineStates.{stands_actions, stands_arena, stands_blocks, stands_mode, stands_open}
 
 none_inside : (bs : List Frame) → is_inside bs ≡ false → length bs ≡ 0
 none_inside [] o = refl

@@ -1,11 +1,7 @@
 -- A call by which the innermost block has gone back to its begin.
 use Rattle.std.proofs.Common.{◌≡◌, ℕ, ◌&&◌, not, Bool, true, false, length, refl, sym, ap, subst, ◌∙◌, arith}
-use Rattle.worker_rules.proofs.Common.{Agrees, Core, Idle, Restarted, Served, Stands, Start, State, View, reads_of, registers, stands_for}
-use Rattle.std.proofs.lemmas.Bool.{lt-ltb}
+use Rattle.worker_rules.proofs.Common.{Agrees, Core, Idle, Restarted, Served, Stands, Start, State, View, again_long, can_restart, idle_so, lt-ltb, may_validate, reads_of, registers, stands_for, validates_none}
 use Rattle.norec_core.specs.Order.{stage_at}
-use Rattle.norec_core.specs.RestartingCalls.{can_restart, may_validate}
-use Rattle.tx_runs.proofs.RestartedLengths.{again_long}
-use Rattle.norec_core.proofs.Engines.RestartingCalls.{idle_so, validates_none}
 use Rattle.worker_rules.proofs.Machines.PlainActions.{agrees_cut}
 use Rattle.worker_rules.proofs.Machines.PlainStates.{stands_arena}
 

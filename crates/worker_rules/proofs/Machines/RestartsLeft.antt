@@ -1,7 +1,7 @@
 -- How often inner blocks may still go back to their begins, over a call.
 use Rattle.std.proofs.Common.{◌≡◌, ℕ, ◌<◌, ◌≤◌, true, false, ◌∙◌, arith}
 use Rattle.worker_rules.proofs.Common.{Answer, Core, Replied, Reply, Restarted, Served, Start, View, came_restarted, in_transaction, restarts_left}
-use Rattle.tx_runs.proofs.RestartsLeft.{left_inside, left_most, left_outside}
+use Rattle.run_rules.proofs.RestartsLeft.{left_inside, left_most, left_outside}
 
 module _ (s : Start) (v : View) (e : Core) where
   -- never more than there may be in one transaction

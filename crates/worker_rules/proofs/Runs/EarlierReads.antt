@@ -1,10 +1,6 @@
 -- What a call of an open transaction found, over the memory of the position that it comes to.
 use Rattle.std.proofs.Common.{◌≡◌, ℕ, ◌/◌, ◌&&◌, Bool, true, false, not, List, [], ◌∷◌, length, refl, sym, true≢false, ap, subst, ◌∙◌, arith}
-use Rattle.worker_rules.proofs.Common.{Agrees, Answer, Core, Frame, IsMemory, MayRead, Meets, ReadsFrom, Replied, Reply, Served, Stands, Start, State, View, came_over, depth_after, in_transaction, is_memory, left_over, memory_in, memory_of, recoded, reply, stands_for, state_in, stood}
-use Rattle.norec_core.specs.Stands.{blocks_over}
-use Rattle.norec_core.proofs.Replies.AnsweredEngines.{told_plainly}
-use Rattle.tx_player.specs.Depth.{is_code}
-use Rattle.tx_runs.proofs.PlainCalls.{AllSaved, CanGoBack, depth_then}
+use Rattle.worker_rules.proofs.Common.{Agrees, AllSaved, Answer, CanGoBack, Core, Frame, IsMemory, MayRead, Meets, ReadsFrom, Replied, Reply, Served, Stands, Start, State, View, blocks_over, came_over, depth_after, depth_then, in_transaction, is_code, is_memory, left_over, memory_in, memory_of, recoded, reply, stands_for, state_in, stood, told_plainly}
 use Rattle.worker_rules.proofs.Runs.LaterCommits.{memory_later}
 use Rattle.worker_rules.proofs.Machines.PlainStates.{stands_blocks}
 

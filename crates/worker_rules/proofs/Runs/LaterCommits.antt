@@ -1,13 +1,11 @@
 -- A run over commits that were seen later, and with one attempt more.
 use Rattle.std.proofs.Common.{◌≡◌, ℕ, zero, suc, ◌+◌, ◌≤◌, Bool, true, false, if◌then◌else◌, List, [], ◌∷◌, ◌++◌, length, take, Some, refl, sym, ap, ◌∙◌, ◌*◌, ◌<◌, arith, length-append}
-use Rattle.worker_rules.proofs.Common.{AreOver, Attempt, Between, Course, HasRun, IsLeft, IsTryAt, Rules, View, Went, after_try, alone, begins_at, bytes_at, bytes_of, is_committed, known_by, memory_of, now_at, positions}
+use Rattle.worker_rules.proofs.Common.{AreLeft, AreOver, AreOwn, AreSince, Attempt, Between, Course, HasRun, IsLeft, IsTryAt, Rules, View, Went, after_try, alone, begins_at, bytes_at, bytes_of, is_committed, known_after, known_by, memory_of, now_at, outrun_later, outrun_more, positions}
 use Rattle.shared_words.specs.Commits.{StartsWith, after, memory_at}
 use Rattle.call_rules.proofs.LaterViews.{went_on}
-use Rattle.tx_attempts.proofs.LaterClocks.{outrun_later, outrun_more}
 use Rattle.tx_runs.proofs.RunLists.{run_more, run_still}
-use Rattle.tx_runs.proofs.RestartLists.{few_more}
+use Rattle.run_rules.proofs.RestartLists.{few_more}
 use Rattle.tx_attempts.specs.declared.attempt.Outcome.TheVariants.{Conflict, Unfinished}
-use Rattle.worker_rules.specs.Positions.{AreLeft, AreOwn, AreSince, known_after}
 
 -- ## Memories
 

@@ -1,12 +1,8 @@
 -- The open attempt's block ends with its last call.
 use Rattle.std.proofs.Common.{◌≡◌, ℕ, suc, ◌/◌, ◌<◌, ◌≤◌, Bool, true, false, if◌then◌else◌, List, [], ◌∷◌, ◌++◌, length, map, Some, refl, sym, true≢false, ap, subst, ◌∙◌, arith, append_assoc}
-use Rattle.worker_rules.proofs.Common.{Account, Actions, Attempt, CallRecord, Core, Course, EndsAs, HasRun, IsMadeAlone, IsRunning, IsTryAt, MayRead, Obeys, Outcome, Ran, Replied, Rules, Stands, Start, State, View, Went, after, after_try, alone, answered_all, begin_code, bytes_at, closes_as, commits_known, depth_after, in_transaction, is_committed, is_done, is_open, memory_of, now_at, positions, ran_on, reply, stands_for, stood, telling}
+use Rattle.worker_rules.proofs.Common.{Account, Actions, Attempt, CallRecord, ClosedBy, Core, Course, EndsAs, HasRun, IsMadeAlone, IsRunning, IsTryAt, MayRead, Obeys, Outcome, Ran, Replied, Rules, Stands, Start, State, View, Went, after, after_try, alone, answered_all, begin_code, bytes_at, closes_as, closing_left, commits_known, depth_after, follows, in_transaction, is_committed, is_done, is_open, memory_of, now_at, positions, ran_closes, ran_on, reply, reply_as, stands_for, stood, telling, try_closes}
 use Rattle.tx_attempts.proofs.AloneCalls.{player_snoc}
-use Rattle.tx_attempts.specs.Attempts.{ClosedBy}
-use Rattle.tx_attempts.specs.Opacity.{follows}
 use Rattle.tx_attempts.specs.declared.attempt.Outcome.TheVariants as outcomes
-use Rattle.tx_runs.proofs.Tries.{closing_left, try_closes}
-use Rattle.tx_runs.proofs.TriesTold.{ran_closes, reply_as}
 use Rattle.worker_rules.proofs.Runs.LaterCommits.{known_more, positions_more}
 use Rattle.worker_rules.proofs.Runs.OpenRuns.{depth_now, ends_told, led, made_open, nested_now, open_whole, run_ended, stood_whole, whole}
 use Rattle.worker_rules.proofs.Shapes.{closed, ended_at, row_with}

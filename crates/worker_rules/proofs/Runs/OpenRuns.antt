@@ -1,12 +1,8 @@
 -- A run whose open attempt is over, or is told as it stands.
 use Rattle.std.proofs.Common.{◌≡◌, ℕ, suc, ◌+◌, ◌*◌, ◌/◌, ◌<◌, ◌≤◌, Bool, true, false, if◌then◌else◌, List, [], ◌∷◌, ◌++◌, length, Some, refl, sym, true≢false, ap, subst, ◌∙◌, arith, append-nil}
-use Rattle.worker_rules.proofs.Common.{Account, Attempt, Call, Core, Course, EndsAs, Frame, HasRun, IsDeep, IsLeft, IsMadeAlone, IsNested, IsRunning, IsTryAt, LacksClock, MayRead, Obeys, Outcome, Ran, ReadsFrom, Replied, Rules, Stands, State, View, Went, after_try, alone, begin_code, begins_at, bytes_at, bytes_of, depth_after, in_transaction, is_committed, is_done, is_inside, is_open, known_by, memory_of, now_at, opened, plays, positions, ran_on, stands_for, stood, telling, undone, whole_then}
+use Rattle.worker_rules.proofs.Common.{Account, Attempt, Call, Core, Course, EndsAs, Frame, HasRun, IsDeep, IsLeft, IsMadeAlone, IsNested, IsRunning, IsTryAt, LacksClock, MayRead, Obeys, Outcome, Ran, ReadsFrom, Replied, Rules, Stands, State, View, Went, after_try, alone, alone_led, begin_code, begins_at, breaks_of, bytes_at, bytes_of, depth_after, in_transaction, is_committed, is_done, is_inside, is_open, known_by, made_alone, memory_of, now_at, opened, plays, positions, ran_of, ran_on, ran_stays, ran_stops, stands_for, stood, stops_as, telling, told_so, try_of_room, try_stops, undone, whole_then}
 use Rattle.tx_attempts.specs.Alone.{state_then}
-use Rattle.tx_attempts.specs.Opacity.{ran_of}
 use Rattle.tx_attempts.specs.declared.attempt.Outcome.TheVariants as outcomes
-use Rattle.tx_attempts.specs.Restarts.{breaks_of}
-use Rattle.tx_runs.proofs.Tries.{alone_led, try_of_room, try_stops}
-use Rattle.tx_runs.proofs.TriesTold.{made_alone, ran_stays, ran_stops, stops_as, told_so}
 use Rattle.worker_rules.proofs.Runs.LaterCommits.{positions_more, run_later, run_with}
 use Rattle.worker_rules.proofs.Machines.PlainStates.{stands_open}
 use Rattle.worker_rules.proofs.Shapes.{ended_at}

@@ -1,13 +1,11 @@
 -- The open attempt over a call of its transaction, by its answer: it is the engine's still, with the call, or cut to the begin of its innermost block.
 use Rattle.std.proofs.Common.{inl, inr, ◌≡◌, ℕ, ◌/◌, ◌&&◌, ◌≤◌, Bool, true, false, not, List, [], ◌∷◌, ◌++◌, length, Some, refl, sym, true≢false, ap, subst, ◌∙◌, arith, length-append}
-use Rattle.worker_rules.proofs.Common.{Account, Actions, Agrees, Answer, Attempt, Core, Course, Frame, IsMemory, IsOpenTry, IsRunning, IsTry, LogRow, MayRead, Meets, Obeys, ReadsFrom, Replied, Reply, Restarted, Rules, Savepoint, Served, Stands, Start, State, View, Ways, after, came_restarted, cut_back, in_transaction, is_inside, is_memory, is_open, memory_of, reply, reply_cases, rests, savepoints_after, stands_for, stood, went_self, whole_then}
-use Rattle.norec_core.specs.Proceeds.{AreRead}
+use Rattle.worker_rules.proofs.Common.{Account, Actions, Agrees, Answer, AreRead, Attempt, Core, Course, Frame, IsMemory, IsOpenTry, IsRunning, IsTry, LogRow, MayRead, Meets, Obeys, ReadsFrom, Replied, Reply, Restarted, Rules, Savepoint, Served, Stands, Start, State, View, Ways, after, back_on, came_restarted, cut_back, in_transaction, is_inside, is_memory, is_open, memory_of, reply, reply_cases, rests, savepoints_after, stands_for, stood, went_self, whole_then}
 use Rattle.call_rules.proofs.Calls.Closes.{read_so_far}
-use Rattle.tx_runs.proofs.CallsAlone.{whole_so}
-use Rattle.tx_runs.proofs.TriesBack.{back_on}
-use Rattle.tx_runs.proofs.TriesHeld.{enters_on, held_on}
-use Rattle.tx_runs.proofs.TriesReply.{replies_on}
-use Rattle.tx_runs.proofs.TriesStep.{moves_on, told_on}
+use Rattle.run_rules.proofs.CallsAlone.{whole_so}
+use Rattle.run_rules.proofs.TriesHeld.{enters_on, held_on}
+use Rattle.run_rules.proofs.TriesReply.{replies_on}
+use Rattle.run_rules.proofs.TriesStep.{moves_on, told_on}
 use Rattle.worker_rules.proofs.Machines.LastEvents.{IsLast}
 use Rattle.worker_rules.proofs.Machines.PlainStates.{stands_actions}
 use Rattle.worker_rules.proofs.Runs.EarlierReads.{met_here, position_read, told_plain}

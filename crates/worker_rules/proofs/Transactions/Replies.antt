@@ -1,19 +1,14 @@
 -- A call of the open transaction is answered: it goes on, or is over.
 use Rattle.std.proofs.Common.{inl, inr, ◌≡◌, ℕ, suc, ◌/◌, Bool, true, false, if◌then◌else◌, List, [], ◌∷◌, ◌++◌, length, Some, refl, sym, true≢false, ap, subst, ◌∙◌, arith, append-nil}
-use Rattle.worker_rules.proofs.Common.{Abort, Account, Agrees, Block, Call, Code, Commit, Committed, Core, Course, Done, Frame, IsNested, IsRunning, MayRead, Meets, Obeys, Replied, Reply, Restarted, Rules, Served, Stands, Start, State, View, after, bytes_at, came_over, cut_back, depth_after, in_transaction, is_abort, is_open, memory_of, none_inside, reply, savepoints_after, shut_revocable, stands_for, state_in, stood}
+use Rattle.worker_rules.proofs.Common.{Abort, Account, Agrees, Block, Call, Code, Commit, Committed, Core, Course, Done, Frame, IsNested, IsRunning, MayRead, Meets, Obeys, Replied, Reply, Restarted, Rules, Served, Stands, Start, State, View, aborts_close, after, bytes_at, came_over, commit_reply, cut_back, depth_after, in_transaction, is_abort, is_cut, is_open, memory_of, mine_if, nested_again, none_inside, renewed_long, reply, savepoints_after, shut_revocable, stands_for, state_in, stood}
 use Rattle.norec_core.specs.Order.{stage_at}
-use Rattle.call_rules.specs.Served.{mine_if}
 use Rattle.tx_attempts.specs.declared.attempt.Outcome.TheVariants as outcomes
-use Rattle.tx_runs.proofs.PlainCalls.{aborts_close, commit_reply}
-use Rattle.tx_runs.proofs.Players.{nested_again}
-use Rattle.tx_runs.proofs.TriesBack.{is_cut}
 use Rattle.worker_rules.proofs.Runs.LaterCommits.{run_later}
 use Rattle.worker_rules.proofs.Runs.OpenCloses.{Closes, closes_running}
 use Rattle.worker_rules.proofs.Runs.OpenRuns.{depth_now, nested_now}
 use Rattle.worker_rules.proofs.Runs.EarlierReads.{came_stood, depth_told, met_here, position_read, told_plain}
 use Rattle.worker_rules.proofs.Machines.PlainStates.{stands_actions, stands_arena, stands_blocks, stands_open, stands_shut}
 use Rattle.worker_rules.proofs.Machines.LastEvents.{IsLast}
-use Rattle.tx_runs.proofs.RestartedLengths.{renewed_long}
 use Rattle.worker_rules.proofs.Shapes.{closed, ended_at, goes_on, replied_row, row_with, with_room}
 use Rattle.worker_rules.proofs.Transactions.OpenTries.{try_back, try_on}
 

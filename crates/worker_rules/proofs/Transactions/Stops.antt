@@ -1,10 +1,8 @@
 -- The open attempt ends without its block, or is told as it stands.
 use Rattle.std.proofs.Common.{◌≡◌, ℕ, ◌/◌, ◌≤◌, Bool, true, false, List, [], ◌∷◌, ◌++◌, length, map, Option, Some, refl, sym, true≢false, ap, subst, ◌∙◌, arith, if◌then◌else◌}
-use Rattle.worker_rules.proofs.Common.{Account, Actions, Agrees, Answer, CallRecord, Conflict, Core, Course, Full, HasRun, Idle, IsMemory, IsNested, IsRunning, IsUndone, LacksClock, MayRead, Obeys, Ran, Rules, Served, Stands, Start, State, View, Went, after, after_try, after_undoing, alone, answered_all, begin_code, bytes_at, closes_as, in_transaction, is_memory, memory_of, nested_outside, none_inside, now_at, positions, reply, rolled_back, stands_for, stood, telling, undone, went_self}
-use Rattle.tx_attempts.specs.Opacity.{takes_clock}
+use Rattle.worker_rules.proofs.Common.{Account, Actions, Agrees, Answer, CallRecord, Conflict, Core, Course, Full, HasRun, Idle, IsMemory, IsNested, IsRunning, IsUndone, LacksClock, MayRead, Obeys, Ran, Rules, Served, Stands, Start, State, View, Went, after, after_try, after_undoing, alone, answered_all, begin_code, bytes_at, closes_as, in_transaction, is_memory, lacks_clock, memory_of, nested_outside, none_inside, now_at, positions, reply, rolled_back, stands_for, stood, takes_clock, telling, undone, went_self}
 use Rattle.tx_attempts.specs.declared.attempt.Outcome.TheVariants as outcomes
-use Rattle.tx_runs.proofs.GivenUp.{given_up_as}
-use Rattle.tx_runs.proofs.Tries.{lacks_clock}
+use Rattle.run_rules.proofs.GivenUp.{given_up_as}
 use Rattle.worker_rules.proofs.Machines.ClockCalls.{wants_revocable, wants_taking}
 use Rattle.worker_rules.proofs.Runs.OpenRuns.{alone_told, arena_given_up, led, led_told, made_open, open_whole, ran_given_up, ran_standing, stood_whole, stop_ended, stop_mine, whole}
 use Rattle.worker_rules.proofs.Runs.EarlierReads.{position_read}

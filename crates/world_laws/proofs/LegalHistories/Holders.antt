@@ -1,11 +1,8 @@
 -- Who holds the clock, as a history counts it.
 use Rattle.std.proofs.Common.{inl, inr, ◌≡◌, ℕ, zero, suc, ◌+◌, ◌<◌, ◌≤◌, Bool, true, false, true≢false, ◌&&◌, All, List, [], ◌∷◌, ◌++◌, Option, None, Some, slice_get, refl, sym, ap, ◌∙◌, arith}
-use Rattle.world_laws.proofs.Common.{Actor, All-cons, All-head, All-nil, All-tail, AreEnded, AreTied, Attempt, Committed, Full, Outcome, Rules, Unfinished, World, active_of, alone, cases_Bool, count_holding, depth_of, in_transaction, is_holding, one_where, opens, same_Some, with_open}
-use Rattle.tx_attempts.specs.declared.attempt.Outcome.TheVariants.{ReadOnly, Cancelled, Conflict, NoMemory}
+use Rattle.world_laws.proofs.Common.{Actor, All-cons, All-head, All-nil, All-tail, AreEnded, AreFrom, AreTied, Attempt, Cancelled, Committed, Conflict, Full, Outcome, ReadOnly, Rules, Unfinished, World, active_of, alone, cases_Bool, count_holding, depth_of, in_transaction, is_holding, is_unfinished, memory_at, one_where, opens, row_is_of, same_Some, with_open}
+use Rattle.tx_attempts.specs.declared.attempt.Outcome.TheVariants.{NoMemory}
 use Rattle.tx_history.specs.declared.history.History.{History}
-use Rattle.tx_history.specs.Legal.{is_unfinished, memory_at}
-use Rattle.world_rules.specs.Rows.{AreFrom}
-use Rattle.world_rules.proofs.Tries.Stages.{row_is_of}
 
 -- ## Counts of two lists
 

@@ -1,7 +1,6 @@
 -- The history of a world is within the limits of a run.
 use Rattle.std.proofs.Common.{ℕ, ◌+◌, ◌/◌, ◌<◌, ◌≤◌, All, List, [], ◌∷◌, ◌++◌, length, get_or, Some, arith}
-use Rattle.world_laws.proofs.Common.{All-cons, All-nil, AreOfActors, AreOpaque, Attempt, Rules, Version, World, attempts_of, bytes_at, first_of, observed, of_thread, there_is, told_of}
-use Rattle.std.proofs.lemmas.List.{length-replicate}
+use Rattle.world_laws.proofs.Common.{All-cons, All-nil, AreOfActors, AreOpaque, Attempt, Rules, Version, World, attempts_of, bytes_at, first_of, length-replicate, observed, of_thread, there_is, told_of}
 use Rattle.tx_history.specs.Bounds.{AreLimited, HasArenaWidth, IsLimited}
 use Rattle.tx_history.proofs.ToldRestarts.{may_tell}
 use Rattle.tx_runs.specs.Restarts.{RestartAtMost}

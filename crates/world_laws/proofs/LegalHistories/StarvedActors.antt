@@ -1,9 +1,7 @@
 -- The open attempt of an actor that found no memory is irrevocable; so there is none where no such attempt is.
 use Rattle.std.proofs.Common.{inl, inr, ◌≡◌, ℕ, Bool, true, false, All, List, [], ◌∷◌, nat_lt, None, Some, slice_get, slice_set, Result, sym, ap, subst, ◌∙◌}
-use Rattle.world_laws.proofs.Common.{Actor, All-append, All-cons, All-nil, AreEnded, Attempt, Goes, GoesOnAfter, IsEvent, IsFed, IsNew, Leads, NoMemory, Outcome, Rows, Rules, Tries, World, WorldFault, active_of, begins, between, both_ways, cases_Bool, ending_at, ending_of, is_event, none-some, opens, option_and_then, outrun, over, runs, set_place, shut_out, turned_away, waits_there}
+use Rattle.world_laws.proofs.Common.{Actor, All-append, All-cons, All-nil, AreEnded, Attempt, FedLeaveNoneOpen, Goes, GoesOnAfter, IsEvent, IsFed, IsNew, Leads, NoMemory, Outcome, Prior, Rows, Rules, Tries, TriesAgain, World, WorldFault, active_of, begins, between, both_ways, cases_Bool, ending_at, ending_of, is_event, none-some, opens, option_and_then, outrun, over, runs, set_place, shut_out, turned_away, waits_there}
 use Rattle.tx_attempts.specs.declared.attempt.Outcome.TheVariants as outcomes
-use Rattle.world_rules.proofs.Common.{Prior, TriesAgain}
-use Rattle.world_laws.specs.Starved.{FedLeaveNoneOpen}
 use Rattle.world_laws.proofs.LegalHistories.Holders.{each_open, placed_there}
 
 -- ## One actor

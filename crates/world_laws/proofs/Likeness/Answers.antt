@@ -1,11 +1,8 @@
 -- What comes of a call is recorded alike of two actors that are alike.
 use Rattle.std.proofs.Common.{◌≡◌, ℕ, ◌/◌, ◌++◌, refl, sym, ap, subst, ◌∙◌}
-use Rattle.world_laws.proofs.Common.{Actor, Answer, Answers, AreAlike, Asks as Steps, Call, Current, Next, Outside, Rows, Rules, Tells, Waits, stage_of, tally_of, told}
-use Rattle.world_rules.proofs.Common.{Records, Stage, Taken, stand_of, took_in}
-use Rattle.world_rules.specs.Records.{status_after}
-use Rattle.world_rules.specs.Stages.{moved_to}
-use Rattle.tx_runs.specs.declared.player_run.Current.TheVariants.{Begins, Within}
-use Rattle.tx_runs.specs.Tallies.{outside, begins, within}
+use Rattle.world_laws.proofs.Common.{Actor, Answer, Answers, AreAlike, Asks as Steps, Begins, Call, Current, Next, Outside, Records, Rows, Rules, Stage, Taken, Tells, Waits, moved_to, stage_of, stand_of, status_after, tally_of, told, took_in, within}
+use Rattle.tx_runs.specs.declared.player_run.Current.TheVariants.{Within}
+use Rattle.tx_runs.specs.Tallies.{outside, begins}
 
 -- two actors are alike, and where the same attempts had ended the same ones have
 pub record GoAlike {P : Type 0} (r s r' s' : Rows) (a' b' : Actor P) : Type 0 where

@@ -1,12 +1,9 @@
 -- Two actors that are alike are alike after a step, and after a call of their players.
 use Rattle.std.proofs.Common.{◌≡◌, ℕ, ◌/◌, Some, unwrap_or, refl, sym, ap, subst, ◌∙◌}
-use Rattle.world_laws.proofs.Common.{Actor, AreAlike, Call, Cells, Core, Next, Ready, Rows, Rules, Step, TakesIn, Tells, Waits, stage_of, tally_of, told}
-use Rattle.world_rules.proofs.Common.{IsResumed, begins_again, found}
-use Rattle.norec_core.specs.Core.{irrevocable_room}
+use Rattle.world_laws.proofs.Common.{Actor, AreAlike, Call, Calls, Cells, Core, Next, Ready, Rows, Rules, Step, TakesIn, Tally, Tells, Waits, begins_again, came, found, irrevocable_room, stage_of, tally_of, told}
+use Rattle.world_rules.proofs.Common.{IsResumed}
 use Rattle.norec_core.specs.Moves.{IsCalled}
 use Rattle.norec_core.proofs.Replies.Outcomes.{called_once, resumed_once}
-use Rattle.world_rules.specs.LocalWork.{Calls}
-use Rattle.tx_runs.specs.Tallies.{Tally, came}
 use Rattle.world_laws.proofs.Likeness.Answers.{GoAlike, told_alike, told_same}
 
 -- ## A step

@@ -1,12 +1,8 @@
 -- Two worlds that are the same still are after equal schedules, and after one actor has run to its end.
 use Rattle.std.proofs.Common.{◌≡◌, ℕ, zero, suc, ◌+◌, ◌<◌, cond, IsTrue, List, [], ◌∷◌, ◌++◌, count_by, length, slice_get, Option, None, Some, Result, Err, IsSome, inl, inr, refl, sym, ap, subst, ◌∙◌, arith}
-use Rattle.world_laws.proofs.Common.{Actor, AreAlike, Cells, End, Finished, GaveUp, Goes, Leads, NoMemory, Rules, SameWorld, Takes, World, WorldFault, cases_lt, ending_at, event_result, is_event, open_in, opens, waits_at, with_open}
+use Rattle.world_laws.proofs.Common.{Actor, AreAlike, Cells, End, Finished, GaveUp, Goes, Leads, NoMemory, Rules, SameWorld, ShowSame, Takes, World, WorldFault, bytes_of, cases_lt, ending_at, event_result, is_event, is_starved, open_in, opens, waits_at, waits_not_ended, with_open}
 use Rattle.std.proofs.lemmas.List.Sums.{sum_by-append}
-use Rattle.world_rules.proofs.Common.{bytes_of}
 use Rattle.world_rules.specs.declared.fault.WorldFault.TheVariants as faults
-use Rattle.world_rules.specs.WorldEvents.{is_starved}
-use Rattle.world_laws.specs.SameWorlds.{ShowSame}
-use Rattle.world_rules.proofs.Events.WorldEvents.{waits_not_ended}
 use Rattle.world_laws.proofs.Likeness.Worlds.{waits_same, ending_same, goes_alike}
 
 -- as many actors, each of them alike, have the same open attempts

@@ -1,7 +1,6 @@
 -- Two worlds of equal beginning, before their first event, are the same.
 use Rattle.std.proofs.Common.{◌≡◌, ℕ, ◌/◌, List, [], ◌∷◌, ◌++◌, length, Some, slice_get, sym, ap, subst, ◌∙◌, arith}
-use Rattle.world_laws.proofs.Common.{Actor, AreAlike, Attempt, Core, HasStarted, IsNew, Limits, Rules, SameOpening, SameWorld, World, ending_of, option_and_then, slice_get_within, tally_of, there_is}
-use Rattle.world_rules.proofs.Common.{first_engine, words_of}
+use Rattle.world_laws.proofs.Common.{Actor, AreAlike, Attempt, Core, HasStarted, IsNew, Limits, Rules, SameOpening, SameWorld, World, ending_of, first_engine, option_and_then, slice_get_within, tally_of, there_is, words_of}
 use Rattle.world_laws.proofs.Likeness.Work.{IsFed, work_alike}
 
 pub none_first : (xs ys : List Attempt) → xs ++ ys ≡ [] → xs ≡ []

@@ -1,7 +1,6 @@
 -- Of two worlds that are the same, one event of the same actor makes two that are the same.
 use Rattle.std.proofs.Common.{◌≡◌, ◌⊎◌, ℕ, Bool, true, false, IsTrue, List, Option, None, Some, Result, Ok, Err, IsSome, slice_get, slice_set, inl, inr, refl, sym, ap, subst, ◌∙◌, arith}
-use Rattle.world_laws.proofs.Common.{Actor, AreAlike, Cells, Goes, IsEvent, Rules, SameOpening, SameWorld, Status, Step, World, WorldFault, ending_at, ending_of, event_result, is_event, is_waiting, option_and_then, set_place, slice_get-set_same, slice_get_within as within_of, there_is, waits_at, waits_there}
-use Rattle.world_rules.proofs.Common.{cells_after, counted, waiting_step}
+use Rattle.world_laws.proofs.Common.{Actor, AreAlike, Cells, Goes, IsEvent, Rules, SameOpening, SameWorld, Status, Step, World, WorldFault, cells_after, counted, ending_at, ending_of, event_result, is_event, is_waiting, option_and_then, set_place, slice_get-set_same, slice_get_within as within_of, there_is, waiting_step, waits_at, waits_there}
 use Rattle.world_rules.specs.declared.fault.WorldFault.TheVariants as faults
 use Rattle.world_laws.proofs.Likeness.Work.{IsFed, event_alike}
 

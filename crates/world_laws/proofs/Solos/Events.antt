@@ -1,10 +1,8 @@
 -- An actor that has its world to itself goes on so over an event.
 use Rattle.std.proofs.Common.{◌≡◌, inl, inr, ℕ, ◌+◌, ◌/◌, ◌%◌, ◌≤◌, true, false, nat_lt, if◌then◌else◌, List, [], ◌∷◌, ◌++◌, Option, None, Some, refl, sym, ap, subst, ◌∙◌, arith, eq-eqb}
-use Rattle.world_laws.proofs.Common.{Actor, AreOfActors, AreSole, Attempt, Beginning, Between, CallRecord, End, Ended, EndsWith, Finished, GaveUp, GoesOnAfter, IsFirstTry, IsIdle, IsKeptOut, IsOnWay, IsRunOf, IsSole, NoMemory, Outcome, Props, Rows, Rules, StandsSole, Tries, active_of, after_try, begin_of, begins, between, bytes_at, current_of, ending_of, is_committed, is_done, may_go, of_thread, one_if, outrun, over, pending_of, run_after, runs, same_Some, shut_out, try_begun, turned_away}
-use Rattle.world_rules.proofs.Common.{Continues, EndsAt, IsBetween, begins_at, prior_of}
+use Rattle.world_laws.proofs.Common.{Actor, AreOfActors, AreSole, Attempt, Beginning, Between, CallRecord, Continues, End, Ended, EndsAt, EndsIt, EndsWith, Extends, Finished, GaveUp, GoesBack, GoesOnAfter, IsBetween, IsFirstTry, IsIdle, IsKeptOut, IsOnWay, IsRunOf, IsSole, NoMemory, Outcome, Props, Rows, Rules, StandsSole, Tries, active_of, after_try, begin_of, begins, begins_at, between, bytes_at, current_of, ending_of, is_committed, is_done, may_go, of_thread, one_if, outrun, over, pending_of, prior_of, run_after, runs, same_Some, shut_out, try_begun, turned_away}
 use Rattle.tx_attempts.specs.declared.attempt.Outcome.TheVariants as outcomes
 use Rattle.world_rules.proofs.Tries.ToldTries.{none_again}
-use Rattle.world_rules.specs.Tries.{EndsIt, Extends, GoesBack}
 use Rattle.tx_attempts.specs.Restarts.{open_in}
 
 -- ## Lists of attempts

@@ -1,11 +1,7 @@
 -- A player that runs alone, block by block.
 use Rattle.std.proofs.Common.{◌≡◌, ℕ, zero, suc, ◌+◌, ◌<◌, ◌≤◌, Bool, true, false, not, ◌&&◌, ◌||◌, nat_le, is_none, if◌then◌else◌, List, [], ◌∷◌, ◌++◌, map, Option, None, Some, refl, sym, ap, subst, ◌∙◌, arith, cond}
-use Rattle.world_laws.proofs.Common.{Begin, Beginning, Call, CallRecord, Finished, Full, GaveUp, IsAlone, Obeys, Progress, Props, Reply, Rules, Solo, State, Unfinished, aborts, after, and_left, and_right, answers, answers_within, before_taking, begin_code, begin_of, begin_within, both_ways, cond-false, cond-true, ended_as, false_from_ne_true, is_abort, is_open, left_open, one_if, opened, outside, pair_of, player_then, refusal, reply, row_of, same_Some, solo_within, state_then, stopped, takes_clock, turn, unbroken, with_first}
-use Rattle.itm_model.specs.Runs.{state_after}
-use Rattle.world_laws.specs.Solo.{entry_of, player_after, passed, block_then, limited_then, within_limit, begun_then}
-use Rattle.tx_attempts.proofs.AloneCalls.{asked}
+use Rattle.world_laws.proofs.Common.{Begin, Beginning, Call, CallRecord, Finished, Full, GaveUp, IsAlone, Obeys, Progress, Props, Reply, Rules, Solo, State, Unfinished, aborts, after, and_from, and_left, and_right, answers, answers_within, asked, before_taking, begin_code, begin_of, begin_within, begun_then, block_then, both_ways, cond-false, cond-true, ended_as, entry_of, false_from_ne_true, is_abort, is_open, left_open, limited_then, one_if, opened, or_from, outside, pair_of, passed, player_after, player_then, refusal, reply, row_of, same_Some, solo_within, state_after, state_then, stopped, takes_clock, turn, unbroken, with_first, within_limit}
 use Rattle.world_laws.proofs.Solos.TakingCalls.{goes_opened, marked_opened, marked_then, next_takes, none_takes}
-use Rattle.std.proofs.lemmas.Bool.{and_from, or_from}
 
 pub state_pairs : (deepest : ℕ) (s : State) (xs : List CallRecord) → state_after deepest s (map (λ (c : Call × Reply). c.0) (map pair_of xs)) ≡ state_then deepest unbroken s xs
 state_pairs deepest s [] = refl

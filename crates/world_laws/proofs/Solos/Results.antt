@@ -1,23 +1,12 @@
 -- What a world with one actor shows is what its player does alone.
 use Rattle.std.proofs.Common.{◌≡◌, ◌⊎◌, inl, inr, ℕ, zero, suc, ◌+◌, ◌/◌, ◌%◌, ◌≤◌, Bool, true, false, ◌&&◌, ◌==◌, nat_le, if◌then◌else◌, List, [], ◌∷◌, ◌++◌, length, map, replicate, Option, None, Some, slice_get, refl, sym, ap, subst, ◌∙◌, arith, append-nil, le-leb}
-use Rattle.world_laws.proofs.Common.{Actor, Again, AreOfActors, AreOpaque, AreSole, AreTied, Attempt, Between, Call, CommitsInOrder, End, EndsAs, EndsWith, Finished, GaveUp, IsAlone, IsFirstTry, IsIdle, IsKeptOut, IsOnWay, IsRunOf, IsSole, NoMemory, Obeys, Outcome, Reply, Rules, ShowsAlone, StandsSole, State, Step, World, active_of, after, alone, and_left, and_right, answers, attempts_of, begin_code, begin_of, begin_within, both_ways, breaks_of, bytes_at, committed_at, cond-false, cond-true, current_of, ending_at, ending_of, first_of, in_transaction, is_committed, is_open, left_open, observed, odd_or_even, of_thread, one_if, open_in, opened, opens, option_and_then, pair_of, pending_of, player_then, reply, row_of, row_open, row_shut, row_unfinished, run_after, same_Some, solo_within, state_then, stopped, takes_clock, unbroken, with_all, with_first, with_open}
-use Rattle.std.proofs.lemmas.List.{map-append}
-use Rattle.std.proofs.lemmas.Bool.{lt-leb}
+use Rattle.world_laws.proofs.Common.{Actor, Again, AreOfActors, AreOpaque, AreSole, AreTied, Attempt, Between, Call, CommitsInOrder, DoneBy, End, EndsAs, EndsWith, Finished, GaveUp, IsAlone, IsFirstTry, IsIdle, IsKeptOut, IsOnWay, IsRunOf, IsSole, NoMemory, Obeys, Outcome, Reply, Rules, ShowsAlone, StandsSole, State, Step, World, active_of, after, alone, alone_whole, and_left, and_right, answers, attempts_of, begin_code, begin_of, begin_within, begins_alone, both_ways, breaks_after, breaks_in, breaks_of, bytes_at, calls_of, committed_at, cond-false, cond-true, current_of, ending_at, ending_of, first_of, gets_none, gets_through, in_transaction, is_committed, is_open, left_open, lt-leb, map-append, memory_of, observed, odd_or_even, of_thread, one_if, open_in, opened, opens, option_and_then, pair_of, pending_of, player_then, reply, row_of, row_open, row_shut, row_unfinished, run_after, run_still, same_Some, solo_within, state_then, state_through, stopped, takes_clock, unbroken, with_all, with_first, with_open, without_room}
 use Rattle.world_rules.proofs.Common.{IsBeforeTry, Row, StandsIn, stands_for, HasRow}
-use Rattle.itm_model.specs.Runs.{gets_through}
-use Rattle.world_laws.specs.Solo.{without_room}
-use Rattle.tx_attempts.specs.Restarts.{breaks_in}
-use Rattle.tx_attempts.specs.Attempts.{alone_whole, calls_of}
-use Rattle.itm_model.specs.Runs.{state_through}
 use Rattle.tx_runs.proofs.Begins.{before_led}
 use Rattle.tx_attempts.specs.declared.attempt.Outcome.TheVariants as outcomes
 use Rattle.world_laws.specs.SoFar.{IsBegun, IsSoFar, IsAll}
-use Rattle.world_laws.specs.ShownAlone.{DoneBy}
-use Rattle.world_rules.specs.World.{memory_of}
-use Rattle.tx_attempts.proofs.AloneCalls.{begins_alone, breaks_after, gets_none}
 use Rattle.world_laws.proofs.Solos.Players.{full_block, kept_out, open_block, no_block}
 use Rattle.world_rules.proofs.Commits.Memories.{bytes_still}
-use Rattle.tx_runs.proofs.RunLists.{run_still}
 use Rattle.world_laws.proofs.Solos.Events.{of_actors_first, of_thread_all}
 use Rattle.world_laws.proofs.Solos.Worlds.{even_free, even_shut}
 use Rattle.world_laws.proofs.Solos.Worlds.{HasSole}

@@ -1,16 +1,10 @@
 -- The run of an actor that has its world to itself is what its player does alone.
-use Rattle.tx_attempts.specs.Opacity.{ran_of}
 use Rattle.std.proofs.Common.{◌≡◌, ℕ, suc, ◌+◌, ◌<◌, ◌≤◌, ◌==◌, ◌&&◌, Bool, true, false, ◌%◌, drop, nat_le, nat_lt, if◌then◌else◌, List, [], ◌∷◌, ◌++◌, length, map, replicate, take, Option, None, Some, refl, sym, ap, subst, ◌∙◌, arith, eqb-true, eq-eqb, lt-ltb, leb-true}
-use Rattle.world_laws.proofs.Common.{Abort, AreSole, Attempt, Begin, Beginning, Between, Block, Call, CallRecord, Commit, Copy, CopyPair, EndsAs, Fill, In, IsAlone, IsFirstTry, IsRunOf, Mode, Obeys, Out, Outcome, Progress, Props, Refusal, Reply, Rules, Saved, Solo, State, UndoAction, Within, Write, aborts, after, after_try, after_unless, alone, answers, answers_on, answers_through, answers_within, append-nil, back_from, begin_code, begin_of, breaks_of, bytes_at, closed_in, committed_at, effect, ended_as, entered, false_from_ne_true, irrevocable_from, is_abort, is_committed, is_done, is_open, made_irrevocable, one_if, opened, option_map, or_parts, outside, pair_of, player_then, pushed, refusal, reply, rolled_back, row_of, run_after, solo_within, source_bytes, state_then, target_written, try_begun, turn, unbroken, undone_from, with_action, with_all, with_first, written}
+use Rattle.world_laws.proofs.Common.{Abort, AreSole, Attempt, Begin, Beginning, Between, Block, Call, CallRecord, ClosedBy, Commit, Copy, CopyPair, EndsAs, Fill, In, IsAlone, IsFirstTry, IsOpaque, IsRunOf, Log, LogBytes, Mode, Obeys, Out, Outcome, Progress, Props, Refusal, Reply, Rules, Saved, Solo, State, UndoAction, Within, Write, aborts, after, after_try, after_unless, alone, answered_all, answers, answers_on, answers_through, answers_within, append-nil, back_from, begin_code, begin_of, breaks_of, bytes_at, closed_in, committed_at, effect, ended_as, entered, false_from_ne_true, follows, handed, irrevocable_from, is_abort, is_at, is_committed, is_done, is_open, logged_in, made_irrevocable, memory_left, one_if, opened, option_map, or_parts, outside, pair_of, player_then, pushed, ran_of, refusal, replies_of, reply, rolled_back, row_of, run_after, solo_within, source_bytes, state_then, take-append-drop, target_written, try_begun, turn, unbroken, undone_from, with_action, with_all, with_first, written}
 use Rattle.std.proofs.Math.Nat.{add-zero}
-use Rattle.std.proofs.lemmas.List.{take-append-drop}
-use Rattle.world_rules.proofs.Common.{ClosedBy, IsOpaque, answered_all, follows, is_at, memory_left}
-use Rattle.itm_model.specs.Machine.{handed, logged_in}
 use Rattle.itm_types.specs.Access.{size_of}
-use Rattle.itm_types.specs.declared.call.Call.TheVariants.{Log, LogBytes}
 use Rattle.itm_types.specs.Slices.{with_slice}
 use Rattle.tx_attempts.specs.declared.attempt.Outcome.TheVariants as outcomes
-use Rattle.tx_attempts.specs.Attempts.{replies_of}
 use Rattle.world_laws.proofs.Solos.Players.{aborts_snoc, ended_block}
 use Rattle.world_laws.proofs.Solos.TakingCalls.{in_open}
 use Rattle.itm_types.specs.declared.call.ActionKind.TheVariants as kinds

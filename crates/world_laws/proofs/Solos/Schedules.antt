@@ -1,7 +1,6 @@
 -- A world that one player has to itself, after any schedule.
 use Rattle.std.proofs.Common.{◌≡◌, ℕ, zero, suc, List, [], ◌∷◌, ◌++◌, length, replicate, Result, refl, sym, ap, subst, ◌∙◌}
-use Rattle.world_laws.proofs.Common.{AreOpaque, AreTied, CommitsInOrder, Goes, IsNew, Leads, Obeys, Rules, ShowsAlone, Takes, World, WorldFault, observed}
-use Rattle.world_rules.proofs.Events.WorldEvents.{leads_on}
+use Rattle.world_laws.proofs.Common.{AreOpaque, AreTied, CommitsInOrder, Goes, IsNew, Leads, Obeys, Rules, ShowsAlone, Takes, World, WorldFault, leads_on, observed}
 use Rattle.world_laws.proofs.Solos.Worlds.{HasSole, sole_first, sole_goes}
 use Rattle.world_laws.proofs.Solos.Results.{shows_alone}
 

@@ -1,10 +1,8 @@
 -- The calls of an attempt before the first one that takes the clock.
 use Rattle.std.proofs.Common.{◌≡◌, ℕ, ◌%◌, Bool, true, false, not, ◌&&◌, ◌||◌, nat_lt, if◌then◌else◌, List, [], ◌∷◌, ◌++◌, length, map, replicate, Option, None, Some, refl, sym, ap, subst, ◌∙◌}
-use Rattle.world_laws.proofs.Common.{Abort, Begin, Block, Call, CallRecord, Commit, Copy, CopyPair, Fill, In, IsAlone, Mode, Out, Props, Refusal, Reply, Rules, Saved, State, UndoAction, Within, Write, after, after_unless, append-nil, back_from, before_taking, closed_in, effect, entered, false_from_ne_true, irrevocable_from, is_open, made_irrevocable, opened, option_map, or_parts, outside, pair_of, pushed, refusal, rolled_back, source_bytes, state_then, takes_clock, target_written, unbroken, undone_from, with_action, written}
-use Rattle.std.proofs.lemmas.Bool.{or_left}
+use Rattle.world_laws.proofs.Common.{Abort, Begin, Block, Call, CallRecord, Commit, Copy, CopyPair, Fill, In, IsAlone, Mode, Out, Props, Refusal, Reply, Rules, Saved, State, UndoAction, Within, Write, abort_for, after, after_unless, append-nil, back_from, before_taking, closed, closed_in, closed_irrevocable, copied, effect, entered, false_from_ne_true, irrevocable_from, is_open, keeps_any, keeps_innermost, made_irrevocable, needs_open, opened, option_map, or_else, or_left, or_parts, outside, pair_of, pushed, refusal, rolled_back, source_bytes, state_then, takes_clock, target_written, unbroken, undone_from, unless, with_action, with_undo, written}
 use Rattle.itm_types.specs.declared.call.Refusal.TheVariants.{IsIrrevocable, NoAbort}
 use Rattle.itm_types.specs.declared.call.ActionKind.TheVariants as kinds
-use Rattle.itm_model.specs.Machine.{abort_for, closed, closed_irrevocable, copied, keeps_any, keeps_innermost, needs_open, or_else, unless, with_undo}
 
 -- ## Irrevocable states
 

@@ -1,10 +1,9 @@
 -- A world that one player has to itself, from its beginning on.
 use Rattle.std.proofs.Common.{Result, ◌<◌, ◌≤◌, ◌≡◌, inl, inr, ℕ, ◌/◌, ◌%◌, true, false, List, [], ◌∷◌, ◌++◌, None, Some, slice_get, slice_set, length, refl, sym, ap, subst, ◌∙◌, arith}
-use Rattle.world_laws.proofs.Common.{Actor, AreOfActors, AreOpaque, AreTied, Attempt, CommitsInOrder, Finished, Goes, IsEvent, IsIdle, IsNew, IsRunOf, IsSole, Limits, Rules, SameOpening, World, WorldFault, active_of, attempts_of, both_ways, bytes_at, cases_Bool, ending_of, false_from_ne_true, first_of, in_transaction, is_event, is_waiting, may_go, none-some, observed, odd_or_even, of_thread, open_in, pending_of, row_open, row_shut, same_Some, slice_get-set_same, slice_get_within, waits_there}
+use Rattle.world_laws.proofs.Common.{Actor, AreOfActors, AreOpaque, AreTied, Attempt, CommitsInOrder, Finished, Goes, IsEvent, IsIdle, IsNew, IsRunOf, IsSole, Limits, Rules, SameOpening, World, WorldFault, active_of, attempts_of, both_ways, bytes_at, cases_Bool, ending_of, false_from_ne_true, first_of, in_transaction, is_event, is_waiting, may_go, none-some, observed, odd_or_even, of_thread, open_in, pending_of, row_open, row_shut, same_Some, slice_get-set_same, slice_get_within, waiting_going, waits_there}
 use Rattle.world_laws.proofs.Likeness.Starts.{none_first}
 use Rattle.world_laws.proofs.Solos.IdleEngines.{ended_still, idle_event, idle_started}
 use Rattle.world_laws.proofs.Solos.Events.{IsToBegin, last_early, of_actors_first, of_thread_all, sole_after, stands_between}
-use Rattle.world_rules.proofs.Events.Worlds.{waiting_going}
 
 -- ## The clock
 

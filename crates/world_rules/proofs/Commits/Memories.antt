@@ -1,10 +1,8 @@
 -- The memories that the commits left stay when more attempts end.
 use Rattle.std.proofs.Common.{inl, inr, ◌≡◌, ℕ, zero, suc, ◌/◌, ◌<◌, ◌≤◌, List, [], ◌∷◌, ◌++◌, None, Some, refl, sym, ap, ◌∙◌, arith, lt-ltb}
-use Rattle.world_rules.specs.Headline.{AreCounted}
+use Rattle.world_rules.proofs.Common.{AreCounted, Attempt, Cells, Rows, bytes_at, cases_Bool, committed_at, is_at, le-ltb, memory_left}
 use Rattle.world_rules.specs.LogAgreement.{AreLaid}
-use Rattle.world_rules.proofs.Common.{Attempt, Cells, Rows, bytes_at, cases_Bool, committed_at, is_at, memory_left}
 use Rattle.tx_attempts.specs.Counts.{count_at, one_where}
-use Rattle.std.proofs.lemmas.Bool.{le-ltb}
 
 -- ## Which attempt committed at a position
 

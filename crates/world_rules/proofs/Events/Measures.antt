@@ -1,8 +1,6 @@
 -- Less and less is left to do.
 use Rattle.std.proofs.Common.{inl, inr, ◌≡◌, ℕ, ◌+◌, ◌<◌, ◌≤◌, Bool, true, false, None, refl, sym, ap, subst, ◌∙◌, arith, if◌then◌else◌}
-use Rattle.world_rules.proofs.Common.{Actor, IsNoMore, Ready, Rules, Status, cases_Bool, ending_of, in_transaction, is_ready, is_waiting, run_left, steps_left, whole}
-use Rattle.world_rules.specs.Sound.{Falls, GoesOn, HasLess}
-use Rattle.world_rules.specs.Sound.{rank_now}
+use Rattle.world_rules.proofs.Common.{Actor, Falls, GoesOn, HasLess, IsNoMore, Ready, Rules, Status, cases_Bool, ending_of, in_transaction, is_ready, is_waiting, rank_now, run_left, steps_left, whole}
 use Rattle.tx_runs.specs.Ranks.{restarts_left}
 use Rattle.world_rules.proofs.Events.Worlds.{waiting_going}
 

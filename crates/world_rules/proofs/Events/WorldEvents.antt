@@ -1,15 +1,12 @@
 -- Events of a world: what their answers tell, many in a row, and the events of one call of an actor and of one call after the other.
 use Rattle.std.proofs.Common.{inl, inr, ◌≡◌, ◌↔◌, ◌≤◌, zero, suc, ℕ, ◌+◌, ◌<◌, Bool, true, false, cond, length, take, get_or, arith, List, [], ◌∷◌, ◌++◌, count_by, IsTrue, Option, None, Some, Result, Ok, Err, IsSome, refl, sym, ap, subst, ◌∙◌, slice_get, min, if◌then◌else◌}
-use Rattle.world_rules.proofs.Common.{Actor, AreActors, AreOpaque, AreTied, CommitsInOrder, Finished, Goes, IsNoMore, Leads, Rules, SameOpening, Status, Takes, Waits, World, cases_lt, counted, ending_at, ending_of, event_result, in_transaction, is_ready, is_waiting, observed, option_and_then, passes_of, run_left, slice_get_within, steps_left, waiting_step, waits_at, whole}
+use Rattle.world_rules.proofs.Common.{Actor, AreActors, AreOpaque, AreTied, CommitsInOrder, Finished, Goes, IsNoMore, Leads, LeavesLess, Rules, SameOpening, Status, Takes, Waits, World, cases_lt, counted, ending_at, ending_of, event_result, in_transaction, is_event, is_passed, is_ready, is_starved, is_taken, is_waiting, observed, option_and_then, option_map, option_map_or, passes_of, run_left, slice_get_within, steps_left, take_more, there_is, waiting_step, waits_at, whole}
 use Rattle.tx_runs.specs.declared.ending.End.{End}
-use Rattle.world_rules.specs.Progress.{LeavesLess}
 use Rattle.world_rules.specs.declared.passes.Passes.{Passes}
 use Rattle.world_rules.specs.declared.fault.WorldFault.{WorldFault}
 use Rattle.world_rules.proofs.Events.Worlds.{some_ended, some_waiting, waits_there, waiting_going}
 use Rattle.world_rules.proofs.Events.Measures.{HasLessSoFar, less_so_far, same_less, less_less}
-use Rattle.tx_runs.proofs.RunLists.{there_is}
-use Rattle.world_rules.{specs.World.is_event, specs.WorldEvents.is_passed, specs.WorldEvents.is_starved, specs.WorldEvents.is_taken}
-use Rattle.std.{proofs.lemmas.List.take_more, proofs.lemmas.List.Sums.sum_by-append, specs.Option.option_map, specs.Option.option_map_or}
+use Rattle.std.{proofs.lemmas.List.Sums.sum_by-append}
 use Rattle.world_rules.specs.declared.fault.WorldFault.TheVariants as faults
 
 -- an event is answered by no fault of the other two

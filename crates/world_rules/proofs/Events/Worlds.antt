@@ -1,17 +1,9 @@
 -- The actors of a world, over one event.
 use Rattle.std.proofs.Common.{◌≡◌, ◌≢◌, ◌⊎◌, inl, inr, ℕ, zero, suc, ◌%◌, ◌<◌, ◌==◌, true, false, List, [], ◌∷◌, length, Option, None, Some, IsSome, slice_get, slice_set, eqb-true, refl, sym, ap, ◌∙◌, subst, arith}
-use Rattle.world_rules.proofs.Common.{Actor, AreActors, Ended, Rows, Rules, Status, Step, Waits, World, ending_of, is_ready, is_waiting, option_and_then, slice_index_or, waiting_step, waits_at}
-use Rattle.norec_core.specs.Proceeds.{IsLawful}
-use Rattle.world_rules.specs.Sound.{StatusIs}
-use Rattle.std.specs.Option.{option_map}
-use Rattle.itm_types.specs.declared.step.Step.TheVariants.{Cas, Load, Store}
+use Rattle.world_rules.proofs.Common.{Actor, AreActors, Core, Ended, IsCell, Rows, Rules, Status, StatusIs, Step, Waits, World, cases_Bool, cases_lt, ending_of, eqb-false, found, is_ready, is_waiting, operation_at, option_and_then, option_map, slice_get-set_same, slice_get_read, slice_get_within, slice_index_or, there_is, waiting_step, waits_at}
 use Rattle.itm_types.proofs.Words.{slice_get-set_other}
-use Rattle.std.proofs.lemmas.Bool.{eqb-false}
-use Rattle.world_rules.proofs.Common.{Core, cases_Bool, cases_lt, found, slice_get-set_same, slice_get_within}
-use Rattle.world_rules.specs.Cells.{IsCell}
-use Rattle.world_rules.specs.World.{operation_at}
-use Rattle.tx_runs.proofs.RunLists.{there_is}
-use Rattle.std.proofs.lemmas.Option.{slice_get_read}
+use Rattle.norec_core.specs.Proceeds.{IsLawful}
+use Rattle.itm_types.specs.declared.step.Step.TheVariants.{Cas, Load, Store}
 
 pub within_some : {A B : Type 0} (f : A → Option B) (xs : List A) (i : ℕ) → IsSome (option_and_then f (slice_get xs i)) → i < length xs
 within_some f [] i h = absurd (cc)

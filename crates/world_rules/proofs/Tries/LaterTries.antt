@@ -1,10 +1,8 @@
 -- A try later on: the same attempt with more calls, or once a block of it has gone back.
 use Rattle.std.proofs.Common.{inl, inr, ◌≡◌, ℕ, ◌/◌, Bool, true, false, nat_lt, List, [], ◌∷◌, ◌++◌, Option, None, Some, refl, sym, ap, subst, ◌∙◌, arith, append-nil, append_assoc}
-use Rattle.world_rules.proofs.Common.{Actor, Attempt, CallRecord, Continues, EndsAt, GoesOnAfter, HasRow, IsBetween, Outcome, Prior, Ran, Rows, Tries, TriesAgain, active_of, begins, between, current_of, ending_of, none-some, outrun, over, pending_of, prior_of, runs, same_Some, shut_out, turned_away}
-use Rattle.tx_attempts.specs.Kept.{Kept}
+use Rattle.world_rules.proofs.Common.{Actor, Attempt, CallRecord, Continues, EndsAt, Extends, GoesBack, GoesOnAfter, HasRow, IsBetween, IsSame, Kept, Outcome, Prior, Ran, Rows, Tries, TriesAgain, active_of, begins, between, current_of, ending_of, none-some, outrun, over, pending_of, prior_of, runs, same_Some, shut_out, turned_away}
 use Rattle.tx_attempts.specs.declared.attempt.Outcome.TheVariants as outcomes
 use Rattle.tx_runs.specs.declared.ending.End.TheVariants as ends
-use Rattle.world_rules.specs.Tries.{Extends, GoesBack, IsSame}
 
 -- with perhaps more calls and more actions that have run it is the same attempt
 pub extends_to : (row : Attempt) (k : Kept) (more : List CallRecord) → k.list ≡ row.calls.list ++ more → (at : ℕ) (outcome : Outcome) (ran more_ran : List Ran) → ran ≡ row.ran ++ more_ran → Extends row (record row { calls = k; at = at; ran = ran; outcome = outcome })

@@ -1,28 +1,18 @@
 -- The stage of an actor's attempt, and what an answer makes of it.
 use Rattle.tx_runs.proofs.TookIn.{IsTaken, OpensBy, is_taken}
 use Rattle.std.proofs.Common.{◌≡◌, ◌⊎◌, inl, inr, ℕ, ◌+◌, ◌-◌, ◌/◌, ◌<◌, ◌≤◌, Bool, true, false, nat_lt, if◌then◌else◌, List, [], ◌∷◌, ◌++◌, append_assoc, append-nil, length, Option, None, Some, unwrap_or, refl, sym, ap, subst, ◌∙◌, arith, Vec, Global, vec_capacity}
-use Rattle.std.proofs.lemmas.List.{length-append}
+use Rattle.world_rules.proofs.Common.{Actor, AllOf, Answer, Attempt, BeganIn, Begin, Call, Core, Ended, GaveUp, HasPoints, HasRow, IsKept, IsSame, KeepsOthers, Outcome, Props, Ran, Ready, Records, Reply as Replied, Rows, Rules, Stage, Taken, TakesTo, active_of, begun_in, cancels_in, count_in, count_of, ends_in, in_transaction, irrevocable_room, length-append, moved_to, none-some, open_in, pending_of, points_in, reserved, rows_in, same_Some, stage_of, stand_of, status_after, tally_of, took_in}
+use Rattle.tx_runs.specs.Tallies.{outside, begins, stage_at}
 use Rattle.tx_attempts.specs.declared.attempt.Outcome.TheVariants as outcomes
 use Rattle.tx_runs.specs.Savepoints.{cut_back}
-use Rattle.tx_runs.specs.Tallies.{outside, begins, stage_at}
-use Rattle.world_rules.specs.ActionRoom.{BeganIn}
-use Rattle.world_rules.specs.Sound.{HasPoints}
-use Rattle.world_rules.specs.Tries.{IsSame}
-use Rattle.world_rules.proofs.Common.{Actor, Answer, Attempt, Begin, Call, Core, Ended, HasRow, IsKept, Outcome, Props, Ran, Ready, Records, Replied, Rows, Rules, Stage, Taken, active_of, in_transaction, none-some, open_in, pending_of, same_Some, stage_of, stand_of, tally_of, took_in}
-use Rattle.world_rules.specs.Stages.{AllOf, KeepsOthers, begun_in, cancels_in, count_in, count_of, ends_in, moved_to, points_in}
 use Rattle.norec_core.specs.declared.answer.Answer.TheVariants.{Busy, Conflict, Reply, Restarted}
 use Rattle.tx_runs.specs.declared.player_run.Current.{Current}
-use Rattle.tx_runs.specs.declared.ending.End.TheVariants.{GaveUp}
 use Rattle.norec_core.specs.Restarts.{IsRestart}
 use Rattle.itm_types.specs.declared.limits.TheConstants.{MAX_ACTORS}
 use Rattle.tx_runs.specs.declared.player_run.Current.TheVariants.{Outside, Within}
 use Rattle.tx_runs.specs.declared.player_run.PlayerRun.{PlayerRun}
 use Rattle.tx_runs.specs.declared.savepoint.Savepoint.{Savepoint}
 use Rattle.tx_runs.specs.Tallies.{Stand, Tally, begun, over_as, sent_back, tried, within}
-use Rattle.world_rules.specs.Records.{TakesTo, status_after}
-use Rattle.norec_core.specs.Core.{irrevocable_room}
-use Rattle.tx_attempts.specs.Kept.{reserved}
-use Rattle.world_rules.specs.Rows.{rows_in}
 
 -- ## Stages
 

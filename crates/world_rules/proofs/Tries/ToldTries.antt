@@ -1,7 +1,6 @@
 -- An open attempt that is told where its engine reads goes on with its try.
 use Rattle.std.proofs.Common.{◌≡◌, ℕ, ◌/◌, Bool, true, false, nat_lt, None, refl, sym, subst}
-use Rattle.world_rules.proofs.Common.{Actor, Continues, GoesOnAfter, HasRow, IsKept, Outcome, Prior, Rows, Tries, TriesAgain, active_of, begins, between, in_transaction, outrun, over, runs, shut_out, told, turned_away}
-use Rattle.world_rules.specs.Records.{ReadsAt}
+use Rattle.world_rules.proofs.Common.{Actor, Continues, GoesOnAfter, HasRow, IsKept, Outcome, Prior, ReadsAt, Rows, Tries, TriesAgain, active_of, begins, between, in_transaction, outrun, over, runs, shut_out, told, turned_away}
 use Rattle.tx_attempts.specs.declared.attempt.Outcome.TheVariants as outcomes
 use Rattle.world_rules.proofs.Tries.LaterTries.{continues_on, extends_calls}
 use Rattle.world_rules.proofs.Tries.Stages.{moved_here, moved_none, moved_row}

@@ -1,6 +1,5 @@
 use Rattle.std.proofs.Common.{◌≡◌, ◌*◌}
-use Rattle.bank.specs.Tellers.{ended}
-use Rattle.bank.specs.declared.teller.TheConstants.{TRANSFERS}
+use Rattle.bank.proofs.Common.{TRANSFERS, ended}
 use Rattle.bank.proofs.branch.all_of.Given as goal
 
 abbrev pub invariant-loop-tally : goal.invariant-loop-tally

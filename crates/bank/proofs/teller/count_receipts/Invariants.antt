@@ -1,5 +1,5 @@
 use Rattle.std.proofs.Common.{◌≡◌}
-use Rattle.bank.specs.Tellers.{ended}
+use Rattle.bank.proofs.Common.{ended}
 use Rattle.bank.proofs.teller.count_receipts.Given as goal
 
 abbrev pub invariant-loop-ran : goal.invariant-loop-ran

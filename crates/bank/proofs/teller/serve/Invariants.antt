@@ -1,5 +1,5 @@
 use Rattle.std.proofs.Common.{◌≡◌}
-use Rattle.bank.specs.Tellers.{ended}
+use Rattle.bank.proofs.Common.{ended}
 use Rattle.bank.proofs.teller.serve.Given as goal
 
 abbrev pub invariant-loop-number : goal.invariant-loop-number

@@ -1,9 +1,5 @@
 use Rattle.std.proofs.Common.{◌∙◌, ℕ, ◌-◌, ◌≤◌, Option, rules, subst}
-use Rattle.std.specs.Option.{SomeIff}
-use Rattle.itm_types.specs.declared.call.Call.TheVariants.{CommitAction}
-use Rattle.itm_types.specs.declared.call.Reply.TheVariants.{Done}
-use Rattle.bank.specs.declared.transfer.TheConstants.{RECEIPT}
-use Rattle.bank.specs.Transfers.{HasPaidIn}
+use Rattle.bank.proofs.Common.{CommitAction, Done, HasPaidIn, RECEIPT, SomeIff}
 use Rattle.bank.proofs.Calls.{made_by, over, read_replied, write_replied}
 use Rattle.transactions.proofs.BlockOutcomes.{kept_twice}
 use Rattle.bank.proofs.Payments.{block_paid, keeps_blocks, paid_over}

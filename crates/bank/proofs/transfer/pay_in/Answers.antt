@@ -1,5 +1,5 @@
 use Rattle.std.proofs.Common.{ℕ, ◌+◌, ◌<◌, ◌^◌, Option, refl, subst}
-use Rattle.std.specs.Option.{SomeIff}
+use Rattle.bank.proofs.Common.{SomeIff}
 use Rattle.bank.proofs.Calls.{read_replied, write_replied}
 use Rattle.bank.proofs.transfer.pay_in.Goals as goal
 

@@ -1,6 +1,5 @@
 use Rattle.std.proofs.Common.{◌≡◌, ◌≤◌, List, [], None, Some, length, get_or, ap, sym, subst, ◌∙◌, arith}
-use Rattle.history_checker.proofs.Common.{All-get_or, Attempt, MAX_ARENA, alone, at_place, committed_at, depth_of, fault_in, is_committed, memory_at}
-use Rattle.tx_attempts.specs.Attempts.{memory_left}
+use Rattle.history_checker.proofs.Common.{All-get_or, Attempt, MAX_ARENA, alone, at_place, committed_at, depth_of, fault_in, is_committed, memory_at, memory_left}
 use Rattle.history_checker.proofs.Steps.Walks.{found_in, found_none, found_there, place_none}
 use Rattle.history_checker.proofs.walk.walk_committed.Goals as goal
 

@@ -1,5 +1,5 @@
 use Rattle.std.proofs.Common.{append_assoc, append-nil}
-use Rattle.history_picture.specs.Picture.{bar_front}
+use Rattle.history_picture.proofs.Common.{bar_front}
 use Rattle.history_picture.proofs.bars.bar_front.Goals as goal
 
 pub returns : goal.returns

@@ -1,5 +1,5 @@
 use Rattle.std.proofs.Common.{append_assoc, append-nil}
-use Rattle.history_picture.specs.Picture.{cell_text}
+use Rattle.history_picture.proofs.Common.{cell_text}
 use Rattle.history_picture.proofs.bars.cell.Goals as goal
 
 pub returns : goal.returns

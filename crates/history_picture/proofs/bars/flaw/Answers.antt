@@ -1,5 +1,5 @@
 use Rattle.std.proofs.Common.{append_assoc, append-nil}
-use Rattle.history_picture.specs.Picture.{flaw_text}
+use Rattle.history_picture.proofs.Common.{flaw_text}
 use Rattle.history_picture.proofs.bars.flaw.Goals as goal
 
 pub returns : goal.returns

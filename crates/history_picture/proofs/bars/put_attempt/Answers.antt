@@ -1,7 +1,5 @@
 use Rattle.std.proofs.Common.{ℕ, ◌++◌, length, ap}
-use Rattle.tx_history.proofs.TextPieces.{put_as}
-use Rattle.picture_parts.proofs.Texts.{puts_then}
-use Rattle.history_picture.specs.Picture.{bar_text, cell_text, mark_text, seat_in}
+use Rattle.history_picture.proofs.Common.{bar_text, cell_text, mark_text, put_as, puts_then, seat_in}
 use Rattle.history_picture.proofs.bars.put_attempt.Goals as goal
 
 pub returns : goal.returns

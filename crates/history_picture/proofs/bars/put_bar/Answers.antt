@@ -1,7 +1,5 @@
-use Rattle.std.proofs.lemmas.Result.{err_from_is_err_and}
+use Rattle.history_picture.proofs.Common.{bar_back, bar_front, err_from_is_err_and, three, three_cut_first, three_cut_second}
 use Rattle.tx_history.specs.Histories.{attempt_lines}
-use Rattle.picture_parts.proofs.Texts.{three, three_cut_first, three_cut_second}
-use Rattle.history_picture.specs.Picture.{bar_back, bar_front}
 use Rattle.history_picture.proofs.bars.put_bar.Goals as goal
 
 pub returns-in_err-put_pieces : goal.returns-in_err-put_pieces

@@ -1,5 +1,5 @@
 use Rattle.std.proofs.Common.{ℕ, List, ◌++◌, ap, sym, ◌∙◌, add-one}
-use Rattle.history_picture.specs.Columns.{one_thread, threads_below}
+use Rattle.history_picture.proofs.Common.{one_thread, threads_below}
 use Rattle.history_picture.proofs.columns.columns_of.Goals as goal
 
 pub loop-thread-preserved : goal.loop-thread-preserved

@@ -1,5 +1,5 @@
 use Rattle.std.proofs.Common.{◌≡◌, drop}
-use Rattle.history_picture.specs.Columns.{has_thread}
+use Rattle.history_picture.proofs.Common.{has_thread}
 use Rattle.history_picture.proofs.columns.has_thread.Given as goal
 
 abbrev pub invariant-loop-attempt : goal.invariant-loop-attempt

@@ -1,9 +1,6 @@
-use Rattle.std.proofs.Common.{length}
-use Rattle.std.proofs.lemmas.Result.{err_from_is_err_and}
-use Rattle.std.specs.Prelude.{codes}
-use Rattle.picture_parts.proofs.Texts.{three, three_cut_first, three_cut_second}
+use Rattle.std.proofs.Common.{length, codes}
+use Rattle.history_picture.proofs.Common.{err_from_is_err_and, seats_text, three, three_cut_first, three_cut_second}
 use Rattle.picture_parts.specs.Lanes.{lanes_text}
-use Rattle.history_picture.specs.Picture.{seats_text}
 use Rattle.history_picture.proofs.drawing.put_body.Goals as goal
 
 pub returns-in_err-put_text : goal.returns-in_err-put_text

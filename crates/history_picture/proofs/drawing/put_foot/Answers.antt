@@ -1,6 +1,5 @@
 use Rattle.std.proofs.Common.{append_assoc, append-nil}
-use Rattle.history_picture.specs.Picture.{foot_text}
-use Rattle.tx_history.proofs.TextPieces.{put_as}
+use Rattle.history_picture.proofs.Common.{foot_text, put_as}
 use Rattle.history_picture.proofs.drawing.put_foot.Goals as goal
 
 pub returns : goal.returns

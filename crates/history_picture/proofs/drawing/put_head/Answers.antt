@@ -1,7 +1,4 @@
-use Rattle.std.proofs.lemmas.Result.{err_from_is_err_and}
-use Rattle.picture_parts.proofs.Texts.{three, three_cut_first, three_cut_second}
-use Rattle.picture_parts.specs.Looks.{front_text}
-use Rattle.history_picture.specs.Picture.{looks_text, note_text, width_of}
+use Rattle.history_picture.proofs.Common.{err_from_is_err_and, front_text, looks_text, note_text, three, three_cut_first, three_cut_second, width_of}
 use Rattle.history_picture.proofs.drawing.put_head.Goals as goal
 
 pub returns-in_err-put_front : goal.returns-in_err-put_front

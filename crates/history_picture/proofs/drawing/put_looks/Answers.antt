@@ -1,7 +1,5 @@
 use Rattle.std.proofs.Common.{append_assoc, append-nil, sym}
-use Rattle.picture_parts.specs.Looks.{colours_text, style_text}
-use Rattle.history_picture.specs.Picture.{page_text}
-use Rattle.tx_history.proofs.TextPieces.{put_as}
+use Rattle.history_picture.proofs.Common.{colours_text, page_text, put_as, style_text}
 use Rattle.history_picture.proofs.drawing.put_looks.Goals as goal
 
 pub returns : goal.returns

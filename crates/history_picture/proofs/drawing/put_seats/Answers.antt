@@ -1,9 +1,6 @@
-use Rattle.std.proofs.Common.{ℕ, length}
+use Rattle.std.proofs.Common.{ℕ, length, slice_get}
+use Rattle.history_picture.proofs.Common.{err_from_is_err_and, more_texts, seat_at, texts_stop}
 use Rattle.std.proofs.KnownBytes.{Appends-nil}
-use Rattle.std.proofs.lemmas.Result.{err_from_is_err_and}
-use Rattle.std.specs.Prelude.{slice_get}
-use Rattle.picture_parts.proofs.Texts.{more_texts, texts_stop}
-use Rattle.history_picture.specs.Picture.{seat_at}
 use Rattle.history_picture.proofs.drawing.put_seats.Goals as goal
 
 pub loop-at-init : goal.loop-at-init

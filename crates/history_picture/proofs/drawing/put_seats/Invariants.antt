@@ -1,8 +1,7 @@
-use Rattle.std.proofs.Common.{ℕ}
+use Rattle.std.proofs.Common.{ℕ, slice_get}
+use Rattle.history_picture.proofs.Common.{seat_at}
 use Rattle.std.specs.Io.KnownBytes.{Appends}
-use Rattle.std.specs.Prelude.{slice_get}
 use Rattle.picture_parts.specs.Texts.{first_texts}
-use Rattle.history_picture.specs.Picture.{seat_at}
 use Rattle.history_picture.proofs.drawing.put_seats.Given as goal
 
 abbrev pub invariant-loop-at : goal.invariant-loop-at

@@ -1,6 +1,5 @@
 use Rattle.std.proofs.Common.{◌∙◌, ap}
-use Rattle.tx_attempts.specs.declared.attempt.Attempt.{Attempt}
-use Rattle.history_picture.specs.Seats.{seat_of}
+use Rattle.history_picture.proofs.Common.{Attempt, seat_of}
 use Rattle.history_picture.proofs.Seated.{seated_all, seated_more}
 use Rattle.history_picture.proofs.seats.seats_in_text.Goals as goal
 

@@ -1,6 +1,5 @@
 use Rattle.std.proofs.Common.{List, subst}
-use Rattle.std.specs.List.Sorted.{IsPermutation}
-use Rattle.history_picture.specs.declared.seats.Seat.{Seat}
+use Rattle.history_picture.proofs.Common.{IsPermutation, Seat}
 use Rattle.history_picture.proofs.Orders.{seats_sorted}
 use Rattle.history_picture.proofs.seats.seats_of.Goals as goal
 

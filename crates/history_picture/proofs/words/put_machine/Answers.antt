@@ -1,6 +1,4 @@
-use Rattle.std.proofs.lemmas.Result.{err_from_is_err_and}
-use Rattle.picture_parts.proofs.Texts.{puts_then, two_cut_first}
-use Rattle.history_picture.specs.Picture.{machine_text}
+use Rattle.history_picture.proofs.Common.{err_from_is_err_and, machine_text, puts_then, two_cut_first}
 use Rattle.history_picture.proofs.words.put_machine.Goals as goal
 
 pub returns-in_err-put_text : goal.returns-in_err-put_text

@@ -1,5 +1,4 @@
-use Rattle.std.proofs.lemmas.Result.{err_from_is_err_and}
-use Rattle.picture_parts.proofs.Texts.{three, three_cut_first, three_cut_second}
+use Rattle.history_picture.proofs.Common.{err_from_is_err_and, three, three_cut_first, three_cut_second}
 use Rattle.history_picture.proofs.words.put_note.Goals as goal
 
 pub returns-in_err-put_pieces : goal.returns-in_err-put_pieces

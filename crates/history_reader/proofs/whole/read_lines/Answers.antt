@@ -1,6 +1,5 @@
 use Rattle.std.proofs.Common.{◌≡◌, Err, ◌∙◌, ap}
-use Rattle.history_reader.proofs.Common.{ReadKind}
-use Rattle.std.proofs.lemmas.Result.{err_from_is_err_and}
+use Rattle.history_reader.proofs.Common.{ReadKind, err_from_is_err_and}
 use Rattle.history_reader.proofs.RoundTrips.ReadLines.{ends_without, refused_at}
 use Rattle.history_reader.proofs.whole.read_lines.Goals as goal
 

@@ -1,6 +1,5 @@
 use Rattle.std.proofs.Common.{◌∙◌}
-use Rattle.itm_c.specs.Data.{number_of_4}
-use Rattle.itm_c.proofs.Numbers.{same_datum}
+use Rattle.itm_c.proofs.Common.{number_of_4, same_datum}
 use Rattle.itm_c.proofs.datum.datum_of_4.Goals as goal
 
 pub returns : goal.returns

@@ -1,7 +1,6 @@
 use Rattle.std.proofs.Common.{◌≡◌, ◌≤◌, ◌+◌, ℕ, [], ◌∷◌, ◌++◌, length, take, drop, ap, sym, subst, ◌∙◌, arith, rules, length-append}
-use Rattle.itm_model.proofs.Common.{AreWithin, Old, put_back, with_slice}
+use Rattle.itm_model.proofs.Common.{AreWithin, Old, put_back, take-append_seam, with_slice}
 use Rattle.std.specs.Option.{option_to_list}
-use Rattle.std.proofs.Math.Seq.{take-append_seam}
 use Rattle.itm_model.proofs.Journals.Rollbacks.{take-take, pop_restores, length-with_slice, AreWithin-front, AreWithin-last}
 use Rattle.itm_model.proofs.journal.unwind.Goals as goal
 

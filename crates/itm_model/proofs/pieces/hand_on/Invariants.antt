@@ -1,6 +1,5 @@
 use Rattle.std.proofs.Common.{◌≡◌, length, take, drop}
-use Rattle.itm_model.proofs.Common.{handed_on}
-use Rattle.itm_model.specs.Pieces.{AreHandedOn}
+use Rattle.itm_model.proofs.Common.{AreHandedOn, handed_on}
 use Rattle.itm_model.proofs.pieces.hand_on.Given as goal
 
 abbrev pub invariant-loop-from : goal.invariant-loop-from

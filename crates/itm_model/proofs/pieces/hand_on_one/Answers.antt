@@ -1,7 +1,5 @@
 use Rattle.std.proofs.Common.{◌≡◌, ◌≤◌, ◌<◌, ◌+◌, ℕ, suc, inl, inr, List, [], ◌∷◌, ◌++◌, length, take, drop, get_or, set, ap, sym, subst, ◌∙◌, arith}
-use Rattle.itm_model.proofs.Common.{AreAmong, AreNewest, Old, cases_eq, common_steps, get_or-set_other, get_or-set_same, get_or_default, length-set, length-take-le, piece_of}
-use Rattle.std.specs.List.{swap}
-use Rattle.std.proofs.lemmas.List.{take_more_set, take-set-le, drop_more}
+use Rattle.itm_model.proofs.Common.{AreAmong, AreNewest, Old, cases_eq, common_steps, drop_more, get_or-set_other, get_or-set_same, get_or_default, length-set, length-take-le, piece_of, swap, take-set-le, take_more_set}
 use Rattle.std.proofs.lemmas.List.Edits.{swap_is}
 use Rattle.itm_model.proofs.Journals.NewestEntries.{newest_pushed}
 use Rattle.itm_model.proofs.pieces.hand_on_one.Goals as goal

@@ -1,6 +1,5 @@
 use Rattle.std.proofs.Common.{◌≤◌, ◌<◌, ◌+◌, ℕ, length, vec_len, vec_capacity}
-use Rattle.itm_model.proofs.Common.{newest_in}
-use Rattle.itm_model.specs.Undoing.{KeepsOld}
+use Rattle.itm_model.proofs.Common.{KeepsOld, newest_in}
 use Rattle.itm_model.proofs.pieces.keep_pieces.Given as goal
 
 abbrev pub invariant-loop-piece : goal.invariant-loop-piece

@@ -1,6 +1,5 @@
 use Rattle.std.proofs.Common.{◌+◌, false, inr, subst, sym}
-use Rattle.itm_runtime.proofs.Common.{Asks, Cas, Commit, Core, Finds, exchanging, starts, view_of}
-use Rattle.call_rules.proofs.Steps.FurtherSteps.{found_finishes}
+use Rattle.itm_runtime.proofs.Common.{Asks, Cas, Commit, Core, Finds, exchanging, found_finishes, starts, view_of}
 use Rattle.itm_runtime.proofs.blocks.commit_block.Goals as goal
 
 pub commit_at_once-requires : goal.commit_at_once-requires

@@ -1,7 +1,6 @@
 use Rattle.std.proofs.Common.{◌≡◌, ℕ, suc, ◌+◌, ◌∙◌, [], ◌∷◌, Option, Some, IfNone, IfSome, add-one, refl, subst, sym, arith}
-use Rattle.itm_runtime.proofs.Common.{Asks, InCall, Load, Step, Store, cell_within, cells_of, exchanging, goes, got_there, lawful_of, next_step, storing, view_of}
+use Rattle.itm_runtime.proofs.Common.{Asks, InCall, IsWhole, Load, Step, Store, cell_within, cells_of, exchanging, goes, got_there, lawful_of, merging, next_step, part_store, storing, view_of}
 use Rattle.norec_core.specs.Rows.{value_into, write_at}
-use Rattle.norec_engine.specs.BlockSteps.{IsWhole, merging, part_store}
 use Rattle.itm_runtime.proofs.blocks.store_row.Goals as goal
 
 same_store : (cell word value stored : ℕ) → cell ≡ word + 1 → value ≡ stored → Store (suc word) stored ≡ Store cell value

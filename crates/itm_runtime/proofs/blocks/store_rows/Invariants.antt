@@ -1,6 +1,5 @@
 use Rattle.std.proofs.Common.{◌≡◌, ◌≤◌, ◌-◌, List, ℕ, length}
-use Rattle.itm_runtime.proofs.Common.{Asks, InCall, LeadsOn, Owns, Start, Step, cells_of, exchanging, next_step, storing, view_of}
-use Rattle.norec_engine.specs.BlockSteps.{StoresRows, WritesBack}
+use Rattle.itm_runtime.proofs.Common.{Asks, InCall, LeadsOn, Owns, Start, Step, StoresRows, WritesBack, cells_of, exchanging, next_step, storing, view_of}
 use Rattle.itm_runtime.proofs.blocks.store_rows.Given as goal
 
 abbrev pub invariant-loop-row : goal.invariant-loop-row

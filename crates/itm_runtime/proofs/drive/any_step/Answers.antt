@@ -1,6 +1,5 @@
 use Rattle.std.proofs.Common.{[], ◌∷◌, refl}
-use Rattle.itm_runtime.proofs.Common.{cell_within, cells_of, fits_of, got_there, lawful_of, view_of, waits_of}
-use Rattle.call_rules.proofs.Steps.StepChains.{smaller}
+use Rattle.itm_runtime.proofs.Common.{cell_within, cells_of, fits_of, got_there, lawful_of, smaller, view_of, waits_of}
 use Rattle.itm_runtime.proofs.drive.any_step.Goals as goal
 
 pub step_over-found-requires : goal.step_over-found-requires

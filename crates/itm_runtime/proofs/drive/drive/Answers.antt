@@ -1,7 +1,6 @@
 use Rattle.std.proofs.Common.{[], ◌++◌, ◌<◌, refl, subst, sym}
-use Rattle.itm_runtime.proofs.Common.{Asks, LeadsOn, Next, cells_of, due_on, leads_further, left, next_in, view_of}
+use Rattle.itm_runtime.proofs.Common.{Asks, LeadsOn, Next, at_step, cells_of, due_on, leads_further, left, next_in, view_of}
 use Rattle.itm_runtime.proofs.DueSteps.{answer_due, step_due}
-use Rattle.call_rules.proofs.Steps.StepChains.{at_step}
 use Rattle.itm_runtime.proofs.drive.drive.Goals as goal
 
 pub go_on-next-requires : goal.go_on-next-requires

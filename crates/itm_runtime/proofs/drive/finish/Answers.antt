@@ -1,6 +1,5 @@
 use Rattle.std.proofs.Common.{[], refl, subst, sym}
-use Rattle.itm_runtime.proofs.Common.{Next, view_of}
-use Rattle.call_rules.specs.Drives.{Finishes}
+use Rattle.itm_runtime.proofs.Common.{Finishes, Next, view_of}
 use Rattle.itm_runtime.proofs.DueSteps.{none_due}
 use Rattle.itm_runtime.proofs.drive.finish.Goals as goal
 

@@ -1,6 +1,5 @@
 use Rattle.std.proofs.Common.{subst}
-use Rattle.itm_runtime.proofs.Common.{InCall, Load, view_of}
-use Rattle.call_rules.proofs.Steps.FurtherSteps.{waits_for}
+use Rattle.itm_runtime.proofs.Common.{InCall, Load, view_of, waits_for}
 use Rattle.itm_runtime.proofs.drive.go_on.Goals as goal
 
 pub round-requires : goal.round-requires

@@ -1,7 +1,6 @@
 use Rattle.std.proofs.Common.{◌+◌, inl, subst, sym}
-use Rattle.itm_runtime.proofs.Common.{Asks, Cas, Core, Finds, InCall, fits_of, view_of, waits_of}
+use Rattle.itm_runtime.proofs.Common.{Asks, Cas, Core, Finds, InCall, fits_of, found_further, found_in, view_of, waits_of}
 use Rattle.itm_runtime.specs.Blocks.{RowsStored}
-use Rattle.call_rules.proofs.Steps.FurtherSteps.{found_further, found_in}
 use Rattle.itm_runtime.proofs.rounds.commit_again.Goals as goal
 
 pub write_back-requires : goal.write_back-requires

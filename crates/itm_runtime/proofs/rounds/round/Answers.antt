@@ -1,5 +1,4 @@
-use Rattle.itm_runtime.proofs.Common.{Load, cell_within, cells_of, fits_of, lawful_of, view_of}
-use Rattle.call_rules.proofs.Steps.FurtherSteps.{fewer_left, in_call, one_further, one_step}
+use Rattle.itm_runtime.proofs.Common.{Load, cell_within, cells_of, fewer_left, fits_of, in_call, lawful_of, one_further, one_step, view_of}
 use Rattle.itm_runtime.proofs.rounds.round.Goals as goal
 
 pub loop-cell-init : goal.loop-cell-init

@@ -1,5 +1,4 @@
-use Rattle.itm_runtime.proofs.Common.{Load, left, next_in, view_of}
-use Rattle.call_rules.specs.Drives.{StepsOn}
+use Rattle.itm_runtime.proofs.Common.{Load, StepsOn, left, next_in, view_of}
 use Rattle.itm_runtime.proofs.rounds.round.Given as goal
 
 -- steps of the call were done

@@ -1,8 +1,7 @@
 use Rattle.std.proofs.Common.{ℕ, ◌+◌, [], ◌∷◌, refl, subst, sym, ◌∙◌, arith}
-use Rattle.itm_runtime.proofs.Common.{Asks, Bytes, Load, R, Reply, U8, cells_of, view_of}
+use Rattle.itm_runtime.proofs.Common.{Asks, Bytes, Load, R, Reply, U8, cells_of, clock_next, view_of, word_first}
 use Rattle.std.specs.Int.{w64, to_le_bytes}
 use Rattle.norec_engine.specs.WholeReads.{IsConfirmed}
-use Rattle.call_rules.proofs.Steps.WordReads.{clock_next, word_first}
 use Rattle.itm_runtime.proofs.whole_words.look_at_once.Goals as goal
 
 pub step-value-requires : goal.step-value-requires

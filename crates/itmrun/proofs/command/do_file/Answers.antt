@@ -1,4 +1,3 @@
-use Rattle.std.proofs.Common.{◌≡◌}
 use Rattle.itmrun.proofs.FailedOpens.{failed_open}
 use Rattle.itmrun.proofs.command.do_file.Goals as goal
 

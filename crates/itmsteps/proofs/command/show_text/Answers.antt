@@ -1,5 +1,5 @@
 use Rattle.std.proofs.Common.{Bool, sym, subst}
-use Rattle.itmsteps.specs.Doing.{Done}
+use Rattle.itmsteps.proofs.Common.{Done}
 use Rattle.itmsteps.proofs.command.show_text.Goals as goal
 
 pub returns-then-choice : goal.returns-then-choice

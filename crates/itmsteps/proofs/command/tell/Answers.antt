@@ -1,6 +1,5 @@
 use Rattle.std.proofs.Common.{sym, subst}
-use Rattle.text_commands.specs.Answers.{Says}
-use Rattle.itmsteps.specs.Doing.{fault_line, fault_status}
+use Rattle.itmsteps.proofs.Common.{Says, fault_line, fault_status}
 use Rattle.itmsteps.specs.declared.command.CommandFault.{CommandFault}
 use Rattle.itmsteps.proofs.command.tell.Goals as goal
 

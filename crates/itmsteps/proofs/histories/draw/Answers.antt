@@ -1,8 +1,6 @@
 use Rattle.std.proofs.Common.{List, sym, subst, ◌∙◌}
+use Rattle.itmsteps.proofs.Common.{InOrder, IsNote, Seat}
 use Rattle.history_checker.specs.declared.verdict.Finding.{Finding}
-use Rattle.history_picture.specs.declared.seats.Seat.{Seat}
-use Rattle.history_picture.specs.Seats.{InOrder}
-use Rattle.itmsteps.specs.Histories.{IsNote}
 use Rattle.itmsteps.proofs.DrawnHistories.{drawn_as}
 use Rattle.itmsteps.proofs.histories.draw.Goals as goal
 

@@ -1,7 +1,7 @@
 use Rattle.std.proofs.Common.{refl, sym, subst}
+use Rattle.itmsteps.proofs.Common.{IsJudgement}
 use Rattle.history_checker.specs.declared.verdict.Verdict.{Verdict}
 use Rattle.history_picture.specs.declared.note.Judgement.TheVariants.{Legal, Bad}
-use Rattle.itmsteps.specs.Histories.{IsJudgement}
 use Rattle.itmsteps.proofs.histories.judgement_of.Goals as goal
 
 pub returns-in-Legal : goal.returns-in-Legal

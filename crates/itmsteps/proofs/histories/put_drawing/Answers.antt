@@ -1,4 +1,4 @@
-use Rattle.std.proofs.lemmas.Result.{err_from_is_err_and}
+use Rattle.itmsteps.proofs.Common.{err_from_is_err_and}
 use Rattle.itmsteps.proofs.Written.{cut_written, flushed}
 use Rattle.itmsteps.proofs.histories.put_drawing.Goals as goal
 

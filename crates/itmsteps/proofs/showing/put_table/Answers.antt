@@ -1,8 +1,4 @@
-use Rattle.std.proofs.lemmas.Result.{err_from_is_err_and}
-use Rattle.script_vm.specs.Threads.{thread_rules}
-use Rattle.step_table.specs.Rows.{ScheduleFirst, ScheduleRows}
-use Rattle.step_table.specs.Table.{table_text}
-use Rattle.step_table.proofs.RowLists.{schedule_whole}
+use Rattle.itmsteps.proofs.Common.{ScheduleFirst, ScheduleRows, err_from_is_err_and, schedule_whole, table_text, thread_rules}
 use Rattle.step_table.proofs.ShownRows.{shows_flushed}
 use Rattle.itmsteps.proofs.showing.put_table.Goals as goal
 

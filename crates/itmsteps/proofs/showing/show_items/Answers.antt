@@ -1,5 +1,5 @@
 use Rattle.std.proofs.Common.{ℕ, ap, ◌∙◌}
-use Rattle.itmsteps.specs.Choices.{view_of}
+use Rattle.itmsteps.proofs.Common.{view_of}
 use Rattle.itmsteps.proofs.Tables.{shown}
 use Rattle.itmsteps.proofs.showing.show_items.Goals as goal
 

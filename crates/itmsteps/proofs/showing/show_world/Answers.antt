@@ -1,5 +1,5 @@
 use Rattle.std.proofs.Common.{Bool, sym, subst}
-use Rattle.itmsteps.specs.Told.{Tells}
+use Rattle.itmsteps.proofs.Common.{Tells}
 use Rattle.itmsteps.proofs.Tables.{tabled}
 use Rattle.itmsteps.proofs.showing.show_world.Goals as goal
 

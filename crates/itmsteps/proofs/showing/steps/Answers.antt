@@ -1,5 +1,5 @@
 use Rattle.std.proofs.Common.{inl, refl, Ok, Err}
-use Rattle.std.proofs.KnownBytes.{Appends-nil}
+use Rattle.itmsteps.proofs.Common.{Appends-nil}
 use Rattle.itmsteps.proofs.showing.steps.Goals as goal
 
 pub returns-in-Ok : goal.returns-in-Ok

@@ -1,6 +1,4 @@
-use Rattle.script_vm.specs.Threads.{thread_rules}
-use Rattle.step_table.specs.Rows.{ScheduleFirst, ScheduleRows}
-use Rattle.step_table.specs.Table.{table_text}
+use Rattle.itmsteps.proofs.Common.{ScheduleFirst, ScheduleRows, table_text, thread_rules}
 use Rattle.itmsteps.proofs.Tables.{shows_as}
 use Rattle.itmsteps.proofs.showing.write_table.Goals as goal
 

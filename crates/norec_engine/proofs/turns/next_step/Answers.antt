@@ -1,7 +1,6 @@
 use Rattle.std.proofs.Common.{arith, rules}
-use Rattle.norec_engine.proofs.Common.{counted, phase_of}
+use Rattle.norec_engine.proofs.Common.{counted, fits, phase_of}
 use Rattle.norec_data.proofs.CallsInProgress.{is_on}
-use Rattle.norec_revocable.proofs.Counts.{fits}
 use Rattle.norec_engine.proofs.HeldCounts.{held_fits}
 use Rattle.norec_engine.proofs.turns.next_step.Goals as goal
 

@@ -1,6 +1,5 @@
 use Rattle.std.proofs.Common.{◌≡◌, ℕ, suc, ◌+◌, ◌*◌, ◌%◌, ◌≤◌, None, Some, drop, length, slice_get, refl, sym, ap, subst, ◌∙◌, arith}
-use Rattle.norec_irrevocable.proofs.Common.{AreBytes, ComesTo, Done, Idle, State, Up, chunks_of, filled_each, held_after, kept, length-replicate, next_of, none_drop, pieces_of, some_drop, written, written_at}
-use Rattle.norec_core.specs.Order.{fill_stage}
+use Rattle.norec_irrevocable.proofs.Common.{AreBytes, ComesTo, Done, Idle, State, Up, chunks_of, fill_stage, filled_each, held_after, kept, length-replicate, next_of, none_drop, pieces_of, some_drop, written, written_at}
 use Rattle.norec_irrevocable.proofs.Replies.HeldAccesses.{kept_written}
 use Rattle.norec_irrevocable.proofs.Pieces.HeldCopies.{fills_end, fills_on}
 use Rattle.norec_irrevocable.proofs.Replies.Completions.{fill_done}

@@ -1,9 +1,6 @@
 use Rattle.std.proofs.Common.{◌≡◌, ℕ, suc, ◌+◌, ◌<◌, ◌≤◌, ◌==◌, List, [], ◌++◌, length, drop, Some, slice_get, refl, sym, ap, subst, ◌∙◌, add-one, arith, eq-eqb}
-use Rattle.norec_irrevocable.proofs.Common.{ComesTo, Core, Data, HeldTurns, IsSoundAfter, Load, Piece, Reading, Wait, access_saved, answered, call_for, cond-false, cond-true, count_of, counted, gathered, held, held_after, in_call, kept, ne_eqb, next_of, part_of, pieces_of, read_from, read_past, reading_of, word-pieces_of, word_of}
-use Rattle.norec_core.specs.Accesses.{part}
-use Rattle.norec_core.specs.Core.{handed}
+use Rattle.norec_irrevocable.proofs.Common.{ComesTo, Core, Data, HeldTurns, IsSoundAfter, Load, Piece, Reading, Steps, Wait, access_saved, answered, call_for, cond-false, cond-true, count_of, counted, gathered, handed, held, held_after, in_call, kept, ne_eqb, next_of, part, part_of, pieces_of, read_from, read_past, reading_of, word-pieces_of, word_of}
 use Rattle.norec_data.specs.declared.pending.Pending.TheVariants as waits
-use Rattle.norec_irrevocable.specs.Outcomes.{Steps}
 use Rattle.norec_irrevocable.proofs.Pieces.ChunkPhases.{first_piece}
 use Rattle.norec_irrevocable.proofs.Replies.HeldAccesses.{gathers_on}
 use Rattle.norec_irrevocable.proofs.Pieces.LoadedPieces.{gathers_all, loads_later, longer, more_left, none_left, read_ends, reading_next, whole_length}

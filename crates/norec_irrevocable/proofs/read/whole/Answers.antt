@@ -1,7 +1,6 @@
 use Rattle.std.proofs.Common.{◌≡◌, ℕ, suc, ◌+◌, ◌-◌, true, drop, length, None, Some, refl, sym, ap, subst, ◌∙◌, add-one, arith, rules}
-use Rattle.norec_irrevocable.proofs.Common.{ComesTo, Copy, CopyPair, Core, Done, HeldTurns, Idle, Purpose, Reply, State, WritesShared, access_saved, answered, call_for, chunk_source, chunks_in, copied_each, copy_refusal, count_of, held_after, in_call, is_in, kept, next_of, place_from, read_past, reading_of, target_written, with_slice, written_at as written}
+use Rattle.norec_irrevocable.proofs.Common.{ComesTo, Copy, CopyPair, Core, Done, HeldTurns, Idle, Purpose, Reply, State, WritesShared, access_saved, answered, call_for, chunk_saved, chunk_source, chunks_in, copied_each, copy_refusal, count_of, held_after, in_call, is_in, kept, next_of, place_from, read_past, reading_of, target_written, with_slice, written_at as written}
 use Rattle.norec_core.specs.declared.call_parts.Target.TheVariants as into
-use Rattle.norec_core.specs.OwnAccesses.{chunk_saved}
 use Rattle.norec_irrevocable.proofs.Pieces.ChunkPhases.{few_chunks, read_in_next, read_within_next, steps_in, steps_within, target_in_arena}
 use Rattle.norec_irrevocable.proofs.Replies.Completions.{read_done}
 use Rattle.norec_irrevocable.proofs.read.whole.Goals as goal

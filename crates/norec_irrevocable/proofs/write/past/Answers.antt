@@ -1,7 +1,5 @@
 use Rattle.std.proofs.Common.{◌≡◌, ℕ, ◌+◌, ◌%◌, drop, refl, sym, ap, subst, ◌∙◌, add-one, arith, rules}
-use Rattle.norec_irrevocable.proofs.Common.{ComesTo, Done, HeldTurns, State, Target, Up, chunk_from, chunk_there, chunks_in, chunks_of, copied_each, count_of, filled_each, held_after, in_call, kept, next_of, placed_past, rest_of, size_of, words_in-next}
-use Rattle.norec_data.specs.View.{placed_for}
-use Rattle.norec_core.specs.Order.{fill_from}
+use Rattle.norec_irrevocable.proofs.Common.{ComesTo, Done, HeldTurns, State, Target, Up, chunk_from, chunk_there, chunks_in, chunks_of, copied_each, count_of, fill_from, filled_each, held_after, in_call, kept, next_of, placed_for, placed_past, rest_of, size_of, words_in-next}
 use Rattle.norec_irrevocable.proofs.Pieces.ChunkPhases.{few_chunks, steps_placed}
 use Rattle.norec_irrevocable.proofs.Replies.Completions.{write_done}
 use Rattle.norec_irrevocable.proofs.write.past.Goals as goal

@@ -1,8 +1,6 @@
 use Rattle.std.proofs.Common.{◌≡◌, ℕ, suc, ◌+◌, List, [], drop, None, slice_get, slice_set, refl, sym, ap, subst, ◌∙◌, add-one, arith, inl, inr, rules}
-use Rattle.norec_irrevocable.proofs.Common.{AreBytes, ComesTo, Data, Done, Got, IsMemory, Phase, Piece, Place, State, Writing, counted, held, held_after, kept, next_of, pieces_of, place_from, placed_past, placed_piece, placed_value, rest_of, written}
+use Rattle.norec_irrevocable.proofs.Common.{AreBytes, ComesTo, Data, Done, Got, IsMemory, Phase, Piece, Place, State, StepsHeld, Writing, counted, held, held_after, kept, next_of, pieces_of, place_from, placed_past, placed_piece, placed_value, rest_of, step_of, written}
 use Rattle.norec_core.specs.declared.answer.Next.TheVariants.{Step as Asks}
-use Rattle.norec_core.specs.Held.{StepsHeld}
-use Rattle.norec_data.specs.View.{step_of}
 use Rattle.norec_irrevocable.proofs.Replies.HeldAccesses.{fits_stored, stores_on}
 use Rattle.norec_irrevocable.proofs.Pieces.NextPlaces.{next_sound, places_later}
 use Rattle.norec_irrevocable.proofs.Pieces.PlacedPieces.{is_piece, no_pieces, piece_here, placing_facts}

@@ -1,7 +1,7 @@
 use Rattle.std.proofs.Common.{◌≡◌, ℕ, false, subst, sym, ap, refl, ◌∙◌, rules}
 use Rattle.norec_irrevocable.proofs.Common.{AreBytes, ComesTo, Core, Data, Done, HeldTurns, Idle, IsMemory, Reply, State, Write, access_refusal, after, came, core_held, held_after, in_block, in_call, kept, next_of, pieces_of, size_of, written}
 use Rattle.norec_irrevocable.proofs.Replies.HeldAccesses.{accepted, write_comes}
-use Rattle.norec_irrevocable.proofs.SameDatum.{same_datum}
+use Rattle.itm_types.proofs.SameDatum.{same_datum}
 use Rattle.norec_irrevocable.proofs.Replies.Refusals.{refused_access}
 use Rattle.norec_irrevocable.proofs.write.write.Goals as goal
 

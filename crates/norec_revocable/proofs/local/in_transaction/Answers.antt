@@ -1,5 +1,5 @@
 use Rattle.std.proofs.Common.{rules}
-use Rattle.norec_revocable.proofs.Replies.Refusals.{asked_replies}
+use Rattle.norec_turns.proofs.Refusals.{asked_replies}
 use Rattle.norec_revocable.proofs.local.in_transaction.Goals as goal
 
 pub returns : goal.returns

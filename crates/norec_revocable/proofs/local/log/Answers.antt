@@ -1,9 +1,19 @@
 use Rattle.std.proofs.Common.{◌≡◌, ◌+◌, length, nat_le, Bool, false, Some, sym, ap, subst, refl, ◌∙◌, rules}
-use Rattle.norec_revocable.proofs.Common.{Call, CallTurns, Data, End, Nest, OutOfArena, Outside, also_kept, err_from_is_err_and, found, kept_of, log_of, logged_of, or_else, unless}
+use Rattle.itm_types.specs.declared.call.Call.{Call}
+use Rattle.norec_turns.specs.Moves.{CallTurns}
+use Rattle.norec_data.specs.declared.data.Data.{Data}
+use Rattle.norec_data.specs.declared.turn.Turn.TheVariants.{End}
+use Rattle.nest_frames.specs.Nest.{Nest, log_of}
+use Rattle.itm_types.specs.declared.call.Refusal.TheVariants.{OutOfArena, Outside}
+use Rattle.itm_types.specs.KeptBytes.{also_kept}
+use Rattle.std.proofs.lemmas.Result.{err_from_is_err_and}
+use Rattle.undo_log.specs.Rollback.{found, kept_of}
+use Rattle.itm_types.specs.Calls.{logged_of}
+use Rattle.itm_model.specs.Machine.{or_else, unless}
 use Rattle.norec_data.specs.declared.end.CallEnd.TheVariants as ends
-use Rattle.norec_revocable.proofs.Replies.ImmediateReplies.{answered, logged_at_once, logged_starves, refused_as_it_was, starved}
-use Rattle.norec_revocable.proofs.Blocks.Cancels.{come}
-use Rattle.norec_revocable.proofs.Replies.LocalReplies.{logged_replies, logged_sound, not_within, unlogged_replies, with_log}
+use Rattle.norec_turns.proofs.ImmediateReplies.{answered, logged_at_once, logged_starves, refused_as_it_was, starved}
+use Rattle.norec_turns.proofs.Cancels.{come}
+use Rattle.norec_turns.proofs.LocalReplies.{logged_replies, logged_sound, not_within, unlogged_replies, with_log}
 use Rattle.norec_revocable.proofs.local.log.Goals.{then-not-is_open, else-not-is_open+then-not-contains, else-not-is_open+else-not-contains+in_ok-log}
 use Rattle.norec_revocable.proofs.local.log.Goals as goal
 

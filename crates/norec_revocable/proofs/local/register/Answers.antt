@@ -1,9 +1,16 @@
 use Rattle.std.proofs.Common.{◌≡◌, false, Some, sym, ap, subst, refl, ◌∙◌, rules}
-use Rattle.norec_revocable.proofs.Common.{Call, CallTurns, Data, End, Nest, Outside, err_from_is_err_and, registered_by}
+use Rattle.itm_types.specs.declared.call.Call.{Call}
+use Rattle.norec_turns.specs.Moves.{CallTurns}
+use Rattle.norec_data.specs.declared.data.Data.{Data}
+use Rattle.norec_data.specs.declared.turn.Turn.TheVariants.{End}
+use Rattle.nest_frames.specs.Nest.{Nest}
+use Rattle.itm_types.specs.declared.call.Refusal.TheVariants.{Outside}
+use Rattle.std.proofs.lemmas.Result.{err_from_is_err_and}
+use Rattle.itm_types.specs.Calls.{registered_by}
 use Rattle.norec_data.specs.declared.end.CallEnd.TheVariants as ends
-use Rattle.norec_revocable.proofs.Replies.ImmediateReplies.{answered, refused_as_it_was, registered_at_once, registered_starves, starved}
-use Rattle.norec_revocable.proofs.Blocks.Cancels.{come}
-use Rattle.norec_revocable.proofs.Replies.LocalReplies.{registered_replies, registered_sound, unregistered_replies, with_action}
+use Rattle.norec_turns.proofs.ImmediateReplies.{answered, refused_as_it_was, registered_at_once, registered_starves, starved}
+use Rattle.norec_turns.proofs.Cancels.{come}
+use Rattle.norec_turns.proofs.LocalReplies.{registered_replies, registered_sound, unregistered_replies, with_action}
 use Rattle.norec_revocable.proofs.local.register.Goals.{then-is_open+in_ok-register, else-is_open}
 use Rattle.norec_revocable.proofs.local.register.Goals as goal
 

@@ -1,5 +1,5 @@
 use Rattle.std.proofs.Common.{arith, rules}
-use Rattle.norec_revocable.proofs.Replies.Refusals.{save_replies}
+use Rattle.norec_turns.proofs.Refusals.{save_replies}
 use Rattle.norec_revocable.proofs.local.save.Goals as goal
 
 pub returns-then-contains : goal.returns-then-contains

@@ -1,6 +1,11 @@
 use Rattle.std.proofs.Common.{◌≡◌, arith, ap, sym, ◌∙◌}
-use Rattle.norec_revocable.proofs.Common.{AllWithin-at, AllWritesWithin-at, LogRow, Row, counted, get_or_from_slice_get, row_at, value_into, write_at, write_at_of}
-use Rattle.norec_revocable.proofs.Phases.{store_row, stores_as, loads_as}
+use Rattle.access_rules.proofs.Overlays.{AllWithin-at, AllWritesWithin-at, write_at_of}
+use Rattle.itm_types.specs.declared.row.LogRow.{LogRow}
+use Rattle.write_set.specs.declared.row.Row.{Row}
+use Rattle.norec_data.specs.Turns.{counted}
+use Rattle.std.proofs.lemmas.Option.{get_or_from_slice_get}
+use Rattle.norec_core.specs.Rows.{row_at, value_into, write_at}
+use Rattle.norec_turns.proofs.Phases.{store_row, stores_as, loads_as}
 use Rattle.norec_revocable.proofs.steps.step_of.Goals as goal
 use Rattle.norec_revocable.proofs.steps.step_of.Goals.{in-Some, in-None}
 

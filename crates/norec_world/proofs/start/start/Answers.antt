@@ -21,7 +21,7 @@ work-requires g c =
     record {
       tied = record {
         words = ap (λ (e : Core). e.words) engine;
-        fit = c.requires.fit;
+        fit = c.requires.fresh.fit;
         late = search rules;
         holder = search rules;
         small = (let small : c.args.terms.limits.restarts < 2 ^ 32 = omega arith in subst (λ (n : ℕ). n < 2 ^ 32) (sym (ap (λ (e : Core). e.restarts) engine)) small);
@@ -60,12 +60,12 @@ returns-in_default g c =
         between = between.0;
         limits_are = limits_stay c.fresh-actor.result c.work.new.actor worked.retries worked.limit
             ∙ limits_as c.fresh-actor.result (length cells.words) c.args.terms.arena limits engine (ap (λ (x : PlayerRun g.row.P.Denot). x.retries) run);
-        seen = worked.clock ∙ (ap (λ (e : Core). e.clock) engine ∙ sym c.requires.clock);
+        seen = worked.clock ∙ (ap (λ (e : Core). e.clock) engine ∙ sym c.requires.fresh.clock);
       };
       runs = λ none.
           (let fresh = fresh_runs g.P.Player g.met.P.Player.laws cells (rows_in c.args.ended.now) c.fresh-actor.result limits.depth (bytes_of cells.words) c.args.terms.arena limits.patience limits.max_commits limits.restarts
           (subst (λ (p : g.row.P.Denot). g.P.Player.depth p ≡ 0) (sym (ap (λ (x : PlayerRun g.row.P.Denot). x.player) run)) c.requires.outside) engine none (ap (λ (x : PlayerRun g.row.P.Denot). x.nth) run) (ap (λ (x : PlayerRun g.row.P.Denot). x.again) run) (ap (λ (x : PlayerRun g.row.P.Denot). x.current) run) c.fresh-actor.ensures.status in
-          (worked.runs (first_of c.args.player c.args.terms.arena) limits.depth (bytes_of cells.words) (laid_first limits.depth (bytes_of cells.words) cells (rows_in c.args.ended.now) refl c.requires.fit c.requires.clock none)
+          (worked.runs (first_of c.args.player c.args.terms.arena) limits.depth (bytes_of cells.words) (laid_first limits.depth (bytes_of cells.words) cells (rows_in c.args.ended.now) refl c.requires.fresh.fit c.requires.fresh.clock none)
           (subst (λ (p : g.row.P.Denot). RunsFrom g.P.Player (first_of p c.args.terms.arena) limits.depth (bytes_of cells.words) cells (rows_in c.args.ended.now) c.fresh-actor.result) (ap (λ (x : PlayerRun g.row.P.Denot). x.player) run) fresh)).1);
       free = search rules;
       fed = search rules;

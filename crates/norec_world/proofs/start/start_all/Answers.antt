@@ -48,7 +48,7 @@ loop-player-preserved g c =
             (c.in_ok-actor.ensures.runs i.ended))
         | inr h ↦
             other_runs g.P.Player g.met.P.Player.laws (first_of p c.args.terms.arena) c.args.terms.limits.depth (bytes_of c.args.memory.now.words) c.args.memory.now c.args.memory.now
-            (rows_in c.loop-player.ended) (rows_in c.start.new.ended) actor.run.thread a (laid_first c.args.terms.limits.depth (bytes_of c.args.memory.now.words) c.args.memory.now (rows_in c.loop-player.ended) refl c.requires.fit c.requires.clock i.ended) (i.sound.each place a h.1).sound.tied [] (ended ∙ sym (append-nil c.loop-player.ended.items)) tt
+            (rows_in c.loop-player.ended) (rows_in c.start.new.ended) actor.run.thread a (laid_first c.args.terms.limits.depth (bytes_of c.args.memory.now.words) c.args.memory.now (rows_in c.loop-player.ended) refl c.requires.fresh.fit c.requires.fresh.clock i.ended) (i.sound.each place a h.1).sound.tied [] (ended ∙ sym (append-nil c.loop-player.ended.items)) tt
             (other place a h.0 h.1) (let z : c.args.memory.now.clock ≤ c.args.memory.now.clock = omega arith in z) (λ x. refl) (i.runs place p a e h.1)
       ];
       starts = λ place p a e f. elim (placed place a f) [
@@ -63,15 +63,18 @@ loop-player-preserved g c =
       fed = λ place e. fed_joined before actor i.fed c.in_ok-actor.ensures.fed place (ap (λ (xs : List (Actor g.row.P.Denot)). ending_in xs place) (sym items) ∙ e);
     }
 
-pub returns-clause-none_open : goal.returns-clause-none_open
-returns-clause-none_open g c place a e = (c.loop-player.invariant.tries place a e).between.none
-
-pub returns-clause-runs : goal.returns-clause-runs
-returns-clause-runs g c place p a e f =
+pub returns : goal.returns
+returns g c =
+    let i = c.loop-player.invariant in
     let same : c.into_iter-player-iterator.result.rest.items ≡ c.args.players.items = search rules in
-    c.loop-player.invariant.runs place p a (ap (λ (xs : List g.row.P.Denot). slice_get xs place) same ∙ e) f
-
-pub returns-clause-starts : goal.returns-clause-starts
-returns-clause-starts g c place p a e f =
-    let same : c.into_iter-player-iterator.result.rest.items ≡ c.args.players.items = search rules in
-    c.loop-player.invariant.starts place p a (ap (λ (xs : List g.row.P.Denot). slice_get xs place) same ∙ e) f
+    let player_at = λ (place : ℕ) (p : g.row.P.Denot) (e : slice_get c.args.players.items place ≡ Some p). ap (λ (xs : List g.row.P.Denot). slice_get xs place) same ∙ e in
+    record {
+      count = search rules;
+      sound = i.sound;
+      first = i.tries;
+      starts = λ place p a e. i.starts place p a (player_at place p e);
+      runs = λ place p a e. i.runs place p a (player_at place p e);
+      none = i.ended;
+      none_open = λ place a e. (i.tries place a e).between.none;
+      fed = i.fed;
+    }

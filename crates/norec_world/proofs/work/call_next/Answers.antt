@@ -24,10 +24,10 @@ settle-requires g c = record {
   answered = (
     in_transaction c.args.actor.now.engine,
     _,
-    due (call_taken (calling c.requires.sound c.requires.ready (as_answer c.ask.new.answer c.in-Ok-None.field-0-is) c.in-Ok-None.ensures.asked c.in-Ok-None.ensures.told c.ask.ensures.place)),
+    due (call_taken (calling c.requires.sound c.requires.ready (as_answer c.ask.new.answer c.in-Ok-None.field-0-is) c.in-Ok-None.ensures.asked.asked c.in-Ok-None.ensures.asked.told c.ask.ensures.place)),
   );
   place = c.ask.ensures.place;
-  acts = subst (MayRunOn c.ask.new.actor c.in-Some.call) (as_answer c.ask.new.answer c.in-Ok-None.field-0-is) c.in-Ok-None.ensures.acts;
+  acts = subst (MayRunOn c.ask.new.actor c.in-Some.call) (as_answer c.ask.new.answer c.in-Ok-None.field-0-is) c.in-Ok-None.ensures.asked.acts;
 }
 
 pub returns-in_default-clause-worked : goal.returns-in_default-clause-worked
@@ -35,12 +35,12 @@ returns-in_default-clause-worked g c = finish_worked g.met.P.Player.laws c.requi
 
 pub returns-in-Ok-Some-clause-worked : goal.returns-in-Ok-Some-clause-worked
 returns-in-Ok-Some-clause-worked g c =
-    let m = calling c.requires.sound c.requires.ready (as_step c.ask.new.answer c.in-Ok-Some.field-0-is) c.in-Ok-Some.ensures.asked c.in-Ok-Some.ensures.told c.ask.ensures.place in
-    call_worked g.met.P.Player.laws m (rows_in c.ask.new.ended) (record c.ask.new.actor { status = Waits c.in-Some.call c.in-Ok-Some.step }) (refl, refl) (refl, refl) (sym c.next.ensures ∙ c.in-Some.is) (let o = c.ask.ensures.others in record { thread = o.thread; more = o.more; ended = o.ended; mine = o.mine; room = o.room }) (subst (MayRunOn c.ask.new.actor c.in-Some.call) (as_step c.ask.new.answer c.in-Ok-Some.field-0-is) c.in-Ok-Some.ensures.acts)
+    let m = calling c.requires.sound c.requires.ready (as_step c.ask.new.answer c.in-Ok-Some.field-0-is) c.in-Ok-Some.ensures.asked.asked c.in-Ok-Some.ensures.asked.told c.ask.ensures.place in
+    call_worked g.met.P.Player.laws m (rows_in c.ask.new.ended) (record c.ask.new.actor { status = Waits c.in-Some.call c.in-Ok-Some.step }) (refl, refl) (refl, refl) (sym c.next.ensures ∙ c.in-Some.is) (let o = c.ask.ensures.others in record { thread = o.thread; more = o.more; ended = o.ended; mine = o.mine; room = o.room }) (subst (MayRunOn c.ask.new.actor c.in-Some.call) (as_step c.ask.new.answer c.in-Ok-Some.field-0-is) c.in-Ok-Some.ensures.asked.acts)
 
 pub returns-in-Ok-None-clause-worked : goal.returns-in-Ok-None-clause-worked
 returns-in-Ok-None-clause-worked g c =
-    let m = calling c.requires.sound c.requires.ready (as_answer c.ask.new.answer c.in-Ok-None.field-0-is) c.in-Ok-None.ensures.asked c.in-Ok-None.ensures.told c.ask.ensures.place in
+    let m = calling c.requires.sound c.requires.ready (as_answer c.ask.new.answer c.in-Ok-None.field-0-is) c.in-Ok-None.ensures.asked.asked c.in-Ok-None.ensures.asked.told c.ask.ensures.place in
     let was = in_transaction c.args.actor.now.engine in
     let d = due (call_taken m) in
     call_worked g.met.P.Player.laws m (rows_in c.settle.new.ended) c.settle.new.actor ((c.settle.ensures.recorded was (restarts_left (mid m)) d).done) ((c.settle.ensures.recorded was (restarts_left (mid m)) d).tells) (sym c.next.ensures ∙ c.in-Some.is)
@@ -48,7 +48,7 @@ returns-in-Ok-None-clause-worked g c =
 
 pub returns-in-Ok-None-clause-falls : goal.returns-in-Ok-None-clause-falls
 returns-in-Ok-None-clause-falls g c =
-    let m = calling c.requires.sound c.requires.ready (as_answer c.ask.new.answer c.in-Ok-None.field-0-is) c.in-Ok-None.ensures.asked c.in-Ok-None.ensures.told c.ask.ensures.place in
+    let m = calling c.requires.sound c.requires.ready (as_answer c.ask.new.answer c.in-Ok-None.field-0-is) c.in-Ok-None.ensures.asked.asked c.in-Ok-None.ensures.asked.told c.ask.ensures.place in
     answer_falls m (c.settle.ensures.recorded (in_transaction c.args.actor.now.engine) (restarts_left (mid m)) (due (call_taken m))).done
 
 pub returns-in-Err-clause-worked : goal.returns-in-Err-clause-worked
@@ -56,7 +56,7 @@ returns-in-Err-clause-worked g c =
     let a = c.args.actor.now in
     let x = c.ask.new.actor in
     let last = c.starve.new.actor in
-    let u = c.in-Err.ensures.unasked in
+    let u = c.in-Err.ensures.refused.unasked in
     let rows = rows_in c.ask.new.ended in
     let r1 = rows_in c.starve.new.ended in
     let starved = c.starve.ensures in
@@ -68,8 +68,8 @@ returns-in-Err-clause-worked g c =
     let s : Starves g.P.Player (rows_in c.args.ended.now) a r1 last = record {
       call = c.in-Some.call;
       next_is = sym c.next.ensures ∙ c.in-Some.is;
-      grows = c.in-Err.ensures.grows;
-      used = c.in-Err.ensures.used;
+      grows = c.in-Err.ensures.refused.grows;
+      used = c.in-Err.ensures.refused.used;
       status = starved.status;
       same = record { thread = starved.same.0 ∙ ap (λ (y : PlayerRun g.row.P.Denot). y.thread) run; retries = starved.same.1 ∙ ap (λ (y : PlayerRun g.row.P.Denot). y.retries) run; nothing = λ e. absurd (let z = sym starved.status ∙ e in cc) };
       engine = left;

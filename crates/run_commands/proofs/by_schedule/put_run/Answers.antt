@@ -1,6 +1,5 @@
 use Rattle.std.proofs.Common.{Ok, ap, sym, ◌∙◌}
-use Rattle.run_commands.proofs.Common.{Appends-kept, Standing, flushed, thread_rules}
-use Rattle.tx_history.proofs.Streams.{cut_through, put_through}
+use Rattle.run_commands.proofs.Common.{Appends-kept, Standing, cut_through, flushed, put_through, thread_rules}
 use Rattle.run_commands.proofs.Plays.{cut_as, cut_whole, none_ok, on_any, on_err}
 use Rattle.run_commands.proofs.WrittenWorlds.{cut_written}
 use Rattle.run_commands.proofs.by_schedule.put_run.Goals as goal

@@ -1,6 +1,5 @@
 use Rattle.std.proofs.Common.{append_assoc, append-nil}
-use Rattle.run_commands.proofs.Common.{thread_line}
-use Rattle.tx_history.proofs.TextPieces.{put_as}
+use Rattle.run_commands.proofs.Common.{put_as, thread_line}
 use Rattle.run_commands.proofs.endings.put_thread.Goals as goal
 
 pub returns : goal.returns

@@ -1,6 +1,5 @@
 use Rattle.std.proofs.Common.{suc, ◌<◌, Bool, arith, refl, sym, subst, ◌∙◌}
-use Rattle.run_commands.proofs.Common.{ItemBegins, Out, call_left_at}
-use Rattle.world_rules.proofs.Events.WorldEvents.{call_falls, leaves_on, over_less, takes_one, waits_still}
+use Rattle.run_commands.proofs.Common.{ItemBegins, Out, call_falls, call_left_at, leaves_on, over_less, takes_one, waits_still}
 use Rattle.run_commands.proofs.Loops.{less_first}
 use Rattle.run_commands.proofs.Plays.{fails_here, performs_stopped, sends_none, sends_on, sends_stopped}
 use Rattle.run_commands.proofs.playing.finish_call.Goals as goal

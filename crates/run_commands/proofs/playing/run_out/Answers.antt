@@ -1,6 +1,5 @@
 use Rattle.std.proofs.Common.{refl, ◌∙◌, arith}
-use Rattle.run_commands.proofs.Common.{ItemBegins, Out}
-use Rattle.world_rules.proofs.Events.WorldEvents.{no_more_first, no_more_on, run_falls, takes_both}
+use Rattle.run_commands.proofs.Common.{ItemBegins, Out, no_more_first, no_more_on, run_falls, takes_both}
 use Rattle.run_commands.proofs.Plays.{fails_later, performs_stopped, sends_none, sends_on, sends_stopped}
 use Rattle.run_commands.proofs.playing.run_out.Goals as goal
 

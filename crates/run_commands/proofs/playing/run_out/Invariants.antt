@@ -1,6 +1,5 @@
 use Rattle.std.proofs.Common.{◌≡◌, ℕ, length, Ok}
-use Rattle.run_commands.proofs.Common.{SendsEnded, Takes}
-use Rattle.world_rules.proofs.Events.WorldEvents.{LeavesNoMore, run_left_at, whole_at}
+use Rattle.run_commands.proofs.Common.{LeavesNoMore, SendsEnded, Takes, run_left_at, whole_at}
 use Rattle.run_commands.proofs.playing.run_out.Given as goal
 
 abbrev pub invariant-loop-alloc : goal.invariant-loop-alloc

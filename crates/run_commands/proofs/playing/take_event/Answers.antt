@@ -1,9 +1,10 @@
 use Rattle.std.proofs.Common.{arith, rules}
-use Rattle.run_commands.proofs.Plays.{event_adds, event_ends_none, event_within, on_ok}
+use Rattle.run_commands.proofs.Common.{ended_within}
+use Rattle.run_commands.proofs.Plays.{event_adds, event_ends_none, on_ok}
 use Rattle.run_commands.proofs.playing.take_event.Goals as goal
 
 pub put_ended-requires-clause-first : goal.put_ended-requires-clause-first
-put_ended-requires-clause-first g c = event_within g.P.Player c.args.world.now c.event-goes_on.new.self c.args.thread c.ended-first.result c.requires.waits c.event-goes_on.ensures.goes c.ended-first.ensures.value
+put_ended-requires-clause-first g c = ended_within g.P.Player c.args.world.now c.event-goes_on.new.self c.args.thread c.ended-first.result c.requires.waits c.event-goes_on.ensures.goes c.ended-first.ensures.value
 
 pub returns-in_err-put_ended-clause-sends : goal.returns-in_err-put_ended-clause-sends
 returns-in_err-put_ended-clause-sends g c = record {

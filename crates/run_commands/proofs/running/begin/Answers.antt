@@ -1,18 +1,19 @@
 use Rattle.std.proofs.Common.{◌≡◌, ℕ, ◌≤◌, List, All, length, ap, subst, sym, ◌∙◌}
-use Rattle.run_commands.proofs.Common.{MAX_ARENA, Thread, depth_of, length-map, opening, opening_of, players_of, threads_of}
-use Rattle.std.proofs.lemmas.List.Elements.{All-from_recursion}
+use Rattle.run_commands.proofs.Common.{All-from_recursion, MAX_ACTORS, MAX_ARENA, Thread, depth_of, length-map, opening, opening_of, players_of, threads_of}
 use Rattle.itm_types.specs.Limits.{AreWithin}
-use Rattle.itm_types.specs.declared.limits.TheConstants.{MAX_ACTORS}
 use Rattle.script_program.specs.Sizes.{IsSize}
-use Rattle.tx_host.proofs.Histories.ToldLimits.{limited_listing}
+use Rattle.report_rules.proofs.Histories.ToldLimits.{limited_listing}
 use Rattle.run_commands.proofs.Plays.{if_any}
 use Rattle.run_commands.proofs.ScheduleItems.{outside}
 use Rattle.run_commands.proofs.running.begin.Goals as goal
 
-pub new-requires-2-clause-outside : goal.new-requires-2-clause-outside
-new-requires-2-clause-outside c =
-    subst (λ (ts : List Thread). All (λ (t : Thread). depth_of t ≡ 0) ts) (sym c.in_ok-players.ensures.players)
-    (All-from_recursion (λ (t : Thread). depth_of t ≡ 0) (players_of c.args.program.now) (outside c.args.program.now.limits.depth (threads_of c.args.program.now)))
+pub new-requires-2-clause-players : goal.new-requires-2-clause-players
+new-requires-2-clause-players c = record {
+  some = c.in_ok-players.ensures.some;
+  few = c.in_ok-players.ensures.few;
+  outside = subst (λ (ts : List Thread). All (λ (t : Thread). depth_of t ≡ 0) ts) (sym c.in_ok-players.ensures.players)
+      (All-from_recursion (λ (t : Thread). depth_of t ≡ 0) (players_of c.args.program.now) (outside c.args.program.now.limits.depth (threads_of c.args.program.now)));
+}
 
 pub returns-clause-limits : goal.returns-clause-limits
 returns-clause-limits c =

@@ -1,6 +1,5 @@
 use Rattle.std.proofs.Common.{◌≡◌, ℕ, ◌+◌, ◌<◌, List, ◌∷◌, length, drop, get_or, arith, sym, ap, ◌∙◌}
-use Rattle.run_commands.proofs.Common.{Attempt, left_of}
-use Rattle.std.proofs.lemmas.List.{drop_more, length-drop, length_push}
+use Rattle.run_commands.proofs.Common.{Attempt, drop_more, left_of, length-drop, length_push}
 use Rattle.run_commands.proofs.SentTexts.{sends_all, sends_next, sends_stopped, sends_unbegun}
 use Rattle.run_commands.proofs.telling.put_left.Goals as goal
 

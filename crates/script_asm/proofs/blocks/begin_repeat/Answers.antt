@@ -1,7 +1,6 @@
 use Rattle.std.proofs.Common.{◌||◌, nat_eq, sym}
-use Rattle.script_asm.proofs.Common.{leb-false, within_never}
+use Rattle.script_asm.proofs.Common.{leb-false, place_of, within_never}
 use Rattle.script_asm.specs.declared.groups.Group.TheVariants as groups
-use Rattle.script_asm.specs.Blocks.{place_of}
 use Rattle.script_asm.proofs.KeptLines.{level_kept}
 use Rattle.script_asm.proofs.blocks.begin_repeat.Goals as goal
 

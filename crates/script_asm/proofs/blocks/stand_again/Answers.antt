@@ -1,5 +1,5 @@
 use Rattle.std.proofs.Common.{sym}
-use Rattle.std.proofs.lemmas.Bool.{ltb-false}
+use Rattle.script_asm.proofs.Common.{ltb-false}
 use Rattle.script_asm.proofs.KeptLines.{repeats_kept}
 use Rattle.script_asm.proofs.blocks.stand_again.Goals as goal
 

@@ -1,7 +1,7 @@
 use Rattle.std.proofs.Common.{◌≡◌, ◌+◌, true, false, leb, length, sym, ap, arith}
-use Rattle.script_asm.proofs.Common.{decoded}
-use Rattle.script_asm.proofs.LaidBytes.{length-decoded, decoded_is, lies_beyond, left_within, adds_bytes}
-use Rattle.std.proofs.lemmas.Bool.{leb-true}
+use Rattle.script_asm.proofs.Common.{decoded, leb-true}
+use Rattle.script_fields.proofs.HexDigits.{decoded_is, length-decoded}
+use Rattle.script_asm.proofs.LaidBytes.{lies_beyond, left_within, adds_bytes}
 use Rattle.script_asm.proofs.directives.lay_in.Goals as goal
 
 pub returns-then-not-fits : goal.returns-then-not-fits

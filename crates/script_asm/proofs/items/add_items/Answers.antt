@@ -1,6 +1,5 @@
 use Rattle.std.proofs.Common.{None, refl}
-use Rattle.script_asm.proofs.Common.{fields}
-use Rattle.std.proofs.lemmas.Bool.{ltb-true}
+use Rattle.script_asm.proofs.Common.{fields, ltb-true}
 use Rattle.script_asm.proofs.LineItems.{end_items}
 use Rattle.script_asm.proofs.items.add_items.Goals as goal
 

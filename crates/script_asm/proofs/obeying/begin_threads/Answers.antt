@@ -1,6 +1,5 @@
 use Rattle.std.proofs.Common.{◌≤◌, ◌+◌, ◌∙◌, sym, arith}
-use Rattle.script_asm.proofs.Common.{MAX_ACTORS, thread_total}
-use Rattle.script_asm.specs.Groups.{innermost_line}
+use Rattle.script_asm.proofs.Common.{MAX_ACTORS, innermost_line, thread_total}
 use Rattle.script_asm.proofs.KeptLines.{section_kept}
 use Rattle.script_asm.proofs.obeying.begin_threads.Goals as goal
 

@@ -1,5 +1,5 @@
 use Rattle.std.proofs.Common.{eqb, w8, arith}
-use Rattle.std.proofs.lemmas.Simd.{bitmask_splat}
+use Rattle.script_fields.proofs.Common.{bitmask_splat}
 use Rattle.script_fields.proofs.scan.feeds.Goals as goal
 
 pub returns : goal.returns

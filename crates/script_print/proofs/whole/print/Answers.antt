@@ -1,7 +1,9 @@
 use Rattle.std.proofs.Common.{◌≡◌, ◌++◌, [], map, ◌∙◌, sym, subst}
-use Rattle.script_print.proofs.Common.{SaysAgain, flat_map, init_fields, item_fields, limit_lines, lines_text, part_lines, printed}
+use Rattle.script_print.proofs.Common.{IfOk-at_ok, SaysAgain, flat_map, init_fields, item_fields, limit_lines, lines_text, part_lines, printed}
 use Rattle.script_print.proofs.Texts.LineTexts.{lines_put, printed_lines}
-use Rattle.script_print.proofs.Texts.RoundTrips.{again}
+use Rattle.script_print.proofs.Printable.{IsPrintable}
+use Rattle.script_print.proofs.Assembly.Programs.{assembled}
+use Rattle.script_print.proofs.Texts.Programs.{printed_again}
 use Rattle.script_print.proofs.whole.print.Goals as goal
 
 pub returns : goal.returns
@@ -17,4 +19,4 @@ returns c =
     let second = lines_put [] limits inits c.put_limits.new.text.items c.put_inits.new.text.items first of_inits in
     let third = lines_put [] (limits ++ inits) items c.put_inits.new.text.items c.put_items.new.text.items second of_items in
     let whole : c.put_sections.new.text.items ≡ printed p = lines_put [] (limits ++ inits ++ items) parts c.put_items.new.text.items c.put_sections.new.text.items third (c.in_ok-put_sections.ensures {u = tt}) ∙ sym (printed_lines p) in
-    record { text = whole; again = subst (SaysAgain p) (sym whole) (again p) }
+    record { text = whole; again = subst (SaysAgain p) (sym whole) (λ text said fits. printed_again p (IfOk-at_ok IsPrintable said (assembled text)) fits) }

@@ -1,6 +1,5 @@
 use Rattle.std.proofs.Common.{◌≡◌, ◌+◌, ◌≤◌, ℕ, List, length}
-use Rattle.script_vm.proofs.Common.{worked}
-use Rattle.script_vm.specs.Work.{groups_in}
+use Rattle.script_vm.proofs.Common.{groups_in, worked}
 use Rattle.script_vm.proofs.work.passed.Given as goal
 
 abbrev pub invariant-loop-first : goal.invariant-loop-first

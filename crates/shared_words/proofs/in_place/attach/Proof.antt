@@ -1,13 +1,12 @@
 -- `attach` hands the cells to what waits for them. Assumes `Logic`.
 use Rattle.std.proofs.Common.{◌≡◌, ℕ, List, [], ◌∷◌, ◌++◌, length, refl, sym, ap, ◌∙◌, subst}
-use Rattle.shared_words.proofs.Common.{Args, Calls, Clauses, Dict, Ended, Extent, Fn, Fun, Ghosts, Goes-blank, Laws, Logic, Loops, Meets, Memory, RattleType, Routine, Tables, Typed, Ura, Val, WpFn, WpFn-mono, a_type, bounded, closing, copy_shared, dcons, dnil, done, drop, ends_at, ent, entered, feq, feq_i, feq_l, fjoin, fpick, fsep, fsplit, fwand, heard, inst_fn, move, no, nothing, of_field, param, param_laws, prop, regoal, says, sem, strip, suffices, tables_of, triple_of, u64-copy, u64-field, u64-laws, walk_Meets, with_items, with_items_is, ‵, ◌$◌, ◌⊑◌}
-use base.Logic.{SProp, all_e, apply∗}
+use Rattle.shared_words.proofs.Common.{Args, Calls, Clauses, Dict, Ended, Extent, Fn, Fun, Ghosts, Goes-blank, Laws, Logic, Loops, Meets, Memory, RattleType, Routine, Tables, Typed, Ura, Val, WpFn, WpFn-mono, a_type, all_e, apply∗, bounded, closing, copy_shared, dcons, dnil, done, drop, ends_at, ent, entered, feq, feq_i, feq_l, fjoin, fld, fpick, fsep, fsplit, fwand, get_in, heard, inst_fn, move, no, nothing, of_field, param, param_laws, prop, regoal, says, sem, strip, sub, suffices, tables_of, triple_of, u64-copy, u64-field, u64-laws, walk_Meets, whole, with_items, with_items_is, ‵, ◌$◌, ◌⊑◌}
+use base.Logic.{SProp}
 use contract.Monad.{fact}
 use contract.Running.{tables}
 use types.Kit.{raw, ◌⊛◌, ◌∵◌, !, qed, use1, use2, split, rewrite}
-use types.Part.{sub, whole}
-use types.Run.{enter, returns, of_opd, fld, stop}
-use types.ByLocal.{alloc_all, pass_all, free_all, look_at, get, get_in, sets}
+use types.Run.{enter, returns, of_opd, stop}
+use types.ByLocal.{alloc_all, pass_all, free_all, look_at, get, sets}
 use denote.Exit.{yes}
 use denote.RattleType.{owns}
 use denote.Builtin.{u64}

@@ -1,12 +1,8 @@
 -- The cells go under the table's invariant where they lie, and the first seat is made.
-use Rattle.atomic_table.proofs.Names.{◌*◌, ◌^◌, ◌<◌, ◌++◌, Val, vstruct, fsep, ‵, some, ◌$◌, move, drop, fsplit, fjoin, fpack, feq_i, load, sets_last, Valss, ptr_val, nothing, heard, RawPtr, of_list, mem}
-use types.Run.{look}
-use denote.RawPtr.{rawptr_vals, rawptr_Tells}
+use Rattle.atomic_table.proofs.Names.{Val, vstruct, fsep, ‵, some, ◌$◌, move, drop, fsplit, fjoin, fpack, feq_i, nothing, heard}
 use Rattle.std.proofs.Common.{drop as drop_list}
-use Rattle.shared_words.proofs.Common.{Goes-dropped, Good, InBlock, List, Ptr, SProp, Stays, TableId, Ty, View, addr, agg, alive, alloc_all, and_then, at_ret, await, blocks, by, emp, enter, env, exec, fact, fact_i, fat, first, fjoin3, free_all, from, ftrue, full_share, get, given, hand_good, hand_of, join, keep, later, learn, leaves, length, lit<, look_at, mine, no_more, of_opd, opening, owns, pass_all, pick, plain, proved, qed, raw, refl, returns, rewrite, sets, split, spot_of, stay_dropped, stop, strip, table_owns, tables, through, types_at, u64, u8, use0, use1, use2, via, walk_of, yes, ℕ, !, [], ◌∵◌, ◌∷◌, ◌≡◌, ◌⊛◌}
+use Rattle.shared_words.proofs.Common.{Goes-dropped, Good, HandData, InBlock, List, Ptr, Ptr-Good, RawPtr, SProp, Stays, TableId, Token, Ty, Valss, View, addr, agg, alive, alloc_all, and_then, at_ret, await, blocks, by, deals, dealt_good, emp, enter, env, exec, fact, fact_i, fat, first, fjoin3, free_all, from, ftrue, full_share, get, given, hand_good, hand_made, hand_of, join, keep, later, learn, leaves, length, lit<, load, look, look_at, mem, mine, no_more, of_list, of_opd, opening, owns, pair_of, pass_all, pick, plain, proved, ptr_val, qed, raw, rawptr_Tells, rawptr_vals, refl, returns, rewrite, sets, sets_last, split, spot_of, stay_dropped, stop, strip, strip_lies, table_owns, tables, through, token_made, token_val, types_at, u64, u8, use0, use1, use2, via, walk_of, yes, ℕ, !, [], ◌*◌, ◌++◌, ◌<◌, ◌^◌, ◌∵◌, ◌∷◌, ◌≡◌, ◌⊛◌}
 use Rattle.std.proofs.VecSteps.Shapes.{after}
-use Rattle.atomic_table.proofs.Fields.{HandData, hand_made, Ptr-Good, Token, token_val, token_made, pair_of, dealt_good}
-use Rattle.atomic_table.proofs.Dealing.{strip_lies, deals}
 use Rattle.shared_words.specs.contracts.rule.CoreTableRuleU8ViewInitialWords.TheImpl as rule
 use Rattle.shared_words.specs.contracts.in_place.Row as row
 use Rattle.shared_words.specs.contracts.in_place.deal as f

@@ -1,6 +1,6 @@
 -- `detach` takes the cells out, and leaves the way back. Assumes `Logic`.
 use Rattle.std.proofs.Common.{◌<◌, List, [], ◌∷◌, ◌++◌, refl}
-use Rattle.shared_words.proofs.Common.{Args, Calls, Clauses, Dict, Ended, Fn, Fun, Ghosts, Goes-blank, Laws, Logic, Loops, Meets, Memory, RattleType, Routine, Tables, Typed, Ura, Val, WpFn, WpFn-mono, a_type, bounded, closing, copy_shared, dcons, dnil, done, drop, ends_at, ent, entered, fjoin, fpack, fsplit, heard, inst_fn, layout, move, no, nothing, of_field, param, param_laws, prop, regoal, says, strip, suffices, tables_of, triple_of, u64-copy, u64-field, u64-laws, walk_Meets, ‵, ◌$◌, ◌⊑◌}
+use Rattle.shared_words.proofs.Common.{Args, Calls, Clauses, Dict, Ended, Fn, Fun, Ghosts, Goes-blank, Laws, Logic, Loops, Meets, Memory, RattleType, Routine, Tables, Typed, Ura, Val, WpFn, WpFn-mono, a_type, as_fields, bounded, closing, copy_shared, dcons, dnil, done, drop, ends_at, ent, entered, fjoin, fpack, fsplit, heard, inst_fn, layout, move, no, nothing, of_field, param, param_laws, prop, regoal, says, strip, suffices, tables_of, triple_of, u64-copy, u64-field, u64-laws, walk_Meets, ‵, ◌$◌, ◌⊑◌}
 use base.Logic.{SProp}
 use base.Fml.{ftrue}
 use contract.Monad.{fact}
@@ -19,7 +19,6 @@ use Rattle.shared_words.specs.contracts.in_place.Row as Row
 use Rattle.shared_words.specs.contracts.in_place.Hollow as Hollow
 use Rattle.std_alloc.specs.contracts.vec.Vec as Vec
 use Rattle.std_alloc.proofs.vec.Vec.TheLaws as vec_laws
-use denote.Struct.Struct.{as_fields}
 use Rattle.shared_words.proofs.HollowVecs.{carve}
 use Rattle.shared_words.specs.contracts.in_place.detach as F
 use Rattle.shared_words.specs.contracts.in_place.detach.Key.{name as #self}

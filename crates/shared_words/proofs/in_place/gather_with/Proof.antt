@@ -1,9 +1,7 @@
 -- The table's lifetime ends, and the words that it lent come back where they are, in a state that has the seat's view.
-use Rattle.shared_words.proofs.Common.{Final, Fml, Goes-dropped, InBlock, List, Ptr, SProp, Stays, TableId, Ty, addr, agg, alloc_all, and_then, assigns_last, at_ret, await, block_ptr, blocks, by, emp, enter, env, exec, fact, fact_i, fat, first, fjoin3, free_all, from, ftrue, full_share, get, given, hand_good, hand_of, hand_told, join, keep, later, learn, leaves, length, lit, lit<, look_at, mine, no_more, of_opd, owns, pass_all, pick, plain, proved, qed, raw, refl, returns, rewrite, sets, split, split3, spot_of, stay_dropped, stop, store, strip, table_lies, table_owns, tables, through, types_at, u64, u8, use0, use1, use2, via, walk_of, yes, ℕ, !, [], ◌∵◌, ◌∷◌, ◌≡◌, ◌⊛◌}
-use Rattle.atomic_table.proofs.Names.{sym, named, Val, vptr, flft, ‵, some, ◌$◌, move, drop, fsplit, fsplit3, fjoin, feq_i, nothing, mut_vals, mut_Tells, opens, closes, stay_ref, Goes-ref}
+use Rattle.shared_words.proofs.Common.{Final, Fml, Goes-dropped, Goes-ref, InBlock, List, Ptr, SProp, Seen, Stays, TableId, Ty, addr, agg, alloc_all, and_then, assigns_last, at_ret, await, block_ptr, blocks, by, closes, emp, enter, env, exec, fact, fact_i, fat, first, fjoin3, flft, free_all, from, fsplit3, ftrue, full_share, gathers_with, get, given, hand_good, hand_of, hand_told, join, keep, later, learn, leaves, length, lit, lit<, look_at, mine, mut_Tells, mut_vals, named, no_more, of_opd, opens, owns, pass_all, pick, plain, proved, qed, raw, refl, returns, rewrite, sets, split, split3, spot_of, stay_dropped, stay_ref, stop, store, strip, sym, table_lies, table_owns, tables, through, types_at, u64, u8, use0, use1, use2, via, vptr, walk_of, yes, ℕ, !, [], ◌∵◌, ◌∷◌, ◌≡◌, ◌⊛◌}
+use Rattle.atomic_table.proofs.Names.{Val, ‵, some, ◌$◌, move, drop, fsplit, fjoin, feq_i, nothing}
 use Rattle.std.proofs.VecSteps.Shapes.{after}
-use Rattle.atomic_table.specs.Table.{Seen}
-use Rattle.atomic_table.proofs.Dealing.{gathers_with}
 use Rattle.shared_words.specs.contracts.rule.CoreTableRuleU8ViewInitialWords.TheImpl as rule
 use Rattle.shared_words.specs.contracts.in_place.Row as row
 use Rattle.shared_words.specs.contracts.in_place.gather_with as f

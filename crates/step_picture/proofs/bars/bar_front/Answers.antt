@@ -1,5 +1,5 @@
 use Rattle.std.proofs.Common.{append_assoc, append-nil}
-use Rattle.step_picture.specs.Picture.{bar_front}
+use Rattle.step_picture.proofs.Common.{bar_front}
 use Rattle.step_picture.proofs.bars.bar_front.Goals as goal
 
 pub returns : goal.returns

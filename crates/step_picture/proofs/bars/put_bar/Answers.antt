@@ -1,5 +1,4 @@
-use Rattle.std.proofs.KnownBytes.{Appends-nil}
-use Rattle.step_picture.specs.Picture.{ended_bar}
+use Rattle.step_picture.proofs.Common.{Appends-nil, ended_bar}
 use Rattle.step_picture.proofs.bars.put_bar.Goals as goal
 
 pub returns-in-GoesOn : goal.returns-in-GoesOn

@@ -1,4 +1,4 @@
-use Rattle.tx_history.proofs.TextPieces.{put_as}
+use Rattle.step_picture.proofs.Common.{put_as}
 use Rattle.step_picture.proofs.SameBars.{bar_as}
 use Rattle.step_picture.proofs.bars.put_ended.Goals as goal
 

@@ -1,6 +1,5 @@
-use Rattle.std.proofs.Common.{refl}
-use Rattle.std.specs.Prelude.{codes}
-use Rattle.tx_history.proofs.TextPieces.{put_as}
+use Rattle.std.proofs.Common.{refl, codes}
+use Rattle.step_picture.proofs.Common.{put_as}
 use Rattle.step_picture.proofs.Texts.{three_parts}
 use Rattle.step_picture.proofs.bars.put_words.Goals as goal
 

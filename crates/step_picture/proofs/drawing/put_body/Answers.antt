@@ -1,5 +1,4 @@
-use Rattle.std.proofs.lemmas.Result.{err_from_is_err_and}
-use Rattle.step_table.proofs.Texts.{three, three_cut_first, three_cut_second}
+use Rattle.step_picture.proofs.Common.{err_from_is_err_and, three, three_cut_first, three_cut_second}
 use Rattle.step_picture.proofs.drawing.put_body.Goals as goal
 
 pub returns-in_err-put_lanes : goal.returns-in_err-put_lanes

@@ -1,8 +1,5 @@
-use Rattle.std.proofs.Common.{ℕ, length}
-use Rattle.std.proofs.KnownBytes.{Appends-nil}
-use Rattle.std.proofs.lemmas.Result.{err_from_is_err_and}
-use Rattle.std.specs.Prelude.{slice_get}
-use Rattle.step_picture.specs.Picture.{mark_at}
+use Rattle.std.proofs.Common.{ℕ, length, slice_get}
+use Rattle.step_picture.proofs.Common.{Appends-nil, err_from_is_err_and, mark_at}
 use Rattle.picture_parts.proofs.Texts.{more_texts, texts_stop}
 use Rattle.step_picture.proofs.drawing.put_marks.Goals as goal
 

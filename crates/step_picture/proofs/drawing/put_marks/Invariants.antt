@@ -1,8 +1,7 @@
-use Rattle.std.proofs.Common.{ℕ}
+use Rattle.std.proofs.Common.{ℕ, slice_get}
+use Rattle.step_picture.proofs.Common.{mark_at}
 use Rattle.std.specs.Io.KnownBytes.{Appends}
-use Rattle.std.specs.Prelude.{slice_get}
 use Rattle.picture_parts.specs.Texts.{first_texts}
-use Rattle.step_picture.specs.Picture.{mark_at}
 use Rattle.step_picture.proofs.drawing.put_marks.Given as goal
 
 abbrev pub invariant-loop-at : goal.invariant-loop-at

@@ -1,6 +1,4 @@
-use Rattle.std.proofs.lemmas.Result.{err_from_is_err_and}
-use Rattle.step_table.proofs.ShownRows.{puts_then}
-use Rattle.step_table.proofs.Texts.{two_cut_first}
+use Rattle.step_picture.proofs.Common.{err_from_is_err_and, puts_then, two_cut_first}
 use Rattle.step_picture.proofs.drawing.put_picture.Goals as goal
 
 pub returns-in_err-put_head : goal.returns-in_err-put_head

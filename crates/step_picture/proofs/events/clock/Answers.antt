@@ -1,5 +1,5 @@
 use Rattle.std.proofs.Common.{append_assoc, append-nil}
-use Rattle.step_picture.specs.Picture.{clock_text}
+use Rattle.step_picture.proofs.Common.{clock_text}
 use Rattle.step_picture.proofs.events.clock.Goals as goal
 
 pub returns : goal.returns

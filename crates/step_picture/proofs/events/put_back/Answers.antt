@@ -1,4 +1,4 @@
-use Rattle.tx_history.proofs.TextPieces.{put_as}
+use Rattle.step_picture.proofs.Common.{put_as}
 use Rattle.step_picture.proofs.Texts.{both_parts}
 use Rattle.step_picture.proofs.events.put_back.Goals as goal
 

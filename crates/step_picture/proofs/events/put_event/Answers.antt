@@ -1,7 +1,6 @@
 use Rattle.std.proofs.Common.{ℕ, List, Option, ap, ◌∙◌}
-use Rattle.tx_history.proofs.TextPieces.{put_as}
+use Rattle.step_picture.proofs.Common.{event_text, put_as}
 use Rattle.step_table.specs.Table.{operation_text}
-use Rattle.step_picture.specs.Picture.{event_text}
 use Rattle.step_picture.specs.Shapes.{shape_of}
 use Rattle.step_picture.proofs.events.put_event.Goals as goal
 

@@ -1,7 +1,5 @@
 use Rattle.std.proofs.Common.{ℕ, length, sym, ap, ◌∙◌}
-use Rattle.std.proofs.KnownBytes.{Appends-nil}
-use Rattle.tx_history.proofs.TextPieces.{put_as}
-use Rattle.step_picture.specs.Picture.{mark_in}
+use Rattle.step_picture.proofs.Common.{Appends-nil, mark_in, put_as}
 use Rattle.step_picture.proofs.events.put_mark.Goals as goal
 
 pub returns-in-Some : goal.returns-in-Some

@@ -1,5 +1,5 @@
+use Rattle.step_picture.proofs.Common.{put_as}
 use Rattle.std.specs.Prelude.{codes}
-use Rattle.tx_history.proofs.TextPieces.{put_as}
 use Rattle.step_picture.proofs.Texts.{three_parts}
 use Rattle.step_picture.proofs.events.put_operation.Goals as goal
 

@@ -1,6 +1,4 @@
-use Rattle.std.proofs.lemmas.Result.{err_from_is_err_and}
-use Rattle.step_picture.specs.Picture.{mark_in}
-use Rattle.step_table.proofs.Texts.{three, three_cut_first, three_cut_second}
+use Rattle.step_picture.proofs.Common.{err_from_is_err_and, mark_in, three, three_cut_first, three_cut_second}
 use Rattle.step_picture.proofs.events.put_whole.Goals as goal
 
 pub returns-in_err-put_bar : goal.returns-in_err-put_bar

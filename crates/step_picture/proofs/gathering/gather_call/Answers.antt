@@ -1,8 +1,5 @@
 use Rattle.std.proofs.Common.{◌<◌, Bool, refl, sym, subst, ◌∙◌}
-use Rattle.world_rules.proofs.Events.WorldEvents.{call_falls, call_left_at, leaves_on, over_less, waits_still}
-use Rattle.step_table.specs.Rows.{RowsOf, SoMany}
-use Rattle.step_table.proofs.EventRows.{less_first}
-use Rattle.step_table.proofs.RowLists.{both_of, none_of}
+use Rattle.step_picture.proofs.Common.{RowsOf, SoMany, both_of, call_falls, call_left_at, leaves_on, less_first, none_of, over_less, waits_still}
 use Rattle.step_picture.proofs.GatheredMarks.{gathered_none, gathered_on}
 use Rattle.step_picture.proofs.gathering.gather_call.Goals as goal
 

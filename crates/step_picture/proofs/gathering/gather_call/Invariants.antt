@@ -1,8 +1,5 @@
 use Rattle.std.proofs.Common.{◌≡◌, length, true, IsSome}
-use Rattle.world_rules.specs.World.{waits_at}
-use Rattle.world_rules.proofs.Events.WorldEvents.{LeavesLessSoFar, call_left_at}
-use Rattle.step_table.specs.Rows.{RowsOf}
-use Rattle.step_picture.specs.Gathered.{Gathered}
+use Rattle.step_picture.proofs.Common.{Gathered, LeavesLessSoFar, RowsOf, call_left_at, waits_at}
 use Rattle.step_picture.proofs.gathering.gather_call.Given as goal
 
 abbrev pub invariant-loop-goes_on : goal.invariant-loop-goes_on

@@ -1,5 +1,5 @@
-use Rattle.step_table.specs.Rows.{SoMany}
-use Rattle.step_table.proofs.EventRows.{ended_within, is_row}
+use Rattle.step_picture.proofs.Common.{SoMany, is_row}
+use Rattle.world_rules.proofs.Events.EndedAttempts.{ended_within}
 use Rattle.step_picture.proofs.GatheredMarks.{gathered_one}
 use Rattle.step_picture.proofs.gathering.gather_event.Goals as goal
 

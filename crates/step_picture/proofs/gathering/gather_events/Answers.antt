@@ -1,6 +1,5 @@
 use Rattle.std.proofs.Common.{◌+◌, refl, ◌∙◌, arith}
-use Rattle.step_table.specs.Rows.{SoMany}
-use Rattle.step_table.proofs.RowLists.{both_many, none_of}
+use Rattle.step_picture.proofs.Common.{SoMany, both_many, none_of}
 use Rattle.step_picture.proofs.GatheredMarks.{gathered_none, gathered_on}
 use Rattle.step_picture.proofs.gathering.gather_events.Goals as goal
 

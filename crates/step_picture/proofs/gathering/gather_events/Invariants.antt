@@ -1,6 +1,5 @@
 use Rattle.std.proofs.Common.{◌≡◌, length}
-use Rattle.step_table.specs.Rows.{SoMany}
-use Rattle.step_picture.specs.Gathered.{Gathered}
+use Rattle.step_picture.proofs.Common.{Gathered, SoMany}
 use Rattle.step_picture.proofs.gathering.gather_events.Given as goal
 
 abbrev pub invariant-loop-taken : goal.invariant-loop-taken

@@ -1,8 +1,5 @@
 use Rattle.std.proofs.Common.{◌≡◌, List, take, subst, refl, ◌∙◌, arith}
-use Rattle.std.proofs.lemmas.Grind.{common_steps}
-use Rattle.script_program.specs.declared.schedule.Item.{Item}
-use Rattle.step_table.specs.Rows.{ScheduleRows}
-use Rattle.step_table.proofs.RowLists.{schedule_none}
+use Rattle.step_picture.proofs.Common.{Item, ScheduleRows, common_steps, schedule_none}
 use Rattle.step_picture.proofs.GatheredMarks.{gathered_none, item_gathered}
 use Rattle.step_picture.proofs.gathering.gather_items.Goals as goal
 

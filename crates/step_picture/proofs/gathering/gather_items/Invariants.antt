@@ -1,6 +1,5 @@
 use Rattle.std.proofs.Common.{◌≡◌, length, take}
-use Rattle.step_table.specs.Rows.{ScheduleRows}
-use Rattle.step_picture.specs.Gathered.{Gathered}
+use Rattle.step_picture.proofs.Common.{Gathered, ScheduleRows}
 use Rattle.step_picture.proofs.gathering.gather_items.Given as goal
 
 abbrev pub invariant-loop-item : goal.invariant-loop-item

@@ -1,7 +1,5 @@
 use Rattle.std.proofs.Common.{refl, ◌∙◌, arith}
-use Rattle.world_rules.proofs.Events.WorldEvents.{no_more_first, no_more_on, run_falls}
-use Rattle.step_table.specs.Rows.{RowsOf}
-use Rattle.step_table.proofs.RowLists.{both_of, none_of}
+use Rattle.step_picture.proofs.Common.{RowsOf, both_of, no_more_first, no_more_on, none_of, run_falls}
 use Rattle.step_picture.proofs.GatheredMarks.{gathered_none, gathered_on}
 use Rattle.step_picture.proofs.gathering.gather_out.Goals as goal
 

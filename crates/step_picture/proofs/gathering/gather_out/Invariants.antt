@@ -1,7 +1,5 @@
 use Rattle.std.proofs.Common.{◌≡◌, length}
-use Rattle.world_rules.proofs.Events.WorldEvents.{LeavesNoMore, run_left_at, whole_at}
-use Rattle.step_table.specs.Rows.{RowsOf}
-use Rattle.step_picture.specs.Gathered.{Gathered}
+use Rattle.step_picture.proofs.Common.{Gathered, LeavesNoMore, RowsOf, run_left_at, whole_at}
 use Rattle.step_picture.proofs.gathering.gather_out.Given as goal
 
 abbrev pub invariant-loop-alloc : goal.invariant-loop-alloc

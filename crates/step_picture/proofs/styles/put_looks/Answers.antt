@@ -1,7 +1,7 @@
 use Rattle.std.proofs.Common.{append_assoc, append-nil, sym}
+use Rattle.step_picture.proofs.Common.{put_as}
 use Rattle.picture_parts.specs.Looks.{colours_text, style_text}
 use Rattle.step_picture.specs.Styles.{shapes_text}
-use Rattle.tx_history.proofs.TextPieces.{put_as}
 use Rattle.step_picture.proofs.styles.put_looks.Goals as goal
 
 pub returns : goal.returns

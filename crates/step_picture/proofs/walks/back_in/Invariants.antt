@@ -1,5 +1,5 @@
 use Rattle.std.proofs.Common.{◌≡◌}
-use Rattle.step_picture.specs.Walks.{back_in}
+use Rattle.step_picture.proofs.Common.{back_in}
 use Rattle.step_picture.proofs.walks.back_in.Given as goal
 
 abbrev pub invariant-loop-at : goal.invariant-loop-at

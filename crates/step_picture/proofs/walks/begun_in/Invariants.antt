@@ -1,5 +1,5 @@
 use Rattle.std.proofs.Common.{◌≡◌}
-use Rattle.step_picture.specs.Walks.{begun_in}
+use Rattle.step_picture.proofs.Common.{begun_in}
 use Rattle.step_picture.proofs.walks.begun_in.Given as goal
 
 abbrev pub invariant-loop-at : goal.invariant-loop-at

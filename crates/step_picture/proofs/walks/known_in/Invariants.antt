@@ -1,5 +1,5 @@
 use Rattle.std.proofs.Common.{◌≡◌}
-use Rattle.step_picture.specs.Walks.{known_in}
+use Rattle.step_picture.proofs.Common.{known_in}
 use Rattle.step_picture.proofs.walks.known_in.Given as goal
 
 abbrev pub invariant-loop-at : goal.invariant-loop-at

@@ -1,5 +1,4 @@
-use Rattle.std.proofs.lemmas.Result.{err_from_is_err_and}
-use Rattle.step_table.specs.Table.{column_text}
+use Rattle.step_table.proofs.Common.{column_text, err_from_is_err_and}
 use Rattle.step_table.proofs.Texts.{all_texts, more_texts, no_texts, texts_stop}
 use Rattle.step_table.proofs.columns.put_columns.Goals as goal
 

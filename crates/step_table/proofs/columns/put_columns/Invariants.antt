@@ -1,7 +1,5 @@
-use Rattle.std.proofs.Common.{take}
-use Rattle.std.specs.Io.KnownBytes.{Appends}
-use Rattle.std.specs.Prelude.{flat_map}
-use Rattle.step_table.specs.Table.{column_text}
+use Rattle.std.proofs.Common.{take, flat_map}
+use Rattle.step_table.proofs.Common.{Appends, column_text}
 use Rattle.step_table.proofs.columns.put_columns.Given as goal
 
 abbrev pub invariant-loop-thread : goal.invariant-loop-thread

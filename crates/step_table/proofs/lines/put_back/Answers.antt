@@ -1,7 +1,4 @@
-use Rattle.std.proofs.lemmas.Result.{err_from_is_err_and}
-use Rattle.std.specs.Prelude.{codes}
-use Rattle.step_table.specs.Said.{said}
-use Rattle.step_table.specs.Table.{back_text, number_text}
+use Rattle.step_table.proofs.Common.{back_text, codes, err_from_is_err_and, number_text, said}
 use Rattle.step_table.proofs.Texts.{three, three_cut_first, three_cut_second}
 use Rattle.step_table.proofs.lines.put_back.Goals as goal
 

@@ -1,6 +1,4 @@
-use Rattle.std.specs.Prelude.{flat_map}
-use Rattle.tx_history.proofs.TextPieces.{put_as}
-use Rattle.tx_history.specs.Spelling.{spelled}
+use Rattle.step_table.proofs.Common.{flat_map, put_as, spelled}
 use Rattle.step_table.proofs.Texts.{came_parts}
 use Rattle.step_table.proofs.lines.put_came.Goals as goal
 

@@ -1,6 +1,4 @@
-use Rattle.std.proofs.lemmas.Result.{err_from_is_err_and}
-use Rattle.std.specs.Prelude.{codes}
-use Rattle.step_table.specs.Table.{front_text, number_text}
+use Rattle.step_table.proofs.Common.{codes, err_from_is_err_and, front_text, number_text}
 use Rattle.step_table.proofs.ShownRows.{puts_then}
 use Rattle.step_table.proofs.Texts.{two_cut_first}
 use Rattle.step_table.proofs.lines.put_front.Goals as goal

@@ -1,7 +1,5 @@
-use Rattle.std.proofs.Common.{None}
-use Rattle.std.proofs.lemmas.Result.{err_from_is_err_and}
-use Rattle.std.specs.Prelude.{codes, flat_map}
-use Rattle.step_table.specs.Table.{column_text}
+use Rattle.std.proofs.Common.{None, codes, flat_map}
+use Rattle.step_table.proofs.Common.{column_text, err_from_is_err_and}
 use Rattle.step_table.proofs.Texts.{three, three_cut_first, three_cut_second}
 use Rattle.step_table.proofs.lines.put_heads.Goals as goal
 

@@ -1,6 +1,5 @@
 use Rattle.std.proofs.Common.{sym, ◌∙◌}
-use Rattle.tx_history.proofs.TextPieces.{put_as}
-use Rattle.step_table.specs.Said.{said}
+use Rattle.step_table.proofs.Common.{put_as, said}
 use Rattle.step_table.proofs.Texts.{line_shown}
 use Rattle.step_table.proofs.lines.put_line.Goals as goal
 

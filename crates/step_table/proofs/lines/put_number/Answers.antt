@@ -1,4 +1,4 @@
-use Rattle.tx_history.proofs.TextPieces.{put_as}
+use Rattle.step_table.proofs.Common.{put_as}
 use Rattle.step_table.proofs.Texts.{number_parts}
 use Rattle.step_table.proofs.lines.put_number.Goals as goal
 

@@ -1,6 +1,5 @@
 use Rattle.std.proofs.Common.{ℕ, replicate, ap, ◌∙◌, arith}
-use Rattle.std.proofs.lemmas.List.{take-replicate}
-use Rattle.tx_history.specs.Spelling.{spelled}
+use Rattle.step_table.proofs.Common.{spelled, take-replicate}
 use Rattle.step_table.proofs.Texts.{left_more, left_whole}
 use Rattle.step_table.proofs.padding.blanks_beside.Goals as goal
 

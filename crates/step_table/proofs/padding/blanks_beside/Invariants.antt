@@ -1,6 +1,5 @@
-use Rattle.std.proofs.Common.{◌≡◌, ◌-◌, length, take}
-use Rattle.std.specs.Prelude.{flat_map}
-use Rattle.tx_history.specs.Spelling.{spelled}
+use Rattle.std.proofs.Common.{◌≡◌, ◌-◌, length, take, flat_map}
+use Rattle.step_table.proofs.Common.{spelled}
 use Rattle.step_table.proofs.padding.blanks_beside.Given as goal
 
 abbrev pub invariant-loop-piece : goal.invariant-loop-piece

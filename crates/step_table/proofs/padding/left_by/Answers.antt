@@ -1,8 +1,8 @@
 use Rattle.std.proofs.Common.{◌≡◌, length, ap, arith}
+use Rattle.step_table.proofs.Common.{spelled}
 use Rattle.hex.proofs.HexLemmas.{length-encode_with}
 use Rattle.hex.specs.Hex.{encode_lower, lower_digits}
 use Rattle.tx_history.specs.declared.pieces.Piece.{Piece}
-use Rattle.tx_history.specs.Spelling.{spelled}
 use Rattle.step_table.proofs.padding.left_by.Goals as goal
 
 pub returns-in-Hex : goal.returns-in-Hex

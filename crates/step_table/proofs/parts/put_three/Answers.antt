@@ -1,4 +1,4 @@
-use Rattle.std.proofs.lemmas.Result.{err_from_is_err_and}
+use Rattle.step_table.proofs.Common.{err_from_is_err_and}
 use Rattle.step_table.proofs.Texts.{three, three_cut_first, three_cut_second}
 use Rattle.step_table.proofs.parts.put_three.Goals as goal
 

@@ -1,8 +1,5 @@
 use Rattle.std.proofs.Common.{◌<◌, [], Bool, refl, sym, subst, ◌∙◌}
-use Rattle.std.proofs.KnownBytes.{Appends-nil}
-use Rattle.std.proofs.lemmas.Result.{err_from_is_err_and}
-use Rattle.world_rules.proofs.Events.WorldEvents.{call_falls, call_left_at, leaves_on, over_less, waits_still}
-use Rattle.step_table.specs.Rows.{RowsOf, SoMany}
+use Rattle.step_table.proofs.Common.{Appends-nil, RowsOf, SoMany, call_falls, call_left_at, err_from_is_err_and, leaves_on, over_less, waits_still}
 use Rattle.step_table.proofs.EventRows.{less_first}
 use Rattle.step_table.proofs.RowLists.{both_of, none_of}
 use Rattle.step_table.proofs.ShownRows.{written_begun, written_on}

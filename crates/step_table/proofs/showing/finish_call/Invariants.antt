@@ -1,7 +1,5 @@
 use Rattle.std.proofs.Common.{◌≡◌, length, true, IsSome}
-use Rattle.world_rules.specs.World.{waits_at}
-use Rattle.world_rules.proofs.Events.WorldEvents.{LeavesLessSoFar, call_left_at}
-use Rattle.step_table.specs.Rows.{RowsOf}
+use Rattle.step_table.proofs.Common.{LeavesLessSoFar, RowsOf, call_left_at, waits_at}
 use Rattle.step_table.proofs.ShownRows.{Written}
 use Rattle.step_table.proofs.showing.finish_call.Given as goal
 

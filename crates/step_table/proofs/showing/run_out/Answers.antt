@@ -1,8 +1,5 @@
 use Rattle.std.proofs.Common.{[], refl, ◌∙◌, arith}
-use Rattle.std.proofs.KnownBytes.{Appends-nil}
-use Rattle.std.proofs.lemmas.Result.{err_from_is_err_and}
-use Rattle.world_rules.proofs.Events.WorldEvents.{no_more_first, no_more_on, run_falls}
-use Rattle.step_table.specs.Rows.{RowsOf}
+use Rattle.step_table.proofs.Common.{Appends-nil, RowsOf, err_from_is_err_and, no_more_first, no_more_on, run_falls}
 use Rattle.step_table.proofs.RowLists.{both_of, none_of}
 use Rattle.step_table.proofs.ShownRows.{written_begun, written_on}
 use Rattle.step_table.proofs.showing.run_out.Goals as goal

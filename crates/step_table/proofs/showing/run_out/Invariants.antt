@@ -1,6 +1,5 @@
 use Rattle.std.proofs.Common.{◌≡◌, length}
-use Rattle.world_rules.proofs.Events.WorldEvents.{LeavesNoMore, run_left_at, whole_at}
-use Rattle.step_table.specs.Rows.{RowsOf}
+use Rattle.step_table.proofs.Common.{LeavesNoMore, RowsOf, run_left_at, whole_at}
 use Rattle.step_table.proofs.ShownRows.{Written}
 use Rattle.step_table.proofs.showing.run_out.Given as goal
 

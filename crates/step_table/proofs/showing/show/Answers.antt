@@ -1,5 +1,4 @@
-use Rattle.std.proofs.lemmas.Result.{err_from_is_err_and}
-use Rattle.step_table.specs.Rows.{ScheduleFirst, ScheduleRows}
+use Rattle.step_table.proofs.Common.{ScheduleFirst, ScheduleRows, err_from_is_err_and}
 use Rattle.step_table.proofs.RowLists.{schedule_unbegun}
 use Rattle.step_table.proofs.ShownRows.{begun_head, shows_table}
 use Rattle.step_table.proofs.showing.show.Goals as goal

@@ -1,7 +1,6 @@
-use Rattle.std.proofs.lemmas.Result.{err_from_is_err_and}
-use Rattle.step_table.specs.Rows.{SoMany}
-use Rattle.step_table.specs.Said.{said}
-use Rattle.step_table.proofs.EventRows.{ended_within, is_row}
+use Rattle.step_table.proofs.Common.{SoMany, err_from_is_err_and, said}
+use Rattle.world_rules.proofs.Events.EndedAttempts.{ended_within}
+use Rattle.step_table.proofs.EventRows.{is_row}
 use Rattle.step_table.proofs.ShownRows.{begun_one, written_one}
 use Rattle.step_table.proofs.showing.take_event.Goals as goal
 

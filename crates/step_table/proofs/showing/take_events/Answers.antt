@@ -1,8 +1,5 @@
 use Rattle.std.proofs.Common.{◌+◌, ◌≤◌, [], refl, ◌∙◌, arith}
-use Rattle.std.proofs.KnownBytes.{Appends-nil}
-use Rattle.std.proofs.lemmas.Result.{err_from_is_err_and}
-use Rattle.script_program.specs.declared.schedule.Item.TheVariants.{Take}
-use Rattle.step_table.specs.Rows.{ItemFirst, SoMany}
+use Rattle.step_table.proofs.Common.{Appends-nil, ItemFirst, SoMany, Take, err_from_is_err_and}
 use Rattle.step_table.proofs.RowLists.{both_many, none_of}
 use Rattle.step_table.proofs.ShownRows.{written_begun, written_on}
 use Rattle.step_table.proofs.showing.take_events.Goals as goal

@@ -1,5 +1,5 @@
 use Rattle.std.proofs.Common.{◌≡◌, length}
-use Rattle.step_table.specs.Rows.{SoMany}
+use Rattle.step_table.proofs.Common.{SoMany}
 use Rattle.step_table.proofs.ShownRows.{Written}
 use Rattle.step_table.proofs.showing.take_events.Given as goal
 

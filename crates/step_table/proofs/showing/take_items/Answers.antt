@@ -1,9 +1,5 @@
 use Rattle.std.proofs.Common.{◌≡◌, [], List, take, subst, refl, ◌∙◌, arith}
-use Rattle.std.proofs.KnownBytes.{Appends-nil}
-use Rattle.std.proofs.lemmas.Grind.{common_steps}
-use Rattle.std.proofs.lemmas.Result.{err_from_is_err_and}
-use Rattle.script_program.specs.declared.schedule.Item.{Item}
-use Rattle.step_table.specs.Rows.{ScheduleRows}
+use Rattle.step_table.proofs.Common.{Appends-nil, Item, ScheduleRows, common_steps, err_from_is_err_and}
 use Rattle.step_table.proofs.RowLists.{schedule_none}
 use Rattle.step_table.proofs.ShownItems.{item_begun, item_written}
 use Rattle.step_table.proofs.showing.take_items.Goals as goal

@@ -1,5 +1,5 @@
 use Rattle.std.proofs.Common.{◌≡◌, length, take}
-use Rattle.step_table.specs.Rows.{ScheduleRows}
+use Rattle.step_table.proofs.Common.{ScheduleRows}
 use Rattle.step_table.proofs.ShownRows.{Written}
 use Rattle.step_table.proofs.showing.take_items.Given as goal
 

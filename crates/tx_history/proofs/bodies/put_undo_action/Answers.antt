@@ -1,6 +1,5 @@
 use Rattle.std.proofs.Common.{arith}
-use Rattle.tx_history.proofs.Common.{Number, common_steps}
-use Rattle.tx_history.specs.Histories.{undo_action_text}
+use Rattle.tx_history.proofs.Common.{Number, common_steps, undo_action_text}
 use Rattle.tx_history.proofs.PagedTexts.{carries_as}
 use Rattle.tx_history.proofs.bodies.put_undo_action.Goals as goal
 

@@ -1,6 +1,5 @@
 use Rattle.std.proofs.Common.{◌∙◌, arith}
-use Rattle.tx_history.proofs.Common.{lower_digits}
-use Rattle.std.proofs.lemmas.List.{length-set}
+use Rattle.tx_history.proofs.Common.{length-set, lower_digits}
 use Rattle.hex.proofs.Pairs.{encode_step, encode_done}
 use Rattle.tx_history.proofs.digits.word_digits.Goals as goal
 

@@ -1,5 +1,5 @@
 use Rattle.std.proofs.Common.{sym, ap}
-use Rattle.tx_history.specs.Histories.{version_lines}
+use Rattle.tx_history.proofs.Common.{version_lines}
 use Rattle.tx_history.proofs.PagedTexts.{carries_as, carries_then}
 use Rattle.tx_history.proofs.rows.put_version.Goals as goal
 

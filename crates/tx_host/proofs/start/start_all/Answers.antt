@@ -1,7 +1,6 @@
 use Rattle.std.proofs.Common.{rules, arith, ◌≡◌, ◌+◌, ℕ, List, sym, ap, subst, length, vec_len}
-use Rattle.tx_host.proofs.Common.{AllReady, Limits, Listing, Promised, into_iter_items, view_of}
-use Rattle.tx_host.proofs.Numbers.{numbered_push}
-use Rattle.tx_host.proofs.Passes.Parts.{is_for, is_outside, is_flat, is_limited}
+use Rattle.tx_host.proofs.Common.{AllReady, Limits, Listing, Promised, into_iter_items, numbered_push, view_of}
+use Rattle.tx_host.proofs.Parts.{is_for, is_outside, is_flat, is_limited}
 use Rattle.tx_host.proofs.start.start_all.Goals as goal
 
 pub start_one-requires : goal.start_one-requires
@@ -13,15 +12,15 @@ start_one-requires g c =
       (
         search rules,
         (
-          rest.0.own,
+          rest.0.begins.own,
           (
-            rest.0.stands,
+            rest.0.begins.stands,
             (
-              is_outside base p _ c.in-Some.ready.thread c.in-Some.ready.player rest.0.fresh,
+              is_outside base p _ c.in-Some.ready.thread c.in-Some.ready.player rest.0.begins.fresh,
               (
-                is_flat base p _ c.in-Some.ready.thread c.in-Some.ready.player rest.0.fresh,
+                is_flat base p _ c.in-Some.ready.thread c.in-Some.ready.player rest.0.begins.fresh,
                 (
-                  (let same = is_limited base p _ c.in-Some.ready.thread c.in-Some.ready.player rest.0.fresh in
+                  (let same = is_limited base p _ c.in-Some.ready.thread c.in-Some.ready.player rest.0.begins.fresh in
                       let few = c.limits-retries.ensures.within.restarts in
                       let here = ap (λ (l : Limits). l.restarts) c.limits-retries.ensures.value in
                       omega arith),

@@ -1,11 +1,13 @@
 use Rattle.std.proofs.Common.{rules, ◌≡◌, List, ℕ, ◌∙◌, ap, subst, sym, Err, IfErr, Result}
-use Rattle.tx_host.proofs.Common.{Report, bytes_of, view_of}
+use Rattle.tx_host.proofs.Common.{view_of}
+use Rattle.report_rules.specs.declared.report.Report.{Report}
+use Rattle.itm_types.specs.Memory.{bytes_of}
 use Rattle.std.proofs.lemmas.Result.{err_from_is_err_and}
-use Rattle.tx_host.specs.declared.report.HostFault.{HostFault}
-use Rattle.tx_host.specs.declared.report.HostFault.TheVariants.{Held}
-use Rattle.tx_host.specs.Reports.{StaysHeld}
-use Rattle.tx_host.proofs.Histories.LimitedReports.{limited_report}
-use Rattle.tx_host.proofs.Histories.WholeRuns.{ran}
+use Rattle.report_rules.specs.declared.report.HostFault.{HostFault}
+use Rattle.report_rules.specs.declared.report.HostFault.TheVariants.{Held}
+use Rattle.report_rules.specs.Reports.{StaysHeld}
+use Rattle.report_rules.proofs.Histories.LimitedReports.{limited_report}
+use Rattle.report_rules.proofs.Histories.WholeRuns.{ran}
 use Rattle.tx_host.proofs.threads.run_threads.Goals as goal
 
 pub returns-clause-ran : goal.returns-clause-ran

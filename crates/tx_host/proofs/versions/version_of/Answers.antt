@@ -1,5 +1,5 @@
 use Rattle.std.proofs.Common.{rules, ap}
-use Rattle.tx_host.proofs.Histories.ToldLimits.{told_by_three}
+use Rattle.tx_host.proofs.Common.{told_by_three}
 use Rattle.tx_host.proofs.versions.version_of.Goals as goal
 
 pub returns-else-limits-eq-USUAL_DEPTH : goal.returns-else-limits-eq-USUAL_DEPTH

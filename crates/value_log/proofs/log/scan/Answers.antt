@@ -1,8 +1,7 @@
 use Rattle.std.proofs.Common.{◌≡◌, ◌==◌, option_map, find, rules, tests, sym, ap, ◌∙◌}
+use Rattle.value_log.proofs.Common.{LogRow, value_found}
 use Rattle.std.proofs.lemmas.Iterator.{YieldsList-from_slice}
 use Rattle.std.proofs.lemmas.Iterator.Search.{find_from_yields_List}
-use Rattle.itm_types.specs.declared.row.LogRow.{LogRow}
-use Rattle.itm_types.proofs.LogRows.{value_found}
 use Rattle.value_log.proofs.log.scan.Goals as goal
 
 pub returns-in_err-row : goal.returns-in_err-row

@@ -1,7 +1,6 @@
 use Rattle.std.proofs.Common.{◌≡◌, ◌⊎◌, ◌==◌, inl, inr, ℕ, Bool, true, false, if◌then◌else◌, List, [], ◌∷◌, ◌++◌, Some, refl, sym, ap, ◌∙◌}
-use Rattle.world_laws.proofs.Common.{Again, State, answers_on, answers_through, breaks_of}
+use Rattle.world_laws.proofs.Common.{Again, State, again_at, answers_on, answers_through, arena_set, breaks_of}
 use Rattle.tx_attempts.specs.Beginnings.{IsBeginningOf}
-use Rattle.tx_attempts.specs.Restarts.{again_at, arena_set}
 use Rattle.world_laws.specs.Isolation.{went_on_from}
 use Rattle.world_laws.proofs.runs.isolation.Goals as goal
 

@@ -1,8 +1,7 @@
 -- `into_vec` hands the cells to `lodge`, which makes a vector of them where they lie.
 use Rattle.itm_c.proofs.Steps.{◌≡◌, ℕ, ◌^◌, ◌<◌, List, [], ◌∷◌, ◌++◌, length, refl, sym, ap, ◌∙◌, subst, proved_at, full_share, emp, id⊢, never, ftrue, fsep, flft, Val, vptr, vstruct, fact, fact_i, tables, ‵, raw, ◌⊛◌, some, later, prop, at_ret, ◌$◌, ◌∵◌, !, qed, done, move, drop, use0, use1, split, join, fsplit, fjoin, fpick, feq_i, feq_l, pick, await, rewrite, regoal, suffices, sub, whole, enter, of_opd, stop, fld, no_more, and_then, first, blocks, exec, returns, alloc_all, pass_all, free_all, look_at, get, get_in, sets, lands_last, env, yes, plain, nothing, heard, only, triple_of, Stays, walk_of, says, stay_dropped, Goes-dropped, ends_at}
 use Rattle.std.proofs.Common.{◌*◌, ◌≤◌, Vec, arith}
-use Rattle.itm_c.proofs.Common.{Good, Laws, Lodged, Ptr, RattleType, WpFn, after, block_ptr, block_with_items, calls_at_last, copy_shared, flt_i, flt_l, framed, ghosts, has_block, in_a_block, of_field, of_list, owns_if, ptr_val, tells, u64, u64-copy, u64-field, u64-laws, vint, w64, ⊑_refl, ◌⊑◌}
-use denote.RawPtr.{in_block}
+use Rattle.itm_c.proofs.Common.{Good, Laws, Lodged, Ptr, RattleType, WpFn, after, block_ptr, block_with_items, calls_at_last, copy_shared, flt_i, flt_l, framed, ghosts, has_block, in_a_block, in_block, of_field, of_list, owns_if, ptr_val, tells, u64, u64-copy, u64-field, u64-laws, vint, w64, ⊑_refl, ◌⊑◌}
 use Rattle.std_alloc.specs.contracts.vec.Vec as V
 use Rattle.std_alloc.specs.contracts.vec.lodged.Lodged as L
 use Rattle.std_alloc.specs.contracts.vec.lodge as g

@@ -1,13 +1,9 @@
 -- `lying_at` takes the cells out of the vector where they lie, and leaves what room is behind them.
 use Rattle.itm_c.proofs.Steps.{◌≡◌, ℕ, ◌^◌, ◌<◌, List, [], ◌∷◌, ◌++◌, refl, ap, ◌∙◌, proved_at, full_share, emp, id⊢, ftrue, fsep, flft, Val, fact, fact_i, tables, ‵, raw, ◌⊛◌, some, later, prop, ◌$◌, ◌∵◌, !, qed, done, move, keep, drop, use0, use1, split, split3, join, fsplit, fjoin, feq_i, feq_l, pick, await, rewrite, regoal, suffices, agg, enter, of_opd, no_more, and_then, returns, alloc_all, pass_all, free_all, look_at, get, sets, yes, no, plain, nothing, heard, only, triple_of, Stays, walk_of, says, stay_dropped, Goes-dropped, ends_at}
 use Rattle.std.proofs.Common.{◌*◌, ◌+◌, ◌-◌, Vec, arith}
-use Rattle.itm_c.proofs.Common.{Good, Laws, Ptr, RattleType, RawPtr, WpFn, calls_at, copy_shared, flt_i, flt_l, framed, ghosts, lodged, of_field, ptr_val, tells, u64, u64-copy, u64-field, u64-laws, vint, w64, ⊑_refl, ◌⊑◌}
-use mir.Syntax.{ty_int, ty_ptr}
-use denote.Builtin.{usize}
+use Rattle.itm_c.proofs.Common.{Good, Laws, Ptr, RattleType, RawPtr, WpFn, as_fields, calls_at, copy_shared, flt_i, flt_l, framed, ghosts, lodged, of_field, ptr_val, tells, two, two_made, ty_int, ty_ptr, u64, u64-copy, u64-field, u64-laws, usize, vint, w64, ⊑_refl, ◌⊑◌}
 use denote.Exit.{left as left_at}
-use denote.Struct.Struct.{as_fields}
 use types.ByLocal.{lands_as}
-use Rattle.shared_words.proofs.StructSteps.{two, two_made}
 use Rattle.itm_c.proofs.Fitted.{fitted, pointer_good}
 use Rattle.std_alloc.specs.contracts.vec.Vec as V
 use Rattle.std_alloc.specs.contracts.vec.lodged.Lodged as L

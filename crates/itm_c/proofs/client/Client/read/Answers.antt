@@ -1,7 +1,6 @@
 use Rattle.std.proofs.Common.{◌≡◌, false, ap, ◌∙◌, subst, Some}
-use Rattle.itm_c.proofs.Common.{Answer, IsAnswered, Read, Reply, number_of_bytes, start_of}
+use Rattle.itm_c.proofs.Common.{Answer, Bytes, IsAnswered, Read, Reply, number_of_bytes, start_of}
 use Rattle.itm_types.specs.declared.access.ReadHint.TheVariants.{R}
-use Rattle.itm_types.specs.declared.call.Reply.TheVariants.{Bytes}
 use Rattle.itm_c.proofs.Comings.{comes_of}
 use Rattle.itm_c.proofs.client.Client.read.Goals as goal
 

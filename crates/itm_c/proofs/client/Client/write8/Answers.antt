@@ -1,6 +1,5 @@
 use Rattle.std.proofs.Common.{refl, Some}
-use Rattle.itm_c.proofs.Common.{Done, Reply, W, Write}
-use Rattle.itm_runtime.specs.Stops.{number}
+use Rattle.itm_c.proofs.Common.{Done, Reply, W, Write, number}
 use Rattle.itm_c.proofs.Comings.{comes_of}
 use Rattle.itm_c.proofs.client.Client.write8.Goals as goal
 

@@ -1,8 +1,6 @@
 -- A handle crosses to another thread as what it holds does.
-use Rattle.itm_c.proofs.Common.{Ptr, bare as raw, lone, shape, to}
+use Rattle.itm_c.proofs.Common.{Ptr, bare as raw, exits_of, fields, lone, shape, to}
 use base.Shift.{Keyless}
-use denote.Struct.Struct.{exits_of}
-use denote.Struct.Owning.{fields}
 use denote.Param.Send.{IsSend, AllSend, owning_send, struct_send, sendable}
 use Rattle.std.specs.Global.{Global}
 use Rattle.std.specs.Prelude.{Option, None, Some}

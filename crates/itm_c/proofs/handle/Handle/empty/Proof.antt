@@ -1,11 +1,8 @@
 -- `empty` makes a handle of the null pointer, which owns nothing beside its allocator.
 use Rattle.itm_c.proofs.Steps.{[], ◌∷◌, ◌++◌, refl, None, proved_at, ftrue, fsep, emp, id⊢, List, Val, vnull, vstruct, vcons, vnil, tables, ‵, raw, ◌⊛◌, prop, ◌$◌, ◌∵◌, !, qed, done, move, drop, split, join, fsplit, fjoin, use1, fpack, feq_i, regoal, suffices, agg, enter, no_more, and_then, returns, alloc_all, pass_all, free_all, look_at, get, sets, yes, plain, nothing, Stays, walk_of, says, stay_dropped, Goes-dropped, ends_at}
 use types.Run.{lit}
-use denote.RattleType.{Valss}
-use denote.Struct.Struct.{within}
 use Rattle.std.proofs.Common.{lit<}
-use Rattle.itm_c.proofs.Common.{RawPtr, WpFn, handle_tells, has_ty, null_ptr, ptr_val, shape, to}
-use Rattle.std.proofs.alloc.Calls.{α}
+use Rattle.itm_c.proofs.Common.{RawPtr, Valss, WpFn, handle_tells, has_ty, null_ptr, ptr_val, shape, to, within, α}
 use Rattle.std_alloc.proofs.ResultValues.{and_tt}
 use Rattle.std_heap.specs.contracts.Global as Heap
 use Rattle.itm_c.proofs.KeptBoxes.{InBox, Handed}

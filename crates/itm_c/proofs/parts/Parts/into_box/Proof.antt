@@ -1,9 +1,6 @@
 -- `into_box` makes a box of the parts, which owns what they owned.
-use Rattle.itm_c.proofs.Common.{Args, B, Bx, D, Fn, Goes-blank, P, R, WpFn, a_type, after, block_ptr, bounded, box_in, box_out, box_typed, calls_at_last, dcons, dnil, framed, has_ty, inst_fn, ◌⊑◌}
+use Rattle.itm_c.proofs.Common.{Args, B, Bx, D, Fn, Goes-blank, P, R, T, WT, WpFn, a_type, after, block_ptr, bounded, box_in, box_out, box_ty, box_typed, calls_at_last, dcons, dnil, framed, has_ty, inst_fn, ◌⊑◌}
 use Rattle.itm_c.proofs.Steps.{◌≡◌, List, [], ◌∷◌, ◌++◌, refl, sym, ap, subst, proved_at, id⊢, ftrue, fsep, flft, Val, vptr, fact, tables, Item, ‵, raw, ◌⊛◌, some, later, prop, at_ret, ◌$◌, ◌∵◌, !, qed, done, move, drop, use1, split, split3, join, fsplit, fjoin, feq_i, pick, await, rewrite, regoal, suffices, sub, whole, enter, of_opd, stop, fld, no_more, and_then, first, blocks, exec, returns, alloc_all, pass_all, free_all, look_at, get, get_in, sets, lands_last, env, no, plain, nothing, heard, only, triple_of, Stays, walk_of, says, stay_dropped, ends_at}
-use lib.Dec.{T}
-use mir.Val.{WT}
-use Rattle.std_alloc.proofs.BoxSteps.Form.{box_ty}
 use Rattle.std_alloc.specs.contracts.boxed.Box.from_raw as g
 use Rattle.std_alloc.proofs.boxed.Box.from_raw.Met.{met}
 use Rattle.itm_c.specs.contracts.parts.Parts as Parts

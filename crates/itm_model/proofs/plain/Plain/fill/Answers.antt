@@ -1,6 +1,5 @@
 use Rattle.std.proofs.Common.{◌≡◌, ◌≤◌, ◌+◌, ◌||◌, nat_lt, length, replicate, ap, sym, ◌∙◌, rules}
-use Rattle.itm_model.proofs.Common.{Undoable, written}
-use Rattle.std.proofs.lemmas.List.{length-replicate}
+use Rattle.itm_model.proofs.Common.{Undoable, length-replicate, written}
 use Rattle.itm_model.proofs.Journals.Overwrites.{IsWritten, is_written}
 use Rattle.itm_model.proofs.plain.Plain.fill.Goals as goal
 use Rattle.itm_model.proofs.plain.Plain.fill.Goals.{then-self, else-self}

@@ -1,6 +1,5 @@
 use Rattle.std.proofs.Common.{◌≡◌, ap, ◌∙◌, rules, tests}
-use Rattle.itm_model.proofs.Common.{Mark, Props, Undoable, YieldsList-from_slice, any_from_yields_List, list_any}
-use Rattle.itm_model.specs.Machine.{keeps_any}
+use Rattle.itm_model.proofs.Common.{Mark, Props, Undoable, YieldsList-from_slice, any_from_yields_List, keeps_any, list_any}
 use Rattle.itm_model.proofs.OpenBlocks.{any_has}
 use Rattle.itm_model.proofs.plain.Plain.keeps_any.Goals as goal
 

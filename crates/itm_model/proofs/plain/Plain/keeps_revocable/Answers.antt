@@ -1,6 +1,5 @@
 use Rattle.std.proofs.Common.{◌≡◌, ap, ◌∙◌, rules, tests}
-use Rattle.itm_model.proofs.Common.{Mark, Props, Undoable, YieldsList-from_slice, any_from_yields_List, list_any}
-use Rattle.itm_model.specs.Machine.{keeps_revocable}
+use Rattle.itm_model.proofs.Common.{Mark, Props, Undoable, YieldsList-from_slice, any_from_yields_List, keeps_revocable, list_any}
 use Rattle.itm_model.proofs.OpenBlocks.{any_has}
 use Rattle.itm_model.proofs.plain.Plain.keeps_revocable.Goals as goal
 

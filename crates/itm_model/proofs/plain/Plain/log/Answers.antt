@@ -1,6 +1,5 @@
 use Rattle.std.proofs.Common.{List, ℕ, length, reverse, subst, ap, sym, ◌∙◌, arith}
-use Rattle.itm_model.proofs.Common.{AreWithin, Logged, Undoable}
-use Rattle.itm_model.specs.Machine.{logged}
+use Rattle.itm_model.proofs.Common.{AreWithin, Logged, Undoable, logged}
 use Rattle.itm_model.proofs.OpenBlocks.{AreUnder-more, logged_is, logged_nothing}
 use Rattle.itm_model.proofs.plain.Plain.log.Goals as goal
 

@@ -1,7 +1,5 @@
 use Rattle.std.proofs.Common.{◌≡◌, ◌∙◌, ℕ, subst, sym}
-use Rattle.itm_runtime.proofs.Common.{IsAnswered, Owns, Reply, Returns, Standing, answered, goes_on, left_standing, start_of, underway}
-use Rattle.itm_types.specs.declared.call.Reply.TheVariants.{Code}
-use Rattle.itm_types.specs.declared.call.Call.TheVariants.{Begin}
+use Rattle.itm_runtime.proofs.Common.{Begin, Code, IsAnswered, Owns, Reply, Returns, Standing, answered, goes_on, left_standing, start_of, underway}
 use Rattle.itm_runtime.proofs.thread.Thread.begin.Goals as goal
 
 pub returns-in-Entered : goal.returns-in-Entered

@@ -1,5 +1,5 @@
 use Rattle.std.proofs.Common.{refl}
-use Rattle.call_rules.proofs.Calls.Restarts.{cancel_whole}
+use Rattle.itm_runtime.proofs.Common.{cancel_whole}
 use Rattle.itm_runtime.proofs.thread.Thread.cancel.Goals as goal
 
 pub returns-clause-whole : goal.returns-clause-whole

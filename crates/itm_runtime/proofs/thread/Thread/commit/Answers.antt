@@ -1,6 +1,5 @@
 use Rattle.std.proofs.Common.{◌≡◌, ◌∙◌, false, refl, subst, sym}
-use Rattle.itm_runtime.proofs.Common.{Commit, IsAnswered, Owns, Standing, answered, goes_on, left_standing, start_of, underway}
-use Rattle.call_rules.proofs.Calls.Restarts.{commit_whole}
+use Rattle.itm_runtime.proofs.Common.{Commit, IsAnswered, Owns, Standing, answered, commit_whole, goes_on, left_standing, start_of, underway}
 use Rattle.itm_runtime.proofs.thread.Thread.commit.Goals as goal
 
 pub returns-in-Wrote-clause-answered : goal.returns-in-Wrote-clause-answered

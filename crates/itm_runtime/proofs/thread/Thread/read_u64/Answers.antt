@@ -1,7 +1,6 @@
 use Rattle.std.proofs.Common.{◌≡◌, ◌∙◌, false, subst, sym}
-use Rattle.itm_runtime.proofs.Common.{Owns, R, Read, Standing, Tells, U8, answer_to_read, answered, goes_on, left_standing}
+use Rattle.itm_runtime.proofs.Common.{Owns, R, Read, Standing, Tells, U8, answer_to_read, answered, goes_on, left_standing, step_done, step_seen}
 use Rattle.itm_runtime.proofs.NumberAnswers.{told_of}
-use Rattle.call_rules.proofs.Calls.Underway.{step_done, step_seen}
 use Rattle.itm_runtime.proofs.thread.Thread.read_u64.Goals as goal
 
 pub returns-in-Number : goal.returns-in-Number

@@ -1,7 +1,5 @@
 use Rattle.std.proofs.Common.{false, subst}
-use Rattle.itm_runtime.proofs.Common.{Datum, IsAnswered, W, Write, answer_to_write, number, start_of, view_of}
-use Rattle.call_rules.specs.CallResults.{IsThreadStarved}
-use Rattle.itm_runtime.specs.Stops.{done_or}
+use Rattle.itm_runtime.proofs.Common.{Datum, IsAnswered, IsThreadStarved, W, Write, answer_to_write, done_or, number, start_of, view_of}
 use Rattle.itm_runtime.proofs.NumberAnswers.{told_of, write_done}
 use Rattle.itm_runtime.proofs.thread.Thread.write_told.Goals as goal
 

@@ -1,6 +1,5 @@
 use Rattle.std.proofs.Common.{ap, ◌∙◌}
-use Rattle.nest_frames.proofs.Common.{Nest}
-use Rattle.write_set.specs.Rows.{put}
+use Rattle.nest_frames.proofs.Common.{Nest, put}
 use Rattle.nest_frames.proofs.OpenBlocks.{nest_written}
 use Rattle.nest_frames.proofs.frames.Frames.put.Goals as goal
 

@@ -1,6 +1,5 @@
 use Rattle.std.proofs.Common.{◌≡◌, ◌<◌, length, None, IsSome, ap, sym, subst, ◌∙◌}
-use Rattle.nest_frames.proofs.Common.{IsNew, Nest, false≢true, lookup, rows_of}
-use Rattle.write_set.specs.Marks.{reserve}
+use Rattle.nest_frames.proofs.Common.{IsNew, Nest, false≢true, lookup, reserve, rows_of}
 use Rattle.nest_frames.proofs.NewRows.{IsNew-at_begin}
 use Rattle.nest_frames.proofs.OpenBlocks.{nest_written}
 use Rattle.nest_frames.proofs.frames.Frames.reserve.Goals as goal

@@ -1,6 +1,5 @@
 use Rattle.std.proofs.Common.{ap, ◌∙◌, rules, tests}
-use Rattle.nest_frames.proofs.Common.{Moment, Nest, Props, YieldsList-from_slice, any_from_yields_List}
-use Rattle.nest_frames.specs.Nest.{stays_revocable}
+use Rattle.nest_frames.proofs.Common.{Moment, Nest, Props, YieldsList-from_slice, any_from_yields_List, stays_revocable}
 use Rattle.nest_frames.proofs.OpenBlocks.{any_of}
 use Rattle.nest_frames.proofs.frames.Frames.stays_revocable.Goals as goal
 

@@ -1,7 +1,6 @@
 use Rattle.std.proofs.Common.{Bool, sym, ap, ◌∙◌, if◌then◌else◌}
-use Rattle.norec_engine.proofs.Common.{phase_of}
+use Rattle.norec_engine.proofs.Common.{after_left, is_free, phase_of, told_left, undone_of_left}
 use Rattle.norec_core.specs.declared.answer.Undone.TheVariants.{Nothing, Done}
-use Rattle.norec_revocable.proofs.Blocks.EndedTransactions.{is_free, after_left, undone_of_left, told_left}
 use Rattle.norec_engine.proofs.engine.Engine.abort.Goals.{then-was_open, else-was_open}
 use Rattle.norec_engine.proofs.engine.Engine.abort.Goals as goal
 

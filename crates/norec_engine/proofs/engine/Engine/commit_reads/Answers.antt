@@ -1,6 +1,5 @@
 use Rattle.std.proofs.Common.{◌/◌, false, refl}
-use Rattle.norec_engine.proofs.Common.{Answers, CommitCall as Commit, Committed, End}
-use Rattle.norec_data.specs.declared.end.CallEnd.TheVariants.{ReadOnly}
+use Rattle.norec_engine.proofs.Common.{Answers, CommitCall as Commit, Committed, End, ReadOnly}
 use Rattle.norec_engine.proofs.IdleEngines.{idle_at}
 use Rattle.norec_engine.proofs.EitherTurns.{called_in, revocable_call}
 use Rattle.norec_engine.proofs.engine.Engine.commit_reads.Goals as goal

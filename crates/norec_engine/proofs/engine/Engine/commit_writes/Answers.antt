@@ -1,7 +1,7 @@
 use Rattle.std.proofs.Common.{◌≡◌, ◌∙◌, Bool, ap, subst, sym}
 use Rattle.norec_engine.proofs.Common.{Data, IsSound, IsSoundIn, Pending, Wait, asking_commit, counted, engine_in, exchanging, phase_of}
 use Rattle.norec_data.specs.declared.pending.Pending.TheVariants.{Exchange}
-use Rattle.norec_revocable.specs.Between.{IsSoundAfter}
+use Rattle.norec_turns.specs.Between.{IsSoundAfter}
 use Rattle.norec_engine.proofs.BlockSteps.{mode}
 use Rattle.norec_engine.proofs.RowSteps.{comes_idle, comes_shown, comes_sound, comes_turns}
 use Rattle.norec_engine.proofs.engine.Engine.commit_writes.Goals as goal

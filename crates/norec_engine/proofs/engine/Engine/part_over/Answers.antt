@@ -1,6 +1,5 @@
 use Rattle.std.proofs.Common.{◌<◌, ◌∙◌, Some, length, ap, subst, sym}
-use Rattle.norec_engine.proofs.Common.{Core, Row, write_at, write_at_of}
-use Rattle.norec_core.specs.Rows.{value_into}
+use Rattle.norec_engine.proofs.Common.{Core, Row, value_into, write_at, write_at_of}
 use Rattle.norec_engine.proofs.RowSteps.{exchanges}
 use Rattle.norec_engine.proofs.engine.Engine.part_over.Goals as goal
 

@@ -1,7 +1,6 @@
 use Rattle.std.proofs.Common.{◌≡◌, ap, arith}
-use Rattle.norec_engine.proofs.Common.{LogRow, row_at}
+use Rattle.norec_engine.proofs.Common.{AllWithin-at, LogRow, row_at}
 use Rattle.std.proofs.lemmas.Option.{get_or_from_slice_get}
-use Rattle.norec_core.proofs.Accesses.Overlays.{AllWithin-at}
 use Rattle.norec_engine.proofs.RoundSteps.{row_here, row_revocable, row_sound}
 use Rattle.norec_engine.proofs.engine.Engine.row_ahead.Goals as goal
 

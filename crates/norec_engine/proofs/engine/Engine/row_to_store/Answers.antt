@@ -1,8 +1,7 @@
 use Rattle.std.proofs.Common.{◌≡◌, ◌≢◌, ◌+◌, ◌<◌, ◌∙◌, [], None, length, ap, refl, subst, sym, arith}
-use Rattle.norec_engine.proofs.Common.{Commit, Core, IsWhole, Load, Row, Store, next_step, part_stage, step_in, whole_stage, write_at, write_at_of}
+use Rattle.norec_engine.proofs.Common.{AllWritesWithin-at, Commit, Core, IsWhole, Load, Row, Store, next_step, part_stage, step_in, whole_stage, write_at, write_at_of}
 use Rattle.word_pieces.specs.Masks.{whole}
-use Rattle.norec_core.proofs.Accesses.Overlays.{AllWritesWithin-at}
-use Rattle.norec_revocable.proofs.Phases.{loads_as, stores_as}
+use Rattle.norec_turns.proofs.Phases.{loads_as, stores_as}
 use Rattle.norec_engine.proofs.RowSteps.{exchanges}
 use Rattle.norec_engine.proofs.engine.Engine.row_to_store.Goals as goal
 

@@ -12,20 +12,23 @@ loop-goes_on-smaller g c =
 
 pub loop-goes_on-preserved : goal.loop-goes_on-preserved
 loop-goes_on-preserved g c =
-    let before = c.loop-goes_on.invariant in
-    let waits = before.waits c.loop-goes_on-test.true in
+    let invariant = c.loop-goes_on.invariant in
+    let before = invariant.took in
+    let waits = invariant.waits c.loop-goes_on-test.true in
     let goes = c.event-goes_on.ensures.goes in
     record {
-      took = (
-        suc before.took.0,
-        takes_one g.P.Player c.args.actor before.took.0 c.args.self.now c.loop-goes_on.self c.event-goes_on.new.self before.took.1 goes,
-        counted_one before.took.0 c.loop-goes_on.taken c.saturating_add-taken.result before.took.2 c.saturating_add-taken.ensures,
-      );
-      counts = events_both c.args.self.now.events c.loop-goes_on.self.events c.event-goes_on.new.self.events c.loop-goes_on.taken 1 c.saturating_add-taken.result before.counts (goes.counts (told_event _)) c.saturating_add-taken.ensures;
-      opening = opening_both c.args.self.now c.loop-goes_on.self c.event-goes_on.new.self before.opening goes.opening;
-      actors = goes.actors ∙ before.actors;
+      took = record {
+        took = (
+          suc before.took.0,
+          takes_one g.P.Player c.args.actor before.took.0 c.args.self.now c.loop-goes_on.self c.event-goes_on.new.self before.took.1 goes,
+          counted_one before.took.0 c.loop-goes_on.taken c.saturating_add-taken.result before.took.2 c.saturating_add-taken.ensures,
+        );
+        counts = events_both c.args.self.now.events c.loop-goes_on.self.events c.event-goes_on.new.self.events c.loop-goes_on.taken 1 c.saturating_add-taken.result before.counts (goes.counts (told_event _)) c.saturating_add-taken.ensures;
+        opening = opening_both c.args.self.now c.loop-goes_on.self c.event-goes_on.new.self before.opening goes.opening;
+        actors = goes.actors ∙ before.actors;
+      };
       waits = waits_still g.P.Player c.args.actor c.event-goes_on.result c.loop-goes_on.self c.event-goes_on.new.self waits goes.actors c.event-goes_on.ensures.less;
-      less = leaves_on g.P.Player c.args.actor c.loop-goes_on.goes_on c.event-goes_on.result c.args.self.now c.loop-goes_on.self c.event-goes_on.new.self c.loop-goes_on-test.true waits before.less c.event-goes_on.ensures.less;
+      less = leaves_on g.P.Player c.args.actor c.loop-goes_on.goes_on c.event-goes_on.result c.args.self.now c.loop-goes_on.self c.event-goes_on.new.self c.loop-goes_on-test.true waits invariant.less c.event-goes_on.ensures.less;
     }
 
 pub returns-clause-less : goal.returns-clause-less

@@ -28,21 +28,26 @@ returns-clause-opaque g c = world_opaque g.P.Player g.met.P.Player.laws _ (invar
 pub returns-clause-tied : goal.returns-clause-tied
 returns-clause-tied g c = world_tied g.P.Player g.met.P.Player.laws _ (invariant_of-result g c)
 
-pub returns-clause-anew : goal.returns-clause-anew
-returns-clause-anew g c =
+pub returns-clause-begins : goal.returns-clause-begins
+returns-clause-begins g c =
     let given : c.new-base.result ≡ c.args.setup.bytes = c.new-base.ensures ∙ (c.in_ok-to_vec.ensures.items_if_clones_equal (λ x y e. e) ∙ c.as_slice.ensures) in
     let based : c.new-base.result ≡ bytes_of c.new-memory.result.words = given ∙ (sym c.into_vec.ensures ∙ sym c.new-memory.ensures.bytes) in
     record {
-      starts = λ place p a e f.
-          (let players : c.in_ok-opening.opening.items ≡ c.args.players.items = search rules in
-          let words : length c.new-memory.result.words ≡ length c.args.setup.bytes / 8 = search rules in
-          subst (λ (n : ℕ). HasStarted g.P.Player c.new-memory.result.clock (first_engine n c.args.setup.arena c.args.setup.limits) c.args.setup.limits.retries place p a)
-          (words ∙ ap (λ (b : List ℕ). length b / 8) (sym given)) (c.in_ok-actors.ensures.starts place p a (ap (λ (xs : List g.row.P.Denot). slice_get xs place) (sym players) ∙ e) f));
-      first = c.in_ok-actors.ensures.first;
-      clock = c.new-memory.ensures.clock;
-      words = sym (ap words_of based ∙ words_of-bytes_of c.new-memory.result.words c.new-memory.ensures.fit);
-      none = (λ i. c.in_ok-actors.ensures.none i ++ opens_none c.in_ok-actors.actors.items c.in_ok-actors.ensures.none_open i);
-      events = search rules;
-      actors = search rules;
-      fed = search rules;
+      opening = search rules;
+      memory = search rules;
+      setup_is = search rules;
+      anew = record {
+        starts = λ place p a e f.
+            (let players : c.in_ok-opening.opening.items ≡ c.args.players.items = search rules in
+            let words : length c.new-memory.result.words ≡ length c.args.setup.bytes / 8 = search rules in
+            subst (λ (n : ℕ). HasStarted g.P.Player c.new-memory.result.clock (first_engine n c.args.setup.arena c.args.setup.limits) c.args.setup.limits.retries place p a)
+            (words ∙ ap (λ (b : List ℕ). length b / 8) (sym given)) (c.in_ok-actors.ensures.starts place p a (ap (λ (xs : List g.row.P.Denot). slice_get xs place) (sym players) ∙ e) f));
+        first = c.in_ok-actors.ensures.first;
+        clock = c.new-memory.ensures.clock;
+        words = sym (ap words_of based ∙ words_of-bytes_of c.new-memory.result.words c.new-memory.ensures.fit);
+        none = (λ i. c.in_ok-actors.ensures.none i ++ opens_none c.in_ok-actors.actors.items c.in_ok-actors.ensures.none_open i);
+        events = search rules;
+        actors = search rules;
+        fed = search rules;
+      };
     }

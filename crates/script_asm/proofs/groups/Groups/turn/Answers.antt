@@ -1,6 +1,5 @@
 use Rattle.std.proofs.Common.{◌-◌, ap, ◌∙◌, arith, sym}
-use Rattle.script_asm.proofs.Common.{never_count, second_part}
-use Rattle.std.proofs.lemmas.List.{length-set}
+use Rattle.script_asm.proofs.Common.{length-set, never_count, second_part}
 use Rattle.script_asm.proofs.NeverGroups.{same_never}
 use Rattle.script_asm.proofs.TurnedGroups.{turned}
 use Rattle.script_asm.proofs.groups.Groups.turn.Goals as goal

@@ -1,5 +1,4 @@
-use Rattle.shared_words.proofs.Common.{Ghosts, RattleType}
-use denote.Param.Send.{IsSync}
+use Rattle.shared_words.proofs.Common.{Ghosts, IsSync, RattleType}
 use Rattle.shared_words.specs.contracts.in_place.Hollow as C
 
 pub sync : (A : RattleType) (g : Ghosts A.Denot) → IsSync (C.the_row A g)

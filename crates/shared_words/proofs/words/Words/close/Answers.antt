@@ -1,6 +1,5 @@
 use Rattle.std.proofs.Common.{◌≡◌, ◌+◌, ◌*◌, List, ℕ, take, refl, arith, sym, ap, ◌∙◌, subst}
-use Rattle.shared_words.proofs.Common.{Ends, bytes_of, view_of, words_in}
-use Rattle.shared_words.specs.Good.{EndsInHold}
+use Rattle.shared_words.proofs.Common.{Ends, EndsInHold, bytes_of, view_of, words_in}
 use Rattle.shared_words.proofs.LaidWords.{laid_all, lays_more}
 use Rattle.shared_words.proofs.words.Words.close.Goals as goal
 

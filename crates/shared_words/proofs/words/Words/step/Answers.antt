@@ -1,6 +1,5 @@
 use Rattle.std.proofs.Common.{◌<◌, arith, ◌∙◌, subst}
-use Rattle.shared_words.proofs.Common.{Cas, Lawful, Load, Step, Store, cells_of, view_of}
-use Rattle.shared_words.specs.Steps.{cell_of}
+use Rattle.shared_words.proofs.Common.{Cas, Lawful, Load, Step, Store, cell_of, cells_of, view_of}
 use Rattle.shared_words.proofs.ViewsFit.{over_step}
 use Rattle.shared_words.proofs.TableSteps.{allows_load, allows_store, allows_exchange, load_high, load_holds, load_latest, store_high, store_holds}
 use Rattle.shared_words.proofs.words.Words.step.Goals as goal

@@ -1,6 +1,6 @@
 use Rattle.std.proofs.Common.{◌∙◌, arith, rules}
-use Rattle.transactions.proofs.Came.{came_first, kept_cancelled, left_after, plain_of, tried_after}
-use Rattle.transactions.proofs.Chains.{came_of, cancelled_more, late_after, retried, tried_body}
+use Rattle.transactions.proofs.Came.{came_first, kept_cancelled, plain_of}
+use Rattle.transactions.proofs.Chains.{came_of, cancelled_more, lent_after, retried, tried_body}
 use Rattle.transactions.proofs.BlockOutcomes.{kept_twice}
 use Rattle.transactions.proofs.client.Client.retry.Goals as goal
 
@@ -16,23 +16,17 @@ returns-clause-ran g c = (
   retried g.F.FnMut c.args.body c.args.self.now.transaction c.args.self.now.tries c.loop.self.tries c.loop.invariant.2 c.loop.counter c.loop.body c.run.new.body c.loop.self.transaction c.run.new.self.transaction c.loop.invariant.5 c.args.retries c.run.result c.loop.invariant.3 (λ is. omega (arith, c.loop-test.false, c.loop.invariant.3)) c.run.ensures.ran,
 )
 
-pub returns-then-not-is_cancelled-clause-late : goal.returns-then-not-is_cancelled-clause-late
-returns-then-not-is_cancelled-clause-late g c keeps = late_after c.args.self.now.transaction c.loop.self.transaction c.run-told.result (c.loop.invariant.1 keeps).0 (c.run-told.ensures.late keeps)
+pub returns-then-not-is_cancelled-clause-lent : goal.returns-then-not-is_cancelled-clause-lent
+returns-then-not-is_cancelled-clause-lent g c keeps = lent_after c.args.self.now.transaction c.loop.self.transaction c.run-told.new.self.transaction c.loop.self.tries c.args.self.now.tries c.run-told.result (c.loop.invariant.1 keeps).0 c.loop.invariant.2 (c.run-told.ensures.lent keeps)
 
-pub returns-clause-late : goal.returns-clause-late
-returns-clause-late g c keeps = late_after c.args.self.now.transaction c.loop.self.transaction c.run.result (c.loop.invariant.1 keeps).0 (c.run.ensures.late keeps)
+pub returns-clause-lent : goal.returns-clause-lent
+returns-clause-lent g c keeps = lent_after c.args.self.now.transaction c.loop.self.transaction c.run.new.self.transaction c.loop.self.tries c.args.self.now.tries c.run.result (c.loop.invariant.1 keeps).0 c.loop.invariant.2 (c.run.ensures.lent keeps)
 
 pub returns-then-not-is_cancelled-clause-comes : goal.returns-then-not-is_cancelled-clause-comes
 returns-then-not-is_cancelled-clause-comes g c = came_first g.F.FnMut c.loop.self.transaction.words c.args.self.now.transaction.words (λ keeps. (c.loop.invariant.1 keeps).0.words) c.loop.body c.args.body c.loop.invariant.4 c.run-told.result c.run-told.new.self.transaction.thread (came_of g.F.FnMut c.loop.body c.loop.self.transaction c.loop.self.tries c.run-told.new.body c.run-told.new.self.transaction c.run-told.result c.run-told.ensures.ran)
 
 pub returns-then-not-is_cancelled-clause-plain : goal.returns-then-not-is_cancelled-clause-plain
 returns-then-not-is_cancelled-clause-plain g c keeps makings = plain_of g.F.FnMut makings c.args.body c.args.self.now.transaction.words keeps c.run-told.result c.run-told.new.self.transaction.thread (came_first g.F.FnMut c.loop.self.transaction.words c.args.self.now.transaction.words (λ keeps. (c.loop.invariant.1 keeps).0.words) c.loop.body c.args.body c.loop.invariant.4 c.run-told.result c.run-told.new.self.transaction.thread (came_of g.F.FnMut c.loop.body c.loop.self.transaction c.loop.self.tries c.run-told.new.body c.run-told.new.self.transaction c.run-told.result c.run-told.ensures.ran))
-
-pub returns-then-not-is_cancelled-clause-left : goal.returns-then-not-is_cancelled-clause-left
-returns-then-not-is_cancelled-clause-left g c keeps = left_after c.args.self.now.transaction c.loop.self.transaction c.run-told.new.self.transaction c.run-told.result (c.loop.invariant.1 keeps).0 (c.run-told.ensures.left keeps)
-
-pub returns-then-not-is_cancelled-clause-tried : goal.returns-then-not-is_cancelled-clause-tried
-returns-then-not-is_cancelled-clause-tried g c keeps = tried_after c.run-told.result _ _ _ _ _ (c.run-told.ensures.tried keeps) (c.loop.invariant.1 keeps).0.went.looks c.loop.invariant.2
 
 pub returns-then-not-is_cancelled-clause-waited : goal.returns-then-not-is_cancelled-clause-waited
 returns-then-not-is_cancelled-clause-waited g c keeps is = absurd (c.is_cancelled.ensures.no (search rules) is)
@@ -42,12 +36,6 @@ returns-clause-comes g c = came_first g.F.FnMut c.loop.self.transaction.words c.
 
 pub returns-clause-plain : goal.returns-clause-plain
 returns-clause-plain g c keeps makings = plain_of g.F.FnMut makings c.args.body c.args.self.now.transaction.words keeps c.run.result c.run.new.self.transaction.thread (came_first g.F.FnMut c.loop.self.transaction.words c.args.self.now.transaction.words (λ keeps. (c.loop.invariant.1 keeps).0.words) c.loop.body c.args.body c.loop.invariant.4 c.run.result c.run.new.self.transaction.thread (came_of g.F.FnMut c.loop.body c.loop.self.transaction c.loop.self.tries c.run.new.body c.run.new.self.transaction c.run.result c.run.ensures.ran))
-
-pub returns-clause-left : goal.returns-clause-left
-returns-clause-left g c keeps = left_after c.args.self.now.transaction c.loop.self.transaction c.run.new.self.transaction c.run.result (c.loop.invariant.1 keeps).0 (c.run.ensures.left keeps)
-
-pub returns-clause-tried : goal.returns-clause-tried
-returns-clause-tried g c keeps = tried_after c.run.result _ _ _ _ _ (c.run.ensures.tried keeps) (c.loop.invariant.1 keeps).0.went.looks c.loop.invariant.2
 
 pub returns-clause-waited : goal.returns-clause-waited
 returns-clause-waited g c keeps is =
@@ -68,7 +56,7 @@ loop-preserved g c = (
       let was = c.loop.invariant.1 keeps in
       let is = c.is_cancelled.ensures.yes (search rules) in
       let more = c.run-told.ensures.cancelled keeps is in
-      (kept_twice c.args.self.now.transaction c.loop.self.transaction c.run-told.new.self.transaction was.0 (kept_cancelled _ _ c.run-told.result is (c.run-told.ensures.left keeps)), omega (arith, was.1, more)),
+      (kept_twice c.args.self.now.transaction c.loop.self.transaction c.run-told.new.self.transaction was.0 (kept_cancelled _ _ c.run-told.result is (c.run-told.ensures.lent keeps).left), omega (arith, was.1, more)),
   c.run-told.ensures.tries ∙ c.loop.invariant.2,
   omega (arith, c.loop-test.true),
   λ steady. tried_body g.F.FnMut c.loop.body c.loop.self.transaction c.loop.self.tries c.run-told.new.body c.run-told.new.self.transaction steady c.run-told.result c.run-told.ensures.ran ∙ c.loop.invariant.4 steady,

@@ -1,9 +1,8 @@
 use Rattle.std.proofs.Common.{◌≡◌, ◌∙◌, ℕ, ap, arith, refl, subst}
-use Rattle.transactions.proofs.Common.{AreTries, view_of, went_on}
-use Rattle.call_rules.specs.Served.{mine_if}
-use Rattle.transactions.specs.declared.tried.Tried.TheVariants.{Conflict, Busy}
+use Rattle.transactions.proofs.Common.{AreTries, Conflict, Failed, Fails, IsTry, mine_if, view_of, went_on}
+use Rattle.transactions.specs.declared.tried.Tried.TheVariants.{Busy}
 use Rattle.transactions.proofs.Came.{cancelled_goes}
-use Rattle.transactions.proofs.Chains.{late_try, seen_more, tried_failed, try_more}
+use Rattle.transactions.proofs.Chains.{late_try, seen_more, tried_failed, tried_not, try_more}
 use Rattle.transactions.proofs.client.Client.run.Goals as goal
 use Rattle.transactions.proofs.client.Client.run.Goals.{in-Conflict, in-Busy}
 
@@ -34,23 +33,34 @@ returns-clause-ran g c =
     let all : c.loop.counter ≡ c.args.self.now.tries = omega (arith, c.loop-test.false, c.loop.invariant.2, c.loop.invariant.3) in
     (c.loop.again, subst (λ (n : ℕ). AreTries g.F.FnMut c.args.body.now c.args.self.now.transaction n c.loop.again c.loop.body c.loop.self.transaction) all c.loop.invariant.4)
 
-pub returns-in-Done-clause-late : goal.returns-in-Done-clause-late
-returns-in-Done-clause-late g c keeps =
-    let more = seen_more c.args.self.now.transaction c.loop.self.transaction (c.loop.invariant.1 keeps).0 in
-    let late = late_try g.F.FnMut keeps c.loop.body c.loop.self.transaction c.loop.again c.in-Done.done c.attempt.new.body c.attempt.new.self c.in-Done.ensures.tells in
-    omega (arith, more, late)
-
-pub returns-in-Done-clause-left : goal.returns-in-Done-clause-left
-returns-in-Done-clause-left g c keeps =
+pub returns-in-Done-clause-lent : goal.returns-in-Done-clause-lent
+returns-in-Done-clause-lent g c keeps =
     let was = (c.loop.invariant.1 keeps).0 in
     let now = c.in-Done.ensures.left keeps in
-    record { words = now.words ∙ was.words; mine_is = now.mine_is ∙ ap (λ m. mine_if c.in-Done.done.wrote m c.in-Done.done.at) was.mine_is; went = went_on (view_of c.args.self.now.transaction.thread.pass) (view_of c.loop.self.transaction.thread.pass) (view_of c.attempt.new.self.thread.pass) was.went now.went }
+    let more = seen_more c.args.self.now.transaction c.loop.self.transaction was in
+    let late = late_try g.F.FnMut keeps c.loop.body c.loop.self.transaction c.loop.again c.in-Done.done c.attempt.new.body c.attempt.new.self c.in-Done.ensures.tells in
+    record {
+      left = record { words = now.words ∙ was.words; mine_is = now.mine_is ∙ ap (λ m. mine_if c.in-Done.done.wrote m c.in-Done.done.at) was.mine_is; went = went_on (view_of c.args.self.now.transaction.thread.pass) (view_of c.loop.self.transaction.thread.pass) (view_of c.attempt.new.self.thread.pass) was.went now.went };
+      late = omega (arith, more, late);
+      tried = tt;
+    }
 
-pub returns-in-Failed-clause-left : goal.returns-in-Failed-clause-left
-returns-in-Failed-clause-left g c keeps =
+pub returns-in-Failed-clause-lent : goal.returns-in-Failed-clause-lent
+returns-in-Failed-clause-lent g c keeps =
     let was = (c.loop.invariant.1 keeps).0 in
     let now = c.in-Failed.ensures.left keeps in
-    record { words = now.words ∙ was.words; mine_is = now.mine_is ∙ was.mine_is; went = went_on (view_of c.args.self.now.transaction.thread.pass) (view_of c.loop.self.transaction.thread.pass) (view_of c.attempt.new.self.thread.pass) was.went now.went }
+    let told = c.in-Failed.ensures.tells in
+    record {
+      left = record { words = now.words ∙ was.words; mine_is = now.mine_is ∙ was.mine_is; went = went_on (view_of c.args.self.now.transaction.thread.pass) (view_of c.loop.self.transaction.thread.pass) (view_of c.attempt.new.self.thread.pass) was.went now.went };
+      late = tt;
+      tried = λ is. absurd (tried_not g.F.FnMut c.loop.body c.loop.self.transaction c.loop.again c.attempt.new.body c.attempt.new.self
+          (subst (λ (why : Failed g.row.E.Denot). IsTry g.F.FnMut c.loop.body c.loop.self.transaction c.loop.again (Fails why) c.attempt.new.body c.attempt.new.self) is told));
+    }
+
+pub returns-clause-lent : goal.returns-clause-lent
+returns-clause-lent g c keeps =
+    let was = c.loop.invariant.1 keeps in
+    record { left = was.0; late = tt; tried = λ is. omega (arith, was.1, c.loop-test.false, c.loop.invariant.2, c.loop.invariant.3) }
 
 pub returns-in-Failed-clause-cancelled : goal.returns-in-Failed-clause-cancelled
 returns-in-Failed-clause-cancelled g c keeps is =

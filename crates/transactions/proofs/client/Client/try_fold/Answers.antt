@@ -1,6 +1,5 @@
 use Rattle.std.proofs.Common.{◌≡◌, ◌∙◌, ℕ, Err, Ok, Result, add-one, arith, of_calls, refl, rules, subst, sym}
-use Rattle.transactions.proofs.Common.{Folds}
-use Rattle.transactions.specs.Folds.{HasFolded, Steps}
+use Rattle.transactions.proofs.Common.{Folds, HasFolded, Steps}
 use Rattle.transactions.proofs.client.Client.try_fold.Goals as goal
 
 pub returns-in_err-value-clause-words : goal.returns-in_err-value-clause-words

@@ -1,6 +1,5 @@
 use Rattle.std.proofs.Common.{◌≡◌, ◌≤◌}
-use Rattle.transactions.proofs.Common.{Folds}
-use Rattle.transactions.specs.Folds.{KeepsWords}
+use Rattle.transactions.proofs.Common.{Folds, KeepsWords}
 use Rattle.transactions.proofs.client.Client.try_fold.Given as goal
 
 abbrev pub invariant-loop-number : goal.invariant-loop-number

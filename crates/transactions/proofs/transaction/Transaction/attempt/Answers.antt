@@ -1,6 +1,6 @@
 use Rattle.std.proofs.Common.{◌∙◌, inl, inr, ap, Result, Ok, Err, refl, subst, sym, arith}
-use Rattle.transactions.proofs.Common.{CalledAtMut, Cancelled, Engine, Pass, Stopped, Went, mine_then, stop_told, view_of, went_on}
-use Rattle.transactions.proofs.Looks.{or_not, or_so, stopped_looks}
+use Rattle.transactions.proofs.Common.{CalledAtMut, Cancelled, Engine, Pass, Stopped, Went, mine_then, or_true, stop_told, view_of, went_on}
+use Rattle.transactions.proofs.Looks.{or_not, stopped_looks}
 use Rattle.transactions.proofs.Tries.{cancelled_mine, stopped_mine}
 use Rattle.transactions.proofs.transaction.Transaction.attempt.Goals as goal
 
@@ -51,7 +51,7 @@ returns-in-Err-Cancelled-clause-left g c keeps =
 
 pub returns-in-Err-clause-tells : goal.returns-in-Err-clause-tells
 returns-in-Err-clause-tells g c =
-    inr (record { stop = _; then = c.begun.new.self; begins = c.in-Err.ensures.stopped; here = c.begun.ensures.kept.words; given_up = c.stopped-in-Err.ensures.given_up; stays = c.stopped-in-Err.ensures.words; not_run = refl; told_is = c.stopped-in-Err.ensures.told ∙ ap (stop_told c.in-Err.why) (or_so _) })
+    inr (record { stop = _; then = c.begun.new.self; begins = c.in-Err.ensures.stopped; here = c.begun.ensures.kept.words; given_up = c.stopped-in-Err.ensures.given_up; stays = c.stopped-in-Err.ensures.words; not_run = refl; told_is = c.stopped-in-Err.ensures.told ∙ ap (stop_told c.in-Err.why) (or_true _) })
 
 pub returns-in-Err-clause-left : goal.returns-in-Err-clause-left
 returns-in-Err-clause-left g c keeps = record {
@@ -77,5 +77,5 @@ returns-in-Err-Cancelled-clause-looks g c keeps goes =
 
 pub returns-in-Err-clause-looks : goal.returns-in-Err-clause-looks
 returns-in-Err-clause-looks g c keeps goes =
-    let told = c.stopped-in-Err.ensures.told ∙ ap (stop_told c.in-Err.why) (or_so _) in
+    let told = c.stopped-in-Err.ensures.told ∙ ap (stop_told c.in-Err.why) (or_true _) in
     omega (arith, stopped_looks c.args.self.now.thread c.args.again c.begun.new.self c.stopped-in-Err.result c.in-Err.why c.in-Err.ensures.stopped told goes, ap (λ (p : Pass). (view_of p).looks) c.stopped-in-Err.ensures.given_up.pass)

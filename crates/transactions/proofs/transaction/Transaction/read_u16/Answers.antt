@@ -1,6 +1,5 @@
 use Rattle.std.proofs.Common.{◌∙◌, ℕ, List, Some, subst, sym}
-use Rattle.transactions.proofs.Common.{R, Read, Reply, Tells, bytes_reply}
-use Rattle.itm_types.specs.declared.access.Width.TheVariants.{U2}
+use Rattle.transactions.proofs.Common.{R, Read, Reply, Tells, U2, bytes_reply}
 use Rattle.transactions.proofs.transaction.Transaction.read_u16.Goals as goal
 
 pub returns-clause-tells : goal.returns-clause-tells

@@ -1,5 +1,4 @@
-use Rattle.transactions.proofs.Common.{R, Read, answer_to_read}
-use Rattle.itm_types.specs.declared.access.Width.TheVariants.{U8}
+use Rattle.transactions.proofs.Common.{R, Read, U8, answer_to_read}
 use Rattle.transactions.proofs.Kept.{kept_by_read}
 use Rattle.transactions.proofs.Within.{lent_within}
 use Rattle.transactions.proofs.transaction.Transaction.read_u64.Goals as goal

@@ -1,10 +1,8 @@
 use Rattle.std.proofs.Common.{subst}
-use Rattle.transactions.proofs.Common.{Datum, Tells, W, Write, answer_to_write}
-use Rattle.transactions.specs.Widths.{number_8}
-use Rattle.transactions.proofs.WidthReads.{datum_is}
+use Rattle.transactions.proofs.Common.{Datum, Tells, W, Write, answer_to_write, number_8, same_datum}
 use Rattle.transactions.proofs.transaction.Transaction.write_u8.Goals as goal
 
 pub returns-clause-tells : goal.returns-clause-tells
 returns-clause-tells c =
     subst (λ (d : Datum). Tells c.args.self.now.words c.args.self.now.thread (Write W c.args.at d) (answer_to_write c.write.result) c.write.new.self.thread)
-    (datum_is c.new-datum.result (number_8 c.args.value) c.new-datum.ensures.width c.new-datum.ensures.bytes) c.write.ensures.tells
+    (same_datum c.new-datum.result (number_8 c.args.value) c.new-datum.ensures.width c.new-datum.ensures.bytes) c.write.ensures.tells

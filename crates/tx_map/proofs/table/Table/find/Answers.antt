@@ -1,8 +1,5 @@
 use Rattle.std.proofs.Common.{◌≡◌, ◌∙◌, ◌⊎◌, inl, inr, false, ◌+◌, ◌*◌, ◌%◌, ◌<◌, ap, subst}
-use Rattle.shared_words.specs.Passes.{view_of}
-use Rattle.call_rules.proofs.LaterViews.{went_on}
-use Rattle.tx_map.specs.Plainly.{Does}
-use Rattle.tx_map.specs.Slots.{slot_of}
+use Rattle.tx_map.proofs.Common.{Does, slot_of, view_of, went_on}
 use Rattle.tx_map.proofs.Finds.{Reads, stops_here, walks_on}
 use Rattle.tx_map.proofs.Parts.{does_read, does_then}
 use Rattle.tx_map.proofs.table.Table.find.Goals as goal

@@ -1,6 +1,5 @@
 use Rattle.std.proofs.Common.{false}
-use Rattle.transactions.specs.Lent.{IsKept}
-use Rattle.tx_map.specs.Plainly.{Does}
+use Rattle.tx_map.proofs.Common.{Does, IsKept}
 use Rattle.tx_map.proofs.Finds.{Walks}
 use Rattle.tx_map.proofs.table.Table.find.Given as goal
 

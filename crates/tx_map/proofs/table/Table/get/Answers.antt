@@ -1,6 +1,5 @@
 use Rattle.std.proofs.Common.{◌≢◌, false, arith, subst}
-use Rattle.tx_map.specs.Finds.{HasFound}
-use Rattle.tx_map.specs.Plainly.{Does}
+use Rattle.tx_map.proofs.Common.{Does, HasFound}
 use Rattle.tx_map.proofs.Finds.{got_free, got_none, got_some}
 use Rattle.tx_map.proofs.Parts.{does_so}
 use Rattle.tx_map.proofs.table.Table.get.Goals as goal

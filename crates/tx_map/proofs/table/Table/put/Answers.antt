@@ -1,8 +1,5 @@
 use Rattle.std.proofs.Common.{◌≡◌, ◌≢◌, ◌+◌, ◌*◌, ◌^◌, false, true, arith, subst}
-use Rattle.std.specs.Int.{w64, to_le_bytes}
-use Rattle.itm_types.specs.Slices.{with_slice}
-use Rattle.tx_map.specs.Finds.{HasFound}
-use Rattle.tx_map.specs.Plainly.{Does}
+use Rattle.tx_map.proofs.Common.{Does, HasFound, to_le_bytes, w64, with_slice}
 use Rattle.tx_map.proofs.Finds.{added, put_full, again}
 use Rattle.tx_map.proofs.Parts.{does_so, does_then, does_write}
 use Rattle.tx_map.proofs.table.Table.put.Goals as goal

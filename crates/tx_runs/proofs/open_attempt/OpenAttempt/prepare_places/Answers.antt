@@ -1,6 +1,5 @@
 use Rattle.std.proofs.Common.{refl, subst, sym, ◌∙◌, ap}
-use Rattle.tx_runs.proofs.Common.{Open}
-use Rattle.tx_runs.specs.OpenAttempts.{LacksPlaces, Rooms, open_of}
+use Rattle.tx_runs.proofs.Common.{LacksPlaces, Open, Rooms, open_of}
 use Rattle.tx_runs.proofs.OpenRooms.{err_with, on_err}
 use Rattle.tx_runs.proofs.open_attempt.OpenAttempt.prepare_places.Goals as goal
 

@@ -1,5 +1,5 @@
 use Rattle.std.proofs.Common.{subst, true}
-use Rattle.tx_runs.specs.PlayerRuns.{MayGoBack}
+use Rattle.tx_runs.proofs.Common.{MayGoBack}
 use Rattle.tx_runs.proofs.player_run.PlayerRun.renew.Goals as goal
 
 pub renew-requires-clause-told : goal.renew-requires-clause-told

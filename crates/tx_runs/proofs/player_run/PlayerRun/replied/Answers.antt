@@ -1,9 +1,6 @@
 use Rattle.std.proofs.Common.{◌≡◌, ◌++◌, Bool, false, length, subst, sym}
-use Rattle.tx_runs.proofs.Common.{Current, Open, Taken, savepoints_after, stage_of, went_on, with_call}
-use Rattle.tx_runs.specs.declared.player_run.Current.TheVariants.{Within}
+use Rattle.tx_runs.proofs.Common.{Current, HaveJoined, Open, Taken, Within, closed, replied, savepoints_after, stage_of, tally_of, went_on, with_call}
 use Rattle.tx_attempts.specs.declared.attempt.Outcome.TheVariants.{Cancelled}
-use Rattle.tx_runs.specs.PlayerRuns.{HaveJoined, tally_of}
-use Rattle.tx_runs.specs.Tallies.{closed, replied}
 use Rattle.tx_runs.proofs.player_run.PlayerRun.replied.Goals as goal
 
 pub returns-else-is_open-clause-taken : goal.returns-else-is_open-clause-taken

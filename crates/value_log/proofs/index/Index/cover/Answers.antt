@@ -1,7 +1,5 @@
 use Rattle.std.proofs.Common.{get_or, take, sym, subst, arith, ◌∙◌}
-use Rattle.std.proofs.lemmas.List.{length-take-le, take_more}
-use Rattle.itm_types.specs.declared.row.LogRow.{LogRow}
-use Rattle.value_log.specs.Index.{IsIndex}
+use Rattle.value_log.proofs.Common.{IsIndex, LogRow, length-take-le, take_more}
 use Rattle.value_log.proofs.index.Index.cover.Goals as goal
 
 pub loop-place-preserved : goal.loop-place-preserved

@@ -1,5 +1,5 @@
 use Rattle.std.proofs.Common.{◌≡◌, length, take}
-use Rattle.value_log.specs.Index.{IsIndex}
+use Rattle.value_log.proofs.Common.{IsIndex}
 use Rattle.value_log.proofs.index.Index.cover.Given as goal
 
 abbrev pub invariant-loop-place : goal.invariant-loop-place

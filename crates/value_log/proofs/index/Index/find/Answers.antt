@@ -1,8 +1,5 @@
 use Rattle.std.proofs.Common.{◌≡◌, ◌<◌, ℕ, Some, get_or, length, sym, ap, subst, arith, ◌∙◌}
-use Rattle.std.proofs.lemmas.Option.{slice_get-get_or}
-use Rattle.itm_types.specs.declared.row.LogRow.{LogRow}
-use Rattle.itm_types.specs.LogRows.{value_of}
-use Rattle.value_log.specs.Index.{IsLast}
+use Rattle.value_log.proofs.Common.{IsLast, LogRow, slice_get-get_or, value_of}
 use Rattle.value_log.proofs.IndexedRows.{got_or, none_at_end, none_past_chain, stands_before, still_before, value_at}
 use Rattle.value_log.proofs.index.Index.find.Goals as goal
 

@@ -1,5 +1,5 @@
 use Rattle.std.proofs.Common.{◌≤◌, length}
-use Rattle.value_log.specs.Index.{IsLast}
+use Rattle.value_log.proofs.Common.{IsLast}
 use Rattle.value_log.proofs.IndexedRows.{StandsBefore}
 use Rattle.value_log.proofs.index.Index.find.Given as goal
 

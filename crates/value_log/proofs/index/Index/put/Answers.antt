@@ -1,7 +1,5 @@
 use Rattle.std.proofs.Common.{◌≡◌, ℕ, ◌∷◌, ◌++◌, [], length, Some, slice_get, slice_set, sym, ap, subst, ◌∙◌, ◌<◌}
-use Rattle.std.proofs.lemmas.Option.{slice_get-get_or}
-use Rattle.itm_types.specs.declared.row.LogRow.{LogRow}
-use Rattle.value_log.specs.Index.{IsIndex}
+use Rattle.value_log.proofs.Common.{IsIndex, LogRow, slice_get-get_or}
 use Rattle.value_log.proofs.IndexedRows.{index_push}
 use Rattle.value_log.proofs.index.Index.put.Goals as goal
 

@@ -1,5 +1,5 @@
 use Rattle.std.proofs.Common.{ℕ, List, is_ok, subst, sym, arith}
-use Rattle.value_log.specs.Index.{IsIndex}
+use Rattle.value_log.proofs.Common.{IsIndex}
 use Rattle.value_log.proofs.IndexedRows.{index_resized}
 use Rattle.value_log.proofs.index.Index.reserve_places.Goals as goal
 

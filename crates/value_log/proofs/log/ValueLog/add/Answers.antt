@@ -1,9 +1,5 @@
 use Rattle.std.proofs.Common.{◌≡◌, List, ℕ, None, ◌<◌, ◌≤◌, length, sym, ap, subst, arith}
-use Rattle.itm_types.specs.declared.row.LogRow.{LogRow}
-use Rattle.itm_types.specs.LogRows.{value_of, AreSingle}
-use Rattle.value_log.specs.Log.{Log}
-use Rattle.itm_types.proofs.LogRows.{single_push}
-use Rattle.value_log.specs.Index.{AllBelow, IsRight}
+use Rattle.value_log.proofs.Common.{AllBelow, AreSingle, IsRight, Log, LogRow, single_push, value_of}
 use Rattle.value_log.proofs.IndexedRows.{below_push, few_rows}
 use Rattle.value_log.proofs.log.ValueLog.add.Goals as goal
 

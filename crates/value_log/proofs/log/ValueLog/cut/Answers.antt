@@ -1,8 +1,5 @@
 use Rattle.std.proofs.Common.{ℕ, List, ◌<◌, ◌≤◌, ◌^◌, length, take, sym, subst, ◌∙◌}
-use Rattle.itm_types.specs.declared.row.LogRow.{LogRow}
-use Rattle.itm_types.specs.LogRows.{AreSingle}
-use Rattle.itm_types.proofs.LogRows.{single_cut}
-use Rattle.value_log.specs.Index.{AllBelow, IsRight}
+use Rattle.value_log.proofs.Common.{AllBelow, AreSingle, IsRight, LogRow, single_cut}
 use Rattle.value_log.proofs.IndexedRows.{below_cut, few_rows}
 use Rattle.value_log.proofs.log.ValueLog.cut.Goals as goal
 

@@ -1,10 +1,6 @@
-use Rattle.std.proofs.Common.{◌≡◌, ℕ, List, Option, None, Some, slice_get, sym, ap, ◌∙◌}
-use Rattle.std.specs.Prelude.{IfSome}
-use Rattle.itm_types.specs.declared.row.LogRow.{LogRow}
-use Rattle.itm_types.specs.LogRows.{value_of}
+use Rattle.std.proofs.Common.{◌≡◌, ℕ, List, Option, None, Some, slice_get, sym, ap, ◌∙◌, IfSome}
+use Rattle.value_log.proofs.Common.{Log, LogRow, value_of, value_stands}
 use Rattle.itm_types.specs.Memory.{Agrees}
-use Rattle.itm_types.proofs.LogRows.{value_stands}
-use Rattle.value_log.specs.Log.{Log}
 use Rattle.value_log.proofs.log.ValueLog.find.Goals as goal
 
 stands : (rows : List LogRow) (word : ℕ) (o : Option ℕ) → o ≡ value_of word rows → IfSome o (λ value. (m : List ℕ) → Agrees m rows → slice_get m word ≡ Some value)

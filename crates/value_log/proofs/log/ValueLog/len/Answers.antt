@@ -1,5 +1,5 @@
 use Rattle.std.proofs.Common.{◌^◌, ◌<◌, length, subst}
-use Rattle.value_log.specs.Log.{Log}
+use Rattle.value_log.proofs.Common.{Log}
 use Rattle.value_log.proofs.IndexedRows.{few_rows}
 use Rattle.value_log.proofs.log.ValueLog.len.Goals as goal
 

@@ -1,7 +1,5 @@
 use Rattle.std.proofs.Common.{◌<◌, ◌+◌, ◌++◌, [], ◌∷◌, ℕ, List, add-one, length, length-take-le, slice_set, take, sym, ap, subst, arith, ◌∙◌}
-use Rattle.std.proofs.lemmas.List.{length-set}
-use Rattle.itm_types.specs.declared.row.LogRow.{LogRow}
-use Rattle.value_log.specs.Filled.{Filled, IsFilled}
+use Rattle.value_log.proofs.Common.{Filled, IsFilled, LogRow, length-set}
 use Rattle.value_log.proofs.FilledRows.{take_set}
 use Rattle.value_log.proofs.rows.Rows.push_reserved.Goals as goal
 

@@ -1,7 +1,5 @@
 use Rattle.std.proofs.Common.{◌++◌, List, take, ap, arith, ◌∙◌}
-use Rattle.std.proofs.lemmas.List.{take_all}
-use Rattle.itm_types.specs.declared.row.LogRow.{LogRow}
-use Rattle.value_log.specs.Filled.{Filled}
+use Rattle.value_log.proofs.Common.{Filled, LogRow, take_all}
 use Rattle.value_log.proofs.FilledRows.{take_front}
 use Rattle.value_log.proofs.rows.Rows.reserve_exact.Goals as goal
 

@@ -1,6 +1,5 @@
 use Rattle.std.proofs.Common.{◌≤◌, length, length-take-le, take, sym, ap, subst, arith, ◌∙◌}
-use Rattle.std.proofs.lemmas.List.{take_all}
-use Rattle.value_log.specs.Filled.{Filled}
+use Rattle.value_log.proofs.Common.{Filled, take_all}
 use Rattle.value_log.proofs.FilledRows.{take_twice}
 use Rattle.value_log.proofs.rows.Rows.truncate.Goals as goal
 

@@ -1,6 +1,6 @@
-use Rattle.std.proofs.Common.{◌≡◌, inl, inr, take, refl, sym, ap, subst, ◌∙◌}
-use Rattle.write_set.proofs.Common.{AreMarks, AreRows, KeepsMarks, Written, cases_Bool, lookup, put, reserved, with_row_of, write}
-use Rattle.write_set.proofs.OpenMarks.{AreMarks-write, KeepsMarks-write}
+use Rattle.std.proofs.Common.{◌≡◌, take, sym, ap, subst, ◌∙◌}
+use Rattle.write_set.proofs.Common.{AreMarks, AreRows, Written, lookup, put, reserved, with_row_of, write}
+use Rattle.write_set.proofs.Outcomes.{AreMarks-tried, KeepsMarks-tried}
 use Rattle.write_set.proofs.set.WriteSet.write_found.Goals as goal
 
 pub returns-clause-written : goal.returns-clause-written
@@ -18,19 +18,9 @@ returns-clause-none c not =
 
 pub invariant_of-self : goal.invariant_of-self
 invariant_of-self c =
-    let old : Written = c.args.self.now in
-    let are : AreMarks old = subst AreMarks c.self.view_is c.self.invariant in
-    let rows : AreRows old.rows = subst (λ (w : Written). AreRows w.rows) c.self.view_is c.write_found.ensures.are_rows in
-    elim (cases_Bool c.write_found.result) [
-      | inl done ↦ subst AreMarks (sym (returns-clause-written c done)) (AreMarks-write old c.args.word c.args.mask c.args.value are rows)
-      | inr not ↦ subst AreMarks (sym (returns-clause-none c not)) are
-    ]
+    let rows : AreRows c.args.self.now.rows = subst (λ (w : Written). AreRows w.rows) c.self.view_is c.write_found.ensures.are_rows in
+    AreMarks-tried c.args.self.now _ c.args.word c.args.mask c.args.value c.write_found.result (subst AreMarks c.self.view_is c.self.invariant) (returns-clause-written c) (returns-clause-none c) rows
 
 pub returns-clause-marks : goal.returns-clause-marks
 returns-clause-marks c =
-    let old : Written = c.args.self.now in
-    let are : AreMarks old = subst AreMarks c.self.view_is c.self.invariant in
-    elim (cases_Bool c.write_found.result) [
-      | inl done ↦ subst (KeepsMarks old) (sym (returns-clause-written c done)) (KeepsMarks-write old c.args.word c.args.mask c.args.value are)
-      | inr not ↦ subst (KeepsMarks old) (sym (returns-clause-none c not)) (λ m is. (is, refl))
-    ]
+    KeepsMarks-tried c.args.self.now _ c.args.word c.args.mask c.args.value c.write_found.result (subst AreMarks c.self.view_is c.self.invariant) (returns-clause-written c) (returns-clause-none c)

@@ -1,0 +1,7 @@
+pub mod Common
+pub mod Examples
+pub mod Overlays
+pub mod Readings
+pub mod Writings
+pub mod Ranges
+pub mod CopyChunks

@@ -1,0 +1,5 @@
+pub mod Common
+pub mod KeptFrames
+pub mod WriteReplies
+pub mod CopyCalls
+pub mod ReadCalls

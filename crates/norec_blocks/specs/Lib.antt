@@ -1,0 +1,3 @@
+pub mod Restarts
+pub mod OuterBegins
+pub mod CommitCalls

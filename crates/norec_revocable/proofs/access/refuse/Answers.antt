@@ -1,5 +1,0 @@
-use Rattle.norec_revocable.proofs.Replies.ImmediateReplies.{refused_turn}
-use Rattle.norec_revocable.proofs.access.refuse.Goals as goal
-
-pub returns : goal.returns
-returns c call at size is e = rw c.start_call.ensures (refused_turn c.args.state.now call at size c.args.why c.requires.sound is e)

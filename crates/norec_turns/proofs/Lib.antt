@@ -1,0 +1,12 @@
+pub mod Common
+pub mod OpenTransactions
+pub mod Refusals
+pub mod LocalReplies
+pub mod ImmediateReplies
+pub mod OpenBegins
+pub mod EndedTransactions
+pub mod Cancels
+pub mod Phases
+pub mod AcceptedCopies
+pub mod ReadingFields
+pub mod Loads

@@ -1,0 +1,4 @@
+pub mod InPhases
+pub mod OpenBegins
+pub mod Between
+pub mod Moves

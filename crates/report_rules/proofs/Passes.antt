@@ -1,0 +1,4 @@
+-- The passes of the workers: used and joined.
+pub mod Courses
+pub mod WorkerViews
+pub mod JoinedWorkers

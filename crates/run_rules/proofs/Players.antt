@@ -1,0 +1,176 @@
+-- What a player is after a reply.
+use Rattle.std.proofs.Common.{◌&&◌, ◌≡◌, ◌==◌, ℕ, suc, ◌+◌, ◌*◌, ◌<◌, ◌≤◌, Bool, true, false, Option, Some, refl, ap, subst, ◌∙◌, sym, arith, if◌then◌else◌, nat_lt}
+use Rattle.run_rules.proofs.Common.{Abort, Begin, Call, Code, Commit, Done, HasBlocks, IsBlock, IsDeep, IsNested, Obeys, Reply as Replied, Rules, abort_of, depth_after, depth_by, is_begin, is_code, is_commit, le-ltb, ltb-false, ltb-true, mul-le-mul_right, ne_eqb, opens, whole}
+
+-- ## Numbers
+
+pub rank_less : (x x' k c c' : ℕ) → x' < x → c' ≤ k → x' * (k + 1) + c' < x * (k + 1) + c
+rank_less x x' k c c' less within = let up : x' + 1 ≤ x = omega arith in let m : (x' + 1) * (k + 1) ≤ x * (k + 1) = mul-le-mul_right (k + 1) up in omega arith
+
+pub rank_same : (x x' k c c' : ℕ) → x' ≤ x → c' < c → x' * (k + 1) + c' < x * (k + 1) + c
+rank_same x x' k c c' below less = let m : x' * (k + 1) ≤ x * (k + 1) = mul-le-mul_right (k + 1) below in omega arith
+
+pub block_same : (w w' r t : ℕ) → w' ≤ w → w' * (r + 1) + t ≤ w * (r + 1) + t
+block_same w w' r t below = let m : w' * (r + 1) ≤ w * (r + 1) = mul-le-mul_right (r + 1) below in omega arith
+
+-- ## The depth
+
+-- the accepted begin of an outermost block
+pub opens_at_begin : (c : Call) (r : Replied) → 0 < depth_after 0 c r → opens 0 c r ≡ true
+opens_at_begin (Begin props room) (Code n) l = refl
+opens_at_begin Commit (Code n) l = absurd (omega arith)
+opens_at_begin (Abort true) (Code n) l = absurd (omega arith)
+opens_at_begin (Abort false) (Code n) l = absurd (omega arith)
+opens_at_begin c r l = absurd (omega arith)
+
+-- within a block there is none
+pub within_block : (d : ℕ) (c : Call) (r : Replied) → 0 < d → opens d c r ≡ false
+within_block d c r l = ap (λ (b : Bool). b && (is_begin c && is_code r)) (ne_eqb d 0 (λ e. absurd (omega arith)))
+
+-- a reply after which more blocks are open is that to a begin, which was accepted
+pub record IsOpened (depth : ℕ) (c : Call) (r : Replied) : Type 0 where
+  pub now : depth_after depth c r ≡ suc depth
+  pub entered : depth_after depth c (Code 5) ≡ suc depth
+  pub code : is_code r ≡ true
+
+opened_by : (begins commits : Bool) (abort : Option Bool) (depth : ℕ) (r : Replied) → depth < depth_by begins commits abort depth r → (depth_by begins commits abort depth r ≡ suc depth) × (depth_by begins commits abort depth (Code 5) ≡ suc depth) × (is_code r ≡ true)
+opened_by true commits abort depth (Code n) l = (refl, refl, refl)
+opened_by false true abort depth Done l = absurd (omega arith)
+opened_by false false (Some true) depth (Code n) l = absurd (omega arith)
+opened_by false false (Some false) depth (Code n) l = absurd (omega arith)
+opened_by begins commits abort depth r l = absurd (omega arith)
+
+pub is_opened : (depth : ℕ) (c : Call) (r : Replied) → depth < depth_after depth c r → IsOpened depth c r
+is_opened depth c r l = (let f = opened_by (is_begin c) (is_commit c) (abort_of c) depth r l in record { now = f.0; entered = f.1; code = f.2 })
+
+module _ {P : Type 0} (rules : Rules P) where
+  -- with no block open it can go back to none
+  pub no_blocks : (p : P) → rules.depth p ≡ 0 → HasBlocks rules p
+  no_blocks p none d some within = absurd (omega arith)
+
+  pub nested_outside : (p : P) → rules.depth p ≡ 0 → IsNested rules false p
+  nested_outside p none = record { deep = none; begun = λ o. absurd (cc); less = λ o. absurd (cc); blocks = no_blocks p none }
+
+  -- back in its innermost block it is nested as it was
+  pub nested_again : (p : P) → IsNested rules true p → IsNested rules true (rules.at_block p (rules.depth p))
+  nested_again p n =
+      let b = n.blocks (rules.depth p) n.deep (omega arith) in
+      let q : P = rules.at_block p (rules.depth p) in
+      let there = b.depth in
+      let same : rules.calls_left (rules.restarted q) ≡ rules.calls_left (rules.restarted p) = ap rules.calls_left b.same in
+      let less = b.less in
+      record {
+        deep = (let d = n.deep in omega arith);
+        begun = λ o. ap rules.depth b.same ∙ n.begun o;
+        less = λ o. omega arith;
+        blocks = λ d some within. (let few : d ≤ rules.depth p = omega arith in
+            let k = n.blocks d some few in
+            let less = k.less in
+            subst (IsBlock rules d q) (sym (b.around d some few))
+            (record {
+              depth = k.depth;
+              same = k.same ∙ sym b.same;
+              less = omega arith;
+              around = λ e u v. k.around e u v ∙ sym (b.around e u (omega arith));
+            }));
+      }
+
+module _ {P : Type 0} (rules : Rules P) (laws : Obeys rules) where
+  -- what a player is after a reply, by whether blocks were open and whether some are now
+  pub record Played (was now : Bool) (p q : P) : Type 0 where
+    pub nested : IsNested rules now q
+    pub whole_falls : whole rules now q ≤ whole rules was p
+    pub less : rules.calls_left q < rules.calls_left p
+
+  module _ (p : P) (c : Call) (r : Replied) (asks : rules.next_call p ≡ Some c) where
+    -- it goes back to the same begin
+    goes_back : 0 < rules.depth p → 0 < depth_after (rules.depth p) c r → rules.restarted (rules.answered p r) ≡ rules.restarted p
+    goes_back d l = laws.restarts p c r asks l ∙ ap (λ (b : Bool). if b then p else rules.restarted p) (within_block (rules.depth p) c r d)
+
+    -- or to this one
+    begins_here : rules.depth p ≡ 0 → 0 < depth_after (rules.depth p) c r → rules.restarted (rules.answered p r) ≡ p
+    begins_here d l =
+        laws.restarts p c r asks l
+        ∙ ap (λ (b : Bool). if b then p else rules.restarted p) (ap (λ (n : ℕ). opens n c r) d ∙ opens_at_begin c r (subst (λ (n : ℕ). 0 < depth_after n c r) d l))
+
+    -- it knows where each open block had just begun
+    blocks_kept : HasBlocks rules p → rules.calls_left p ≤ rules.calls_left (rules.restarted (rules.answered p r)) → HasBlocks rules (rules.answered p r)
+    blocks_kept has near d some within = by_depth (nat_lt (rules.depth p) d) refl
+      where
+        q : P
+        q = rules.answered p r
+
+        few : d ≤ depth_after (rules.depth p) c r
+        few = subst (λ (n : ℕ). d ≤ n) (laws.nests p c r asks) within
+
+        open_now : 0 < depth_after (rules.depth p) c r
+        open_now = omega (arith, some, few)
+
+        by_depth : (b : Bool) → nat_lt (rules.depth p) d ≡ b → IsBlock rules d q (rules.at_block q d)
+        by_depth false e =
+            let far = ltb-false (rules.depth p) d e in
+            let there = has d some far in
+            let back : rules.restarted q ≡ rules.restarted p = goes_back (omega (arith, some, far)) open_now in
+            let same = ap rules.calls_left back in
+            let less = there.less in
+            subst (IsBlock rules d q) (sym (laws.begins p c r asks d some few ∙ ap (λ (b : Bool). if b then rules.answered p (Code 5) else rules.at_block p d) e))
+            (record {
+              depth = there.depth;
+              same = there.same ∙ sym back;
+              less = omega (arith, less, same);
+              around = λ k v w. there.around k v w ∙ sym (laws.begins p c r asks k v (omega (arith, w, few)) ∙ ap (λ (b : Bool). if b then rules.answered p (Code 5) else rules.at_block p k) (le-ltb (rules.depth p) k (omega (arith, w, far))));
+            })
+        by_depth true e =
+            let far = ltb-true (rules.depth p) d e in
+            let f = is_opened (rules.depth p) c r (omega (arith, far, few)) in
+            let o : P = rules.answered p (Code 5) in
+            let now = f.now in
+            let entered = f.entered in
+            let fewer = laws.nearer p c (Code 5) asks in
+            let back : rules.restarted o ≡ rules.restarted q = laws.restarts p c (Code 5) asks (omega (arith, entered))
+            ∙ (ap (λ (b : Bool). if (rules.depth p == 0) && (is_begin c && b) then p else rules.restarted p) (sym f.code) ∙ sym (laws.restarts p c r asks open_now)) in
+            subst (IsBlock rules d q) (sym (laws.begins p c r asks d some few ∙ ap (λ (b : Bool). if b then o else rules.at_block p d) e))
+            (record {
+              depth = laws.nests p c (Code 5) asks ∙ (entered ∙ (let n : suc (rules.depth p) ≡ d = omega (arith, far, few, now) in n));
+              same = back;
+              less = omega (arith, fewer, near);
+              around = λ k v w. laws.begins p c (Code 5) asks k v (omega (arith, w, few, now, entered)) ∙ sym (laws.begins p c r asks k v (omega (arith, w, few)));
+            })
+
+    pub plays : (was now : Bool) → IsNested rules was p → IsDeep now (depth_after (rules.depth p) c r) → Played was now p (rules.answered p r)
+    -- it stays open
+    plays true true n deep =
+        let back : rules.restarted (rules.answered p r) ≡ rules.restarted p = goes_back n.deep deep in
+        let fewer = laws.nearer p c r asks in
+        let room = n.less refl in
+        let same : rules.calls_left (rules.restarted (rules.answered p r)) ≡ rules.calls_left (rules.restarted p) = ap rules.calls_left back in
+        record {
+          nested = record { deep = subst (IsDeep true) (sym (laws.nests p c r asks)) deep; begun = λ o. ap rules.depth back ∙ n.begun refl; less = λ o. omega arith; blocks = blocks_kept n.blocks (omega arith) };
+          whole_falls = omega arith;
+          less = fewer;
+        }
+    -- it is over
+    plays true false n deep =
+        let fewer = laws.nearer p c r asks in
+        let room = n.less refl in
+        record {
+          nested = nested_outside rules (rules.answered p r) (laws.nests p c r asks ∙ deep);
+          whole_falls = omega arith;
+          less = fewer;
+        }
+    -- a block opened
+    plays false true n deep =
+        let back : rules.restarted (rules.answered p r) ≡ p = begins_here n.deep deep in
+        let fewer = laws.nearer p c r asks in
+        let same : rules.calls_left (rules.restarted (rules.answered p r)) ≡ rules.calls_left p = ap rules.calls_left back in
+        record {
+          nested = record { deep = subst (IsDeep true) (sym (laws.nests p c r asks)) deep; begun = λ o. ap rules.depth back ∙ n.deep; less = λ o. omega arith; blocks = blocks_kept n.blocks (omega arith) };
+          whole_falls = omega arith;
+          less = fewer;
+        }
+    -- none is open
+    plays false false n deep = record {
+      nested = nested_outside rules (rules.answered p r) (laws.nests p c r asks ∙ deep);
+      whole_falls = omega (arith, laws.nearer p c r asks);
+      less = laws.nearer p c r asks;
+    }

@@ -1,0 +1,32 @@
+-- What a block that goes back to its begin leaves: the arena its length, and as many blocks open.
+use Rattle.std.proofs.Common.{◌≡◌, Bool, true, false, if◌then◌else◌, List, [], ◌∷◌, length, Option, None, Some, refl, ◌∙◌}
+use Rattle.run_rules.proofs.Common.{Block, Frame, Props, Saved, State, back, back_from, begun_again, entered, irrevocable_from, length-restored, made_irrevocable, pushed, rolled_back}
+use Rattle.nest_frames.specs.Nest.{renewed}
+
+-- ## The arena
+
+entered_long : (s : State) (props : Props) → length (entered s props).arena ≡ length s.arena
+entered_long s props = elim props.goes_irrevocable as (λ (b : Bool). length (if b then irrevocable_from (pushed s props) else pushed s props).arena ≡ length s.arena) [
+  | true ↦ elim s.irrevocable as (λ (b : Bool). length (if b then pushed s props else made_irrevocable (pushed s props)).arena ≡ length s.arena) [ true ↦ refl | false ↦ refl ]
+  | false ↦ refl
+]
+
+back_long : (s : State) (blocks : List Block) → length (back_from s blocks).arena ≡ length s.arena
+back_long s [] = refl
+back_long s (b ∷ bs) = by_saved b.saved
+  where
+    by_saved : (o : Option Saved) → length (rolled_back s bs o).arena ≡ length s.arena
+    by_saved None = refl
+    by_saved (Some saved) = length-restored saved.kept s.arena
+
+-- gone back, the block leaves the arena its length
+pub again_long : (blocks : List Frame) (s : State) → length (begun_again blocks (back s)).arena ≡ length s.arena
+again_long [] s = back_long s s.blocks
+again_long (b ∷ bs) s = entered_long (back s) b.props ∙ back_long s s.blocks
+
+-- ## The blocks
+
+-- as many are open
+pub renewed_long : (bs : List Frame) → length (renewed bs) ≡ length bs
+renewed_long [] = refl
+renewed_long (b ∷ bs) = refl
