@@ -42,7 +42,7 @@ pub use Rattle.shared_words.specs.Views.{freed, held, looked, noted, read, took,
 pub use Rattle.shared_words.specs.declared.pass.Pass.{Pass}
 pub use Rattle.shared_words.specs.declared.view.View.{View}
 pub use Rattle.shared_words.specs.declared.words.Words.{Words}
-pub use Rattle.std.proofs.lemmas.Bool.{false_from_ne_true, ltb-false}
-pub use Rattle.std.proofs.lemmas.List.{take-append-le, take_all, take_at}
+pub use Rattle.std.proofs.lemmas.Bool.{cases_Bool, false_from_ne_true, ltb-false}
+pub use Rattle.std.proofs.lemmas.List.{same_from_push, take-append-le, take_all, take_at}
 pub use mathlib.Core.Logic.{dite}
 pub use native.Mathlib.Decide.{ℕ_discrete}

@@ -18,7 +18,7 @@ pub use Rattle.itm_model.specs.Undoable.{before_after, before_next, before_unles
 pub use Rattle.itm_types.specs.declared.access.Width.TheVariants.{U1, U8}
 pub use Rattle.itm_types.specs.declared.access.WriteHint.TheVariants.{W}
 pub use Rattle.itm_types.specs.declared.call.Call.{Call}
-pub use Rattle.itm_types.specs.declared.call.Call.TheVariants.{Abort, Begin, Commit, CommitAction, Copy, Fill, InTransaction, Load, Log, LogBytes, Mode, Read, Save, UndoAction, Write}
+pub use Rattle.itm_types.specs.declared.call.Call.TheVariants.{Abort, Begin, Commit, Load, Mode, Read, UndoAction, Write}
 pub use Rattle.itm_types.specs.declared.call.Ran.{Ran}
 pub use Rattle.itm_types.specs.declared.call.Refusal.{Refusal}
 pub use Rattle.itm_types.specs.declared.call.Refusal.TheVariants.{IsIrrevocable, NoAbort, NoIrrevocable, OutOfArena, OutOfRange, Outside, Overlap, TooDeep}
@@ -32,7 +32,7 @@ pub use Rattle.tx_attempts.specs.declared.attempt.Again.{Again}
 pub use Rattle.tx_attempts.specs.declared.attempt.Attempt.{Attempt}
 pub use Rattle.tx_attempts.specs.declared.attempt.CallRecord.{CallRecord}
 pub use Rattle.tx_attempts.specs.declared.attempt.Outcome.{Outcome}
-pub use Rattle.tx_attempts.specs.declared.attempt.Outcome.TheVariants.{Cancelled, Committed, Conflict, Full, NoMemory, ReadOnly, Unfinished}
+pub use Rattle.tx_attempts.specs.declared.attempt.Outcome.TheVariants.{Cancelled, Committed, Full, ReadOnly, Unfinished}
 pub use Rattle.tx_history.specs.Legal.{count_holding, EndsFree, EndsHeld, EndsIn, is_holding, is_unfinished, IsAlone, IsLegal, may_begin, memory_at, ran_alone, state_at}
 pub use Rattle.tx_history.specs.Versions.{depth_of}
 pub use Rattle.tx_history.specs.declared.history.History.{History}
@@ -45,7 +45,7 @@ pub use Rattle.std.proofs.lemmas.Bool.Decides.{Decides-and, Decides-eqb, Decides
 pub use Rattle.std.proofs.lemmas.Grind.{common_steps}
 pub use Rattle.std.proofs.lemmas.List.{get_or-set_other, get_or-set_same, get_or_append_left, length-set, length-take-le}
 pub use Rattle.std.proofs.lemmas.List.Elements.{All-cons, All-get_or, All-head, All-nil, All-tail}
-pub use Rattle.std.proofs.lemmas.Option.{get_or_from_slice_get, slice_get-get_or, slice_get_past, slice_get_read, slice_get_within}
+pub use Rattle.std.proofs.lemmas.Option.{get_or_from_slice_get, IfSome_then, slice_get-get_or, slice_get_past, slice_get_read, slice_get_within}
 pub use Rattle.std.proofs.lemmas.Slice.Eq.{bytes_eq-Decides, slice_eq-Decides}
 pub use Rattle.std.specs.Bool.{Decides}
 pub use Rattle.std.specs.Cmp.Lexicographic.{pointwise}

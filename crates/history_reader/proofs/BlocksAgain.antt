@@ -1,6 +1,6 @@
 -- Blocks that ran again among calls: where they stand once one more call or block is told, and their lines.
 use Rattle.std.proofs.Common.{◌≡◌, ℕ, zero, suc, ◌+◌, ◌-◌, ◌<◌, ◌≤◌, List, [], ◌∷◌, ◌++◌, length, take, drop, Option, None, Some, refl, sym, ap, subst, ◌∙◌, arith, append_assoc, append-nil, length-drop, zero-add, All}
-use Rattle.history_reader.proofs.Common.{Again, All-append, All-cons, All-head, All-nil, All-tail, AreAgain, CallRecord, IsAgain, IsInnerBegin, IsTold, IsUndone, Ran, again_lines, call_line, call_lines, drop-append-le, drop_all, flat_map, restart_line, slice_get, slice_get_within, take-append-le, take_all, undone_line, with_undone}
+use Rattle.history_reader.proofs.Common.{Again, All-pop, All-push, AreAgain, CallRecord, IsAgain, IsInnerBegin, IsTold, IsUndone, Ran, again_lines, call_line, call_lines, drop-append-le, drop_all, flat_map, restart_line, slice_get, slice_get_within, take-append-le, take_all, undone_line, with_undone}
 use Rattle.std.proofs.lemmas.Grind.{flat_map-append}
 
 -- ## By the calls up to their begins
@@ -65,20 +65,11 @@ between_also from to (x ∷ rest) a h = (h.0, h.1, between_also x.kept to rest a
 pub between_first : (size from : ℕ) (calls : List CallRecord) (rs : List Again) (a : Again) → AreAgain size from calls (rs ++ a ∷ []) → AreBetween from (length calls) rs
 between_first size from calls rs a h = between_also from (length calls) rs a (between_of size from calls (rs ++ a ∷ []) h)
 
-all_first : (rs : List Again) (a : Again) → All IsTold (rs ++ a ∷ []) → All IsTold rs
-all_first [] a h = All-nil IsTold
-all_first (x ∷ rest) a h = All-cons IsTold x rest (All-head IsTold x (rest ++ a ∷ []) h) (all_first rest a (All-tail IsTold x (rest ++ a ∷ []) h))
-
-last_of : (rs : List Again) (a : Again) → All IsTold (rs ++ a ∷ []) → IsTold a
-last_of [] a h = All-head IsTold a [] h
-last_of (x ∷ rest) a h = last_of rest a (All-tail IsTold x (rest ++ a ∷ []) h)
-
 -- one more action is one that a text can tell
 pub told_also : (rs : List Again) (a : Again) (r : Ran) → All IsTold (rs ++ a ∷ []) → IsUndone r → All IsTold (rs ++ also a r ∷ [])
 told_also rs a r h u =
-    let l = last_of rs a h in
-    All-append IsTold rs (also a r ∷ []) (all_first rs a h)
-    (All-cons IsTold (also a r) [] (l.0, All-append IsUndone a.undone (r ∷ []) l.1 (All-cons IsUndone r [] u (All-nil IsUndone))) (All-nil IsTold))
+    let p = All-pop IsTold (rs ++ a ∷ []) rs (Some a) refl h in
+    All-push IsTold rs (also a r) p.0 (p.1.0, All-push IsUndone a.undone r p.1.1 u)
 
 pub undone_is : (rs : List Again) (a : Again) (r : Ran) → with_undone (rs ++ a ∷ []) r ≡ rs ++ also a r ∷ []
 undone_is [] a r = refl

@@ -88,7 +88,7 @@ pub use Rattle.tx_history.specs.declared.history.Version.TheVariants.{One, Three
 pub use Rattle.std.proofs.lemmas.Bool.{and_parts, cases_Bool, eq-eqb, eqb-false, eqb-true, le-leb, leb-true, lt-leb, ltb-false, ne_eqb, not-true, or_cases}
 pub use Rattle.std.proofs.lemmas.Fmt.{decimal-digits_value, decimal_digit}
 pub use Rattle.std.proofs.lemmas.List.{append-nil, drop-append-le, drop-map, drop_all, flat_map_more, length-take-le, map-append, take-append-drop, take-append-le, take-map, take_all}
-pub use Rattle.std.proofs.lemmas.List.Elements.{All-append, All-cons, All-head, All-map, All-nil, All-push, All-same, All-tail, All-weaker, recursion_from_All}
+pub use Rattle.std.proofs.lemmas.List.Elements.{All-append, All-cons, All-head, All-map, All-nil, All-pop, All-push, All-same, All-tail, All-weaker, recursion_from_All}
 pub use Rattle.std.proofs.lemmas.List.Splits.{join_with_byte-slice_split, slice_split_at, slice_split_none}
 pub use Rattle.std.proofs.lemmas.Option.{slice_get-map, slice_get_within}
 pub use Rattle.std.proofs.lemmas.Result.{err_from_is_err_and, IfOk-at_ok, IfOk-weaker}

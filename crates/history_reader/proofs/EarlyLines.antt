@@ -34,13 +34,9 @@ pub record IsEarly (again : Bool) (s : State) : Type 0 where
 
 -- ## A line says what it said
 
-memory_limit_is : (again : Bool) → memory_limit (early again) ≡ 65536
-memory_limit_is false = refl
-memory_limit_is true = refl
-
-thread_limit_is : (again : Bool) → thread_limit (early again) ≡ 31
-thread_limit_is false = refl
-thread_limit_is true = refl
+limits_are : (again : Bool) → (memory_limit (early again) ≡ 65536) × (thread_limit (early again) ≡ 31)
+limits_are false = (refl, refl)
+limits_are true = (refl, refl)
 
 behind_is : (again : Bool) (e : CallRecord) → behind_call (early again) e ≡ early_behind again e
 behind_is false e = refl
@@ -57,11 +53,11 @@ arena_behind true = tt
 memory_same : (again : Bool) (s : State) (word : List ℕ) (fs : List (List ℕ)) → s.version ≡ early again → memory_line s word fs ≡ early_memory s word fs
 unfolding memory_line early_memory
 memory_same again s word fs v =
-    ap (λ (limit : ℕ). exactly (codes "memory") word >>= λ _. memory_of limit fs >>= λ bytes. Ok (record s { place = places.Between; memory = bytes })) (ap memory_limit v ∙ memory_limit_is again)
+    ap (λ (limit : ℕ). exactly (codes "memory") word >>= λ _. memory_of limit fs >>= λ bytes. Ok (record s { place = places.Between; memory = bytes })) (ap memory_limit v ∙ (limits_are again).0)
 
 head_same : (again : Bool) (s : State) (fs : List (List ℕ)) → s.version ≡ early again → head_line s fs ≡ early_head s fs
 unfolding head_line early_head
-head_same again s fs v = ap (λ (limit : ℕ). head_of limit fs >>= λ h. Ok (record s { place = places.AtArena h })) (ap thread_limit v ∙ thread_limit_is again)
+head_same again s fs v = ap (λ (limit : ℕ). head_of limit fs >>= λ h. Ok (record s { place = places.AtArena h })) (ap thread_limit v ∙ (limits_are again).1)
 
 call_same : (again : Bool) (s : State) (h : Head) (fs : List (List ℕ)) → s.version ≡ early again → call_line s h fs ≡ early_call again s h fs
 unfolding call_line early_call

@@ -44,17 +44,14 @@ module _ (s : Data) (hint : WriteHint) (at : ℕ) (value : Datum) (f : Nest)
       (ap is_some_row rows ∙ some_put (reserved_all s.frames.writes.rows ps) ps bytes some)
       (ap (λ (xs : List Row). bytes_of (overlay m xs)) rows
       ∙ bytes_of-put_all m s.frames.writes.rows at size bytes mem.1 idle.0.rows (omega (arith, within, mem.0)) (omega (arith, value.sized, most)) are_bytes value.sized) in
-      record {
-        sound = written_sound s f ends.Done s.buffer sound may.0 kept
-            (subst (AllWritesWithin s.words) (sym rows) (AllWritesWithin-put_all s.words (reserved_all s.frames.writes.rows ps) ps bytes (AllWritesWithin-reserved_all s.words s.frames.writes.rows ps idle.0.writes (words_of-pieces_of at size s.words within)) fit))
-            (subst AreRows (sym rows) (AreRows-put_all s.words (reserved_all s.frames.writes.rows ps) ps bytes (AreRows-reserved_all s.frames.writes.rows ps idle.0.rows) fit));
-        proceeds = told_replies s (Write hint at value) Done f s.arena sound (λ m mem. ((λ i. state_over f.writes.rows (blocks i) s.arena (actions i) m) ∙ (all m mem).0, (all m mem).1)) (λ m. rows) (λ m. refl)
-            blocks actions (ap (λ (n : Nest). n.depth) kept) (ap (λ (n : Nest). n.room) kept, refl) (ap is_inside blocks);
-        stays = search rules;
-        order = search rules;
-        ends = search rules;
-        tries = search rules;
-      }
+      let left =
+      written_sound s f ends.Done s.buffer sound may.0 kept
+      (subst (AllWritesWithin s.words) (sym rows) (AllWritesWithin-put_all s.words (reserved_all s.frames.writes.rows ps) ps bytes (AllWritesWithin-reserved_all s.words s.frames.writes.rows ps idle.0.writes (words_of-pieces_of at size s.words within)) fit))
+      (subst AreRows (sym rows) (AreRows-put_all s.words (reserved_all s.frames.writes.rows ps) ps bytes (AreRows-reserved_all s.frames.writes.rows ps idle.0.rows) fit)) in
+      let proceeds =
+      told_replies s (Write hint at value) Done f s.arena sound (λ m mem. ((λ i. state_over f.writes.rows (blocks i) s.arena (actions i) m) ∙ (all m mem).0, (all m mem).1)) (λ m. rows) (λ m. refl)
+      blocks actions (ap (λ (n : Nest). n.depth) kept) (ap (λ (n : Nest). n.room) kept, refl) (ap is_inside blocks) in
+      search (rules, left, proceeds)
 
 -- the same, by the bytes and their number as they were put
 pub put_turns : (s : Data) (hint : WriteHint) (at : ℕ) (value : Datum) (f : Nest) (size : ℕ) (bytes : List ℕ) → IsSound s Idle → access_refusal (in_block s) s.words at (size_of value.width) ≡ None

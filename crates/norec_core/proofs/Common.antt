@@ -4,7 +4,7 @@ pub use Rattle.itm_model.specs.State.{Block, State}
 pub use Rattle.itm_types.specs.Access.{size_of}
 pub use Rattle.itm_types.specs.Calls.{access_of, is_abort, is_begin}
 pub use Rattle.itm_types.specs.Memory.{Agrees, bytes_of, IsMemory}
-pub use Rattle.itm_types.specs.declared.access.Width.TheVariants.{CD, CF, D, F, M128, M256, M64, U1, U2, U4, U8}
+pub use Rattle.itm_types.specs.declared.access.Width.TheVariants.{U1, U2, U8}
 pub use Rattle.itm_types.specs.declared.access.WriteHint.TheVariants.{W}
 pub use Rattle.itm_types.specs.declared.call.Action.{Action}
 pub use Rattle.itm_types.specs.declared.call.Call.{Call}

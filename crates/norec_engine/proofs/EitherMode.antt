@@ -4,13 +4,11 @@ use Rattle.norec_engine.proofs.Common.{CallEnd, Data, End, EndIrrevocable, Idle,
 
 pub revocable_after : (turn : Turn) (d : Data) → core_after turn d ≡ engine_after false turn d
 revocable_after (Wait phase) d = refl
-revocable_after (End end) d = refl
-revocable_after (EndIrrevocable end) d = refl
+revocable_after turn d = refl
 
 pub irrevocable_after : (turn : Turn) (d : Data) → held_after turn d ≡ engine_after true turn d
 irrevocable_after (Wait phase) d = refl
-irrevocable_after (End end) d = refl
-irrevocable_after (EndIrrevocable end) d = refl
+irrevocable_after turn d = refl
 
 -- outside a transaction
 pub over_sound : (d : Data) → IsOver d → IsSound d Idle

@@ -9,20 +9,7 @@ use Rattle.norec_engine.proofs.RevocableTurns as revocable
 -- the count of steps is of no account to what is waited for
 phase_counted : (d : Data) (p : Pending) → phase_of (counted d) p ≡ phase_of d p
 phase_counted d waits.Idle = refl
-phase_counted d waits.Begin = refl
-phase_counted d waits.Take = refl
-phase_counted d waits.Load = refl
-phase_counted d (waits.Confirm value) = refl
-phase_counted d waits.RoundStart = refl
-phase_counted d (waits.RoundRow row) = refl
-phase_counted d waits.RoundEnd = refl
-phase_counted d (waits.RoundBack row) = refl
-phase_counted d waits.Exchange = refl
-phase_counted d (waits.BackLoad row) = refl
-phase_counted d (waits.Store row) = refl
-phase_counted d waits.Free = refl
-phase_counted d waits.Fetch = refl
-phase_counted d waits.Place = refl
+phase_counted d p = refl
 
 idle_for : (s d : Data) (p : Pending) → phase_of s p ≡ Idle → phase_of d p ≡ Idle
 idle_for s d waits.Idle idle = refl

@@ -23,23 +23,19 @@ stage_within c call again o = refl
 
 stays : (turn : Turn) (s d : Data) → Stays s d → StaysOn (core_held s) (held_after turn d)
 stays (Wait p) s d on = record { opens = on.opens; log = on.log; snapshot = on.snapshot }
-stays (End end) s d on = record { opens = on.opens; log = on.log; snapshot = on.snapshot }
-stays (EndIrrevocable end) s d on = record { opens = on.opens; log = on.log; snapshot = on.snapshot }
+stays turn s d on = record { opens = on.opens; log = on.log; snapshot = on.snapshot }
 
 stage_is : (turn : Turn) (d : Data) → (held_after turn d).stage ≡ phase_after turn d
 stage_is (Wait p) d = refl
-stage_is (End end) d = refl
-stage_is (EndIrrevocable end) d = refl
+stage_is turn d = refl
 
 snapshot_is : (turn : Turn) (d : Data) → (held_after turn d).snapshot ≡ d.snapshot
 snapshot_is (Wait p) d = refl
-snapshot_is (End end) d = refl
-snapshot_is (EndIrrevocable end) d = refl
+snapshot_is turn d = refl
 
 asks : (turn : Turn) (d : Data) → (held_after turn d).waits ≡ asked (held_after turn d)
 asks (Wait p) d = refl
-asks (End end) d = refl
-asks (EndIrrevocable end) d = refl
+asks turn d = refl
 
 -- none of its phases is a begin's
 waits_without : (d : Data) (phase : Phase) → IsSoundHeld d phase → 0 ≡ tries_at phase

@@ -35,7 +35,7 @@ pub use Rattle.norec_data.proofs.EndedTransactions.{core_ended}
 pub use Rattle.norec_data.specs.Turns.{core_after, IsEnded, Stays, TurnEndsSo, Turns}
 pub use Rattle.norec_data.specs.View.{aim_for, core, holds_of, in_block, phase_of, writes_of}
 pub use Rattle.norec_data.specs.declared.data.Data.{Data}
-pub use Rattle.norec_data.specs.declared.turn.Turn.TheVariants.{End, EndIrrevocable, Wait}
+pub use Rattle.norec_data.specs.declared.turn.Turn.TheVariants.{End, Wait}
 pub use Rattle.norec_turns.specs.Between.{between, IsSoundTurn, MayCopy}
 pub use Rattle.norec_turns.specs.InPhases.{Aims, AreFrames, FitsPurpose, InPhase, IsFor, IsMissing, IsOpen, IsReading, IsSound, MayLog, MayPutFor, MayRead, reserved_for, round_of, Wants}
 pub use Rattle.norec_turns.specs.OpenBegins.{AreBegun, HasBegun}

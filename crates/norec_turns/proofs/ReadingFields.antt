@@ -1,6 +1,6 @@
 -- The access in progress among the fields, and what a turn leaves of them, as callers see it.
 use Rattle.std.proofs.Common.{◌≡◌, ℕ, ◌+◌, List, length, refl, ap, arith}
-use Rattle.norec_turns.proofs.Common.{Data, End, EndIrrevocable, FitsPurpose, IsAmong, IsFor, LogRow, Wait, Written, chunks_in, core_after, in_block, in_transaction, words_in-at}
+use Rattle.norec_turns.proofs.Common.{Data, FitsPurpose, IsAmong, IsFor, LogRow, Wait, Written, chunks_in, core_after, in_block, in_transaction, words_in-at}
 use Rattle.norec_core.specs.declared.call_parts.Purpose.{Purpose}
 use Rattle.norec_data.specs.declared.turn.Turn.{Turn}
 use Rattle.word_pieces.specs.Pieces.{count_of}
@@ -19,15 +19,12 @@ among d what at size f = among_for d.words (length d.arena) d.written d.frames.w
 -- what a turn leaves, as callers see it
 pub after_log : (turn : Turn) (d : Data) → (core_after turn d).log ≡ d.log.rows
 after_log (Wait phase) d = refl
-after_log (End end) d = refl
-after_log (EndIrrevocable end) d = refl
+after_log turn d = refl
 
 pub after_open : (turn : Turn) (d : Data) → in_transaction (core_after turn d) ≡ in_block d
 after_open (Wait phase) d = refl
-after_open (End end) d = refl
-after_open (EndIrrevocable end) d = refl
+after_open turn d = refl
 
 pub after_snapshot : (turn : Turn) (d : Data) → (core_after turn d).snapshot ≡ d.snapshot
 after_snapshot (Wait phase) d = refl
-after_snapshot (End end) d = refl
-after_snapshot (EndIrrevocable end) d = refl
+after_snapshot turn d = refl

@@ -2,8 +2,8 @@
 pub use Rattle.call_rules.specs.Standing.{Standing}
 pub use Rattle.itm_types.specs.Memory.{bytes_of}
 pub use Rattle.itm_types.specs.declared.call.Call.{Call}
-pub use Rattle.itm_types.specs.declared.limits.TheConstants.{MAX_ACTORS, MAX_ARENA, MAX_DEPTH, MAX_RETRIES, USUAL_DEPTH}
-pub use Rattle.norec_core.specs.declared.answer.Answer.TheVariants.{Busy, Committed, Full, Reply, Restarted}
+pub use Rattle.itm_types.specs.declared.limits.TheConstants.{MAX_ACTORS, MAX_ARENA, MAX_RETRIES, USUAL_DEPTH}
+pub use Rattle.norec_core.specs.declared.answer.Answer.TheVariants.{Busy, Committed, Conflict, Full, Reply, Restarted}
 pub use Rattle.report_rules.specs.Courses.{EndsBy, first_of, IsCourse, IsOver, IsOverWithin}
 pub use Rattle.report_rules.specs.Fresh.{code_of, IsFresh, MayBegin}
 pub use Rattle.report_rules.specs.Joins.{attempts_in, Did, ends_in, Gathers, Joins}
@@ -31,7 +31,7 @@ pub use Rattle.tx_attempts.specs.Counts.{count_at, count_committed, one_where}
 pub use Rattle.tx_attempts.specs.Opacity.{after_try, Beginning, Between, IsRunOf, IsTryAt}
 pub use Rattle.tx_attempts.specs.Outrun.{AreDisturbed, AreOutrun}
 pub use Rattle.tx_attempts.specs.declared.attempt.Attempt.{Attempt}
-pub use Rattle.tx_attempts.specs.declared.attempt.Outcome.TheVariants.{Cancelled, Conflict, ReadOnly, Unfinished}
+pub use Rattle.tx_attempts.specs.declared.attempt.Outcome.TheVariants.{ReadOnly, Unfinished}
 pub use Rattle.tx_history.proofs.Runs.AloneRuns.{IsPlaced, of_run}
 pub use Rattle.tx_history.specs.Bounds.{AreLimited, HasArenaWidth, IsArenaWidth, IsLimited, IsMemorySize}
 pub use Rattle.tx_history.specs.Depths.{depth_from}

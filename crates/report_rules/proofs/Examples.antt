@@ -1,8 +1,9 @@
 -- Worked cases: attempts by thread, the lists of two workers, how threads with no call end, after which answers there is no further try, and which version tells of a run.
 use Rattle.std.proofs.Common.{◌≡◌, ℕ, false, List, [], ◌∷◌, Ok, refl, inl, arith}
-use Rattle.report_rules.proofs.Common.{Attempt, Busy, Conflict, Done, EndsBy, Finished, Full, GaveUp, IsFresh, IsLast, Listing, Numbered, One, Owns, ReadOnly, Standing, Three, Two, WasRun, Words, all_let, attempts_in, by_number, codes_of, depth_from, depth_of, ends_in, first_account, first_of, opening, version_of, view_of}
+use Rattle.report_rules.proofs.Common.{Attempt, Busy, Done, EndsBy, Finished, Full, GaveUp, IsFresh, IsLast, Listing, Numbered, One, Owns, ReadOnly, Standing, Three, Two, WasRun, Words, all_let, attempts_in, by_number, codes_of, depth_from, depth_of, ends_in, first_account, first_of, opening, version_of, view_of}
 use Rattle.call_rules.specs.Ties.{Stands}
 use Rattle.report_rules.proofs.Passes.WorkerViews.{joined_self}
+use Rattle.tx_attempts.specs.declared.attempt.Outcome.TheVariants.{Conflict}
 
 -- the second try of a thread's block
 abbrev pub row : ℕ → Attempt

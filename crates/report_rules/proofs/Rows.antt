@@ -1,9 +1,8 @@
 -- How a thread's row of calls ended.
 use Rattle.std.proofs.Common.{◌≡◌, inl, inr, ℕ, ◌<◌, Bool, true, false, nat_lt, if◌then◌else◌, ◌+◌, List, [], Option, None, Some, ltb-true, refl}
-use Rattle.report_rules.proofs.Common.{Account, Attempt, Busy, Call, Committed, End, EndsWhere, Finished, Full, Gating, GaveUp, IsLast, NoMemory, Reply, Restarted, Rules, Standing, Thread, Words, thread_rules}
+use Rattle.report_rules.proofs.Common.{Account, Attempt, Busy, Call, Committed, Conflict, End, EndsWhere, Finished, Full, Gating, GaveUp, IsLast, NoMemory, Reply, Restarted, Rules, Standing, Thread, Words, thread_rules}
 use Rattle.itm_types.specs.declared.call.Reply.{Reply as Replied}
 use Rattle.norec_core.specs.declared.answer.Answer.{Answer}
-use Rattle.norec_core.specs.declared.answer.Answer.TheVariants.{Conflict}
 use Rattle.tx_attempts.specs.declared.attempt.Outcome.TheVariants as outcomes
 use Rattle.tx_runs.specs.declared.savepoint.Savepoint.{Savepoint}
 use Rattle.tx_runs.specs.Tallies.{Stage, Stand, Taken, Tally, begins, outside, over_as, replied, sent_back, took_in, tried, went_on, within, stand_of}
@@ -11,7 +10,7 @@ use Rattle.worker_rules.specs.Calls.{StopsAt, asked}
 
 went_on_end : {P : Type 0} (open_still : Bool) (t : Tally P) (row : Attempt) (points : List Savepoint) (s : Stand) → (went_on open_still t row points s).end ≡ None
 went_on_end true t row points s = refl
-went_on_end false t row points s = refl
+went_on_end open_still t row points s = refl
 
 replied_end : {P : Type 0} (stage : Stage) (t : Tally P) (call : Call) (reply : Replied) (s : Stand) → (replied stage t call reply s).end ≡ None
 replied_end outside t call reply s = refl

@@ -1,6 +1,6 @@
 -- A block that goes back to its begin: where the engine stands then is where the attempt leads, cut to that begin, with its record.
 use Rattle.std.proofs.Common.{◌≡◌, ℕ, zero, suc, ◌≤◌, Bool, true, false, List, [], ◌∷◌, ◌++◌, length, map, take, drop, reverse, Option, None, Some, refl, sym, ap, ◌∙◌, append_assoc, if◌then◌else◌, ◌+◌, length-append, subst, arith, nat_lt}
-use Rattle.run_rules.proofs.Common.{Again, Agrees, AreAlike, AtEach, Attempt, Begin, Breaks, Call, CallRecord, Code, Core, Frame, HasBegun, IsAlone, IsMemory, Props, Ran, Refusal, Rules, Savepoint, State, StaysRevocable, after, after_unless, again_of, alike_before, alone_alike, arena_set, as_undo, at_each_also, back, begun_again, blocks_sized, breaks_in, breaks_of, bytes_of, count_undone, cut_to, drop-append-le, due_at, earlier, effect, entered, irrevocable_from, is_open, kept_of, later, le-ltb, length-take, ltb-false, ltb-true, nothing, opened, pushed, put_back, refusal, renewed, reply, reply_unless, restored, run_on, stands_for, state_again_in, state_alike, state_then, state_under, take-append-drop, take-append-le, with_again}
+use Rattle.run_rules.proofs.Common.{Again, Agrees, AreAlike, AtEach, Attempt, Begin, Breaks, Call, CallRecord, Code, Core, Frame, HasBegun, IsAlone, IsMemory, Props, Ran, Refusal, Rules, Savepoint, State, StaysRevocable, after, after_unless, again_of, alike_before, alone_alike, arena_set, as_undo, at_each_also, back, begun_again, blocks_sized, breaks_in, breaks_of, bytes_of, cond-true, count_undone, cut_to, drop-append-le, due_at, earlier, effect, entered, irrevocable_from, is_open, kept_of, later, le-ltb, length-take, ltb-false, ltb-true, nothing, opened, pushed, put_back, refusal, renewed, reply, reply_unless, restored, run_on, stands_for, state_again_in, state_alike, state_then, state_under, take-append-drop, take-append-le, take-take, with_again}
 
 -- ## A begin that was accepted
 
@@ -8,13 +8,9 @@ accepted_by : (o : Option Refusal) (old new : State) → Code 5 ≡ reply_unless
 accepted_by None old new e = refl
 accepted_by (Some r) old new e = absurd (cc)
 
-opens_within : (b : Bool) (s t : State) → b ≡ true → (if b then s else t) ≡ s
-opens_within true s t e = refl
-opens_within false s t e = absurd (cc)
-
 pub accepted : (deepest : ℕ) (s : State) (props : Props) (room : ℕ) → is_open s ≡ true → Code 5 ≡ reply deepest s (Begin props room) → after deepest s (Begin props room) ≡ entered s props
 accepted deepest s props room o e =
-    accepted_by (refusal deepest s (Begin props room)) s (effect s (Begin props room)) e ∙ opens_within (is_open s) (entered s props) (opened s.memory s.arena props) o
+    accepted_by (refusal deepest s (Begin props room)) s (effect s (Begin props room)) e ∙ cond-true (is_open s) (entered s props) (opened s.memory s.arena props) o
 
 open_by : (b : Bool) (o : Option Call) (c : Call) → (if b then o else None) ≡ Some c → b ≡ true
 open_by true o c e = refl
@@ -147,20 +143,10 @@ before_all k n (r ∷ rest) l a u = by_place (nat_lt r.kept n) (nat_lt r.kept k)
     by_place false false e f last = rw (e, f) last
     by_place false true e f last = absurd (let x = ltb-false r.kept n e in let y = ltb-true r.kept k f in omega arith)
 
--- its record counts for nothing before this block's begin
-pub due_still : (s : Savepoint) (rs : List Again) (a : Again) → s.kept ≤ a.kept → due_at s (with_again a rs) ≡ due_at s rs
-due_still s rs a l = ap (λ (xs : List Again). s.ran + count_undone xs) (before_all s.kept a.kept rs l a (let m : a.kept ≤ a.kept = omega arith in m))
-
 take_past : (n : ℕ) (xs : List CallRecord) (x : CallRecord) (ys : List CallRecord) → suc (length xs) ≤ n → (zs : List CallRecord) × (take n (xs ++ x ∷ ys) ≡ xs ++ x ∷ zs)
 take_past zero xs x ys l = absurd (omega arith)
 take_past (suc n) [] x ys l = (take n ys, refl)
 take_past (suc n) (y ∷ xs) x ys l = (let f = take_past n xs x ys (omega (arith, l)) in (f.0, ap (λ (zs : List CallRecord). y ∷ zs) f.1))
-
-take_both : (n k : ℕ) (xs : List Ran) → n ≤ k → take n (take k xs) ≡ take n xs
-take_both zero k xs l = refl
-take_both (suc n) zero xs l = absurd (omega arith)
-take_both (suc n) (suc k) [] l = refl
-take_both (suc n) (suc k) (x ∷ xs) l = ap (λ (ys : List Ran). x ∷ ys) (take_both n k xs (omega (arith, l)))
 
 nearer_alike : (top low : ℕ) (b c : Breaks) → low ≤ top → AreAlike top b c → AreAlike low b c
 nearer_alike top low b c l h n u v s = h n u (omega (arith, l, v)) s
@@ -180,7 +166,7 @@ begun_cut rules deepest by row e e' b outer s t arena due h later fewer words lo
     let past = take_past t.kept h.before begin h.rest (omega arith) in
     let was : (m : List ℕ) → IsMemory e'.words m → IsMemory e.words m = λ m k. subst (λ (n : ℕ). IsMemory n m) words k in
     let had : (m : List ℕ) → Agrees m (take b.reads e'.log) → Agrees m (take b.reads e.log) = λ m k. subst (Agrees m) log k in
-    let same : due_at s (with_again a row.restarts) ≡ due_at s row.restarts = due_still s row.restarts a (let l : s.kept ≤ t.kept = omega arith in l) in
+    let same : due_at s (with_again a row.restarts) ≡ due_at s row.restarts = ap (λ (xs : List Again). s.ran + count_undone xs) (before_all s.kept a.kept row.restarts later a (let m : a.kept ≤ a.kept = omega arith in m)) in
     let low : suc (length h.before) ≤ a.kept = omega arith in
     let one : length (h.before ++ begin ∷ []) ≡ suc (length h.before) = (let n = length-append h.before (begin ∷ []) in omega arith) in (
       record {
@@ -204,7 +190,7 @@ begun_cut rules deepest by row e e' b outer s t arena due h later fewer words lo
             (state_alike deepest (breaks_in row.restarts) (breaks_in (with_again a row.restarts)) (opened (bytes_of m) row.arena row.props) h.before
             (nearer_alike a.kept (suc (length h.before)) (breaks_in row.restarts) (breaks_in (with_again a row.restarts)) low (alike_before a run_on row.restarts)))));
         told = λ m k g.
-            take_both s.ran t.ran row.ran fewer
+            take-take s.ran t.ran row.ran fewer
             ∙ (h.told m (was m k) (had m g)
             ∙ ap (λ (x : State). x.actions.ran)
             (state_alike deepest (breaks_of row.restarts) (breaks_of (with_again a row.restarts)) (opened (bytes_of m) row.arena row.props) h.before

@@ -24,9 +24,6 @@ module _ {P : Type 0} {rules : Rules P} {deepest : ℕ} {position : List ℕ} {b
   all_told : earlier (suc (length row.calls.list)) row.restarts ≡ row.restarts
   all_told = all_before (length row.arena) 0 row.calls.list row.restarts t.stand
 
-  due_now : due_at point row.restarts ≡ length mid.actions.ran
-  due_now = ap (λ n. length row.ran + n) (ap count_undone all_told) ∙ sym t.due
-
   module _ (m : List ℕ) (memory : IsMemory new.words m) (agrees : Agrees m (take (length mid.log) new.log)) where
     here : IsMemory mid.words m
     here = subst (λ (n : ℕ). IsMemory n m) words memory
@@ -45,7 +42,7 @@ module _ {P : Type 0} {rules : Rules P} {deepest : ℕ} {position : List ℕ} {b
     under_now =
         let commits = take-length mid.actions.commits in
         let undos = take-length mid.actions.undos in
-        let ran : take (due_at point row.restarts) mid.actions.ran ≡ mid.actions.ran = ap (λ (n : ℕ). take n mid.actions.ran) due_now ∙ take-length mid.actions.ran in
+        let ran : take (due_at point row.restarts) mid.actions.ran ≡ mid.actions.ran = ap (λ (n : ℕ). take n mid.actions.ran) (ap (λ n. length row.ran + n) (ap count_undone all_told) ∙ sym t.due) ∙ take-length mid.actions.ran in
         (λ i. record (state_over mid.writes mid.blocks mid.arena mid.actions m) { actions = record { commits = commits i; undos = undos i; ran = ran i } })
         ∙ ap (λ (i : Bool). state_in i mid.writes mid.blocks mid.arena mid.actions m) (sym revocable)
 

@@ -52,6 +52,25 @@ keeps_cut n u a l f = record {
   enough_undos = (let e = length-take-le u a.undos f in omega arith);
 }
 
+-- ## Each block, from the innermost one on
+
+module _ {P : Type 0} (rules : Rules P) (deepest : ℕ) (by : P) (row row' : Attempt) (e e' : Core) (most : Bounds) (top : ℕ)
+    (each : (b : Frame) (outer : List Frame) (s : Savepoint) → HasBegun rules deepest by row e b outer s → s.kept ≤ most.calls → s.ran ≤ most.told → b.reads ≤ top → b.commits ≤ most.commits → b.undos ≤ most.undos → HasBegun rules deepest by row' e' b outer s) where
+  pub each_still : (now : Bounds) (low : ℕ) (bs : List Frame) (points : List Savepoint) → now.calls ≤ most.calls → now.told ≤ most.told → now.commits ≤ most.commits → now.undos ≤ most.undos → low ≤ top → AreRead low bs
+      → HaveBegun rules deepest by row e now bs points → HaveBegun rules deepest by row' e' now bs points
+  each_still now low (x ∷ y ∷ rest) (q ∷ qs) lc lt lm lu lr r h =
+      let w = h.1 in
+      let wc = w.calls in
+      let wt = w.told in
+      let wm = w.commits in
+      let wu = w.undos in
+      let wr = r.0 in (
+        each x (y ∷ rest) q h.0 (omega (arith, wc, lc)) (omega (arith, wt, lt)) (omega (arith, wr, lr)) (omega (arith, wm, lm)) (omega (arith, wu, lu)),
+        w,
+        each_still (bounds_of x q) x.reads (y ∷ rest) qs (omega (arith, wc, lc)) (omega (arith, wt, lt)) (omega (arith, wm, lm)) (omega (arith, wu, lu)) (omega (arith, wr, lr)) r.1 h.2,
+      )
+  each_still now low bs points lc lt lm lu lr r h = h
+
 -- ## Within wider bounds, and with another log of the innermost block
 
 module _ {P : Type 0} (rules : Rules P) (deepest : ℕ) (by : P) (row : Attempt) (e : Core) where
@@ -88,19 +107,14 @@ module _ {P : Type 0} (rules : Rules P) (deepest : ℕ) (by : P) (row : Attempt)
 
   pub blocks_still : (most : Bounds) (top : ℕ) (bs : List Frame) (points : List Savepoint) → top ≤ length mid.log → AreRead top bs → KeepsFirst most.commits most.undos mid.actions new.actions
       → HaveBegun rules deepest by row mid most bs points → HaveBegun rules deepest by on new most bs points
-  blocks_still most top (b ∷ g ∷ outer) (s ∷ points) l read keeps h =
-      let w = h.1 in
-      let wm = w.commits in
-      let wu = w.undos in
-      let few = h.0.few in
-      let within = read.0 in
-      let told = before_no_more s.kept row.restarts in (
-        begun_still rules deepest by row mid new b (g ∷ outer) s x room more h.0 words (ap (take b.reads) log ∙ take-append-le b.reads mid.log rows (omega (arith, l, within))) size (keeps.first_commits b.commits wm) (keeps.first_undos b.undos wu)
-            (ap (take (due_at s row.restarts)) ran ∙ take-append-le (due_at s row.restarts) mid.actions.ran later (omega (arith, few, told, due))),
-        w,
-        blocks_still (bounds_of b s) b.reads (g ∷ outer) points (omega (arith, l, within)) read.1 (keeps_fewer most.commits b.commits most.undos b.undos mid.actions new.actions wm wu keeps) h.2,
-      )
-  blocks_still most top bs points l read keeps h = h
+  blocks_still most top bs points l read keeps =
+      each_still rules deepest by row on mid new most top
+      (λ b outer s h kept told reads commits undos.
+      (let few = h.few in
+      let less = before_no_more s.kept row.restarts in
+      begun_still rules deepest by row mid new b outer s x room more h words (ap (take b.reads) log ∙ take-append-le b.reads mid.log rows (omega (arith, l, reads))) size (keeps.first_commits b.commits commits) (keeps.first_undos b.undos undos)
+      (ap (take (due_at s row.restarts)) ran ∙ take-append-le (due_at s row.restarts) mid.actions.ran later (omega (arith, few, less, due)))))
+      most top bs points (omega arith) (omega arith) (omega arith) (omega arith) (omega arith) read
 
   -- all stay open
   stay : (bs : List Frame) (points : List Savepoint) → AreRead (length mid.log) bs → KeepsAll mid.actions new.actions

@@ -1,10 +1,10 @@
 -- Where the innermost block of an open attempt goes back to its begin, the attempt, cut to that begin with its record, is what the engine stands for then, and its player is where its calls lead.
 use Rattle.std.proofs.Common.{◌≡◌, ℕ, ◌/◌, ◌<◌, ◌≤◌, false, List, [], ◌∷◌, ◌++◌, length, map, take, drop, reverse, refl, sym, ap, ◌∙◌, subst, arith, length-append, slice_get, Some}
-use Rattle.run_rules.proofs.Common.{Again, Agrees, AreAlone, AreRead, AtEach, Attempt, Begin, Between, Bounds, CallRecord, Code, Core, Frame, HasBegun, HasBlocks, HaveBegun, IsAlone, IsInnerBegin, IsMemory, IsOpenTry, Ran, Rules, Savepoint, State, StaysRevocable, again_cut, again_of, alone_start, as_undo, at_each_before, at_each_both, back, before_no_more, begun_again, bounds_of, breaks_in, breaks_of, bytes_of, cut_to, due_at, earlier, entered_by, kept_of, length-drop, length-restored, length-take, nothing, nothing_same, opened, pushed, renewed, restored, stands_for, state_again, take-append-le, take-take, told_alone, told_state, told_then, undone_both, whole_then, with_again}
+use Rattle.run_rules.proofs.Common.{Again, Agrees, AreAlone, AreRead, AtEach, Attempt, Begin, Between, CallRecord, Code, Core, Frame, HasBegun, HasBlocks, IsInnerBegin, IsMemory, IsOpenTry, Ran, Rules, Savepoint, State, StaysRevocable, again_cut, again_of, alone_start, as_undo, at_each_before, at_each_both, back, before_no_more, begun_again, bounds_of, breaks_in, breaks_of, bytes_of, cut_to, due_at, earlier, entered_by, kept_of, length-drop, length-restored, length-take, nothing_same, opened, pushed, renewed, restored, stands_for, state_again, take-append-le, take-take, told_alone, told_state, told_then, undone_both, whole_then, with_again}
 use Rattle.norec_core.specs.Phases.{Phase}
 use Rattle.tx_attempts.proofs.KeptRecords.{before_short}
 use Rattle.run_rules.proofs.BlocksAgain.{accepted, before_all, begun_cut, entered_so, goes_back, last_alone, taken}
-use Rattle.run_rules.proofs.BlocksStill.{begun_logged}
+use Rattle.run_rules.proofs.BlocksStill.{begun_logged, each_still}
 use Rattle.run_rules.proofs.OpenBegins.{goes_back as player_back}
 use Rattle.run_rules.proofs.OpenCalls.{open_cut}
 
@@ -49,44 +49,20 @@ module _ {P : Type 0} (rules : Rules P) (deepest : ℕ) (position next : List �
     same_size : length new.arena ≡ length c.arena
     same_size = ap (length {A = ℕ}) put_back_so ∙ length-restored (kept_of c.arena f.log) c.arena
 
-    same_kept : nothing new.arena ≡ nothing c.arena
-    same_kept = nothing_same new.arena c.arena same_size
-
     due_few : (q : Savepoint) → q.ran ≤ length row.ran → due_at q row.restarts ≤ length c.actions.ran
     due_few q few = (let told = t.due in let less = before_no_more q.kept row.restarts in omega arith)
-
-    due_same : (q : Savepoint) → q.ran ≤ length row.ran → take (due_at q row.restarts) new.actions.ran ≡ take (due_at q row.restarts) c.actions.ran
-    due_same q few = take-append-le (due_at q row.restarts) c.actions.ran own (due_few q few)
 
     -- a block at its begin is known as it was, the one that goes back or one around it
     begun_then : (x : Frame) (around : List Frame) (q : Savepoint) (h : HasBegun rules deepest by row e x around q) → q.kept ≤ s.kept → q.ran ≤ s.ran → x.reads ≤ f.reads → x.commits ≤ f.commits → x.undos ≤ f.undos
         → (k : HasBegun rules deepest by cut new x around q) × (k.before ≡ h.before) × (k.room ≡ h.room)
     begun_then x around q h kept ran reads commits undos =
-        begun_cut rules deepest by row e new x around q s new.arena new.actions.ran h kept ran refl (take-take x.reads f.reads c.log reads) same_kept
-        (take-take x.commits f.commits c.actions.commits commits) (take-take x.undos f.undos c.actions.undos undos) (due_same q (let few = begun.few in omega (arith, few, ran)))
-
-    around_then : (bs : List Frame) (qs : List Savepoint) (most : Bounds) (top : ℕ) → most.calls ≤ s.kept → most.told ≤ s.ran → most.commits ≤ f.commits → most.undos ≤ f.undos → top ≤ f.reads → AreRead top bs
-        → HaveBegun rules deepest by row e most bs qs → HaveBegun rules deepest by cut new most bs qs
-    around_then (x ∷ y ∷ rest) (q ∷ qs) most top lc lt lm lu lr r h =
-        let w = h.1 in
-        let wc = w.calls in
-        let wt = w.told in
-        let wm = w.commits in
-        let wu = w.undos in
-        let wr = r.0 in (
-          (begun_then x (y ∷ rest) q h.0 (omega (arith, wc, lc)) (omega (arith, wt, lt)) (omega (arith, wr, lr)) (omega (arith, wm, lm)) (omega (arith, wu, lu))).0,
-          w,
-          around_then (y ∷ rest) qs (bounds_of x q) x.reads (omega (arith, wc, lc)) (omega (arith, wt, lt)) (omega (arith, wm, lm)) (omega (arith, wu, lu)) (omega (arith, wr, lr)) r.1 h.2,
-        )
-    around_then bs qs most top lc lt lm lu lr r h = h
+        begun_cut rules deepest by row e new x around q s new.arena new.actions.ran h kept ran refl (take-take x.reads f.reads c.log reads) (nothing_same new.arena c.arena same_size)
+        (take-take x.commits f.commits c.actions.commits commits) (take-take x.undos f.undos c.actions.undos undos) (take-append-le (due_at q row.restarts) c.actions.ran own (due_few q (let few = begun.few in omega (arith, few, ran))))
 
     -- ## The calls that are left
 
     kept_calls : take s.kept row.calls.list ≡ begun.before ++ begin ∷ []
     kept_calls = (λ i. take (begun.kept i) (begun.calls i)) ∙ taken begun.before begin begun.rest
-
-    kept_few : s.kept ≤ length row.calls.list
-    kept_few = omega (arith, begun.kept, ap (length {A = CallRecord}) begun.calls, length-append begun.before (begin ∷ begun.rest))
 
     here : (k : HasBegun rules deepest by cut new f (g ∷ outer) s) × (k.before ≡ begun.before) × (k.room ≡ begun.room)
     here = begun_then f (g ∷ outer) s begun (omega arith) (omega arith) (omega arith) (omega arith) (omega arith)
@@ -101,13 +77,10 @@ module _ {P : Type 0} (rules : Rules P) (deepest : ℕ) (position next : List �
       still : Agrees m (take f.reads new.log)
       still = subst (Agrees m) (sym (take-take f.reads f.reads c.log (omega arith))) agrees
 
-      told_alone_so : IsAlone rules deepest (breaks_of row.restarts) by (opened (bytes_of m) row.arena row.props) (begun.before ++ begin ∷ [])
-      told_alone_so = told_alone rules deepest row.restarts by (bytes_of m) row.arena row.props (begun.before ++ begin ∷ []) (begun.alone m memory agrees)
-
       -- as it is told, the begin opens its block from the record's arena
       told_begun : told_then deepest cut m (begun.before ++ begin ∷ []) ≡ record (pushed (told_then deepest row m begun.before) f.props) { arena = again.arena }
       told_begun =
-          let last = last_alone rules deepest (breaks_of row.restarts) by (opened (bytes_of m) row.arena row.props) begun.before begin told_alone_so in
+          let last = last_alone rules deepest (breaks_of row.restarts) by (opened (bytes_of m) row.arena row.props) begun.before begin (told_alone rules deepest row.restarts by (bytes_of m) row.arena row.props (begun.before ++ begin ∷ []) (begun.alone m memory agrees)) in
           state_again again deepest row.restarts (opened (bytes_of m) row.arena row.props) begun.before begin (sym begun.kept)
           ∙ ap (λ (x : State). record x { arena = again.arena }) (accepted deepest (told_then deepest row m begun.before) f.props begun.room last.0 last.1 ∙ entered_so (told_then deepest row m begun.before) f.props begun.stays)
 
@@ -115,9 +88,6 @@ module _ {P : Type 0} (rules : Rules P) (deepest : ℕ) (position next : List �
       told_free =
           let before = told_state rules deepest row.restarts by (bytes_of m) row.arena row.props begun.before (alone_start rules deepest (breaks_in row.restarts) by (opened (bytes_of m) row.arena row.props) begun.before (begin ∷ []) (begun.alone m memory agrees)) in
           ap (λ (x : State). x.irrevocable) before.1 ∙ sym (ap (λ (x : State). x.irrevocable) (begun.under m memory agrees))
-
-      ran_so : cut.ran ≡ (told_then deepest cut m cut.calls.list).actions.ran
-      ran_so = begun.told m memory agrees ∙ (sym (ap (λ (x : State). x.actions.ran) told_begun) ∙ ap (λ (xs : List CallRecord). (told_then deepest cut m xs).actions.ran) (sym kept_calls))
 
       revocable_so : AtEach (StaysRevocable deepest cut m) cut.calls.list cut.restarts
       revocable_so =
@@ -142,7 +112,7 @@ module _ {P : Type 0} (rules : Rules P) (deepest : ℕ) (position next : List �
           began = (let began = t.began in omega (arith, later, before_short s.kept row.restarts, length-append (earlier s.kept row.restarts) (again ∷ [])));
           sized = λ i. same_size ∙ t.sized refl;
           alone = λ m memory reads. subst (AreAlone rules deepest by cut m) (sym here_calls) (here.0.alone m memory (still m memory reads));
-          ran = ran_so;
+          ran = λ m memory agrees. begun.told m memory agrees ∙ (sym (ap (λ (x : State). x.actions.ran) (told_begun m memory agrees)) ∙ ap (λ (xs : List CallRecord). (told_then deepest cut m xs).actions.ran) (sym kept_calls));
           came = λ m memory agrees. ap (λ (x : State). x.actions.ran) (stands_so m memory agrees);
           stands = λ i m memory agrees. stands_so m memory agrees;
           due = (let few = begun.few in let due = due_few s few in
@@ -155,11 +125,12 @@ module _ {P : Type 0} (rules : Rules P) (deepest : ℕ) (position next : List �
           blocks = λ i. (
             begun_logged rules deepest by cut new f (g ∷ outer) s [] here.0,
             record {
-              calls = omega (arith, length-take s.kept row.calls.list, kept_few);
+              calls = omega (arith, length-take s.kept row.calls.list, begun.kept, ap (length {A = CallRecord}) begun.calls, length-append begun.before (begin ∷ begun.rest));
               told = (let few = begun.few in omega (arith, length-take s.ran row.ran));
               commits = (let l = (t.blocks refl).1.commits in omega (arith, length-take f.commits c.actions.commits));
               undos = (let l = (t.blocks refl).1.undos in omega (arith, length-take f.undos c.actions.undos));
             },
-            around_then (g ∷ outer) points (bounds_of f s) f.reads (omega arith) (omega arith) (omega arith) (omega arith) (omega arith) read.1 (t.blocks refl).2,
+            each_still rules deepest by row cut e new (bounds_of f s) f.reads (λ x around q h kept ran reads commits undos. (begun_then x around q h kept ran reads commits undos).0)
+                (bounds_of f s) f.reads (g ∷ outer) points (omega arith) (omega arith) (omega arith) (omega arith) (omega arith) read.1 (t.blocks refl).2,
           );
         }

@@ -29,11 +29,7 @@ goes_with true true true free room w = (refl, refl, refl)
 goes_with goes may few free room w = absurd (cc)
 
 pub from_irrevocable : (s : State) → (irrevocable_from s).irrevocable ≡ true
-from_irrevocable s = by_mode s.irrevocable refl
-  where
-    by_mode : (b : Bool) → s.irrevocable ≡ b → (if b then s else made_irrevocable s).irrevocable ≡ true
-    by_mode true e = e
-    by_mode false e = refl
+from_irrevocable s = (elim s.irrevocable as (λ (b : Bool). s.irrevocable ≡ b → (if b then s else made_irrevocable s).irrevocable ≡ true) [ true ↦ λ e. e | false ↦ λ e. refl ]) refl
 
 begun_irrevocable : (s : State) (props : Props) (room : ℕ) → props.goes_irrevocable ≡ true → (effect s (Begin props room)).irrevocable ≡ true
 begun_irrevocable s props room goes = elim (is_open s) as (λ (b : Bool). (if b then entered s props else opened s.memory s.arena props).irrevocable ≡ true) [ true ↦ so s | false ↦ so (outside s.memory s.arena) ]
@@ -55,13 +51,10 @@ module _ (mid : Core) (m : List ℕ) where
 
 -- so no such call is answered in one that is not
 pub plain_goes : (mid new : Core) (call : Call) (r : Reply) → Replies mid call r new → IsSettled new → is_some (irrevocable_room mid call) ≡ false
-plain_goes mid new call r g settled = false_from_ne_true (is_some (irrevocable_room mid call)) (λ goes. absurd (true≢false (sym (makes_irrevocable mid m.0 call goes) ∙ (ap (λ (s : State). s.irrevocable) (sym over) ∙ still))))
+plain_goes mid new call r g settled = false_from_ne_true (is_some (irrevocable_room mid call)) (λ goes. absurd (true≢false (sym (makes_irrevocable mid m.0 call goes) ∙ (ap (λ (s : State). s.irrevocable) (sym over) ∙ (ap (λ (b : Bool). (state_in b new.writes new.blocks new.arena new.actions m.0).irrevocable) (ap (λ (c : Core). c.irrevocable) g.stays ∙ g.revocable))))))
   where
     m : (words : List ℕ) × IsMemory new.words words × Agrees words new.log
     m = settled.agreed
-
-    still : (stands_for new m.0).irrevocable ≡ false
-    still = ap (λ (b : Bool). (state_in b new.writes new.blocks new.arena new.actions m.0).irrevocable) (ap (λ (c : Core). c.irrevocable) g.stays ∙ g.revocable)
 
     over : stands_for new m.0 ≡ after mid.depth (state_over mid.writes mid.blocks mid.arena mid.actions m.0) call
     over =

@@ -1,11 +1,8 @@
 -- A player and the begins of its open inner blocks, by its calls: where it goes back to is where the calls up to a begin lead.
 use Rattle.std.proofs.Common.{◌≡◌, ℕ, suc, ◌+◌, ◌<◌, ◌≤◌, Bool, true, false, List, [], ◌∷◌, ◌++◌, length, take, Option, Some, refl, sym, ap, ◌∙◌, arith, length-append, if◌then◌else◌, nat_lt, drop}
 use Rattle.run_rules.proofs.Common.{Call, CallRecord, Code, Done, HasBlocks, IsAt, Knows, Obeys, Reply, Rules, abort_of, depth_after, depth_by, is_begin, is_code, is_commit, le-ltb, length-take, lt-ltb, open_after, open_by, player_snoc, player_then, take-append-le, take-take}
+use Rattle.run_rules.proofs.BlocksAgain.{taken}
 use Rattle.run_rules.proofs.Players.{is_opened}
-
-take_whole : (xs : List CallRecord) (x : CallRecord) → take (suc (length xs)) (xs ++ x ∷ []) ≡ xs ++ x ∷ []
-take_whole [] x = refl
-take_whole (y ∷ ys) x = ap (λ (zs : List CallRecord). y ∷ zs) (take_whole ys x)
 
 module _ {P : Type 0} (rules : Rules P) (first : P) where
   -- it is so just after the begin of the outermost block was accepted
@@ -40,7 +37,7 @@ module _ {P : Type 0} (rules : Rules P) (first : P) where
       (let more = length-append made (x ∷ []) in omega arith),
       law (suc (suc (length begins))) (omega arith) (omega arith)
           ∙ (ap (λ (b : Bool). if b then rules.answered p (Code 5) else rules.at_block p (suc (suc (length begins)))) (lt-ltb (rules.depth p) (suc (suc (length begins))) (omega arith))
-          ∙ (sym is ∙ (here ∙ ap (player_then rules.answered first) (sym (take_whole made x))))),
+          ∙ (sym is ∙ (here ∙ ap (player_then rules.answered first) (sym (taken made x []))))),
       knows_more (made ++ x ∷ []) (length made) (suc (length made)) q begins (omega arith) (still (length made) begins (omega arith) (omega arith) (omega arith) k),
     )
 
@@ -50,9 +47,6 @@ module _ {P : Type 0} (rules : Rules P) (first : P) where
 
     kept : (most : ℕ) (begins : List ℕ) → most ≤ length made → suc (length begins) ≤ rules.depth p → now ≡ suc (length begins) → Knows rules first made most p begins → Then begins
     kept most begins few d n k = (knows_more (made ++ x ∷ []) most (length (made ++ x ∷ [])) q begins (let more = length-append made (x ∷ []) in omega arith) (still most begins few d (omega arith) k), n)
-
-    same : (begins : List ℕ) → rules.depth p ≡ suc (length begins) → now ≡ rules.depth p → Knows rules first made (length made) p begins → Then begins
-    same begins d n k = kept (length made) begins (omega arith) (omega arith) (n ∙ d) k
 
     closed : (begins : List ℕ) → rules.depth p ≡ suc (length begins) → now + 1 ≡ rules.depth p → 0 < now → Knows rules first made (length made) p begins → Then (drop 1 begins)
     closed [] d n u k = absurd (omega arith)
@@ -64,7 +58,7 @@ module _ {P : Type 0} (rules : Rules P) (first : P) where
     step_by false true o Done begins d k is u five = closed begins d (omega arith) u k
     step_by false false (Some true) (Code n) begins d k is u five = absurd (omega arith)
     step_by false false (Some false) (Code n) begins d k is u five = closed begins d (omega arith) u k
-    step_by b c o r begins d k is u five = same begins d is k
+    step_by b c o r begins d k is u five = kept (length made) begins (omega arith) (omega arith) (is ∙ d) k
 
   -- one call more within the outermost block, where a begin that is accepted is told that its block is entered
   pub one_more : Obeys rules → (made : List CallRecord) (p : P) (begins : List ℕ) (x : CallRecord) → IsAt rules first made p begins → rules.next_call p ≡ Some x.call → 0 < depth_after (rules.depth p) x.call x.reply

@@ -36,10 +36,6 @@ begin_may mid props room r m outside revocable opens e =
     served_may (may_go [] props) (nat_lt 0 mid.depth) (begin_served mid props room r mid.again (refusal mid.depth (outside_of mid m) (Begin props room)) outside opens
     (e ∙ ap (λ (s : State). recoded (Begin props room) mid.again (reply mid.depth s (Begin props room))) (stands_outside mid outside revocable m))).0
 
-code_opens : (mid : Core) (props : Props) (room : ℕ) (again : Bool) → is_inside (blocks_after mid (Begin props room) (recoded (Begin props room) again (Code 5))) ≡ true
-code_opens mid props room true = refl
-code_opens mid props room false = refl
-
 -- the plain machine refuses it only where it may not go irrevocable, so else the engine's reply to one opens
 pub begin_opens : (mid new : Core) (m : List ℕ) (props : Props) (room : ℕ) (told : Reply) → Replies mid (Begin props room) told new → 0 < mid.depth → in_transaction mid ≡ false → may_go mid.blocks props ≡ true → IsMemory mid.words m → Agrees m new.log → in_transaction new ≡ true
 begin_opens mid new m props room told g deep outside may memory agrees =
@@ -47,7 +43,7 @@ begin_opens mid new m props room told g deep outside may memory agrees =
     let code = g.reply_is m memory agrees
     ∙ (ap (λ (s : State). recoded (Begin props room) mid.again (reply mid.depth s (Begin props room))) (stands_outside mid outside g.revocable m)
     ∙ ap (λ (why : Option Refusal). recoded (Begin props room) mid.again (reply_unless why (Code 5))) (may_begin mid.depth mid.arena props room deep may_out)) in
-    ap is_inside (g.blocks ∙ ap (blocks_after mid (Begin props room)) code) ∙ code_opens mid props room mid.again
+    ap is_inside (g.blocks ∙ ap (blocks_after mid (Begin props room)) code) ∙ elim mid.again as (λ (again : Bool). is_inside (blocks_after mid (Begin props room) (recoded (Begin props room) again (Code 5))) ≡ true) [ true ↦ refl | false ↦ refl ]
 
 -- one that goes irrevocable
 pub begin_goes : (c : Core) (props : Props) (room : ℕ) → IsSome (irrevocable_room c (Begin props room)) → (props.goes_irrevocable ≡ true) × (may_go c.blocks props ≡ true)

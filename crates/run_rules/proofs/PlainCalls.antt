@@ -3,7 +3,7 @@ use Rattle.std.proofs.Common.{◌≡◌, ◌⊎◌, inl, inr, ℕ, suc, ◌-◌,
 use Rattle.run_rules.proofs.Common.{Abort, Begin, Block, Call, Code, Commit, Copy, Done, IsIrrevocable, Log, LogBytes, Mode, NoAbort, Outside, Props, Refusal, Refused, Reply, Saved, State, UndoAction, after, after_unless, answer, back_from, cases_Bool, closed_in, depth_after, effect, entered, irrevocable_from, is_abort, is_code, is_commit, is_open, keeps_any, keeps_innermost, length-map, logged_in, ltb-false, ltb-true, made_irrevocable, opened, or_else, outside, pushed, refusal, reply, reply_unless, rolled_back, size_of, source_bytes, target_written, undone_from, unless, with_action}
 use Rattle.itm_types.specs.declared.call.ActionKind.TheVariants as kinds
 use Rattle.itm_types.specs.declared.copy.CopyPair.{CopyPair}
-use Rattle.itm_types.specs.declared.copy.CopyPair.TheVariants.{In, Out, Within}
+use Rattle.itm_types.specs.declared.copy.CopyPair.TheVariants.{In}
 
 -- an open block's commit is answered so
 pub commit_reply : (deepest : ℕ) (s : State) → is_open s ≡ true → Done ≡ reply deepest s Commit
@@ -11,13 +11,8 @@ commit_reply deepest s o = sym (ap (λ (b : Bool). reply_unless (or_else (unless
 
 -- an abort is accepted where the state is not irrevocable
 abort_may : (inside may irrevocable : Bool) → or_else (or_else (unless inside Outside) (or_else (unless may NoAbort) (unless (not irrevocable) IsIrrevocable))) None ≡ None → irrevocable ≡ false
-abort_may true true true e = absurd (cc)
 abort_may true true false e = refl
-abort_may true false irrevocable e = absurd (cc)
-abort_may false may irrevocable e = absurd (cc)
-
-abort_revocable : (deepest : ℕ) (s : State) (c : Call) (outer : Bool) → c ≡ Abort outer → refusal deepest s c ≡ None → s.irrevocable ≡ false
-abort_revocable deepest s c outer is none = abort_may (is_open s) (not (if outer then keeps_any s.blocks else keeps_innermost s.blocks)) s.irrevocable (sym (ap (refusal deepest s) is) ∙ none)
+abort_may inside may irrevocable e = absurd (cc)
 
 -- ## How many blocks an accepted call leaves open
 
@@ -48,9 +43,8 @@ begun_depth s props =
     ]
 
 closed_depth : (bs : List Block) → length (closed_in bs) ≡ length bs - 1
-closed_depth [] = refl
-closed_depth (b ∷ []) = refl
 closed_depth (b ∷ p ∷ bs) = omega arith
+closed_depth bs = refl
 
 rolled : (s : State) (rest : List Block) (o : Option Saved) → is_some o ≡ true → (rolled_back s rest o).blocks ≡ rest
 rolled s rest None e = absurd (cc)
@@ -69,13 +63,8 @@ logged_depth [] arena place size = refl
 logged_depth (b ∷ bs) arena place size = refl
 
 copied_blocks : (s : State) (pair : CopyPair) (place : ℕ) (bytes : List ℕ) → (target_written s pair place bytes).blocks ≡ s.blocks
-copied_blocks s (Out to) place bytes = refl
 copied_blocks s (In from) place bytes = refl
-copied_blocks s (Within from to) place bytes = refl
-
-either : {A : Type 0} (f : State → A) (b : Bool) (s t : State) → f t ≡ f s → f (if b then s else t) ≡ f s
-either f true s t e = refl
-either f false s t e = e
+copied_blocks s pair place bytes = refl
 
 -- the reply may be recoded: another code in place of its code
 served_depth : (s : State) (c : Call) (r : Reply) → is_code r ≡ is_code (answer s c) → (is_code r ≡ false → r ≡ answer s c) → ((outer : Bool) → c ≡ Abort outer → AllSaved s.blocks)
@@ -90,7 +79,7 @@ served_depth s (Mode room) r codes is saved = irrevocable_depth s
 served_depth s (Log width at) r codes is saved = logged_depth s.blocks s.arena at (size_of width)
 served_depth s (LogBytes at size) r codes is saved = logged_depth s.blocks s.arena at size
 served_depth s (Copy c) r codes is saved = ap length (copied_blocks s c.pair c.to (source_bytes s c.pair c.from c.size))
-served_depth s (UndoAction action) r codes is saved = either (λ (x : State). length x.blocks) s.irrevocable s (with_action s kinds.Undo action) refl
+served_depth s (UndoAction action) r codes is saved = elim s.irrevocable as (λ (b : Bool). length (if b then s else with_action s kinds.Undo action).blocks ≡ length s.blocks) [ true ↦ refl | false ↦ refl ]
 served_depth s c r codes is saved = refl
 
 refused_depth : (depth : ℕ) (c : Call) (why : Refusal) → depth_after depth c (Refused why) ≡ depth
@@ -105,11 +94,7 @@ depth_by s c (Some why) r codes is saved = sym (ap (depth_after (length s.blocks
 -- The blocks that are open after a call are as many as the call and its reply say, also where another code is told in place of its code.
 pub depth_then : (deepest : ℕ) (s : State) (c : Call) (r : Reply) → CanGoBack s → is_code r ≡ is_code (reply deepest s c) → (is_code r ≡ false → r ≡ reply deepest s c)
     → length (after deepest s c).blocks ≡ depth_after (length s.blocks) c r
-depth_then deepest s c r saved codes is = depth_by s c (refusal deepest s c) r codes is (λ none outer abort. saved (abort_revocable deepest s c outer abort none))
-
--- by the machine's own reply; of an abort, where the blocks can be rolled back
-own_depth : (deepest : ℕ) (s : State) (c : Call) → ((outer : Bool) → c ≡ Abort outer → AllSaved s.blocks) → length (after deepest s c).blocks ≡ depth_after (length s.blocks) c (reply deepest s c)
-own_depth deepest s c saved = depth_by s c (refusal deepest s c) (reply deepest s c) refl (λ e. refl) (λ none. saved)
+depth_then deepest s c r saved codes is = depth_by s c (refusal deepest s c) r codes is (λ none outer abort. saved (abort_may (is_open s) (not (if outer then keeps_any s.blocks else keeps_innermost s.blocks)) s.irrevocable (sym (ap (refusal deepest s) abort) ∙ none)))
 
 -- ## Calls that open or close a transaction
 
@@ -123,11 +108,9 @@ no_shallower depth c r e f = omega arith
 -- a commit or an abort alone closes one
 pub aborts_close : (deepest : ℕ) (s : State) (c : Call) → is_open s ≡ true → is_open (after deepest s c) ≡ false → (c ≡ Commit) ⊎ ((outer : Bool) × (c ≡ Abort outer) × (reply deepest s c ≡ Code 24))
 aborts_close deepest s Commit inside shut = inl refl
-aborts_close deepest s (Abort outer) inside shut = inr (outer, refl, by (refusal deepest s (Abort outer)) shut)
-  where
-    by : (o : Option Refusal) → is_open (after_unless o s (effect s (Abort outer))) ≡ false → reply_unless o (Code 24) ≡ Code 24
-    by None e = refl
-    by (Some why) e = absurd (true≢false (sym inside ∙ e))
+aborts_close deepest s (Abort outer) inside shut =
+    let Cancelled : Option Refusal → Type 0 = λ o. is_open (after_unless o s (effect s (Abort outer))) ≡ false → reply_unless o (Code 24) ≡ Code 24 in
+    inr (outer, refl, (elim (refusal deepest s (Abort outer)) as Cancelled [ None ↦ λ e. refl | Some why ↦ λ e. absurd (true≢false (sym inside ∙ e)) ]) shut)
 aborts_close deepest s c inside shut =
-    let depth = own_depth deepest s c (λ outer is. absurd (true≢false (sym (ap is_abort is)))) in
+    let depth : length (after deepest s c).blocks ≡ depth_after (length s.blocks) c (reply deepest s c) = depth_by s c (refusal deepest s c) (reply deepest s c) refl (λ e. refl) (λ none outer is. absurd (true≢false (sym (ap is_abort is)))) in
     absurd (omega (arith, none_open (after deepest s c) shut, depth, no_shallower (length s.blocks) c (reply deepest s c) refl refl, ltb-true 0 (length s.blocks) inside))

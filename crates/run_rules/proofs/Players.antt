@@ -23,10 +23,6 @@ opens_at_begin (Abort true) (Code n) l = absurd (omega arith)
 opens_at_begin (Abort false) (Code n) l = absurd (omega arith)
 opens_at_begin c r l = absurd (omega arith)
 
--- within a block there is none
-pub within_block : (d : ℕ) (c : Call) (r : Replied) → 0 < d → opens d c r ≡ false
-within_block d c r l = ap (λ (b : Bool). b && (is_begin c && is_code r)) (ne_eqb d 0 (λ e. absurd (omega arith)))
-
 -- a reply after which more blocks are open is that to a begin, which was accepted
 pub record IsOpened (depth : ℕ) (c : Call) (r : Replied) : Type 0 where
   pub now : depth_after depth c r ≡ suc depth
@@ -44,12 +40,8 @@ pub is_opened : (depth : ℕ) (c : Call) (r : Replied) → depth < depth_after d
 is_opened depth c r l = (let f = opened_by (is_begin c) (is_commit c) (abort_of c) depth r l in record { now = f.0; entered = f.1; code = f.2 })
 
 module _ {P : Type 0} (rules : Rules P) where
-  -- with no block open it can go back to none
-  pub no_blocks : (p : P) → rules.depth p ≡ 0 → HasBlocks rules p
-  no_blocks p none d some within = absurd (omega arith)
-
   pub nested_outside : (p : P) → rules.depth p ≡ 0 → IsNested rules false p
-  nested_outside p none = record { deep = none; begun = λ o. absurd (cc); less = λ o. absurd (cc); blocks = no_blocks p none }
+  nested_outside p none = record { deep = none; begun = λ o. absurd (cc); less = λ o. absurd (cc); blocks = λ d some within. absurd (omega arith) }
 
   -- back in its innermost block it is nested as it was
   pub nested_again : (p : P) → IsNested rules true p → IsNested rules true (rules.at_block p (rules.depth p))
@@ -85,7 +77,7 @@ module _ {P : Type 0} (rules : Rules P) (laws : Obeys rules) where
   module _ (p : P) (c : Call) (r : Replied) (asks : rules.next_call p ≡ Some c) where
     -- it goes back to the same begin
     goes_back : 0 < rules.depth p → 0 < depth_after (rules.depth p) c r → rules.restarted (rules.answered p r) ≡ rules.restarted p
-    goes_back d l = laws.restarts p c r asks l ∙ ap (λ (b : Bool). if b then p else rules.restarted p) (within_block (rules.depth p) c r d)
+    goes_back d l = laws.restarts p c r asks l ∙ ap (λ (b : Bool). if b then p else rules.restarted p) (ap (λ (b : Bool). b && (is_begin c && is_code r)) (ne_eqb (rules.depth p) 0 (λ e. absurd (omega arith))))
 
     -- or to this one
     begins_here : rules.depth p ≡ 0 → 0 < depth_after (rules.depth p) c r → rules.restarted (rules.answered p r) ≡ p

@@ -13,11 +13,7 @@ entered_long s props = elim props.goes_irrevocable as (λ (b : Bool). length (if
 
 back_long : (s : State) (blocks : List Block) → length (back_from s blocks).arena ≡ length s.arena
 back_long s [] = refl
-back_long s (b ∷ bs) = by_saved b.saved
-  where
-    by_saved : (o : Option Saved) → length (rolled_back s bs o).arena ≡ length s.arena
-    by_saved None = refl
-    by_saved (Some saved) = length-restored saved.kept s.arena
+back_long s (b ∷ bs) = elim b.saved as (λ (o : Option Saved). length (rolled_back s bs o).arena ≡ length s.arena) [ None ↦ refl | Some saved ↦ length-restored saved.kept s.arena ]
 
 -- gone back, the block leaves the arena its length
 pub again_long : (blocks : List Frame) (s : State) → length (begun_again blocks (back s)).arena ≡ length s.arena

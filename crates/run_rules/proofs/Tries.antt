@@ -53,11 +53,6 @@ pub record IsMadeAlone {P : Type 0} (rules : Rules P) (deepest : ℕ) (b : Betwe
   pub still_open : is_open (state_then deepest (breaks_of row.restarts) (opened memory start.arena start.props) row.calls.list) ≡ true
   pub again : AreRestarts deepest row memory
 
--- the blocks that ran again are so told, whatever else the attempt tells
-pub restarts_still : (deepest : ℕ) (row : Attempt) (memory : List ℕ) (at room : ℕ) (ran : List Ran) (outcome : Outcome) → AreRestarts deepest row memory
-    → AreRestarts deepest (record row { calls = record row.calls { room = room }; at = at; ran = ran; outcome = outcome }) memory
-restarts_still deepest row memory at room ran outcome g = record { stand = g.stand; revocable = g.revocable }
-
 -- and with more calls
 pub restarts_more : (deepest : ℕ) (row : Attempt) (memory : List ℕ) (more : List CallRecord) (at room : ℕ) (ran : List Ran) (outcome : Outcome) → AreRestarts deepest row memory
     → AreRestarts deepest (record row { calls = record { list = row.calls.list ++ more; room = room }; at = at; ran = ran; outcome = outcome }) memory
@@ -149,7 +144,7 @@ module _ {P : Type 0} {rules : Rules P} (laws : Obeys rules) (deepest : ℕ) whe
     try_stops n memories k outcome ran undone made ends older newer ran_is full =
         is_try n memories b t.start (record row { at = k; ran = ran; outcome = outcome }) t.arena t.props t.tries older newer made.alone ends (not_closed outcome undone row.calls.list) ran_is
         (λ f. (let l = full f in record { call = l.call; rest = l.rest; answers_are = l.answers_are; revocable = l.revocable; takes = l.takes }))
-        (restarts_still deepest row (memories k) k row.calls.room ran outcome made.again)
+        (record { stand = made.again.stand; revocable = made.again.revocable })
 
     -- ## One call more
 

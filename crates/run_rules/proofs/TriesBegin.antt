@@ -87,9 +87,6 @@ module _ {P : Type 0} {rules : Rules P} (laws : Obeys rules) (position : List �
 
   -- ## By the engine's reply
 
-  outermost : (mid.blocks ≡ []) × (blocks_after mid (Begin props room) (begin_code b.again) ≡ begun props mid.writes mid.actions (length mid.log) ∷ [])
-  outermost = (let none = none_inside mid.blocks x.outside in (none, ap (λ (bs : List Frame). begun props mid.writes mid.actions (length mid.log) ∷ bs) none))
-
   -- in a transaction that may be tried again
   pub begins_on : (new : Core) (at : ℕ) → row.began ≤ new.snapshot / 2 → Replies mid (Begin props room) r new → (agreed : (m : List ℕ) × IsMemory mid.words m × Agrees m new.log) → in_transaction new ≡ true
       → IsOpenTry rules mid.depth position b (record row { at = at }) [] (rules.answered p r) new
@@ -97,7 +94,7 @@ module _ {P : Type 0} {rules : Rules P} (laws : Obeys rules) (position : List �
       let s = served agreed.0 (g.reply_is agreed.0 agreed.1 agreed.2) (sym (ap is_inside g.blocks) ∙ opens) in
       begins_as new at s.1 began (ap (λ (a : Actions). a.ran) g.actions) (λ i. g.arena agreed.0 agreed.1 agreed.2 ∙ ap (arena_after mid agreed.0 (Begin props room)) s.1)
       (λ i m memory agrees. g.meets m (subst (λ (n : ℕ). IsMemory n m) (ap (λ (c : Core). c.words) g.stays) memory) agrees ∙ leaves m s.0)
-      (λ i. (begun props mid.writes mid.actions (length mid.log), g.blocks ∙ (ap (blocks_after mid (Begin props room)) s.1 ∙ outermost.1)))
+      (λ i. (begun props mid.writes mid.actions (length mid.log), g.blocks ∙ (ap (blocks_after mid (Begin props room)) s.1 ∙ ap (λ (bs : List Frame). begun props mid.writes mid.actions (length mid.log) ∷ bs) (none_inside mid.blocks x.outside))))
 
   -- or one that goes irrevocable: over each memory the plain machine is there where the attempt begins
   held_served : {new : Core} → Enters mid (Begin props room) r new → in_transaction new ≡ true → (refusal mid.depth (outside_of mid []) (Begin props room) ≡ None) × (r ≡ begin_code b.again)

@@ -1,6 +1,6 @@
 -- An open attempt goes on: it is the engine's open attempt after a reply to one call more.
-use Rattle.std.proofs.Common.{◌≡◌, ℕ, suc, ◌+◌, ◌<◌, ◌≤◌, true, false, List, [], ◌∷◌, ◌++◌, length, map, Some, sym, ap, subst, ◌∙◌, arith}
-use Rattle.run_rules.proofs.Common.{Agrees, Attempt, Between, Call, CallRecord, Code, Core, HaveBegun, IsAt, IsMemory, IsOpenTry, Obeys, Ran, ReadsFrom, Reply, Rules, Savepoint, State, abort_of, adds_after, after, again_more, bounds_now, count_undone, depth_after, entered_by, is_begin, is_code, is_commit, open_after, ran_on, savepoints_after, stands_for, told_then, whole_then, with_call}
+use Rattle.std.proofs.Common.{◌≡◌, ℕ, suc, ◌+◌, ◌<◌, ◌≤◌, false, List, [], ◌∷◌, ◌++◌, length, map, Some, sym, ap, subst, ◌∙◌, arith}
+use Rattle.run_rules.proofs.Common.{Agrees, Attempt, Between, Call, CallRecord, Core, HaveBegun, IsAt, IsMemory, IsOpenTry, Obeys, Ran, ReadsFrom, Reply, Rules, Savepoint, State, abort_of, adds_after, after, again_more, bounds_now, depth_after, entered_by, is_begin, is_commit, open_after, ran_on, savepoints_after, stands_for, told_then, whole_then, with_call}
 use Rattle.run_rules.proofs.CallsAlone.{IsReplied, alone_so, begin_accepted, kept_by, revocable_so, told_more, whole_so}
 use Rattle.run_rules.proofs.OpenBegins.{one_more}
 use Rattle.run_rules.proofs.OpenCalls.{open_snoc}
@@ -9,9 +9,6 @@ use Rattle.run_rules.proofs.TriesTold.{came_further, due_further, told_further}
 
 module _ {P : Type 0} {rules : Rules P} (laws : Obeys rules) {deepest : ℕ} {position : List ℕ} {b : Between P} {row : Attempt} {points : List Savepoint} {p : P} {mid : Core} (t : IsOpenTry rules deepest position b row points p mid)
     (next : List ℕ) (new : Core) (call : Call) (r : Reply) (asks : rules.next_call p ≡ Some call) (within : 0 < depth_after (rules.depth p) call r) where
-  abbrev on : Attempt
-  on = record (with_call call r row) { ran = ran_on row.ran row.restarts new.actions.ran }
-
   abbrev last : CallRecord
   last = record { call = call; reply = r }
 
@@ -31,15 +28,9 @@ module _ {P : Type 0} {rules : Rules P} (laws : Obeys rules) {deepest : ℕ} {po
         sym (ap (λ (s : State). s.actions.ran)
         (told_more laws t call r m ∙ told_further t m k.memory k.reads (λ (s : State). after deepest s call) (adds_after deepest call (whole_then deepest row m row.calls.list) k.still_open) new.actions.ran f.ran))
 
-    pub due_so : length new.actions.ran ≡ length (ran_on row.ran row.restarts new.actions.ran) + count_undone row.restarts
-    due_so = due_further t m k.memory k.reads (λ (s : State). after deepest s call) (adds_after deepest call (whole_then deepest row m row.calls.list) k.still_open) new.actions.ran f.ran
-
     -- it comes to run what had come to run, and more
     pub later_so : (more : List Ran) × (new.actions.ran ≡ mid.actions.ran ++ more)
     later_so = (_, came_further t m k.memory k.reads (λ (s : State). after deepest s call) (adds_after deepest call (whole_then deepest row m row.calls.list) k.still_open) new.actions.ran f.ran)
-
-    pub told_five : is_begin call ≡ true → is_code r ≡ true → r ≡ Code 5
-    told_five begins codes = (begin_accepted deepest (whole_then deepest row m row.calls.list) call r k.replied begins codes).0
 
   -- ## The attempt then
 
@@ -55,14 +46,14 @@ module _ {P : Type 0} {rules : Rules P} (laws : Obeys rules) {deepest : ℕ} {po
       record {
         of_block = block_more last (ran_on row.ran row.restarts new.actions.ran) t.of_block;
         at = subst (IsAt rules (entered_by rules deepest t.of_block) (row.calls.list ++ last ∷ []) (rules.answered p r)) (sym opened)
-            (one_more rules (entered_by rules deepest t.of_block) laws row.calls.list p (map (λ (q : Savepoint). q.kept) points) last t.at asks within (told_five one served));
+            (one_more rules (entered_by rules deepest t.of_block) laws row.calls.list p (map (λ (q : Savepoint). q.kept) points) last t.at asks within (λ begins codes. (begin_accepted deepest (whole_then deepest row one row.calls.list) call r served.replied.replied begins codes).0));
         began = (let began = t.began in omega (arith, later));
         sized = sized;
         alone = λ m memory reads. alone_so laws t call r m (over m memory reads).replied asks;
         ran = λ m memory reads. ran_so m (over m memory reads);
         came = λ m memory reads. (over m memory reads).ran ∙ ap (λ (s : State). s.actions.ran) (sym (whole_so laws t call r m));
         stands = stands;
-        due = due_so one served;
+        due = due_further t one served.replied.memory served.replied.reads (λ (s : State). after deepest s call) (adds_after deepest call (whole_then deepest row one row.calls.list) served.replied.still_open) new.actions.ran served.ran;
         stand = again_more (length row.arena) 0 row.calls.list (last ∷ []) row.restarts t.stand;
         revocable = λ m memory reads. revocable_so laws t call r m (over m memory reads).replied;
         few = (let few = t.few in omega (arith, restarted));

@@ -24,11 +24,10 @@ begin_same deepest c m n props places =
 
 -- one after which the transaction may be tried again does not go irrevocable
 goes_not : (s : State) (props : Props) → (entered s props).irrevocable ≡ false → props.goes_irrevocable ≡ false
-goes_not s props free = by_props props.goes_irrevocable free
-  where
-    by_props : (goes : Bool) → (if goes then irrevocable_from (pushed s props) else pushed s props).irrevocable ≡ false → goes ≡ false
-    by_props true free = absurd (true≢false (sym (from_irrevocable (pushed s props)) ∙ free))
-    by_props false free = refl
+goes_not s props = elim props.goes_irrevocable as (λ (goes : Bool). (if goes then irrevocable_from (pushed s props) else pushed s props).irrevocable ≡ false → goes ≡ false) [
+  | true ↦ λ free. absurd (true≢false (sym (from_irrevocable (pushed s props)) ∙ free))
+  | false ↦ λ free. refl
+]
 
 module _ {P : Type 0} {rules : Rules P} (laws : Obeys rules) {deepest : ℕ} {position : List ℕ} {b : Between P} {row : Attempt} {points : List Savepoint} {p : P} {mid : Core} (t : IsOpenTry rules deepest position b row points p mid) where
   -- as many blocks are open as its savepoints tell, and the outermost one

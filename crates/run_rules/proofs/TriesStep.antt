@@ -3,6 +3,7 @@ use Rattle.std.proofs.Common.{◌≡◌, ℕ, ◌≤◌, Bool, true, false, true
 use Rattle.run_rules.proofs.Common.{Actions, Agrees, AreRead, AsksFor, Attempt, Between, Bounds, Call, Core, Frame, HasBegun, HaveBegun, IsMemory, IsOpenTry, LogRow, ReadsFrom, Rules, Savepoint, State, Step, agrees_less, bounds_now, bounds_of, came, due_at, entered_by, handed_to, in_transaction, nothing, state_in, take-append-le}
 use Rattle.norec_core.proofs.Engines.KeptFields.{came_restarted, handed_is, keeps_asked}
 use Rattle.run_rules.proofs.BlocksAgain.{under_still}
+use Rattle.run_rules.proofs.BlocksStill.{each_still}
 use Rattle.run_rules.proofs.Tries.{block_with}
 
 -- ## Its open blocks
@@ -31,11 +32,8 @@ module _ {P : Type 0} (rules : Rules P) (deepest : ℕ) (by : P) (row : Attempt)
       }
 
   blocks_moved : (most : Bounds) (top : ℕ) (bs : List Frame) (points : List Savepoint) → top ≤ length mid.log → AreRead top bs → HaveBegun rules deepest by row mid most bs points → HaveBegun rules deepest by row new most bs points
-  blocks_moved most top (b ∷ g ∷ outer) (s ∷ points) l read h =
-      let few = read.0 in
-      let within : b.reads ≤ length mid.log = omega (arith, l, few) in
-      (begun_moved b (g ∷ outer) s within h.0, h.1, blocks_moved (bounds_of b s) b.reads (g ∷ outer) points within read.1 h.2)
-  blocks_moved most top bs points l read h = h
+  blocks_moved most top bs points l read =
+      each_still rules deepest by row row mid new most top (λ b outer s h kept told reads commits undos. begun_moved b outer s (omega (arith, l, reads)) h) most top bs points (omega arith) (omega arith) (omega arith) (omega arith) (omega arith) read
 
 told_elsewhere : {P : Type 0} (rules : Rules P) (deepest : ℕ) (by : P) (row : Attempt) (e : Core) (at room : ℕ) (most : Bounds) (bs : List Frame) (points : List Savepoint)
     → HaveBegun rules deepest by row e most bs points → HaveBegun rules deepest by (record row { at = at; calls = record row.calls { room = room } }) e most bs points
@@ -126,7 +124,7 @@ module _ {P : Type 0} {rules : Rules P} {deepest : ℕ} {position : List ℕ} {b
   -- the words of its position matter to an irrevocable one alone
   pub positioned_on : (other : List ℕ) → (mid.irrevocable ≡ true → other ≡ position) → IsOpenTry rules deepest other b row points p mid
   positioned_on other same =
-      let had : (m : List ℕ) → ReadsFrom mid.irrevocable other mid.log m → ReadsFrom mid.irrevocable position mid.log m = from_there mid.irrevocable refl in
+      let had : (m : List ℕ) → ReadsFrom mid.irrevocable other mid.log m → ReadsFrom mid.irrevocable position mid.log m = (elim mid.irrevocable as (λ (mode : Bool). mid.irrevocable ≡ mode → (m : List ℕ) → ReadsFrom mode other mid.log m → ReadsFrom mode position mid.log m) [ true ↦ λ i m r. r ∙ same i | false ↦ λ i m r. r ]) refl in
       record {
         of_block = record { start = t.of_block.start; begins = t.of_block.begins; arena = t.of_block.arena; props = t.of_block.props; tries = t.of_block.tries; player = t.of_block.player };
         at = t.at;
@@ -143,7 +141,3 @@ module _ {P : Type 0} {rules : Rules P} {deepest : ℕ} {position : List ℕ} {b
         points_are = t.points_are;
         blocks = t.blocks;
       }
-    where
-      from_there : (mode : Bool) → mid.irrevocable ≡ mode → (m : List ℕ) → ReadsFrom mode other mid.log m → ReadsFrom mode position mid.log m
-      from_there true i m r = r ∙ same i
-      from_there false i m r = r

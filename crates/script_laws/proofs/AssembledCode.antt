@@ -2,6 +2,7 @@
 use Rattle.std.proofs.Common.{◌≡◌, ℕ, zero, suc, ◌+◌, ◌||◌, Bool, true, false, nat_eq, nat_le, nat_lt, if◌then◌else◌, List, [], ◌∷◌, ◌++◌, length, take, drop, replicate, Option, None, Some, Result, Ok, Err, refl, sym, ap, subst, ◌∙◌, inl, inr, slice_get}
 use Rattle.script_laws.proofs.Common.{Beginning, Group, Instruction, Leads, Level, Listing, Nests, Part, Shared, cases_Bool, codes_of, flat_map, group, innermost, innermost_line, list_all, or_parts, or_right, outer, repeat, second_part, stands_never, threads_of, within_never}
 use Rattle.std.proofs.lemmas.List.{append-nil}
+use Rattle.std.proofs.Math.Seq.{drop-append_seam, take-append_seam}
 use Rattle.itm_types.specs.declared.limits.TheConstants.{MAX_ACTORS, MAX_ARENA, MAX_COMMITS, MAX_DEPTH, MAX_PATIENCE, MAX_RESTARTS, MAX_RETRIES}
 use Rattle.script_fields.specs.declared.fault.AsmFault.{AsmFault}
 use Rattle.script_fields.specs.declared.fault.AsmKind.TheVariants as kinds
@@ -9,7 +10,6 @@ use Rattle.script_fields.specs.Text.{fields, without_comment, is_allowed}
 use Rattle.std.specs.Str.Lines.{lines}
 use Rattle.script_program.specs.declared.limits.TheConstants.{MAX_INSTRUCTIONS, MAX_ITEMS, MAX_LEVELS, MAX_REPEATS, MAX_TEXT}
 use Rattle.script_program.specs.declared.instruction.Instruction.TheVariants as code
-use Rattle.script_program.specs.declared.schedule.Item.{Item}
 use Rattle.script_program.specs.Schedules.{stray_of}
 use Rattle.script_program.specs.Sections.{Sections, begun, counted_again, expanded, instruction_total, parts_of, thread_total}
 use Rattle.script_asm.specs.declared.groups.Group.TheVariants as groups
@@ -25,7 +25,7 @@ use Rattle.script_asm.specs.Items.{schedule_of}
 use Rattle.script_fields.specs.Shapes.{none, size_of, limit_of, init_of, count_of}
 use Rattle.script_asm.specs.Standing.{has_begun, may_stand}
 use Rattle.script_asm.specs.Words.{word_of}
-use Rattle.script_laws.proofs.OpenCode.{leads_times, take_front, drop_front, level_in, BeginsAt, Open, open_more, open_ended, live, live_never, live_all}
+use Rattle.script_laws.proofs.OpenCode.{leads_times, level_in, BeginsAt, Open, open_more, open_ended, live, live_never, live_all}
 
 -- ## Sections
 
@@ -202,7 +202,7 @@ module _ (s : State) (n : ℕ) (good : IsGood s) where
             let levels_are : good.levels ≡ o.2 = o.5 ∙ ap (λ (g : Group). level_in g o.2) group_is in
             let place : start ≡ length o.0 = subst (λ (g : Group). BeginsAt g (length o.0)) group_is o.7 in
             let again_is : take start s.threads.code ++ repeat times (drop start s.threads.code) ≡ o.0 ++ repeat times o.1 =
-            (λ i. take (place i) (o.4 i) ++ repeat times (drop (place i) (o.4 i))) ∙ (λ i. take_front o.0 o.1 i ++ repeat times (drop_front o.0 o.1 i)) in
+            (λ i. take (place i) (o.4 i) ++ repeat times (drop (place i) (o.4 i))) ∙ (λ i. take-append_seam o.0 o.1 i ++ repeat times (drop-append_seam o.0 o.1 i)) in
             let stands = open_more more o.0 (repeat times o.1) o.2 o.3 (leads_times times o.1 o.2 (subst (Leads o.1 o.2) levels_are o.6)) in
             subst (λ (x : Bool). AreOpen (again x s.threads start times) more) (sym w)
             (record {
@@ -245,9 +245,6 @@ module _ (s : State) (n : ℕ) (good : IsGood s) where
   laid_good x None = tt
   laid_good x (Some m) = or_fault (nat_le (x.0 + length x.1) m.size) _ _ good
 
-  scheduled_good : (items : List Item) → OkGood (scheduled s n items)
-  scheduled_good items = fault_or (nat_lt MAX_ITEMS (length s.schedule.items + length items)) _ _ good
-
   -- ## Lines
 
   obeyed_good : (w : Word) (fs : List (List ℕ)) → OkGood (obeyed s n w fs)
@@ -260,7 +257,7 @@ module _ (s : State) (n : ℕ) (good : IsGood s) where
   obeyed_good words.Restarts fs = any_good (at_line n (limit_of 0 MAX_RESTARTS fs)) (λ k. Ok (record s { limits = record s.limits { restarts = Some k } })) (λ k. good)
   obeyed_good words.Commits fs = any_good (at_line n (limit_of 1 MAX_COMMITS fs)) (λ k. Ok (record s { limits = record s.limits { commits = Some k } })) (λ k. good)
   obeyed_good words.Depth fs = any_good (at_line n (limit_of 1 MAX_DEPTH fs)) (λ k. Ok (record s { limits = record s.limits { depth = Some k } })) (λ k. good)
-  obeyed_good words.Schedule fs = any_good (at_line n (schedule_of fs)) (scheduled s n) scheduled_good
+  obeyed_good words.Schedule fs = any_good (at_line n (schedule_of fs)) (scheduled s n) (λ items. fault_or (nat_lt MAX_ITEMS (length s.schedule.items + length items)) _ _ good)
   obeyed_good words.Thread fs = any_good (at_line n (count_of fs)) (λ count. threaded s n count (innermost_line s.levels)) (λ count. threaded_good count (innermost_line s.levels) refl)
   obeyed_good words.Repeat fs = any_good (at_line n (limit_of 0 MAX_REPEATS fs)) (repeats s n) repeats_good
   obeyed_good words.EndRepeat fs = any_good (at_line n (none fs)) (λ x. repeated s n (innermost s.levels)) (λ x. repeated_good (innermost s.levels) refl)
@@ -308,17 +305,13 @@ read_parts : (r : Result State AsmFault) (p : Listing) → OkGood r → (r >>= e
 read_parts (Ok s) p good e = ended_parts s p good e
 read_parts (Err f) p good e = absurd (cc)
 
--- nothing is open at the start
-initial_good : IsGood initial
-initial_good = record { ended = tt; levels = []; now = (refl, refl) }
-
 text_parts : (text : List ℕ) (p : Listing) → program_of text ≡ Ok p → NestedParts p.parts
 unfolding program_of
 text_parts text p e = by_size (nat_lt MAX_TEXT (length text)) e
   where
     by_size : (b : Bool) → (if b then fault 0 kinds.TooLong else (lines_say initial 1 (lines text) >>= end_of)) ≡ Ok p → NestedParts p.parts
     by_size true e = absurd (cc)
-    by_size false e = read_parts (lines_say initial 1 (lines text)) p (lines_good (lines text) initial 1 initial_good) e
+    by_size false e = read_parts (lines_say initial 1 (lines text)) p (lines_good (lines text) initial 1 (record { ended = tt; levels = []; now = (refl, refl) })) e
 
 -- ## Threads
 

@@ -30,10 +30,10 @@ pub use Rattle.tx_runs.specs.declared.ending.End.TheVariants.{Finished, GaveUp, 
 pub use Rattle.tx_runs.specs.declared.savepoint.Savepoint.{Savepoint}
 pub use Rattle.worker_rules.proofs.Laws.Answers.{both}
 pub use Rattle.worker_rules.specs.Accounts.{Account, account_after, first_account}
-pub use Rattle.worker_rules.specs.Calls.{asked, HasMade, IsMade, StopsAt}
+pub use Rattle.worker_rules.specs.Calls.{asked, HasMade, StopsAt}
 pub use Rattle.worker_rules.specs.Gates.{call_number, Gating}
 pub use Rattle.worker_rules.specs.Works.{course_of, is_held, IsRow, Parts}
 pub use Rattle.world_rules.proofs.Common.{slice_get_within}
-pub use Rattle.std.proofs.lemmas.Bool.{cases_Bool, cond-false, cond-true, ltb-false, ltb-true, or_parts, or_right}
+pub use Rattle.std.proofs.lemmas.Bool.{cases_Bool, cond-false, cond-true, false_from_ne_true, ltb-false, ltb-true, or_parts, or_right}
 pub use Rattle.std.proofs.lemmas.Option.{get_or_from_slice_get}
 pub use Rattle.std.specs.List.{flat_map, list_all, repeat}

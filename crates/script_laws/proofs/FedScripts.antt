@@ -2,7 +2,7 @@
 use Rattle.std.proofs.Common.{◌≡◌, ℕ, zero, suc, ◌≤◌, List, [], ◌∷◌, map, Bool, true, false, None, Some, refl, sym, ap, subst, ◌∙◌, inl, inr, arith, slice_get, if◌then◌else◌}
 use Rattle.script_laws.proofs.Common.{Begin, Call, Instruction, IsNested, Mode, Nests, Thread, answered, back_nested, carried_room, depth_of, left, next_call, opening, opening_nested, plays, slice_get_within, some_left, there_is, thread_rules, threads_of}
 use Rattle.world_rules.specs.PlayerRooms.{ComesTo, EndsWithin, GoesTo, TellsRoom, going_room}
-use Rattle.script_laws.specs.Fed.{AreFed, TellRoom, TellsEachRoom}
+use Rattle.script_laws.specs.Fed.{AreFed, TellRoom}
 
 -- one that makes its transaction irrevocable is one of these
 only_told : (going : Bool) (room n : ℕ) → (if going then Some room else None) ≡ Some n → Some room ≡ Some n
@@ -38,9 +38,6 @@ tell_room deepest code x n u call reply room comes next may told =
     let p = plays u call reply (comes_nested deepest n code u x comes) next may in
     ends_within room (answered u reply) p.nested (p.told room told)
 
-tells_room : (t : Thread) → TellsEachRoom t → TellsRoom thread_rules t
-tells_room t each n u call reply room comes next may told = each n u call reply room comes next may (going_told call room told)
-
 -- a player of each place is that of the thread
 opened_at : (deepest : ℕ) (codes : List (List Instruction)) (place : ℕ) (t : Thread) → slice_get (map (opening deepest) codes) place ≡ Some t → (code : List Instruction) × (slice_get codes place ≡ Some code) × (t ≡ opening deepest code)
 opened_at deepest [] place t e = absurd (cc)
@@ -51,4 +48,4 @@ pub are_fed : AreFed
 are_fed p w nested players tied place a is starved =
     let here = there_is w.opening place (let l = slice_get_within w.actors place a is in let long = tied.each in omega arith) in
     let thread = opened_at p.limits.depth (threads_of p) place here.0 (ap (λ (l : List Thread). slice_get l place) (sym players) ∙ here.1) in
-    tied.fed place here.0 a here.1 is (subst (TellsRoom thread_rules) (sym thread.2) (tells_room (opening p.limits.depth thread.0) (tell_room p.limits.depth thread.0 (nested place thread.0 thread.1)))) starved
+    tied.fed place here.0 a here.1 is (subst (TellsRoom thread_rules) (sym thread.2) (λ n u call reply room comes next may told. tell_room p.limits.depth thread.0 (nested place thread.0 thread.1) n u call reply room comes next may (going_told call room told))) starved

@@ -1,6 +1,6 @@
 -- A thread of nested code that runs on a thread of its own comes back idle.
 use Rattle.std.proofs.Common.{◌≡◌, inl, inr, ℕ, ◌<◌, ◌≤◌, Bool, true, false, true≢false, if◌then◌else◌, List, [], length, Result, Ok, Err, refl, sym, ap, subst, ◌∙◌, arith}
-use Rattle.script_laws.proofs.Common.{Account, Core, Finished, Gating, GaveUp, Instruction, IsDeep, IsRow, Listing, NoMemory, Parts, Standing, StopsAt, Thread, Words, both, call_number, depth_of, ended_shut, first_account, get_or_from_slice_get, in_transaction, is_held, opening, rolled_back, some_left, there_is, thread_laws, thread_rules, threads_of}
+use Rattle.script_laws.proofs.Common.{Account, Core, Finished, Gating, GaveUp, Instruction, IsDeep, IsRow, Listing, NoMemory, Parts, Standing, StopsAt, Thread, Words, both, call_number, depth_of, ended_shut, false_from_ne_true, first_account, get_or_from_slice_get, in_transaction, is_held, opening, rolled_back, some_left, there_is, thread_laws, thread_rules, threads_of}
 use Rattle.norec_core.specs.Phases.{Idle}
 use Rattle.norec_core.specs.Undoing.{after_undoing}
 use Rattle.norec_core.proofs.Engines.HeldStores.{shut_revocable}
@@ -28,18 +28,14 @@ module _ (words : Words) (start : Standing) (code : List Instruction) (number re
   free_at gate calls GaveUp a s over thread k (inl shut) = ap (λ (t : Standing). t.engine.irrevocable) shut.thread ∙ shut.free
   free_at gate calls GaveUp a s over thread k (inr (made, passed)) =
       shut_revocable thread.engine made.answered.stands.settled ((both thread_laws words (course words start code number retries) a s k.running k.own k.stands number retries refl refl made.call made.asks made.answer thread made.answered).1 GaveUp made.end_is).shut
-  free_at gate calls NoMemory a s over thread k (starved, passed) = ap (λ (e : Core). e.irrevocable) starved.engine ∙ undone_free s.engine (by_mode s.engine.irrevocable refl)
-    where
-      by_mode : (b : Bool) → s.engine.irrevocable ≡ b → s.engine.irrevocable ≡ false
-      by_mode false free = free
-      by_mode true held =
-          let inside : in_transaction s.engine ≡ true = (k.stands.settled.holder (k.stands.settled.irrevocable held).0).0 in
-          let i = k.running.inside inside in
-          let some : 0 < depth_of a.player = subst (λ (b : Bool). IsDeep b (depth_of a.player)) inside k.running.nested.deep in
-          let more = some_left a.player starved.call starved.asks some in
-          let few = k.room held i.row i.points i.stage_is in
-          let used = starved.used held i.row i.points i.stage_is in
-          absurd (omega arith)
+  free_at gate calls NoMemory a s over thread k (starved, passed) = ap (λ (e : Core). e.irrevocable) starved.engine ∙ undone_free s.engine (false_from_ne_true s.engine.irrevocable (λ held.
+      (let inside : in_transaction s.engine ≡ true = (k.stands.settled.holder (k.stands.settled.irrevocable held).0).0 in
+      let i = k.running.inside inside in
+      let some : 0 < depth_of a.player = subst (λ (b : Bool). IsDeep b (depth_of a.player)) inside k.running.nested.deep in
+      let more = some_left a.player starved.call starved.asks some in
+      let few = k.room held i.row i.points i.stage_is in
+      let used = starved.used held i.row i.points i.stage_is in
+      omega arith)))
 
 idle_by : (thread : Standing) (back : Result Pass Standing) → Parts thread back → thread.engine.irrevocable ≡ false → is_held back ≡ false
 idle_by thread (Ok pass) parts free = refl

@@ -1,7 +1,8 @@
 -- What is kept of a thread of nested code from call to call.
 use Rattle.std.proofs.Common.{◌≡◌, ◌⊎◌, inl, inr, ℕ, zero, suc, ◌+◌, ◌-◌, ◌<◌, ◌≤◌, Bool, true, false, true≢false, nat_lt, List, [], ◌∷◌, length, None, Some, IsSome, unwrap_or, refl, sym, ap, subst, ◌∙◌, arith, append-nil}
-use Rattle.script_laws.proofs.Common.{Account, Attempt, Begin, Call, Code, Core, Done, Gating, GaveUp, HasMade, Instruction, IsDeep, IsMade, IsNested, MayReply, Nested, Nests, Replied, Savepoint, Stage, Standing, Taken, Thread, Ways, Words, account_after, answered, answered_deepest, asked, at_block, at_block_deepest, back_nested, begins_again, begun, both, cases_Bool, cond-false, cond-true, course_of, depth_after, depth_of, first_account, gone_back, in_transaction, irrevocable_room, is_begin, is_inside, is_within, left, ltb-false, ltb-true, next_call, opening, opening_nested, outside, plays, reply_cases, reserved, restarted, restarted_deepest, sent_back, stage_at, stand_of, start_of, thread_laws, thread_rules, took_in, within}
+use Rattle.script_laws.proofs.Common.{Account, Attempt, Begin, Call, Code, Core, Done, Gating, GaveUp, HasMade, Instruction, IsDeep, IsNested, MayReply, Nested, Nests, Replied, Savepoint, Stage, Standing, Taken, Thread, Ways, Words, account_after, answered, answered_deepest, asked, at_block, at_block_deepest, back_nested, begins_again, begun, both, cases_Bool, cond-false, cond-true, course_of, depth_after, depth_of, first_account, gone_back, in_transaction, irrevocable_room, is_begin, is_inside, is_within, left, ltb-false, ltb-true, next_call, opening, opening_nested, outside, plays, reply_cases, reserved, restarted, restarted_deepest, sent_back, stage_at, stand_of, start_of, thread_laws, thread_rules, took_in, within}
 use Rattle.nest_frames.specs.Nest.{Frame}
+use Rattle.norec_core.proofs.Engines.Blocks.{none_inside}
 use Rattle.norec_core.specs.declared.answer.Answer.{Answer}
 use Rattle.norec_core.specs.declared.answer.Answer.TheVariants.{Busy, Committed, Conflict, Full, Reply, Restarted}
 use Rattle.shared_words.specs.Passes.{Owns, cells_of, commits_known, view_of}
@@ -19,18 +20,13 @@ use Rattle.script_laws.proofs.RepliedThreads.{HasLeft, deeper_begins, engine_fit
 
 -- ## Before the first call
 
-none_open : (bs : List Frame) → is_inside bs ≡ false → length bs ≡ 0
-none_open [] e = refl
-none_open (b ∷ bs) e = absurd (cc)
-
 pub some_open : (bs : List Frame) → length bs ≡ 0 → is_inside bs ≡ false
 some_open [] e = refl
 some_open (b ∷ bs) e = absurd (omega arith)
 
 pub inner_open : (bs : List Frame) → is_within bs ≡ true → 1 < length bs
-inner_open [] e = absurd (cc)
-inner_open (b ∷ []) e = absurd (cc)
 inner_open (b ∷ outer ∷ bs) e = omega arith
+inner_open bs e = absurd (cc)
 
 module _ (words : Words) (start : Standing) (code : List Instruction) (number retries : ℕ) where
   abbrev pub deepest : ℕ
@@ -46,7 +42,7 @@ module _ (words : Words) (start : Standing) (code : List Instruction) (number re
     tried = omega arith;
     tries = omega arith;
     nested = subst (λ (i : Bool). Nested thread_rules i (opening deepest code)) (sym shut) (nested_outside thread_rules (opening deepest code) refl);
-    depth = sym (none_open start.engine.blocks shut);
+    depth = sym (ap length (none_inside start.engine.blocks shut));
     deepest = refl;
     limit = refl;
     inside = λ i. absurd (true≢false (sym i ∙ shut));
@@ -112,24 +108,17 @@ module _ (words : Words) (start : Standing) (code : List Instruction) (number re
 
     -- with no block open
     kept_shut : (b : Account Thread) → Owns words s'.pass → Stands (view_of s'.pass) s'.engine → IsRunning thread_rules course (view_of s'.pass) s'.engine b → b.stage ≡ outside → (b.player ≡ a.player) ⊎ ((b.player ≡ restarted a.player) × (depth_of (restarted a.player) ≡ 0)) → IsKept b s'
-    kept_shut b own stands running is (inl same) = record {
+    kept_shut b own stands running is which = record {
       own = own;
       stands = stands;
       running = running;
-      nested = subst IsNested (sym same) k.nested;
-      blocks = subst (λ (q : Thread). (d : ℕ) → 1 < d → d ≤ depth_of q → IsNested (at_block q d)) (sym same) k.blocks;
-      deep = ap (λ (q : Thread). q.deepest) same ∙ k.deep;
-      few = subst (λ (q : Thread). depth_of q ≤ deepest) (sym same) k.few;
-      room = λ held row points now. absurd (let f : outside ≡ within row points = sym is ∙ now in cc);
-    }
-    kept_shut b own stands running is (inr back) = record {
-      own = own;
-      stands = stands;
-      running = running;
-      nested = subst IsNested (sym back.0) (back_nested a.player k.nested);
-      blocks = λ d some few. absurd (let none = ap depth_of back.0 ∙ back.1 in omega arith);
-      deep = ap (λ (q : Thread). q.deepest) back.0 ∙ (restarted_deepest a.player ∙ k.deep);
-      few = (let none = ap depth_of back.0 ∙ back.1 in omega arith);
+      nested = elim which [ inl same ↦ subst IsNested (sym same) k.nested | inr back ↦ subst IsNested (sym back.0) (back_nested a.player k.nested) ];
+      blocks = elim which [
+        | inl same ↦ subst (λ (q : Thread). (d : ℕ) → 1 < d → d ≤ depth_of q → IsNested (at_block q d)) (sym same) k.blocks
+        | inr back ↦ λ d some few. absurd (let none = ap depth_of back.0 ∙ back.1 in omega arith)
+      ];
+      deep = elim which [ inl same ↦ ap (λ (q : Thread). q.deepest) same ∙ k.deep | inr back ↦ ap (λ (q : Thread). q.deepest) back.0 ∙ (restarted_deepest a.player ∙ k.deep) ];
+      few = elim which [ inl same ↦ subst (λ (q : Thread). depth_of q ≤ deepest) (sym same) k.few | inr back ↦ (let none = ap depth_of back.0 ∙ back.1 in omega arith) ];
       room = λ held row points now. absurd (let f : outside ≡ within row points = sym is ∙ now in cc);
     }
 
@@ -289,9 +278,6 @@ module _ (words : Words) (start : Standing) (code : List Instruction) (number re
         }
     kept_on (Full at) x none = absurd (let f : Some GaveUp ≡ None = none in cc)
 
-  kept_next : (a : Account Thread) (s : Standing) (a' : Account Thread) (s' : Standing) → IsKept a s → IsMade words thread_rules number retries a s None a' s' → IsKept a' s'
-  kept_next a s a' s' k m = subst (λ (b : Account Thread). IsKept b s') (sym m.account) (kept_on a s k s' m.call m.asks m.answer m.answered m.end_is)
-
   pub kept_all : (gate : Gating) (n : ℕ) (a : Account Thread) (s : Standing) (a' : Account Thread) (s' : Standing) → IsKept a s → HasMade words thread_rules number retries gate n a s a' s' → IsKept a' s'
   kept_all gate zero a s a' s' k made = subst (λ (q : Account Thread × Standing). IsKept q.0 q.1) (λ i. (sym made.0 i, sym made.1 i)) k
-  kept_all gate (suc n) a s a' s' k made = kept_next made.0 made.1 a' s' (kept_all gate n a s made.0 made.1 k made.2) made.3
+  kept_all gate (suc n) a s a' s' k made = (let m = made.3 in subst (λ (b : Account Thread). IsKept b s') (sym m.account) (kept_on made.0 made.1 (kept_all gate n a s made.0 made.1 k made.2) s' m.call m.asks m.answer m.answered m.end_is))

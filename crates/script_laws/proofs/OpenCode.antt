@@ -1,5 +1,5 @@
 -- The code of a section so far, within what has begun and not ended.
-use Rattle.std.proofs.Common.{◌≡◌, ℕ, zero, suc, true, false, if◌then◌else◌, List, [], ◌∷◌, ◌++◌, length, take, drop, refl, sym, ap, subst, ◌∙◌}
+use Rattle.std.proofs.Common.{◌≡◌, ℕ, zero, suc, true, false, if◌then◌else◌, List, [], ◌∷◌, ◌++◌, length, refl, sym, ap, subst, ◌∙◌, append_assoc}
 use Rattle.script_laws.proofs.Common.{Beginning, Group, Instruction, Leads, Level, block, cond-false, cond-true, group, repeat, within_never}
 use Rattle.script_program.specs.declared.instruction.Instruction.TheVariants as code
 use Rattle.script_asm.specs.declared.groups.Group.TheVariants as groups
@@ -19,18 +19,6 @@ leads_then (i ∷ xs) ys a b c x y = leads_then xs ys a b c x y
 pub leads_times : (n : ℕ) (xs : List Instruction) (a : List Level) → Leads xs a a → Leads (repeat n xs) a a
 leads_times zero xs a x = refl
 leads_times (suc n) xs a x = leads_then xs (repeat n xs) a a a x (leads_times n xs a x)
-
-pub appended : {A : Type 0} (xs ys zs : List A) → (xs ++ ys) ++ zs ≡ xs ++ (ys ++ zs)
-appended [] ys zs = refl
-appended (x ∷ xs) ys zs = ap (λ l. x ∷ l) (appended xs ys zs)
-
-pub take_front : {A : Type 0} (xs ys : List A) → take (length xs) (xs ++ ys) ≡ xs
-take_front [] ys = refl
-take_front (x ∷ xs) ys = ap (λ l. x ∷ l) (take_front xs ys)
-
-pub drop_front : {A : Type 0} (xs ys : List A) → drop (length xs) (xs ++ ys) ≡ ys
-drop_front [] ys = refl
-drop_front (x ∷ xs) ys = drop_front xs ys
 
 -- ## What is open
 
@@ -52,13 +40,13 @@ Open (b ∷ more) xs levels = (front body : List Instruction) × (around : List 
 
 pub open_more : (bs : List Beginning) (xs more : List Instruction) (levels : List Level) → Open bs xs levels → Leads more levels levels → Open bs (xs ++ more) levels
 open_more [] xs more levels o m = (leads_then xs more [] [] [] o.0 (subst (λ (l : List Level). Leads more l l) o.1 m), o.1)
-open_more (b ∷ bs) xs more levels o m = (o.0, o.1 ++ more, o.2, o.3, ap (λ (l : List Instruction). l ++ more) o.4 ∙ appended o.0 o.1 more, o.5, leads_then o.1 more o.2 levels levels o.6 m, o.7)
+open_more (b ∷ bs) xs more levels o m = (o.0, o.1 ++ more, o.2, o.3, ap (λ (l : List Instruction). l ++ more) o.4 ∙ append_assoc o.0 o.1 more, o.5, leads_then o.1 more o.2 levels levels o.6 m, o.7)
 
 -- without the innermost, once code has ended it
 pub open_ended : (b : Beginning) (bs : List Beginning) (xs : List Instruction) (levels : List Level) (i : Instruction) → Open (b ∷ bs) xs levels → ((around : List Level) → Leads (i ∷ []) (level_in b.group around) around) → (around : List Level) × Open bs (xs ++ i ∷ []) around
 open_ended b bs xs levels i o ends_it = (
   o.2,
-  subst (λ (l : List Instruction). Open bs l o.2) (sym (ap (λ (l : List Instruction). l ++ i ∷ []) o.4 ∙ appended o.0 o.1 (i ∷ [])))
+  subst (λ (l : List Instruction). Open bs l o.2) (sym (ap (λ (l : List Instruction). l ++ i ∷ []) o.4 ∙ append_assoc o.0 o.1 (i ∷ [])))
       (open_more bs o.0 (o.1 ++ i ∷ []) o.2 o.3 (leads_then o.1 (i ∷ []) o.2 levels o.2 o.6 (subst (λ (l : List Level). Leads (i ∷ []) l o.2) (sym o.5) (ends_it o.2)))),
 )
 

@@ -104,16 +104,9 @@ open_room (within b inner) t is call r s row points e = by_open s.is_open (with_
 
 pub replied_player : (g : Stage) (t : Tally Thread) (call : Call) (r : Replied) (s : Stand) → (replied g t call r s).tally.player ≡ t.player
 replied_player outside t call r s = refl
-replied_player (begins b) t call r s = by_open s.is_open
-  where
-    by_open : (o : Bool) → (entered o t b s).player ≡ t.player
-    by_open true = refl
-    by_open false = refl
-replied_player (within b inner) t call r s = by_open s.is_open (with_call call r b) (savepoints_after inner b (record { call = call; reply = r }))
-  where
-    by_open : (o : Bool) (x : Attempt) (now : List Savepoint) → (went_on o t x now s).tally.player ≡ t.player
-    by_open true x now = refl
-    by_open false x now = refl
+replied_player (begins b) t call r s = elim s.is_open as (λ (o : Bool). (entered o t b s).player ≡ t.player) [ true ↦ refl | false ↦ refl ]
+replied_player (within b inner) t call r s =
+    elim s.is_open as (λ (o : Bool). (went_on o t (with_call call r b) (savepoints_after inner b (record { call = call; reply = r })) s).tally.player ≡ t.player) [ true ↦ refl | false ↦ refl ]
 
 pub tried_so : (retries : ℕ) (t : Tally Thread) (over : List Attempt) → ((tried retries t over).tally.player ≡ t.player) × ((tried retries t over).tally.stage ≡ outside)
 tried_so retries t over = elim (nat_lt retries t.nth) as (λ (b : Bool). (let x : Taken Thread = if b then record { tally = record t { stage = outside }; over = over; end = Some GaveUp } else record { tally = record t { nth = t.nth + 1; stage = outside }; over = over; end = None } in (x.tally.player ≡ t.player) × (x.tally.stage ≡ outside))) [ true ↦ (refl, refl) | false ↦ (refl, refl) ]

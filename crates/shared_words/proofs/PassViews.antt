@@ -4,15 +4,13 @@ use Rattle.shared_words.proofs.Common.{AllFit, AllMet, Ends, Fits, Good, Joined,
 use borrow.Author.Tests.{ltb-true, ltb-false}
 use Rattle.shared_words.proofs.MetWords.{all_both}
 use Rattle.shared_words.proofs.ListPlaces.{at_snoc, set_else, weigh_set, weigh_le, weigh_alone, starts_le, starts_whole, comparable}
-use Rattle.shared_words.proofs.GoodSteps.{each_set, hold, share_of, at_place}
+use Rattle.shared_words.proofs.GoodSteps.{at_place, each_set, hold, recounted, share_of}
 
-Log : Type 0
-Log = List (List (ℕ × ℕ))
-
-only : (m : List ℕ) (j : ℕ) (u : View) → get_elem? (opening m ∷ []) j ≡ some u → Fits m [] [] 0 u
-only m zero u e = subst (λ (x : View). Fits m [] [] 0 x) (some-injective (opening m) u e) record {
-  base_is = λ _. refl;
-  begins = ([], refl);
+-- a view that has seen nothing fits, whatever share it has
+nothing_fits : (base : List ℕ) (log : List (List (ℕ × ℕ))) (pending : List (ℕ × ℕ)) (clock share : ℕ) (m : List ℕ) → (0 < share → m ≡ base) → Fits base log pending clock (record (opening m) { share = share })
+nothing_fits base log pending clock share m same = record {
+  base_is = same;
+  begins = (log, refl);
   shorter = ([], refl);
   late = omega arith;
   high = omega arith;
@@ -23,6 +21,9 @@ only m zero u e = subst (λ (x : View). Fits m [] [] 0 x) (some-injective (openi
   met = tt;
   spent = λ z. (refl, refl);
 }
+
+only : (m : List ℕ) (j : ℕ) (u : View) → get_elem? (opening m ∷ []) j ≡ some u → Fits m [] [] 0 u
+only m zero u e = subst (λ (x : View). Fits m [] [] 0 x) (some-injective (opening m) u e) (nothing_fits m [] [] 0 128 m (λ _. refl))
 only m (suc j) u e = absurd (cc)
 
 pub opens : (m : List ℕ) → AllFit m → Good (0 ∷ m) (opening m ∷ [])
@@ -58,31 +59,17 @@ module _ (cells : List ℕ) (views : List View) (g : Good cells views) (id : ℕ
       let vs : List View = mid ++ cut_right v ∷ [] in
       let h : holders mid + hold v ≡ holders views + hold v = weigh_set hold views id v (cut_left v) at in
       let h' : holders vs ≡ holders mid + 0 = sum_by_push hold mid (cut_right v) in
-      let same : holders vs ≡ holders views = omega arith in
-      let c : clock ≡ clock_of g.log vs = ap (λ (n : ℕ). 2 * length g.log + n) (sym same) in
       let s : shares mid + v.share ≡ shares views + (v.share - 1) = weigh_set share_of views id v (cut_left v) at in
       let s' : shares vs ≡ shares mid + 1 = sum_by_push share_of mid (cut_right v) in
       let pl : (p : ℕ) → placed p vs ≡ placed p views = λ p. (
       let a : placed p mid + times p v.mine ≡ placed p views + times p v.mine = weigh_set (at_place p) views id v (cut_left v) at in
       let b : placed p vs ≡ placed p mid + 0 = sum_by_push (at_place p) mid (cut_right v) in
       omega arith) in
-      let one = g.one in
-      let whole = g.whole in
-      let left : Fits g.base g.log g.pending clock (cut_left v) = record {
-        base_is = λ l. f.base_is (omega arith);
-        begins = f.begins;
-        shorter = f.shorter;
-        late = f.late;
-        high = f.high;
-        long = f.long;
-        stands = f.stands;
-        positions = f.positions;
-        holding = f.holding;
-        met = f.met;
-        spent = λ z. absurd (omega arith);
-      } in
+      let whole : v.base ≡ g.base = f.base_is (omega arith) in
+      let left_spent : v.share - 1 ≡ 0 → (v.holds ≡ false) × (v.mine ≡ []) = λ z. absurd (omega arith) in
+      let left : Fits g.base g.log g.pending clock (cut_left v) = assumption (whole, left_spent, f) in
       let right : Fits g.base g.log g.pending clock (cut_right v) = record {
-        base_is = λ l. f.base_is (omega arith);
+        base_is = λ l. whole;
         begins = f.begins;
         shorter = (v.seen, refl);
         late = f.late;
@@ -94,23 +81,9 @@ module _ (cells : List ℕ) (views : List View) (g : Good cells views) (id : ℕ
         met = tt;
         spent = λ z. absurd (omega arith);
       } in
-      record {
-        base = g.base;
-        log = g.log;
-        pending = g.pending;
-        cells_are = g.cells_are ∙ ap (λ (n : ℕ). n ∷ stored (after g.base g.log) g.pending) c;
-        one = omega arith;
-        settled = λ z. g.settled (sym same ∙ z);
-        each = subst (λ (n : ℕ). (j : ℕ) (u : View) → get_elem? vs j ≡ some u → Fits g.base g.log g.pending n u) c
-            (λ j u e. ⊎_elim (λ (t : get_elem? mid j ≡ some u). each_set (Fits g.base g.log g.pending clock) views id (cut_left v) left (λ i x _ q. g.each i x q) j u t)
-            (λ (t : cut_right v ≡ u). subst (Fits g.base g.log g.pending clock) t right) (at_snoc mid (cut_right v) u j e));
-        placed_once = λ p l. pl p ∙ g.placed_once p l;
-        placed_none = λ p l. pl p ∙ g.placed_none p l;
-        whole = omega arith;
-        base_fits = g.base_fits;
-        log_fits = g.log_fits;
-        pending_fits = g.pending_fits;
-      }
+      recounted cells views g vs (omega arith) (omega arith) pl
+      (λ j u e. ⊎_elim (λ (t : get_elem? mid j ≡ some u). each_set (Fits g.base g.log g.pending clock) views id (cut_left v) left (λ i x _ q. g.each i x q) j u t)
+      (λ (t : cut_right v ≡ u). subst (Fits g.base g.log g.pending clock) t right) (at_snoc mid (cut_right v) u j e))
 
   -- what may be told of a view at any load
   pub settles : StartsWith v.seen v.shorter × ((p : ℕ) → times p v.mine ≤ 1)
@@ -132,26 +105,27 @@ module _ (cells : List ℕ) (views : List View) (g : Good cells views) (id : ℕ
       let r : n < length v.seen = f.positions n (omega arith) in
       omega arith
 
-  pub closes : v.share ≡ 128 → v.holds ≡ false → (cells ≡ 2 * length v.seen ∷ after v.base v.seen) × ((p : ℕ) → p < length v.seen → times p v.mine ≡ 1) × ((p : ℕ) → length v.seen ≤ p → times p v.mine ≡ 0)
-  closes all idle =
+  -- what the only view knows of the clock and the words
+  pub ends_of : v.share ≡ 128 → v.holds ≡ false → (first : ℕ) (words : List ℕ) → first ∷ words ≡ cells → Ends v first words
+  ends_of all idle first words are =
       let none : holders views ≡ 0 = weigh_alone share_of hold views id v (λ j a e z. idle_weight a.holds ((g.each j a e).spent z).0) at (g.whole ∙ sym all) ∙ idle_weight v.holds idle in
       let is : g.log ≡ v.seen = starts_whole g.log v.seen f.begins (seen_all all (length g.log) refl) in
       let b : v.base ≡ g.base = f.base_is (omega arith) in
       let len : length g.log ≡ length v.seen = ap length is in
-      let c : clock ≡ 2 * length v.seen = omega arith in (
-        g.cells_are ∙ (ap (λ (p : List (ℕ × ℕ)). clock ∷ stored (after g.base g.log) p) (g.settled none) ∙ (λ i. c i ∷ after (sym b i) (is i))),
-        λ p l. sym (longest all p) ∙ g.placed_once p (omega arith),
-        λ p l. sym (longest all p) ∙ g.placed_none p (omega arith),
-      )
-
-  pub closes_met : v.share ≡ 128 → v.holds ≡ false → AllMet v.base (v.seen ++ [] ∷ []) v.met
-  closes_met all idle =
-      let none : holders views ≡ 0 = weigh_alone share_of hold views id v (λ j a e z. idle_weight a.holds ((g.each j a e).spent z).0) at (g.whole ∙ sym all) ∙ idle_weight v.holds idle in
-      let is : g.log ≡ v.seen = starts_whole g.log v.seen f.begins (seen_all all (length g.log) refl) in
-      let b : v.base ≡ g.base = f.base_is (omega arith) in
       let none_left : g.pending ≡ [] = g.settled none in
       let hist : g.log ++ g.pending ∷ [] ≡ v.seen ++ [] ∷ [] = λ i. is i ++ none_left i ∷ [] in
-      subst (λ (l : List ℕ). AllMet l (v.seen ++ [] ∷ []) v.met) (sym b) (subst (λ (l : List (List (ℕ × ℕ))). AllMet g.base l v.met) hist f.met)
+      let both : first ∷ words ≡ clock ∷ after g.base g.log = are ∙ (g.cells_are ∙ ap (λ (p : List (ℕ × ℕ)). clock ∷ stored (after g.base g.log) p) none_left) in
+      let at_clock : first ≡ clock = cc in
+      let same : words ≡ after g.base g.log = cc in
+      let high = f.high in
+      record {
+        clock_is = omega arith;
+        high = omega arith;
+        words_are = same ∙ (λ i. after (sym b i) (is i));
+        met = subst (λ (l : List ℕ). AllMet l (v.seen ++ [] ∷ []) v.met) (sym b) (subst (λ (l : List (List (ℕ × ℕ))). AllMet g.base l v.met) hist f.met);
+        mine = λ p l. sym (longest all p) ∙ g.placed_once p (omega arith);
+        no_other = λ p l. sym (longest all p) ∙ g.placed_none p (omega arith);
+      }
 
   module _ (other : ℕ) (u : View) (apart : other ≢ id) (there : get_elem? views other ≡ some u) where
     abbrev f' : Fits g.base g.log g.pending clock u
@@ -180,8 +154,6 @@ module _ (cells : List ℕ) (views : List View) (g : Good cells views) (id : ℕ
         let h : holders mid + hold v ≡ holders views + hold v = weigh_set hold views id v w at in
         let h' : holders vs + hold u ≡ holders mid + 0 = weigh_set hold mid other u spent there' in
         let z : hold u ≡ 0 = idle_weight u.holds idle in
-        let same : holders vs ≡ holders views = omega arith in
-        let c : clock ≡ clock_of g.log vs = ap (λ (n : ℕ). 2 * length g.log + n) (sym same) in
         let s : shares mid + v.share ≡ shares views + (v.share + u.share) = weigh_set share_of views id v w at in
         let s' : shares vs + u.share ≡ shares mid + 0 = weigh_set share_of mid other u spent there' in
         let sum : (p : ℕ) → times p w.mine ≡ times p v.mine + times p u.mine = λ p. sum_by-append (λ (q : ℕ). cond {A = ℕ} (eqb q p) 1 0) v.mine u.mine in
@@ -190,8 +162,6 @@ module _ (cells : List ℕ) (views : List View) (g : Good cells views) (id : ℕ
         let b : placed p vs + times p u.mine ≡ placed p mid + 0 = weigh_set (at_place p) mid other u spent there' in
         let q = sum p in
         omega arith) in
-        let one = g.one in
-        let whole = g.whole in
         let fits : Fits g.base g.log g.pending clock w = record {
           base_is = λ _. f.base_is alive;
           begins = t.0;
@@ -207,50 +177,8 @@ module _ (cells : List ℕ) (views : List View) (g : Good cells views) (id : ℕ
           holding = λ hv. (let k = f.holding hv in (t.4 k.0, k.1, k.2));
           spent = λ none. absurd (omega arith);
         } in
-        let gone : Fits g.base g.log g.pending clock spent = record {
-          base_is = λ l. absurd (omega arith);
-          begins = (g.log, refl);
-          shorter = ([], refl);
-          late = omega arith;
-          high = omega arith;
-          long = omega arith;
-          stands = λ _ _. tt;
-          positions = λ p l. absurd (omega arith);
-          holding = λ no. absurd (cc);
-          met = tt;
-          spent = λ _. (refl, refl);
-        } in
-        record {
-          base = g.base;
-          log = g.log;
-          pending = g.pending;
-          cells_are = g.cells_are ∙ ap (λ (n : ℕ). n ∷ stored (after g.base g.log) g.pending) c;
-          one = omega arith;
-          settled = λ none. g.settled (sym same ∙ none);
-          each = subst (λ (n : ℕ). (j : ℕ) (x : View) → get_elem? vs j ≡ some x → Fits g.base g.log g.pending n x) c
-              (each_set (Fits g.base g.log g.pending clock) mid other spent gone (λ j x _ e. each_set (Fits g.base g.log g.pending clock) views id w fits (λ i y _ q. g.each i y q) j x e));
-          placed_once = λ p l. pl p ∙ g.placed_once p l;
-          placed_none = λ p l. pl p ∙ g.placed_none p l;
-          whole = omega arith;
-          base_fits = g.base_fits;
-          log_fits = g.log_fits;
-          pending_fits = g.pending_fits;
-        }
-
--- what the only view knows of the clock and the words
-pub ends_of : (cells : List ℕ) (views : List View) → Good cells views → (id : ℕ) (v : View) → get_elem? views id ≡ some v → v.share ≡ 128 → v.holds ≡ false
-    → (clock : ℕ) (words : List ℕ) → clock ∷ words ≡ cells → Ends v clock words
-ends_of cells views g id v at all idle clock words is =
-    let t = closes cells views g id v at all idle in
-    let both : clock ∷ words ≡ 2 * length v.seen ∷ after v.base v.seen = is ∙ t.0 in
-    record {
-      clock_is = cc;
-      high = (let h = (g.each id v at).high in let first : clock ≡ clock_of g.log views = (let c = is ∙ g.cells_are in cc) in omega arith);
-      words_are = cc;
-      met = closes_met cells views g id v at all idle;
-      mine = t.1;
-      no_other = t.2;
-    }
+        recounted cells views g vs (omega arith) (omega arith) pl
+        (each_set (Fits g.base g.log g.pending clock) mid other spent (nothing_fits g.base g.log g.pending clock 0 [] (λ l. absurd (omega arith))) (λ j x _ e. each_set (Fits g.base g.log g.pending clock) views id w fits (λ i y _ q. g.each i y q) j x e))
 
 -- what the view knows of them that holds the clock
 pub held_of : (cells : List ℕ) (views : List View) → Good cells views → (id : ℕ) (v : View) → get_elem? views id ≡ some v → v.holds ≡ true

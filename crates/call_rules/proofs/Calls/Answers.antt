@@ -1,6 +1,6 @@
 -- Each kind of answer.
 use Rattle.std.proofs.Common.{◌≡◌, inl, inr, ℕ, suc, ◌/◌, ◌<◌, ◌&&◌, not, Bool, true, false, List, [], ◌∷◌, ◌++◌, length, take, Option, None, Some, refl, sym, ap, subst, ◌∙◌, arith, length-append}
-use Rattle.call_rules.proofs.Common.{Agrees, Answer, Answers, Asks, Busy, Call, ComesTo, Commit, Commits, Committed, Conflict, Conflicts, ConflictsIn, Core, Differs, Ends, Enters, Full, GoesBegin, IsAtOnce, IsBegin, IsBusy, IsDue, IsFull, IsMemory, IsPatient, IsRead, IsRest, IsWithin, Loads, Meets, Next, Proceeds, Replies, RepliesHeld, Reply as Replied, Restarted, Served, Stands, Start, State, Tells, View, WantsClock, after_call as after, after_snoc, backed, bytes_of, came, came_over, false_from_ne_true, held, in_transaction, is_inside, left_over, memory_in, memory_of, mine_if, recoded, reply, rests, room_left, stands_for, stored, take_all, take_at, told_plainly, undone}
+use Rattle.call_rules.proofs.Common.{Agrees, Answer, Answers, Asks, Busy, Call, ComesTo, Commit, Commits, Committed, Conflict, Conflicts, ConflictsIn, Core, Differs, Ends, Enters, Full, GoesBegin, IsAtOnce, IsBegin, IsBusy, IsDue, IsFull, IsMemory, IsPatient, IsRead, IsRest, IsWithin, Loads, Meets, Next, Proceeds, Replies, RepliesHeld, Reply as Replied, Restarted, Served, Stands, Start, State, Tells, View, WantsClock, after_call as after, after_snoc, backed, bytes_of, came, came_over, cases_Bool, false_from_ne_true, held, in_transaction, is_inside, left_over, memory_in, memory_of, mine_if, recoded, reply, rests, room_left, stands_for, stored, take_all, take_at, told_plainly, undone}
 use Rattle.norec_core.specs.declared.answer.Answer.TheVariants.{Reply}
 use Rattle.norec_core.specs.Proceeds as engine
 use Rattle.norec_core.proofs.Replies.ReplyCases.{reply_cases}
@@ -107,17 +107,11 @@ module _ (s : Start) (w : View) (mid new : Core) (m : IsMid s w mid new) where
       } in
       (served s w mid new m rest tells (m.mine g.unfreed), stands s w mid new m rest)
     where
-      none : (b c : Bool) → c ≡ true → (b && not c) ≡ false
-      none true true e = refl
-      none false true e = refl
-      none b false e = absurd (cc)
-
       first_time : (s.again && not (in_transaction s.engine)) ≡ false
-      first_time = by_open (in_transaction s.engine) refl
-        where
-          by_open : (b : Bool) → in_transaction s.engine ≡ b → (s.again && not (in_transaction s.engine)) ≡ false
-          by_open true o = none s.again (in_transaction s.engine) o
-          by_open false c = absurd (both s.engine.irrevocable (mode_then s w mid new m ∙ g.irrevocable) (m.shut c).revocable)
+      first_time = elim (cases_Bool (in_transaction s.engine)) [
+        | inl o ↦ ap (λ (b : Bool). s.again && not b) o ∙ elim s.again as (λ (b : Bool). (b && false) ≡ false) [ true ↦ refl | false ↦ refl ]
+        | inr c ↦ absurd (both s.engine.irrevocable (mode_then s w mid new m ∙ g.irrevocable) (m.shut c).revocable)
+      ]
 
   pub replied_to : (r : Replied) → (s.engine.irrevocable ≡ true → IsHeldMid s w (Answers (Reply r)) new) → Ends mid (Reply r) new → Done (Reply r)
   replied_to r on g =
@@ -192,14 +186,13 @@ module _ (s : Start) (w : View) (mid new : Core) (m : IsMid s w mid new) where
   committed at wrote on g =
       let stays = g.stays in
       let rest = rests mid new (Committed at wrote) g in
-      let closed : in_transaction new ≡ false = ap in_transaction stays in
       let snap : new.snapshot ≡ mid.snapshot = ap (λ (c : Core). c.snapshot) stays in
       let at_is : at ≡ k = g.at_is ∙ ap (λ (n : ℕ). n / 2) (sym snap) in
       let same_call : Some s.call ≡ Some Commit = sym m.kept.doing ∙ g.doing in
       let call : s.call ≡ Commit = cc in
       let does = over at wrote g at_is s.engine.irrevocable refl call on in
       let tells : Commits s at wrote w new = record {
-        closes = closes s w mid new m rest (λ r. r) at closed at_is;
+        closes = closes s w mid new m rest (λ r. r) at (ap in_transaction stays) at_is;
         was_open = sym (ap is_inside m.kept.blocks) ∙ g.is_open;
         outermost = ap length (sym m.kept.blocks) ∙ g.outermost;
         call = call;
@@ -231,7 +224,6 @@ module _ (s : Start) (w : View) (mid new : Core) (m : IsMid s w mid new) where
   conflicted : (clock : ℕ) (word : Option ℕ) → GaveUp word → s.engine.irrevocable ≡ false → engine.Conflicts mid clock word new → IsRest mid (Conflict clock word) new → Done (Conflict clock word)
   conflicted clock word up was g rest =
       let stays = g.stays in
-      let closed : in_transaction new ≡ false = ap in_transaction stays in
       let snap : new.snapshot ≡ mid.snapshot = ap (λ (c : Core). c.snapshot) stays in
       let later = g.later in
       let clock_is = g.clock_is in
@@ -240,7 +232,7 @@ module _ (s : Start) (w : View) (mid new : Core) (m : IsMid s w mid new) where
       let late = (m.before g.is_open).late in
       let first = m.first is_open in
       let tells : Conflicts s clock word w new = record {
-        closes = closes s w mid new m rest (λ r. r) k closed refl;
+        closes = closes s w mid new m rest (λ r. r) k (ap in_transaction stays) refl;
         later = omega arith;
         clock_is = clock_is ∙ sym now;
         looks = elim (m.looked g.unfreed) [
@@ -272,12 +264,11 @@ module _ (s : Start) (w : View) (mid new : Core) (m : IsMid s w mid new) where
   lost : (clock : ℕ) (word : Option ℕ) → GaveUp word → s.engine.irrevocable ≡ false → in_transaction mid ≡ false → HasLooked → engine.IsLost mid clock word new → IsRest mid (Conflict clock word) new → Done (Conflict clock word)
   lost clock word up was shut looked g rest =
       let stays = g.stays in
-      let closed : in_transaction new ≡ false = ap in_transaction stays in
       let snap : new.snapshot ≡ mid.snapshot = ap (λ (c : Core). c.snapshot) stays in
       let later = g.later in
       let now = looked shut in
       let tells : Conflicts s clock word w new = record {
-        closes = closes s w mid new m rest (λ r. r) k closed refl;
+        closes = closes s w mid new m rest (λ r. r) k (ap in_transaction stays) refl;
         later = omega arith;
         clock_is = g.clock_is ∙ sym now.0;
         looks = now.1;
@@ -297,10 +288,9 @@ module _ (s : Start) (w : View) (mid new : Core) (m : IsMid s w mid new) where
   busy clock up was looked g =
       let stays = g.stays in
       let rest = rests mid new (Busy clock) g in
-      let closed : in_transaction new ≡ false = ap in_transaction stays in
       let now = looked g.closed in
       let tells : IsBusy s clock w new = record {
-        closes = closes s w mid new m rest (λ r. r) k closed refl;
+        closes = closes s w mid new m rest (λ r. r) k (ap in_transaction stays) refl;
         was_closed = shut_before g.closed;
         begins = begins_with g.begins;
         odd = g.odd;
@@ -315,11 +305,10 @@ module _ (s : Start) (w : View) (mid new : Core) (m : IsMid s w mid new) where
   full at was g =
       let stays = g.stays in
       let rest = rests mid new (Full at) g in
-      let closed : in_transaction new ≡ false = ap in_transaction stays in
       let limit : mid.max_commits ≡ s.engine.max_commits = m.kept.max_commits in
       let many = g.full in
       let tells : IsFull s at w new = record {
-        closes = closes s w mid new m rest (λ r. r) at closed g.at_is;
+        closes = closes s w mid new m rest (λ r. r) at (ap in_transaction stays) g.at_is;
         wants = wants_same s w mid new m s.call (subst (WantsClock mid) m.kept.doing g.wants);
         full = omega arith;
         undone = undone_is was g.undone;
@@ -328,12 +317,9 @@ module _ (s : Start) (w : View) (mid new : Core) (m : IsMid s w mid new) where
 
   -- a lost begin and a busy one have looked, as often as they may
   abbrev pub MayAnswer : Answer → Type 0
-  MayAnswer (Reply r) = Unit {0}
-  MayAnswer (Committed at wrote) = Unit {0}
   MayAnswer (Conflict clock word) = HasLooked × GaveUp word
-  MayAnswer (Restarted clock word) = Unit {0}
   MayAnswer (Busy clock) = HasLooked × IsPatient s w
-  MayAnswer (Full at) = Unit {0}
+  MayAnswer a = Unit {0}
 
   pub answered : (a : Answer) → MayAnswer a → (s.engine.irrevocable ≡ true → IsHeldMid s w (Answers a) new) → Ends mid a new → Done a
   answered (Reply r) looked on g = replied_to r on g
@@ -358,10 +344,7 @@ module _ (s : Start) (w : View) (mid new : Core) (m : IsMid s w mid new) where
 
   -- what may be answered at once
   pub at_once : (next : Next) → IsAtOnce next → MayEnd next
-  at_once (Asks step) a = tt
-  at_once (Answers (Reply r)) a = tt
-  at_once (Answers (Committed at wrote)) a = tt
   at_once (Answers (Conflict clock word)) a = absurd a
   at_once (Answers (Restarted clock word)) a = absurd a
   at_once (Answers (Busy clock)) a = absurd a
-  at_once (Answers (Full at)) a = tt
+  at_once next a = tt

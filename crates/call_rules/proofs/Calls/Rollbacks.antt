@@ -1,6 +1,6 @@
 -- A thread whose transaction is given up.
-use Rattle.std.proofs.Common.{◌≡◌, Bool, true, false, [], refl, sym, ap, subst, ◌∙◌, if◌then◌else◌}
-use Rattle.call_rules.proofs.Common.{Core, Idle, Stands, View, rolled_back}
+use Rattle.std.proofs.Common.{inl, inr, ◌≡◌, Bool, false, [], refl, sym, ap, subst, ◌∙◌, if◌then◌else◌}
+use Rattle.call_rules.proofs.Common.{Core, Idle, Stands, View, cases_Bool, rolled_back}
 use Rattle.norec_core.specs.Undoing.{after_undoing}
 
 -- the engine outside
@@ -34,11 +34,10 @@ rolled v e t free none = record {
 }
 
 pub stands_undone : (v : View) (e new : Core) → Stands v e → new ≡ after_undoing e → (e.holds ≡ false → (new.actions.commits ≡ []) × (new.actions.undos ≡ [])) → Stands v new
-stands_undone v e new t is none = by_holds e.holds refl
-  where
-    by_holds : (b : Bool) → e.holds ≡ b → Stands v new
-    by_holds true h = subst (Stands v) (sym (is ∙ ap (λ (b : Bool). if b then e else outside e) h)) t
-    by_holds false h =
-        let now : new ≡ outside e = is ∙ ap (λ (b : Bool). if b then e else outside e) h in
-        let left : ((outside e).actions.commits ≡ []) × ((outside e).actions.undos ≡ []) = subst (λ (c : Core). (c.actions.commits ≡ []) × (c.actions.undos ≡ [])) now (none h) in
-        subst (Stands v) (sym now) (rolled v e t h left)
+stands_undone v e new t is none = elim (cases_Bool e.holds) [
+  | inl h ↦ subst (Stands v) (sym (is ∙ ap (λ (b : Bool). if b then e else outside e) h)) t
+  | inr h ↦
+      (let now : new ≡ outside e = is ∙ ap (λ (b : Bool). if b then e else outside e) h in
+      let left : ((outside e).actions.commits ≡ []) × ((outside e).actions.undos ≡ []) = subst (λ (c : Core). (c.actions.commits ≡ []) × (c.actions.undos ≡ [])) now (none h) in
+      subst (Stands v) (sym now) (rolled v e t h left))
+]

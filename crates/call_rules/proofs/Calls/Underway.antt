@@ -1,5 +1,5 @@
 -- A call of a thread that was left off between a step and what comes of it.
-use Rattle.std.proofs.Common.{ℕ, ◌++◌, Bool, Result, Ok, Err, IfOk, IfErr}
+use Rattle.std.proofs.Common.{ℕ, ◌++◌, Bool}
 use Rattle.call_rules.proofs.Common.{Answer, Answers, Asks, Call, Core, Finishes, HasStepped, IsDone, IsOver, IsUnderway, Pass, Stands, Start, Words, cells_of, view_of}
 use Rattle.call_rules.proofs.Steps.DrivenCalls.{due_on, leads_further}
 use Rattle.call_rules.proofs.Steps.StepChains.{starts}
@@ -33,12 +33,3 @@ module _ {A : Type 0} (words : Words A) (p : Pass) (e : Core) (call : Call) (aga
         steps = f.steps ++ k.steps;
         leads = leads_further (cells_of words) f.steps k.steps (view_of p) f.before (view_of pass) u.came new last u.first (Asks f.step) (Answers a) f.leads k.leads;
       }
-
--- what a result tells, as what follows of it
-pub if_ok : {A E : Type 0} (P Q : A → Type 0) → ((a : A) → P a → Q a) → (r : Result A E) → IfOk r P → IfOk r Q
-if_ok P Q f (Ok a) p = f a p
-if_ok P Q f (Err e) p = p
-
-pub if_err : {A E : Type 0} (P Q : E → Type 0) → ((e : E) → P e → Q e) → (r : Result A E) → IfErr r P → IfErr r Q
-if_err P Q f (Ok a) p = p
-if_err P Q f (Err e) p = f e p

@@ -1,13 +1,9 @@
 -- Outside a transaction the clock may be loaded before the call that asks for it has come.
-use Rattle.std.proofs.Common.{◌≡◌, ℕ, ◌<◌, ◌≤◌, Bool, true, false, refl, sym, ◌∙◌, arith}
-use Rattle.call_rules.proofs.Common.{Core, IsOver, Lawful, Load, Stands, StepTells, View, in_transaction}
-
-free_outside : (b : Bool) (v : View) (e : Core) → v.holds ≡ b → Stands v e → in_transaction e ≡ false → b ≡ false
-free_outside false v e is t closed = refl
-free_outside true v e is t closed = (let inside = (t.settled.holder (sym t.holds ∙ is)).0 in absurd (cc))
+use Rattle.std.proofs.Common.{◌≡◌, ℕ, ◌<◌, ◌≤◌, false, refl, sym, ◌∙◌, arith}
+use Rattle.call_rules.proofs.Common.{Core, IsOver, Lawful, Load, Stands, StepTells, View, false_from_ne_true, in_transaction}
 
 pub may_look : (v : View) (e : Core) → Stands v e → in_transaction e ≡ false → Lawful v (Load 0)
-may_look v e t closed = λ z. free_outside v.holds v e refl t closed
+may_look v e t closed = λ z. false_from_ne_true v.holds (λ h. (let inside = (t.settled.holder (sym t.holds ∙ h)).0 in cc))
 
 pub clock_within : (cells : ℕ) (v : View) → IsOver cells v → 0 < cells
 clock_within cells v o = let size = o.size in omega arith

@@ -1,6 +1,6 @@
 -- What a thread says of a call follows from the steps of its engine.
-use Rattle.std.proofs.Common.{◌≡◌, ◌≢◌, ℕ, zero, suc, ◌+◌, Bool, true, false, List, [], ◌∷◌, ◌++◌, refl, sym, ap, ◌∙◌, subst, arith, append_assoc, append-nil}
-use Rattle.call_rules.proofs.Common.{Answer, Answers, Asks, Cas, Core, Drives, HasStepped, IsDriven, IsDue, IsOver, LeadsOn, Load, Loaded, Next, Served, Stands, Start, Step, StepTells, Store, View, dite, ℕ_discrete}
+use Rattle.std.proofs.Common.{inl, inr, ◌≡◌, ◌≢◌, ℕ, zero, suc, ◌+◌, List, [], ◌∷◌, ◌++◌, refl, sym, ap, ◌∙◌, subst, arith, append_assoc, append-nil}
+use Rattle.call_rules.proofs.Common.{Answer, Answers, Asks, Cas, Core, Drives, HasStepped, IsDriven, IsDue, IsOver, LeadsOn, Load, Next, Served, Stands, Start, Step, StepTells, Store, View, cases_Bool, dite, ℕ_discrete}
 use Rattle.call_rules.proofs.Steps.StepChains.{goes, starts}
 
 -- what is due stays due, step by step
@@ -23,14 +23,9 @@ served cells s a v e over stands d =
 -- one step, with what it found
 noted_step : (v w : View) (n : ℕ) (step : Step) → HasStepped v step n w → w.steps ≡ v.steps ++ (step, n) ∷ []
 noted_step v w n (Load zero) h = ap (λ (x : View). x.steps) (h.turn.0 refl).0
-noted_step v w n (Load (suc word)) h = by_holds v.holds refl
-  where
-    told : Loaded v (Load (suc word)) word n w
-    told = h.turn.1 word (let x : suc word ≡ word + 1 = omega arith in x)
-
-    by_holds : (b : Bool) → v.holds ≡ b → w.steps ≡ v.steps ++ (Load (suc word), n) ∷ []
-    by_holds true is = ap (λ (x : View). x.steps) (told.1 is).0
-    by_holds false is = ap (λ (x : View). x.steps) (told.0 is)
+noted_step v w n (Load (suc word)) h =
+    let told = h.turn.1 word (let x : suc word ≡ word + 1 = omega arith in x) in
+    elim (cases_Bool v.holds) [ inl is ↦ ap (λ (x : View). x.steps) (told.1 is).0 | inr is ↦ ap (λ (x : View). x.steps) (told.0 is) ]
 noted_step v w n (Store zero value) h =
     ap (λ (x : View). x.steps) (h.turn.0 refl).0 ∙ ap (λ (m : ℕ). v.steps ++ (Store 0 value, m) ∷ []) (sym h.moves.finds_it)
 noted_step v w n (Store (suc word) value) h =

@@ -73,10 +73,6 @@ module _ {A : Type 0} (words : Words A) (v : View) (e : Core) (first : Step) (s 
           let less = smaller (cells_of words) (view_of pass) (view_of after) on.own.over own.over mid new step n stepped.turn then resumed s in_call in
           omega (arith, less, ap (left mid) next_is)
 
-  -- all steps were done
-  pub all_steps : (pass : Pass) (new : Core) (a : Answer) → Finishes words v e (Asks first) a pass new → StepsOn words v e first pass new (Answers a)
-  all_steps pass new a f = record { own = f.own; steps = f.steps; leads = f.leads; less = omega arith }
-
   -- steps were done, and the engine is handed what the last one found
   module _ (pass : Pass) (mid : Core) (n : ℕ) (f : Finds words v e (Asks first) n pass mid) where
     pub found_in : InCall s f.before mid f.step

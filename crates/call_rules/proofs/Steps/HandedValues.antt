@@ -1,6 +1,6 @@
 -- The step was done, and its value is handed in.
-use Rattle.std.proofs.Common.{◌≡◌, ◌≢◌, ◌⊎◌, inr, ℕ, zero, suc, ◌+◌, ◌/◌, ◌<◌, ◌≤◌, ◌==◌, Bool, true, false, List, [], ◌∷◌, ◌++◌, length, set, take, if◌then◌else◌, None, Some, slice_get, refl, sym, ap, subst, ◌∙◌, arith, eqb-true, eq-eqb, length-append}
-use Rattle.call_rules.proofs.Common.{Cas, Core, Follows, Got, InCall, IsFresh, IsHanded, IsHolding, IsLawful, IsMemory, IsOver, IsSettled, IsTied, Joins, Load, Loaded, Sees, Start, Step, StepTells, Store, View, after, agrees_more, asked, backed, freed, got_now, got_or, handed_is, handed_to, held, in_transaction, is_inside, keeps_twice, looked, noted, read, snapshot_same, starts_self, stored_snoc, took, word_loaded, wrote}
+use Rattle.std.proofs.Common.{◌≡◌, ◌≢◌, ◌⊎◌, inl, inr, ℕ, zero, suc, ◌+◌, ◌/◌, ◌<◌, ◌≤◌, ◌==◌, Bool, true, false, List, [], ◌∷◌, ◌++◌, length, set, take, if◌then◌else◌, None, Some, slice_get, refl, sym, ap, subst, ◌∙◌, arith, eqb-true, eq-eqb, length-append}
+use Rattle.call_rules.proofs.Common.{Cas, Core, Follows, Got, InCall, IsFresh, IsHanded, IsHolding, IsLawful, IsMemory, IsOver, IsSettled, IsTied, Joins, Load, Loaded, Sees, Start, Step, StepTells, Store, View, after, agrees_more, asked, backed, cases_Bool, freed, got_now, got_or, handed_is, handed_to, held, in_transaction, is_inside, keeps_twice, looked, noted, read, snapshot_same, starts_self, stored_snoc, took, word_loaded, wrote}
 use Rattle.norec_core.specs.Phases as at
 use Rattle.norec_core.specs.OwnAccesses.{got_in}
 use Rattle.write_set.specs.Rows.{overlay}
@@ -44,7 +44,7 @@ module _ (s : Start) (v : View) (e : Core) (step : Step) (i : InCall s v e step)
     fresh = d.fresh;
     before = λ x. before_on s v e step i n new joins settled w base_is share_is k mid h.log h.snapshot h.keeps.restarted (sym (ap is_inside h.keeps.blocks) ∙ x);
     empty = λ c. h.log ∙ (t.settled.closed (sym (ap is_inside h.keeps.blocks) ∙ c)).0;
-    clocks = by_open (in_transaction e) refl;
+    clocks = λ o. elim (cases_Bool (in_transaction e)) [ inl was ↦ d.clocks (ap is_inside h.keeps.blocks ∙ was) | inr was ↦ d.opened was o ];
     clock = λ x. (d.clocks x).clock;
     logged = logged_on s v e step i n new joins settled w base_is share_is k;
     holding = d.holding;
@@ -64,10 +64,6 @@ module _ (s : Start) (v : View) (e : Core) (step : Step) (i : InCall s v e step)
     steps = (let a = h.spent in let b = i.steps in let c = d.stepped in omega arith);
     spent = (let a = h.spent in let b = i.within in omega arith);
   }
-    where
-      by_open : (b : Bool) → in_transaction e ≡ b → in_transaction new ≡ true → Follows w mid
-      by_open true was o = d.clocks (ap is_inside h.keeps.blocks ∙ was)
-      by_open false was o = d.opened was o
 
   -- the holder or a reader of words is open
   open_before : in_transaction e ≡ true → (w : View) (mid : Core) → in_transaction e ≡ false → in_transaction new ≡ true → Follows w mid

@@ -10,21 +10,17 @@ module _ (s : Start) (v : View) (e : Core) (n : ℕ) (w : View) (holds : e.holds
 
   -- what the holder found stands in its words
   loaded_there : (step : Step) → InCall s v e step → StepTells v step n w → IsLoaded step n (held v)
-  loaded_there (Load zero) i u = tt
   loaded_there (Load (suc word)) i u =
       let told = (u.1 word (add_one word)).1 (i.tied.holds ∙ holds) in
       let inside = i.lawful.0 in
       let long : length (held v) ≡ e.words = (held_memory e.words v i.tied.over).0 in
       get_of (held v) word n (omega arith) (sym told.1)
-  loaded_there (Store cell value) i u = tt
-  loaded_there (Cas cell from to) i u = tt
+  loaded_there step i u = tt
 
   found_there : (step : Step) → (i : InCall s v e step) → HeldOn s v e → StepTells v step n w → IsFound e (Some step) n (held v)
-  found_there (Load zero) i h u = tt
   found_there (Load (suc word)) i h u = loaded_there (Load (suc word)) i u
-  found_there (Store zero value) i h u = tt
   found_there (Store (suc word) value) i h u = h.got word value i.waits
-  found_there (Cas cell from to) i h u = tt
+  found_there step i h u = tt
 
   -- the words after the step
   words_then : (step : Step) → InCall s v e step → StepTells v step n w → memory_after (Some step) (held v) ≡ held w

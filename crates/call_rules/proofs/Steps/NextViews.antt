@@ -60,15 +60,12 @@ module _ (s : Start) (v : View) (e : Core) (step : Step) (i : InCall s v e step)
         let long : length (after v.base h) ≡ e.words = length_after v.base h ∙ (let q : length v.base ≡ e.words = omega arith in q) in
         subst (λ (m : List ℕ). Agrees m e.fresh) (sym whole) (t.fresh (after v.base h) long (a.even x.even same))
 
-    longer : length v.seen ≤ length h
-    longer = starts_le h v.seen k.grows
-
     reach : in_transaction e ≡ true → e.snapshot / 2 ≤ length v.seen
     reach o = let c = (t.clocks o).count in let r = t.settled.reached in omega arith
 
     was_seen : in_transaction e ≡ true → new.snapshot / 2 ≤ length h
     was_seen o = elim (joins.snapshot o) [
-      | inl same ↦ (let a = reach o in let b = longer in omega arith)
+      | inl same ↦ (let a = reach o in let b = starts_le h v.seen k.grows in omega arith)
       | inr (inl moved) ↦ (let a = k.at_load (waits_same (Load 0) moved.0.load) in let c = a.count in let m = moved.2 in omega arith)
       | inr (inr back) ↦ (let a = k.at_load (waits_same (Load 0) back.settles.load) in let c = a.count in let m = back.moved in omega arith)
     ]
@@ -85,12 +82,6 @@ module _ (s : Start) (v : View) (e : Core) (step : Step) (i : InCall s v e step)
       | inl all ↦ all
       | inr back ↦ none_back same back
     ]
-
-    log_now : in_transaction new ≡ true → Agrees (memory (new.snapshot / 2)) new.log
-    log_now o = logs.log_now e new n joins t.settled memory old settled_fresh o
-
-    open_then : in_transaction s.engine ≡ true → in_transaction e ≡ true
-    open_then o = ap is_inside i.kept.blocks ∙ o
 
     over_then : GoesOver e new → GoesOver s.engine new
     over_then g = record { was = sym i.kept.irrevocable ∙ g.was; is = g.is; log = g.log }
@@ -135,14 +126,14 @@ module _ (s : Start) (v : View) (e : Core) (step : Step) (i : InCall s v e step)
     }
 
     pub logged_on : in_transaction new ≡ true → Agrees (memory_of w (new.snapshot / 2)) new.log
-    logged_on o = subst (λ (b : List ℕ). Agrees (memory_at b w.seen (new.snapshot / 2)) new.log) (sym base_is) (log_now w.seen w.looks k o)
+    logged_on o = subst (λ (b : List ℕ). Agrees (memory_at b w.seen (new.snapshot / 2)) new.log) (sym base_is) (logs.log_now e new n joins t.settled (memory w.seen w.looks k) (old w.seen w.looks k) (settled_fresh w.seen w.looks k) o)
 
     agrees_on : in_transaction e ≡ true → new.restarted ≡ e.restarted → Agrees (memory_of w (new.snapshot / 2)) e.log
     agrees_on o same = subst (λ (b : List ℕ). Agrees (memory_at b w.seen (new.snapshot / 2)) e.log) (sym base_is) (was_logged w.seen w.looks k o same)
 
     pub grows_on : in_transaction s.engine ≡ true → in_transaction new ≡ true → new.restarted ≡ e.restarted → Grows s w new
     grows_on o o' same =
-        let eo = open_then w.seen w.looks k o in
+        let eo : in_transaction e ≡ true = ap is_inside i.kept.blocks ∙ o in
         let grew = i.grew eo in
         let a = grew.snapshot in
         let b = snapshot_late e new n joins t.settled eo in

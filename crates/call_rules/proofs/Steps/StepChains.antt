@@ -1,8 +1,7 @@
 -- From step to step of a call.
 use Rattle.std.proofs.Common.{◌≡◌, ◌≢◌, ℕ, zero, suc, ◌+◌, ◌/◌, ◌<◌, ◌≤◌, Bool, true, false, Option, None, Some, IsSome, slice_get, refl, sym, ap, subst, ◌∙◌, arith}
-use Rattle.call_rules.proofs.Common.{Answer, Answers, Asks, Busy, Call, Cas, Committed, Conflict, Core, Ends, EndsSo, Fits, FitsStep, Full, Got, Idle, InCall, IsCalled, IsDue, IsEnding, IsLawful, IsOpening, IsOver, IsPatient, IsResumed, IsTied, Lawful, Load, Next, Phase, Proceeds, Restarted, Served, Stands, Start, Step, StepTells, Store, View, WasFound, asked_from, came, cell_of, dite, ending_after, ending_from, handed_is, handed_to, held, in_transaction, is_inside, left, most, most_same, pending, rests, stage_from, ℕ_discrete}
+use Rattle.call_rules.proofs.Common.{Answer, Answers, Asks, Busy, Call, Cas, Conflict, Core, Ends, EndsSo, Fits, FitsStep, Got, Idle, InCall, IsCalled, IsDue, IsEnding, IsLawful, IsOpening, IsOver, IsPatient, IsResumed, IsTied, Lawful, Load, Next, Phase, Proceeds, Stands, Start, Step, StepTells, Store, View, WasFound, asked_from, came, cell_of, dite, ending_after, ending_from, handed_is, handed_to, held, in_transaction, is_inside, left, most, most_same, pending, rests, stage_from, ℕ_discrete}
 use Rattle.itm_types.specs.declared.limits.TheConstants.{MAX_COMMITS}
-use Rattle.norec_core.specs.declared.answer.Answer.TheVariants.{Reply}
 use Rattle.call_rules.proofs.Steps.CallsInHand.{IsMid, IsHeldMid, Tried}
 use Rattle.call_rules.proofs.Steps.NewCalls.{comes, comes_held, comes_tried}
 use Rattle.call_rules.proofs.Steps.HandedValues.{hands, closed_look}
@@ -14,9 +13,6 @@ use Rattle.call_rules.proofs.Steps.Tries.{busy_last, goes_begin, lost_last, next
 pub at_step : (s : Start) (v : View) (e : Core) (next : Next) (step : Step) → next ≡ Asks step → IsDue s v e next → InCall s v e step
 at_step s v e next step is d = subst (IsDue s v e) is d
 
-pub at_answer : (s : Start) (v : View) (e : Core) (next : Next) (a : Answer) → next ≡ Answers a → IsDue s v e next → Served s a v e × Stands v e
-at_answer s v e next a is d = subst (IsDue s v e) is d
-
 pub lawful_of : (v : View) (e : Core) → IsTied v e → (step : Step) → IsLawful e step → Lawful v step
 lawful_of v e t (Load zero) l = λ z. t.holds ∙ l.1
 lawful_of v e t (Load (suc word)) l = λ z. absurd (omega arith)
@@ -26,9 +22,6 @@ lawful_of v e t (Cas cell from to) l = let few = t.settled.limit in let less = l
 
 -- what the engine has found of a word that it stores is what the holder's stores have left
 pub got_there : (s : Start) (v : View) (e : Core) (step : Step) (found : Option ℕ) → InCall s v e step → found ≡ e.got → WasFound v step found
-got_there s v e (Load cell) found i is = tt
-got_there s v e (Store zero value) found i is = tt
-got_there s v e (Cas cell from to) found i is = tt
 got_there s v e (Store (suc word) value) found i is = by_found found (subst (λ (o : Option ℕ). Got o (slice_get (held v) word)) (sym is) (by_mode e.irrevocable refl))
   where
     by_mode : (b : Bool) → e.irrevocable ≡ b → Got e.got (slice_get (held v) word)
@@ -38,6 +31,7 @@ got_there s v e (Store (suc word) value) found i is = by_found found (subst (λ 
     by_found : (o : Option ℕ) → Got o (slice_get (held v) word) → WasFound v (Store (suc word) value) o
     by_found None g = tt
     by_found (Some n) g = g
+got_there s v e step found i is = tt
 
 inside : (e : Core) (step : Step) → IsLawful e step → cell_of step ≤ e.words
 inside e (Load cell) l = l.0
@@ -112,8 +106,6 @@ module _ (cells : ℕ) (v w : View) (ov : IsOver cells v) (ow : IsOver cells w) 
       due s w (handed_to e (Some step) n) new m next (may s w (handed_to e (Some step) n) new m next may_so) (tried_on s i) on (went s i) r.count
     where
       by_answer : (s : Start) (i : InCall s v e step) (m : IsMid s w (handed_to e (Some step) n) new) → HasLooked s w (handed_to e (Some step) n) new m → (a : Answer) → next ≡ Answers a → MayAnswer s w (handed_to e (Some step) n) new m a
-      by_answer s i m looked (Reply r) is = tt
-      by_answer s i m looked (Committed at wrote) is = tt
       by_answer s i m looked (Conflict clock word) is = (
         looked,
         (
@@ -122,9 +114,8 @@ module _ (cells : ℕ) (v w : View) (ov : IsOver cells v) (ow : IsOver cells w) 
           (tried_on s i).loads,
         ),
       )
-      by_answer s i m looked (Restarted clock word) is = tt
       by_answer s i m looked (Busy clock) is = (looked, patient s i (busy_last e n clock e.stage (ended_so (Busy clock) is) (rested s i (Busy clock) is)))
-      by_answer s i m looked (Full at) is = tt
+      by_answer s i m looked a is = tt
 
   less : (s : Start) → InCall s v e step → (next' : Next) → Proceeds (handed_to e (Some step) n) next' new → IsDue s w new next' → left new next' < left e (Asks step)
   less s i (Asks step') g d =

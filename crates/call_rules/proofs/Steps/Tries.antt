@@ -1,6 +1,6 @@
 -- How often a call has tried as it gives up, and what asks for a step outside a transaction.
-use Rattle.std.proofs.Common.{◌≡◌, ◌≢◌, ℕ, zero, suc, ◌+◌, ◌*◌, ◌/◌, ◌%◌, ◌≤◌, ◌==◌, ◌&&◌, not, nat_le, nat_lt, Bool, true, false, List, [], ◌∷◌, length, if◌then◌else◌, is_none, Option, None, Some, refl, ap, subst, ◌∙◌, arith}
-use Rattle.call_rules.proofs.Common.{Answer, Busy, Call, Cas, Confirm, Conflict, Core, Exchange, Frame, Free, Full, GoesBegin, Idle, IsEnding, IsLawful, IsOpening, Phase, Restarted, RoundBack, RoundEnd, RoundRow, RoundStart, Step, StepTells, Store, Take, TakesFor, View, again_stage, aimed_ending, asked, asked_from, begin_stage, commit_stage, copying_stage, dite, ending_from, fill_from, going_stage, in_transaction, is_inside, is_outermost, ltb-false, may_go, pending, place_from, placed_in, read_stage, row_stage, stage_at, stage_from, stays_revocable, tries_after, tries_at, try_stage, value_reading, value_writing, ℕ_discrete}
+use Rattle.std.proofs.Common.{inl, inr, ◌≡◌, ◌≢◌, ℕ, zero, suc, ◌+◌, ◌*◌, ◌/◌, ◌%◌, ◌≤◌, ◌==◌, ◌&&◌, not, nat_le, nat_lt, Bool, true, false, List, [], ◌∷◌, length, if◌then◌else◌, is_none, Option, None, Some, refl, ap, subst, ◌∙◌, arith}
+use Rattle.call_rules.proofs.Common.{Answer, Busy, Call, Cas, Confirm, Conflict, Core, Exchange, Frame, Free, Full, GoesBegin, Idle, IsEnding, IsLawful, IsOpening, Phase, Restarted, RoundBack, RoundEnd, RoundRow, RoundStart, Step, StepTells, Store, Take, TakesFor, View, again_stage, aimed_ending, asked, asked_from, begin_stage, cases_Bool, commit_stage, copying_stage, dite, ending_from, fill_from, going_stage, in_transaction, is_inside, is_outermost, ltb-false, may_go, pending, place_from, placed_in, read_stage, row_stage, stage_at, stage_from, stays_revocable, tries_after, tries_at, try_stage, value_reading, value_writing, ℕ_discrete}
 use Rattle.itm_types.specs.Access.{size_of}
 use Rattle.itm_types.specs.declared.call.Call.TheVariants as calls
 use Rattle.itm_types.specs.declared.step.Step.TheVariants as steps
@@ -17,11 +17,10 @@ use Rattle.call_rules.proofs.Steps.CallsInHand.{both}
 
 pub looks_on : (v w : View) (n : ℕ) (step : Step) → StepTells v step n w → v.looks ≤ w.looks
 looks_on v w n (steps.Load zero) u = let is : w.looks ≡ v.looks + 1 = ap (λ (x : View). x.looks) (u.0 refl).0 in omega arith
-looks_on v w n (steps.Load (suc word)) u = by_holds v.holds refl
-  where
-    by_holds : (b : Bool) → v.holds ≡ b → v.looks ≤ w.looks
-    by_holds true h = let is : w.looks ≡ v.looks = ap (λ (x : View). x.looks) ((u.1 word (let x : suc word ≡ word + 1 = omega arith in x)).1 h).0 in omega arith
-    by_holds false h = let is : w.looks ≡ v.looks = ap (λ (x : View). x.looks) ((u.1 word (let x : suc word ≡ word + 1 = omega arith in x)).0 h) in omega arith
+looks_on v w n (steps.Load (suc word)) u =
+    let told = u.1 word (let x : suc word ≡ word + 1 = omega arith in x) in
+    let is : w.looks ≡ v.looks = elim (cases_Bool v.holds) [ inl h ↦ ap (λ (x : View). x.looks) (told.1 h).0 | inr h ↦ ap (λ (x : View). x.looks) (told.0 h) ] in
+    omega arith
 looks_on v w n (Store zero value) u = let is : w.looks ≡ v.looks = ap (λ (x : View). x.looks) (u.0 refl).0 in omega arith
 looks_on v w n (Store (suc word) value) u = let is : w.looks ≡ v.looks = ap (λ (x : View). x.looks) (u.1 word (let x : suc word ≡ word + 1 = omega arith in x)) in omega arith
 looks_on v w n (Cas cell from to) u = dite (ℕ_discrete n from)
@@ -106,11 +105,13 @@ not_round : (aim : Aim) → RoundStart aim ≢ Idle
 not_round aim e = absurd (cc)
 
 not_row : (rows : ℕ) (aim : Aim) (row : ℕ) → row_stage rows aim row ≢ Idle
-not_row rows aim row = by (nat_lt row rows)
-  where
-    by : (b : Bool) → (if b then RoundRow aim row else RoundEnd aim) ≢ Idle
-    by true e = absurd (cc)
-    by false e = absurd (cc)
+not_row rows aim row = elim (nat_lt row rows) as (λ (b : Bool). (if b then RoundRow aim row else RoundEnd aim) ≢ Idle) [ true ↦ λ e. absurd (cc) | false ↦ λ e. absurd (cc) ]
+
+-- the clock as a begin finds it is no conflict
+not_begun : (seen clock : ℕ) (word : Option ℕ) (even goes : Bool) → IsEnding (if even then (if goes then Some (Full (seen / 2)) else None) else Some (Busy seen)) (Conflict clock word) → ⊥
+not_begun seen clock word true true g = absurd (cc)
+not_begun seen clock word true false g = g
+not_begun seen clock word false goes g = absurd (cc)
 
 module _ (c : Core) (seen clock : ℕ) where
   abbrev Lost : Answer
@@ -120,11 +121,6 @@ module _ (c : Core) (seen clock : ℕ) where
   by_same : (b : Bool) (x y : Phase) → y ≢ Idle → IsEnding (if b then None else Some (Conflict seen None)) Lost → (if b then x else (if nat_lt c.tries c.patience then y else Idle)) ≡ Idle → c.patience ≤ c.tries
   by_same true x y some g is = absurd g
   by_same false x y some g is = none_left c.tries c.patience y some is
-
-  pub not_at_begin : (even goes : Bool) → IsEnding (if even then (if goes then Some (Full (seen / 2)) else None) else Some (Busy seen)) Lost → ⊥
-  not_at_begin true true g = absurd (cc)
-  not_at_begin true false g = g
-  not_at_begin false goes g = absurd (cc)
 
   by_even : (b : Bool) (aim : Aim) → (if b then row_stage (length c.log) aim 0 else try_stage c.tries c.patience aim) ≡ Idle → c.patience ≤ c.tries
   by_even true aim is = absurd (not_row (length c.log) aim 0 is)
@@ -140,7 +136,7 @@ module _ (c : Core) (seen clock : ℕ) where
   by_back false aim word g is = none_left c.tries c.patience (RoundStart aim) (not_round aim) is
 
   pub lost_last : (p : Phase) → IsEnding (ending_from c p seen) Lost → stage_from c p seen ≡ Idle → c.patience ≤ c.tries
-  lost_last (Begin b) g is = absurd (not_at_begin (seen % 2 == 0) b.props.goes_irrevocable g)
+  lost_last (Begin b) g is = absurd (not_begun seen clock None (seen % 2 == 0) b.props.goes_irrevocable g)
   lost_last (Take b) g is = by_same (seen == c.snapshot) _ (Begin b) (not_begin b) g is
   lost_last (Confirm r value) g is = by_same (seen == c.snapshot) _ (RoundStart (aims.Read r)) (not_round (aims.Read r)) g is
   lost_last (RoundStart aim) g is = by_even (seen % 2 == 0) aim is
@@ -183,21 +179,13 @@ module _ (c : Core) (seen clock : ℕ) where
   busy_last p g is = absurd g
 
 -- a begin alone loses the clock outside, and it goes irrevocable
-not_begun : (c : Core) (seen clock : ℕ) (word : Option ℕ) (even goes : Bool) → IsEnding (if even then (if goes then Some (Full (seen / 2)) else None) else Some (Busy seen)) (Conflict clock word) → ⊥
-not_begun c seen clock word true true g = absurd (cc)
-not_begun c seen clock word true false g = g
-not_begun c seen clock word false goes g = absurd (cc)
-
 takes_goes : (c : Core) (call : Call) → in_transaction c ≡ false → TakesFor c (Some call) → GoesBegin call
 takes_goes c (calls.Begin props room) closed t = t closed
 takes_goes c call closed t = absurd (both (in_transaction c) t closed)
 
-lawful_take : (c : Core) (step : Step) (from to : ℕ) → step ≡ Cas 0 from to → IsLawful c step → TakesFor c c.doing
-lawful_take c step from to is l = (let there : IsLawful c (Cas 0 from to) = subst (IsLawful c) is l in there.2)
-
 pub goes_begin : (c : Core) (call : Call) (step : Step) (seen clock : ℕ) (word : Option ℕ) → in_transaction c ≡ false → c.doing ≡ Some call → Some step ≡ asked c → IsLawful c step → (p : Phase) → c.stage ≡ p → IsOpening p → IsEnding (ending_from c p seen) (Conflict clock word) → GoesBegin call
-goes_begin c call step seen clock word closed doing asks lawful (Begin b) is o g = absurd (not_begun c seen clock word (seen % 2 == 0) b.props.goes_irrevocable g)
+goes_begin c call step seen clock word closed doing asks lawful (Begin b) is o g = absurd (not_begun seen clock word (seen % 2 == 0) b.props.goes_irrevocable g)
 goes_begin c call step seen clock word closed doing asks lawful (Take b) is o g =
     let same : step ≡ Cas 0 c.snapshot (c.snapshot + 1) = (let x : Some step ≡ Some (Cas 0 c.snapshot (c.snapshot + 1)) = asks ∙ ap (asked_from c) is in cc) in
-    takes_goes c call closed (subst (TakesFor c) doing (lawful_take c step c.snapshot (c.snapshot + 1) same lawful))
+    takes_goes c call closed (subst (TakesFor c) doing (let there : IsLawful c (Cas 0 c.snapshot (c.snapshot + 1)) = subst (IsLawful c) same lawful in there.2))
 goes_begin c call step seen clock word closed doing asks lawful p is o g = absurd o

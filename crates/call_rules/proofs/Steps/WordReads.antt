@@ -1,15 +1,11 @@
 -- A read of one whole word, whose word and clock are loaded one right after the other.
 use Rattle.std.proofs.Common.{◌≡◌, ℕ, ◌+◌, ◌<◌, false, refl, ap, ◌∙◌, arith}
 use Rattle.call_rules.proofs.Common.{Core, InCall, IsOver, Lawful, Load, Stands, Start, StepTells, View}
-use Rattle.call_rules.proofs.Steps.StepChains.{cell_within}
 
 module _ (cells : ℕ) (v w : View) (ov : IsOver cells v) (ow : IsOver cells w) (e mid : Core) (word value : ℕ) (turn : StepTells v (Load (word + 1)) value w) where
   -- the clock may be loaded next
   pub may_look : e.holds ≡ false → (s : Start) → InCall s v e (Load (word + 1)) → Lawful w (Load 0)
   may_look free s i = λ z. ap (λ (x : View). x.holds) ((turn.1 word refl).0 (i.tied.holds ∙ free)) ∙ (i.tied.holds ∙ free)
-
-  pub some_cells : (s : Start) → InCall s v e (Load (word + 1)) → 0 < cells
-  some_cells s i = (let less = cell_within cells v e (Load (word + 1)) ov i.tied i.lawful in omega arith)
 
 -- before the call has come, between two calls of a revocable transaction
 module _ (cells : ℕ) (v : View) (ov : IsOver cells v) (e : Core) (t : Stands v e) (revocable : e.irrevocable ≡ false) (word : ℕ) (within : word < e.words) where

@@ -1,19 +1,13 @@
 -- An attempt has no fault on a memory exactly where it is one alone on it.
 use Rattle.std.proofs.Common.{◌≡◌, ℕ, zero, suc, ◌-◌, ◌<◌, Bool, true, false, not, ◌&&◌, if◌then◌else◌, is_some, List, [], ◌∷◌, ◌++◌, length, map, take, Option, None, Some, refl, sym, ap, subst, ◌∙◌, arith, length-append, bytes_eq}
-use Rattle.history_checker.proofs.Common.{Abort, Again, Attempt, Begin, Breaks, ByAbort, ByCommit, Bytes, Call, CallRecord, Cancelled, ClosedBy, Code, Commit, CommitAction, Committed, Conflict, Copy, Decides, Decides-and, Done, EndsIn, Fault, Fill, Full, InTransaction, IsAlone, Load, Log, LogBytes, Mode, NoMemory, Outcome, Read, ReadOnly, Refused, Reply, Save, State, UndoAction, Unfinished, Write, after, again_at, again_fault, alone, and_from, and_parts, are_again, arena_set, at_call, at_head, bytes_eq-Decides, calls_fault, came_irrevocable, cond-false, cond-true, end_fault, ends_by_abort, ends_by_commit, eqb-true, fault_in, first_of, fits, is_abort_done, is_cancelled, is_commit_done, is_done, is_open, last_is, may_begin, may_stand, not-true, not_from_false, opened, pointwise, ran_alone, replies_through, reply, same_ran, same_reply, state_at, state_through, take-append_seam}
+use Rattle.history_checker.proofs.Common.{Abort, Again, Attempt, Breaks, ByAbort, ByCommit, Call, CallRecord, Cancelled, ClosedBy, Code, Commit, Committed, Decides, Decides-and, Done, EndsIn, Fault, IsAlone, Outcome, ReadOnly, Reply, State, Unfinished, after, again_at, again_fault, alone, and_from, and_parts, are_again, arena_set, at_call, at_head, bytes_eq-Decides, calls_fault, came_irrevocable, cond-false, cond-true, end_fault, ends_by_abort, ends_by_commit, eqb-true, fault_in, first_of, fits, is_abort_done, is_cancelled, is_commit_done, is_done, is_open, last_is, may_begin, may_stand, not-true, not_from_false, opened, pointwise, ran_alone, replies_through, reply, same_ran, same_reply, state_at, state_through, take-append_seam}
 use Rattle.tx_attempts.specs.Opacity.{StaysRevocable}
 use Rattle.history_checker.specs.declared.verdict.BadKind.TheVariants as kind
+use Rattle.tx_history.proofs.Runs.AloneCalls.{same_head, same_tail}
 use Rattle.history_checker.proofs.Steps.Calls.{made}
+use Rattle.history_checker.proofs.Steps.Ends.{first_nothing}
 use Rattle.history_checker.proofs.Legality.Replies.{all_ran_decides, reply_decides}
 use Rattle.history_checker.proofs.Legality.Restarts.{again_decides, each_at, each_from}
-
--- lists that are one have one head
-same_head : {A : Type 0} (x y : A) (xs ys : List A) → x ∷ xs ≡ y ∷ ys → x ≡ y
-same_head x y xs ys e = cc
-
--- and one tail
-same_tail : {A : Type 0} (x y : A) (xs ys : List A) → x ∷ xs ≡ y ∷ ys → xs ≡ ys
-same_tail x y xs ys e = cc
 
 -- ## The calls
 
@@ -123,52 +117,22 @@ passes_last test (b ∷ c ∷ before) e h = passes_last test (c ∷ before) e h
 -- a reply that passes is the one
 is_done_only : (r : Reply) → is_done r ≡ true → r ≡ Done
 is_done_only Done h = refl
-is_done_only (Bytes value) h = absurd (cc)
-is_done_only (Code n) h = absurd (cc)
-is_done_only (Refused refusal) h = absurd (cc)
+is_done_only r h = absurd (cc)
 
 -- likewise
 is_cancelled_only : (r : Reply) → is_cancelled r ≡ true → r ≡ Code 24
-is_cancelled_only Done h = absurd (cc)
-is_cancelled_only (Bytes value) h = absurd (cc)
 is_cancelled_only (Code n) h = ap (λ (k : ℕ). Code k) (eqb-true n 24 h)
-is_cancelled_only (Refused refusal) h = absurd (cc)
+is_cancelled_only r h = absurd (cc)
 
 -- an accepted commit is the one call with the one reply
 commit_only : (c : Call) (r : Reply) → is_commit_done c r ≡ true → (c ≡ Commit) × (r ≡ Done)
 commit_only Commit r h = (refl, is_done_only r h)
-commit_only (Begin props room) r h = absurd (cc)
-commit_only (Abort outer) r h = absurd (cc)
-commit_only (Mode room) r h = absurd (cc)
-commit_only InTransaction r h = absurd (cc)
-commit_only (Read hint width at) r h = absurd (cc)
-commit_only (Write hint at value) r h = absurd (cc)
-commit_only (Log width at) r h = absurd (cc)
-commit_only (LogBytes at size) r h = absurd (cc)
-commit_only (Copy c) r h = absurd (cc)
-commit_only (Fill hint to byte size) r h = absurd (cc)
-commit_only (CommitAction action) r h = absurd (cc)
-commit_only (UndoAction action) r h = absurd (cc)
-commit_only (Load width at) r h = absurd (cc)
-commit_only (Save at value) r h = absurd (cc)
+commit_only c r h = absurd (cc)
 
 -- and so is an accepted abort
 abort_only : (c : Call) (r : Reply) → is_abort_done c r ≡ true → (outer : Bool) × (c ≡ Abort outer) × (r ≡ Code 24)
-abort_only Commit r h = absurd (cc)
-abort_only (Begin props room) r h = absurd (cc)
 abort_only (Abort outer) r h = (outer, refl, is_cancelled_only r h)
-abort_only (Mode room) r h = absurd (cc)
-abort_only InTransaction r h = absurd (cc)
-abort_only (Read hint width at) r h = absurd (cc)
-abort_only (Write hint at value) r h = absurd (cc)
-abort_only (Log width at) r h = absurd (cc)
-abort_only (LogBytes at size) r h = absurd (cc)
-abort_only (Copy c) r h = absurd (cc)
-abort_only (Fill hint to byte size) r h = absurd (cc)
-abort_only (CommitAction action) r h = absurd (cc)
-abort_only (UndoAction action) r h = absurd (cc)
-abort_only (Load width at) r h = absurd (cc)
-abort_only (Save at value) r h = absurd (cc)
+abort_only c r h = absurd (cc)
 
 -- the test of the last call is true exactly where it is an accepted commit
 commit_decides : (es : List CallRecord) → Decides (ends_by_commit es) (ByCommit es)
@@ -227,17 +191,10 @@ fits_decides deepest ReadOnly memory a s = (
       (and_from (bytes_eq s.memory memory) (not (came_irrevocable deepest memory a)) ((bytes_eq-Decides s.memory memory).1 h.0.1) (not_from_false (came_irrevocable deepest memory a) late))),
 )
 fits_decides deepest Cancelled memory a s = Decides-and (not (is_open s)) (ends_by_abort a.calls.list) (off_decides (is_open s)) (abort_decides a.calls.list)
-fits_decides deepest Conflict memory a s = given_up (is_open s) s.irrevocable
-fits_decides deepest Full memory a s = given_up (is_open s) s.irrevocable
-fits_decides deepest NoMemory memory a s = given_up (is_open s) s.irrevocable
 fits_decides deepest Unfinished memory a s = (λ h. (h, tt), λ h. h.0)
+fits_decides deepest o memory a s = given_up (is_open s) s.irrevocable
 
 -- ## The attempt
-
--- where no first one of two is there neither is
-pub first_nothing : {A : Type 0} (f g : Option A) → first_of f g ≡ None → (f ≡ None) × (g ≡ None)
-first_nothing None g e = (refl, e)
-first_nothing (Some x) g e = absurd (cc)
 
 -- with no fault it began, and nothing later is wrong
 begun_nothing : (b : Bool) (later : Option Fault) (f : Fault) → (if b then later else Some f) ≡ None → (b ≡ true) × (later ≡ None)

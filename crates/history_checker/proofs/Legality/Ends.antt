@@ -1,18 +1,13 @@
 -- What a history's end says, by tests and by what it means.
 use Rattle.std.proofs.Common.{◌≡◌, ◌⊎◌, ℕ, ◌+◌, ◌*◌, ◌≤◌, ◌==◌, true, false, not, ◌&&◌, ◌||◌, nat_le, All, List, [], ◌∷◌, ◌++◌, length, refl, sym, ap, ◌∙◌, inl, inr, eq-eqb, eqb-true, bytes_eq}
-use Rattle.history_checker.proofs.Common.{All-cons, All-head, All-nil, All-tail, Attempt, Cancelled, Committed, Conflict, Decides, Decides-and, Decides-eqb, Decides-or, EndsFree, EndsHeld, Full, History, NoMemory, Outcome, ReadOnly, Unfinished, and_cases, and_from, and_left, and_parts, and_right, bytes_eq-Decides, cases_Bool, count_holding, ends_free, ends_held, is_away, is_holding, is_unfinished, is_waiting, le-leb, leb-true, memory_at, not-false, not-true, not_from_false, not_from_true, or_cases, or_from, or_left, or_parts, or_right}
+use Rattle.history_checker.proofs.Common.{All-cons, All-head, All-nil, All-tail, Attempt, Decides, Decides-and, Decides-eqb, Decides-or, EndsFree, EndsHeld, History, Outcome, Unfinished, and_cases, and_from, and_left, and_parts, and_right, bytes_eq-Decides, cases_Bool, count_holding, ends_free, ends_held, is_away, is_holding, is_unfinished, is_waiting, le-leb, leb-true, memory_at, not-false, not-true, not_from_false, not_from_true, or_cases, or_from, or_left, or_parts, or_right}
 
 -- ## Who holds the clock
 
 -- an outcome that is not yet one
 unfinished_only : (o : Outcome) → is_unfinished o ≡ true → o ≡ Unfinished
-unfinished_only Committed e = absurd (cc)
-unfinished_only ReadOnly e = absurd (cc)
-unfinished_only Cancelled e = absurd (cc)
-unfinished_only Conflict e = absurd (cc)
-unfinished_only Full e = absurd (cc)
-unfinished_only NoMemory e = absurd (cc)
 unfinished_only Unfinished e = refl
+unfinished_only o e = absurd (cc)
 
 -- one of these attempts has not ended and stands at this position
 abbrev Waits : ℕ → List Attempt → Type 0

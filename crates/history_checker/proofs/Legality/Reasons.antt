@@ -1,30 +1,37 @@
 -- The machine's answer is told just where a call has another reply, and is its reply there.
-use Rattle.std.proofs.Common.{◌≡◌, ℕ, zero, suc, ◌+◌, ◌<◌, ◌≤◌, ◌⊎◌, Bool, true, false, not, ◌&&◌, ◌==◌, nat_lt, if◌then◌else◌, List, [], ◌∷◌, ◌++◌, length, take, Option, None, Some, refl, sym, ap, subst, ◌∙◌, inl, inr, arith, length-append, is_none, nat_le, slice_get}
-use Rattle.history_checker.proofs.Common.{Again, Attempt, Breaks, CallRecord, Fault, HasReason, History, IsReason, IsReasonIn, Reply, Spot, State, after, again_at, again_fault, alone, and_from, and_parts, answer_at, answer_in, answer_of, answer_on, answer_to, arena_set, at_call, at_fault, at_head, at_place, call_answer, calls_fault, cases_Bool, cases_lt, committed_fault, cond-false, cond-true, count_committed, depth_of, end_fault, eqb-true, fault_at, fault_in, first_fault, first_of, is_at, is_beyond, is_committed, is_known, is_misplaced, is_open, is_reached, le-leb, lt-leb, ltb-true, may_stand, memory_at, opened, others_fault, position_fault, reply, same_reply, spot_answer, state_behind, state_through}
+use Rattle.std.proofs.Common.{◌≡◌, ℕ, zero, suc, ◌+◌, ◌<◌, ◌≤◌, Bool, true, false, not, ◌&&◌, ◌==◌, nat_lt, if◌then◌else◌, List, [], ◌∷◌, ◌++◌, length, take, Option, None, Some, refl, sym, ap, subst, ◌∙◌, inl, inr, arith, length-append, is_none, nat_le, slice_get}
+use Rattle.history_checker.proofs.Common.{Again, Attempt, Breaks, CallRecord, Fault, HasReason, History, IfSome_then, IsReason, IsReasonIn, Reply, Spot, State, after, again_at, again_fault, alone, and_from, and_parts, answer_at, answer_in, answer_of, answer_on, answer_to, arena_set, at_call, at_fault, at_head, at_place, call_answer, calls_fault, cases_Bool, cases_lt, committed_fault, cond-false, cond-true, count_committed, depth_of, end_fault, eqb-true, fault_at, fault_in, first_fault, first_of, is_at, is_beyond, is_committed, is_known, is_misplaced, is_open, is_reached, le-leb, lt-leb, ltb-true, may_stand, memory_at, opened, others_fault, position_fault, reply, same_reply, spot_answer, state_behind, state_through}
+use Rattle.std.specs.Option.{IfSome}
 use Rattle.history_checker.specs.declared.verdict.BadKind.TheVariants as kind
 use Rattle.history_checker.proofs.Steps.Answers.{second_fails}
 use Rattle.history_checker.proofs.Steps.Calls.{made}
 use Rattle.history_checker.proofs.Steps.Tables.{seen_within}
-use Rattle.history_checker.proofs.Legality.Attempts.{first_nothing}
+use Rattle.history_checker.proofs.Steps.Ends.{first_nothing}
 use Rattle.history_checker.proofs.Legality.Replies.{reply_decides}
+
+-- ## What is chosen, or comes first
+
+either_so : {A : Type 0} (P : A → Type 0) (b : Bool) (x y : Option A) → (b ≡ true → IfSome x P) → (b ≡ false → IfSome y P) → IfSome (if b then x else y) P
+either_so P true x y f g = f refl
+either_so P false x y f g = g refl
+
+first_so : {A : Type 0} (P : A → Type 0) (x y : Option A) → IfSome x P → (x ≡ None → IfSome y P) → IfSome (first_of x y) P
+first_so P None y f g = g refl
+first_so P (Some a) y f g = f
+
+found : {A : Type 0} {P : A → Type 0} (o : Option A) → ((x : A) → o ≡ Some x → P x) → IfSome o P
+found None f = tt
+found (Some x) f = f x refl
+
+so_at : {A : Type 0} (P : A → Type 0) {o : Option A} {x : A} → o ≡ Some x → IfSome o P → P x
+so_at P e h = subst (λ p. IfSome p P) e h
 
 -- ## The calls of an attempt
 
--- a choice that is a fault was made by one of these tests
-by_test : (inside same : Bool) (later : Option Fault) (i : ℕ) (f : Fault) → (if inside then (if same then later else Some (at_call i kind.Reply)) else Some (at_head kind.Shape)) ≡ Some f
-    → (later ≡ Some f) ⊎ (((same ≡ false) × (f ≡ at_call i kind.Reply)) ⊎ (f ≡ at_head kind.Shape))
-by_test true true later i f e = inl e
-by_test true false later i f e = inr (inl (refl, cc))
-by_test false same later i f e = inr (inr cc)
-
-held_or_later : (b : Bool) (later : Option Fault) (f : Fault) → (if b then Some (at_head kind.Shape) else later) ≡ Some f → (later ≡ Some f) ⊎ (f ≡ at_head kind.Shape)
-held_or_later true later f e = inr cc
-held_or_later false later f e = inl e
-
--- or a block ran again where none could
-again_or_later : (o : Option Again) (s : State) (later : Option Fault) (f : Fault) → again_fault o s later ≡ Some f → (later ≡ Some f) ⊎ (f ≡ at_head kind.Shape)
-again_or_later None s later f e = inl e
-again_or_later (Some a) s later f e = held_or_later s.irrevocable later f e
+-- a block ran again where none could, or what is found later
+held_or_later : (P : Fault → Type 0) (o : Option Again) (s : State) (later : Option Fault) → P (at_head kind.Shape) → IfSome later P → IfSome (again_fault o s later) P
+held_or_later P None s later h f = f
+held_or_later P (Some a) s later h f = either_so P s.irrevocable (Some (at_head kind.Shape)) later (λ held. h) (λ free. f)
 
 module _ (deepest : ℕ) where
   abbrev sets : (ℕ → Option Again) → Breaks
@@ -39,28 +46,23 @@ module _ (deepest : ℕ) where
   wrong_later again s i x xs None w = tt
   wrong_later again s i x xs (Some p) w = (suc w.0, w.1, omega (arith, w.2), w.3, w.4)
 
-  wrong_calls : (again : ℕ → Option Again) (s : State) (i : ℕ) (es : List CallRecord) (f : Fault) → calls_fault deepest again s i es ≡ Some f → IsWrong again s i es f.call
-  wrong_calls again s i [] f e = absurd (cc)
-  wrong_calls again s i (x ∷ xs) f e =
+  wrong_calls : (again : ℕ → Option Again) (s : State) (i : ℕ) (es : List CallRecord) → IfSome (calls_fault deepest again s i es) (λ f. IsWrong again s i es f.call)
+  wrong_calls again s i [] = tt
+  wrong_calls again s i (x ∷ xs) =
       let t = after deepest s x.call in
-      let rest = calls_fault deepest (λ n. again (suc n)) (arena_set (again 1) t) (suc i) xs in
-      let headed : f ≡ at_head kind.Shape → IsWrong again s i (x ∷ xs) f.call = λ is. subst (λ (g : Fault). IsWrong again s i (x ∷ xs) g.call) (sym is) tt in
-      elim (by_test (is_open s) (same_reply x.reply (reply deepest s x.call)) (again_fault (again 1) t rest) i f e) [
-        | inl more ↦ elim (again_or_later (again 1) t rest f more) [
-          | inl on ↦ wrong_later again s i x xs f.call (wrong_calls (λ n. again (suc n)) (arena_set (again 1) t) (suc i) xs f on)
-          | inr is ↦ headed is
-        ]
-        | inr here ↦ elim here [
-          | inl w ↦ subst (λ (g : Fault). IsWrong again s i (x ∷ xs) g.call) (sym w.1) (0, x, omega arith, refl, w.0)
-          | inr is ↦ headed is
-        ]
-      ]
+      let others : ℕ → Option Again = λ n. again (suc n) in
+      let rest = calls_fault deepest others (arena_set (again 1) t) (suc i) xs in
+      let same = same_reply x.reply (reply deepest s x.call) in
+      let P : Fault → Type 0 = λ f. IsWrong again s i (x ∷ xs) f.call in
+      let later : IfSome rest P = IfSome_then rest (wrong_calls others (arena_set (again 1) t) (suc i) xs) (λ f w. wrong_later again s i x xs f.call w) in
+      either_so P (is_open s) (if same then again_fault (again 1) t rest else Some (at_call i kind.Reply)) (Some (at_head kind.Shape))
+      (λ inside. either_so P same (again_fault (again 1) t rest) (Some (at_call i kind.Reply)) (λ right. held_or_later P (again 1) t rest tt later) (λ wrong. (0, x, omega arith, refl, wrong))) (λ outside. tt)
 
   -- what is wrong at the end is told at the head
-  ended_at_head : (fit same : Bool) (f : Fault) → (if fit then (if same then None else Some (at_head kind.Ran)) else Some (at_head kind.Shape)) ≡ Some f → f.call ≡ None
-  ended_at_head true true f e = absurd (cc)
-  ended_at_head true false f e = (let is : f ≡ at_head kind.Ran = cc in ap (λ (g : Fault). g.call) is)
-  ended_at_head false same f e = (let is : f ≡ at_head kind.Shape = cc in ap (λ (g : Fault). g.call) is)
+  ended_at_head : (fit same : Bool) → IfSome (if fit then (if same then None else Some (at_head kind.Ran)) else Some (at_head kind.Shape)) (λ f. f.call ≡ None)
+  ended_at_head true true = tt
+  ended_at_head true false = refl
+  ended_at_head false same = refl
 
   -- ## An attempt
 
@@ -80,24 +82,22 @@ module _ (deepest : ℕ) where
         let other : same_reply w.1.reply (reply deepest s w.1.call) ≡ false = subst (λ (n : ℕ). same_reply w.1.reply (reply deepest (state_behind deepest a.restarts start a.calls.list n) w.1.call) ≡ false) is w.4 in
         record { entry = w.1; there = at; right = reply deepest s w.1.call; replies = refl; other = not_same w.1.reply (reply deepest s w.1.call) other; told = ap (answer_to deepest s) at }
 
-    by_calls : (o : Option Fault) (f : Fault) → calls_fault deepest (again_at a.restarts) start 0 a.calls.list ≡ o → first_of o (end_fault deepest memory a (alone deepest memory a)) ≡ Some f
-        → IsReasonIn deepest memory a f.call (answer_at deepest a.restarts start a.calls.list o)
-    by_calls None f e g = subst (λ (c : Option ℕ). IsReasonIn deepest memory a c None) (sym (ended_at_head _ _ f g)) refl
-    by_calls (Some x) f e g =
-        let is : x ≡ f = cc in
-        subst (λ (y : Fault). IsReasonIn deepest memory a y.call (call_answer deepest a.restarts start a.calls.list x.call)) is
-        (by_call x.call (wrong_calls (again_at a.restarts) start 0 a.calls.list x e))
+    abbrev ended : Option Fault
+    ended = end_fault deepest memory a (alone deepest memory a)
 
-    by_stand : (b : Bool) (f : Fault)
-        → (if b then first_of (calls_fault deepest (again_at a.restarts) start 0 a.calls.list) (end_fault deepest memory a (alone deepest memory a)) else Some (at_head kind.Shape)) ≡ Some f
-        → IsReasonIn deepest memory a f.call (if b then answer_in deepest start a else None)
-    by_stand true f e = by_calls (calls_fault deepest (again_at a.restarts) start 0 a.calls.list) f refl e
-    by_stand false f e = (let is : at_head kind.Shape ≡ f = cc in subst (λ (g : Fault). IsReasonIn deepest memory a g.call None) is refl)
+    by_calls : (o : Option Fault) → IfSome o (λ f. IsWrong (again_at a.restarts) start 0 a.calls.list f.call)
+        → IfSome (first_of o ended) (λ f. IsReasonIn deepest memory a f.call (answer_at deepest a.restarts start a.calls.list o))
+    by_calls None w = IfSome_then ended (ended_at_head _ _) (λ f head. subst (λ (c : Option ℕ). IsReasonIn deepest memory a c None) (sym head) refl)
+    by_calls (Some x) w = by_call x.call w
+
+    by_stand : (b : Bool) → IfSome (if b then first_of (calls_fault deepest (again_at a.restarts) start 0 a.calls.list) ended else Some (at_head kind.Shape)) (λ f. IsReasonIn deepest memory a f.call (if b then answer_in deepest start a else None))
+    by_stand true = by_calls (calls_fault deepest (again_at a.restarts) start 0 a.calls.list) (wrong_calls (again_at a.restarts) start 0 a.calls.list)
+    by_stand false = refl
 
     -- the reason of its fault on a memory
-    reason_in : (f : Fault) → fault_in deepest memory a ≡ Some f → IsReasonIn deepest memory a f.call (answer_on deepest memory a)
+    reason_in : IfSome (fault_in deepest memory a) (λ f. IsReasonIn deepest memory a f.call (answer_on deepest memory a))
     unfolding fault_in
-    reason_in f e = by_stand (may_stand a) f e
+    reason_in = by_stand (may_stand a)
 
 -- ## Where a fault is found
 
@@ -115,54 +115,37 @@ spot_later P i a ts s x = (let e = x.is in record { place = suc x.place; attempt
 spot_here : (P : Attempt → Type 0) (i : ℕ) (a : Attempt) (ts : List Attempt) (s : Spot) → s.attempt ≡ i → P a → IsSpot P i (a ∷ ts) s
 spot_here P i a ts s e p = record { place = 0; attempt = a; is = omega (arith, e); there = refl; holds = p }
 
-placed_at : (i : ℕ) (f : Option Fault) (s : Spot) → at_place i f ≡ Some s → (s.attempt ≡ i) × (f ≡ Some s.fault)
-placed_at i None s e = absurd (cc)
-placed_at i (Some f) s e =
-    let is : record { attempt = i; fault = f } ≡ s = cc in
-    (sym (ap (λ (x : Spot). x.attempt) is), ap (λ (x : Spot). Some x.fault) is)
-
-either : (b : Bool) (x y : Option Spot) (s : Spot) → (if b then x else y) ≡ Some s → ((b ≡ true) × (x ≡ Some s)) ⊎ ((b ≡ false) × (y ≡ Some s))
-either true x y s e = inl (refl, e)
-either false x y s e = inr (refl, e)
-
-first_or : (x y : Option Spot) (s : Spot) → first_of x y ≡ Some s → (x ≡ Some s) ⊎ ((x ≡ None) × (y ≡ Some s))
-first_or None y s e = inr (refl, e)
-first_or (Some x) y s e = inl e
+placed_at : (P : Spot → Type 0) (i : ℕ) (o : Option Fault) → IfSome o (λ f. P (record { attempt = i; fault = f })) → IfSome (at_place i o) P
+placed_at P i None h = tt
+placed_at P i (Some f) h = h
 
 -- a position: at the head of one of the attempts
-position_spot : (n : ℕ) (before ts : List Attempt) (s : Spot) → position_fault n before ts ≡ Some s → IsSpot (λ a. s.fault.call ≡ None) (length before) ts s
-position_spot n before [] s e = absurd (cc)
-position_spot n before (a ∷ rest) s e =
-    elim (either (is_misplaced n before a) (at_place (length before) (Some (at_head kind.Position))) (position_fault n (before ++ a ∷ []) rest) s e) [
-      | inl on ↦
-          let p = placed_at (length before) (Some (at_head kind.Position)) s on.1 in
-          let is : at_head kind.Position ≡ s.fault = cc (p.1) in
-          spot_here (λ a. s.fault.call ≡ None) (length before) a rest s p.0 (sym (ap (λ (f : Fault). f.call) is))
-      | inr off ↦
-          let more : length (before ++ a ∷ []) ≡ suc (length before) = omega (arith, length-append before (a ∷ [])) in
-          spot_later (λ a. s.fault.call ≡ None) (length before) a rest s (subst (λ (i : ℕ). IsSpot (λ a. s.fault.call ≡ None) i rest s) more (position_spot n (before ++ a ∷ []) rest s off.1))
-    ]
+position_spot : (n : ℕ) (before ts : List Attempt) → IfSome (position_fault n before ts) (λ s. IsSpot (λ a. s.fault.call ≡ None) (length before) ts s)
+position_spot n before [] = tt
+position_spot n before (a ∷ rest) =
+    let P : Spot → Attempt → Type 0 = λ s b. s.fault.call ≡ None in
+    let more : length (before ++ a ∷ []) ≡ suc (length before) = omega (arith, length-append before (a ∷ [])) in
+    either_so (λ s. IsSpot (P s) (length before) (a ∷ rest) s) (is_misplaced n before a) (at_place (length before) (Some (at_head kind.Position))) (position_fault n (before ++ a ∷ []) rest)
+    (λ on. spot_here _ (length before) a rest _ refl refl)
+    (λ off. IfSome_then (position_fault n (before ++ a ∷ []) rest) (position_spot n (before ++ a ∷ []) rest) (λ s x. spot_later (P s) (length before) a rest s (subst (λ (i : ℕ). IsSpot (P s) i rest s) more x)))
 
 -- too many commits seen
-beyond_spot : (n i : ℕ) (ts : List Attempt) (s : Spot) → at_fault n i ts ≡ Some s → IsSpot (λ a. (is_beyond n a ≡ true) × (s.fault.call ≡ None)) i ts s
-beyond_spot n i [] s e = absurd (cc)
-beyond_spot n i (a ∷ rest) s e =
-    elim (either (is_beyond n a) (at_place i (Some (at_head kind.At))) (at_fault n (suc i) rest) s e) [
-      | inl on ↦
-          let p = placed_at i (Some (at_head kind.At)) s on.1 in
-          let is : at_head kind.At ≡ s.fault = cc (p.1) in
-          spot_here (λ a. (is_beyond n a ≡ true) × (s.fault.call ≡ None)) i a rest s p.0 (on.0, sym (ap (λ (f : Fault). f.call) is))
-      | inr off ↦ spot_later (λ a. (is_beyond n a ≡ true) × (s.fault.call ≡ None)) i a rest s (beyond_spot n (suc i) rest s off.1)
-    ]
+beyond_spot : (n i : ℕ) (ts : List Attempt) → IfSome (at_fault n i ts) (λ s. IsSpot (λ a. (is_beyond n a ≡ true) × (s.fault.call ≡ None)) i ts s)
+beyond_spot n i [] = tt
+beyond_spot n i (a ∷ rest) =
+    let P : Spot → Attempt → Type 0 = λ s b. (is_beyond n b ≡ true) × (s.fault.call ≡ None) in
+    either_so (λ s. IsSpot (P s) i (a ∷ rest) s) (is_beyond n a) (at_place i (Some (at_head kind.At))) (at_fault n (suc i) rest)
+    (λ on. spot_here _ i a rest _ refl (on, refl)) (λ off. IfSome_then (at_fault n (suc i) rest) (beyond_spot n (suc i) rest) (λ s x. spot_later (P s) i a rest s x))
 
 -- the one that is committed at a position
-committed_spot : (deepest : ℕ) (m : List ℕ) (k i : ℕ) (ts : List Attempt) (s : Spot) → fault_at deepest m k i ts ≡ Some s → IsSpot (λ a. (is_at k a ≡ true) × (fault_in deepest m a ≡ Some s.fault)) i ts s
-committed_spot deepest m k i [] s e = absurd (cc)
-committed_spot deepest m k i (a ∷ rest) s e =
-    elim (either (is_at k a) (at_place i (fault_in deepest m a)) (fault_at deepest m k (suc i) rest) s e) [
-      | inl on ↦ (let p = placed_at i (fault_in deepest m a) s on.1 in spot_here (λ a. (is_at k a ≡ true) × (fault_in deepest m a ≡ Some s.fault)) i a rest s p.0 (on.0, p.1))
-      | inr off ↦ spot_later (λ a. (is_at k a ≡ true) × (fault_in deepest m a ≡ Some s.fault)) i a rest s (committed_spot deepest m k (suc i) rest s off.1)
-    ]
+committed_spot : (deepest : ℕ) (m : List ℕ) (k i : ℕ) (ts : List Attempt) → IfSome (fault_at deepest m k i ts) (λ s. IsSpot (λ a. (is_at k a ≡ true) × (fault_in deepest m a ≡ Some s.fault)) i ts s)
+committed_spot deepest m k i [] = tt
+committed_spot deepest m k i (a ∷ rest) =
+    let P : Spot → Attempt → Type 0 = λ s b. (is_at k b ≡ true) × (fault_in deepest m b ≡ Some s.fault) in
+    let Q : Spot → Type 0 = λ s. IsSpot (P s) i (a ∷ rest) s in
+    either_so Q (is_at k a) (at_place i (fault_in deepest m a)) (fault_at deepest m k (suc i) rest)
+    (λ on. placed_at Q i (fault_in deepest m a) (found (fault_in deepest m a) (λ f e. spot_here (P (record { attempt = i; fault = f })) i a rest (record { attempt = i; fault = f }) refl (on, e))))
+    (λ off. IfSome_then (fault_at deepest m k (suc i) rest) (committed_spot deepest m k (suc i) rest) (λ s x. spot_later (P s) i a rest s x))
 
 -- the first position of such a one
 pub record IsFirst (h : History) (n : ℕ) (s : Spot) : Type 0 where
@@ -171,27 +154,24 @@ pub record IsFirst (h : History) (n : ℕ) (s : Spot) : Type 0 where
   pub right : committed_fault h at ≡ None
   pub wrong : fault_at (depth_of h.version) (memory_at h at) at 0 h.attempts ≡ Some s
 
-first_position : (h : History) (n : ℕ) (s : Spot) → committed_fault h n ≡ Some s → IsFirst h n s
-first_position h zero s e = absurd (cc)
-first_position h (suc n) s e =
-    elim (first_or (committed_fault h n) (fault_at (depth_of h.version) (memory_at h n) n 0 h.attempts) s e) [
-      | inl before ↦ (let x = first_position h n s before in let l = x.below in record { at = x.at; below = omega (arith, l); right = x.right; wrong = x.wrong })
-      | inr here ↦ record { at = n; below = omega arith; right = here.0; wrong = here.1 }
-    ]
+first_position : (h : History) (n : ℕ) → IfSome (committed_fault h n) (IsFirst h n)
+first_position h zero = tt
+first_position h (suc n) =
+    let here = fault_at (depth_of h.version) (memory_at h n) n 0 h.attempts in
+    first_so (IsFirst h (suc n)) (committed_fault h n) here
+    (IfSome_then (committed_fault h n) (first_position h n) (λ s x. (let l = x.below in record { at = x.at; below = omega (arith, l); right = x.right; wrong = x.wrong })))
+    (λ none. found here (λ s e. record { at = n; below = omega arith; right = none; wrong = e }))
 
 -- one of the others
-other_spot : (h : History) (i : ℕ) (ts : List Attempt) (s : Spot) → others_fault h i ts ≡ Some s → IsSpot (λ a. (is_committed a.outcome ≡ false) × (fault_in (depth_of h.version) (memory_at h a.at) a ≡ Some s.fault)) i ts s
-other_spot h i [] s e = absurd (cc)
-other_spot h i (a ∷ rest) s e =
-    let P : Attempt → Type 0 = λ a. (is_committed a.outcome ≡ false) × (fault_in (depth_of h.version) (memory_at h a.at) a ≡ Some s.fault) in
+other_spot : (h : History) (i : ℕ) (ts : List Attempt) → IfSome (others_fault h i ts) (λ s. IsSpot (λ a. (is_committed a.outcome ≡ false) × (fault_in (depth_of h.version) (memory_at h a.at) a ≡ Some s.fault)) i ts s)
+other_spot h i [] = tt
+other_spot h i (a ∷ rest) =
+    let P : Spot → Attempt → Type 0 = λ s b. (is_committed b.outcome ≡ false) × (fault_in (depth_of h.version) (memory_at h b.at) b ≡ Some s.fault) in
+    let Q : Spot → Type 0 = λ s. IsSpot (P s) i (a ∷ rest) s in
     let f = fault_in (depth_of h.version) (memory_at h a.at) a in
-    elim (first_or (if is_committed a.outcome then None else at_place i f) (others_fault h (suc i) rest) s e) [
-      | inl here ↦ elim (either (is_committed a.outcome) None (at_place i f) s here) [
-        | inl on ↦ absurd (cc (on.1))
-        | inr off ↦ (let p = placed_at i f s off.1 in spot_here P i a rest s p.0 (off.0, p.1))
-      ]
-      | inr more ↦ spot_later P i a rest s (other_spot h (suc i) rest s more.1)
-    ]
+    first_so Q (if is_committed a.outcome then None else at_place i f) (others_fault h (suc i) rest)
+    (either_so Q (is_committed a.outcome) None (at_place i f) (λ on. tt) (λ off. placed_at Q i f (found f (λ x e. spot_here (P (record { attempt = i; fault = x })) i a rest (record { attempt = i; fault = x }) refl (off, e)))))
+    (λ none. IfSome_then (others_fault h (suc i) rest) (other_spot h (suc i) rest) (λ s x. spot_later (P s) i a rest s x))
 
 -- an attempt that is not committed saw no more commits than there are, where none did
 seen_of : (n i : ℕ) (ts : List Attempt) → at_fault n i ts ≡ None → (j : ℕ) (a : Attempt) → slice_get ts j ≡ Some a → is_committed a.outcome ≡ false → a.at ≤ n
@@ -247,7 +227,7 @@ module _ (h : History) where
   by_replay : (s : Spot) (a : Attempt) → slice_get h.attempts s.attempt ≡ Some a → is_known h a.at ≡ true → fault_in depth (memory_at h a.at) a ≡ Some s.fault → HasReason h (Some s) (spot_answer h (Some s))
   by_replay s a there known wrong =
       let is : answer_of h (Some a) ≡ answer_on depth (memory_at h a.at) a = cond-true (is_known h a.at) (answer_on depth (memory_at h a.at) a) None known in
-      let reason : IsReason h (Some a) s.fault.call (answer_of h (Some a)) = subst (λ (x : Option Reply). IsReasonIn depth (memory_at h a.at) a s.fault.call x) (sym is) (reason_in depth (memory_at h a.at) a s.fault wrong) in
+      let reason : IsReason h (Some a) s.fault.call (answer_of h (Some a)) = subst (λ (x : Option Reply). IsReasonIn depth (memory_at h a.at) a s.fault.call x) (sym is) (so_at (λ f. IsReasonIn depth (memory_at h a.at) a f.call (answer_on depth (memory_at h a.at) a)) wrong (reason_in depth (memory_at h a.at) a)) in
       subst (λ (o : Option Attempt). IsReason h o s.fault.call (answer_of h o)) (sym there) reason
 
   -- the spot's attempt among all
@@ -260,13 +240,13 @@ module _ (h : History) where
   of_position : (s : Spot) → placed ≡ Some s → HasReason h (Some s) (spot_answer h (Some s))
   of_position s e =
       let P : Attempt → Type 0 = λ a. s.fault.call ≡ None in
-      let x = position_spot many [] h.attempts s e in
+      let x = so_at (λ t. IsSpot (λ a. t.fault.call ≡ None) 0 h.attempts t) e (position_spot many [] h.attempts) in
       at_a_head s x.attempt (place_of P s x) x.holds (first_fails (is_none placed) (is_reached h x.attempt.at) (ap (λ (o : Option Spot). is_none o) e))
 
   of_beyond : (s : Spot) → at_fault many 0 h.attempts ≡ Some s → HasReason h (Some s) (spot_answer h (Some s))
   of_beyond s e =
       let P : Attempt → Type 0 = λ a. (is_beyond many a ≡ true) × (s.fault.call ≡ None) in
-      let x = beyond_spot many 0 h.attempts s e in
+      let x = so_at (λ t. IsSpot (λ a. (is_beyond many a ≡ true) × (t.fault.call ≡ None)) 0 h.attempts t) e (beyond_spot many 0 h.attempts) in
       let far : nat_le x.attempt.at many ≡ false = not_within many x.attempt.at (and_parts (not (is_committed x.attempt.outcome)) (nat_lt many x.attempt.at) x.holds.0).1 in
       at_a_head s x.attempt (place_of P s x) x.holds.1 (second_fails (is_none placed) (is_reached h x.attempt.at) (first_fails (nat_le x.attempt.at many) (is_none (committed_fault h x.attempt.at)) far))
 
@@ -277,9 +257,9 @@ module _ (h : History) where
 
   of_committed : (s : Spot) → placed ≡ None → committed_fault h many ≡ Some s → HasReason h (Some s) (spot_answer h (Some s))
   of_committed s once e =
-      let k = first_position h many s e in
+      let k = so_at (IsFirst h many) e (first_position h many) in
       let P : Attempt → Type 0 = λ a. (is_at k.at a ≡ true) × (fault_in depth (memory_at h k.at) a ≡ Some s.fault) in
-      let x = committed_spot depth (memory_at h k.at) k.at 0 h.attempts s k.wrong in
+      let x = so_at (λ t. IsSpot (λ a. (is_at k.at a ≡ true) × (fault_in depth (memory_at h k.at) a ≡ Some t.fault)) 0 h.attempts t) k.wrong (committed_spot depth (memory_at h k.at) k.at 0 h.attempts) in
       let a = x.attempt in
       let is : k.at ≡ a.at = sym (eqb-true a.at k.at (and_parts (is_committed a.outcome) (a.at == k.at) x.holds.0).1) in
       let below = k.below in
@@ -289,7 +269,7 @@ module _ (h : History) where
   of_other : (s : Spot) → placed ≡ None → at_fault many 0 h.attempts ≡ None → committed_fault h many ≡ None → others_fault h 0 h.attempts ≡ Some s → HasReason h (Some s) (spot_answer h (Some s))
   of_other s once seen right e =
       let P : Attempt → Type 0 = λ a. (is_committed a.outcome ≡ false) × (fault_in depth (memory_at h a.at) a ≡ Some s.fault) in
-      let x = other_spot h 0 h.attempts s e in
+      let x = so_at (λ t. IsSpot (λ a. (is_committed a.outcome ≡ false) × (fault_in depth (memory_at h a.at) a ≡ Some t.fault)) 0 h.attempts t) e (other_spot h 0 h.attempts) in
       let a = x.attempt in
       let within = seen_of many 0 h.attempts seen x.place a x.there x.holds.0 in
       by_replay s a (place_of P s x) (known_at a.at once within (right_below h many a.at within right)) x.holds.1

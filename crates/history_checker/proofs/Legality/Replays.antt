@@ -2,8 +2,9 @@
 use Rattle.std.proofs.Common.{◌≡◌, ℕ, zero, suc, ◌<◌, ◌≤◌, ◌==◌, Bool, true, false, not, nat_lt, if◌then◌else◌, All, List, [], ◌∷◌, length, get_or, Option, None, Some, refl, sym, ap, subst, ◌∙◌, inl, inr, arith}
 use Rattle.history_checker.proofs.Common.{All-cons, All-head, All-nil, All-tail, Attempt, Fault, History, IsAlone, and_parts, and_right, at_fault, at_head, at_place, cases_Bool, cases_lt, committed_fault, cond-false, cond-true, count_at, depth_of, eqb-true, fault_at, fault_in, first_of, is_at, is_beyond, is_committed, le-ltb, memory_at, one_where, others_fault}
 use Rattle.history_checker.specs.declared.verdict.BadKind.TheVariants as kind
-use Rattle.history_checker.proofs.Legality.Attempts.{alone_from, faultless, first_nothing}
+use Rattle.history_checker.proofs.Legality.Attempts.{alone_from, faultless}
 use Rattle.history_checker.proofs.Legality.Positions.{AtMostOnce, at_its_own, counts_there, once_each, once_there}
+use Rattle.history_checker.proofs.Steps.Ends.{first_nothing}
 use Rattle.history_checker.proofs.Steps.Tables.{none_beyond, seen_within}
 use Rattle.history_checker.proofs.Steps.Walks.{place_none}
 

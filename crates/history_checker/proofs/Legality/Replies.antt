@@ -15,13 +15,7 @@ numbered n =
 -- its number leads back to it
 numbered_back : (r : Refusal) → numbered (number_of r) ≡ r
 numbered_back Outside = refl
-numbered_back OutOfRange = refl
-numbered_back OutOfArena = refl
-numbered_back Overlap = refl
-numbered_back NoAbort = refl
-numbered_back IsIrrevocable = refl
-numbered_back NoIrrevocable = refl
-numbered_back TooDeep = refl
+numbered_back r = refl
 
 -- no two refusals have one number
 same_number : (a b : Refusal) → number_of a ≡ number_of b → a ≡ b
@@ -42,18 +36,7 @@ one_reply Done Done e = refl
 one_reply (Bytes a) (Bytes b) e = ap bytes_reply ((bytes_eq-Decides a.items b.items).0 e)
 one_reply (Code m) (Code n) e = ap (λ (k : ℕ). Code k) (eqb-true m n e)
 one_reply (Refused a) (Refused b) e = ap (λ (x : Refusal). Refused x) (same_number a b (eqb-true (number_of a) (number_of b) e))
-one_reply Done (Bytes b) e = absurd (cc)
-one_reply Done (Code n) e = absurd (cc)
-one_reply Done (Refused b) e = absurd (cc)
-one_reply (Bytes a) Done e = absurd (cc)
-one_reply (Bytes a) (Code n) e = absurd (cc)
-one_reply (Bytes a) (Refused b) e = absurd (cc)
-one_reply (Code m) Done e = absurd (cc)
-one_reply (Code m) (Bytes b) e = absurd (cc)
-one_reply (Code m) (Refused b) e = absurd (cc)
-one_reply (Refused a) Done e = absurd (cc)
-one_reply (Refused a) (Bytes b) e = absurd (cc)
-one_reply (Refused a) (Code n) e = absurd (cc)
+one_reply r s e = absurd (cc)
 
 -- the test of replies
 pub reply_decides : (r s : Reply) → Decides (same_reply r s) (r ≡ s)
@@ -63,10 +46,9 @@ reply_decides r s = (one_reply r s, λ e. subst (λ (x : Reply). same_reply r x 
 
 -- kinds that pass are one
 one_kind : (a b : ActionKind) → same_kind a b ≡ true → a ≡ b
-one_kind kinds.Commit kinds.Commit e = refl
 one_kind kinds.Commit kinds.Undo e = absurd (cc)
 one_kind kinds.Undo kinds.Commit e = absurd (cc)
-one_kind kinds.Undo kinds.Undo e = refl
+one_kind a b e = refl
 
 -- a kind is the same as itself
 kind_itself : (a : ActionKind) → same_kind a a ≡ true

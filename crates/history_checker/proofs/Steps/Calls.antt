@@ -1,6 +1,6 @@
 -- One call after the other.
 use Rattle.std.proofs.Common.{◌≡◌, ℕ, zero, suc, ◌+◌, ◌-◌, ◌<◌, Bool, true, List, [], ◌∷◌, length, get_or, take, drop, map, refl, ap, subst, ◌∙◌, arith, drop-cons, Option, None, Some}
-use Rattle.history_checker.proofs.Common.{Abort, Again, Begin, Breaks, Call, CallRecord, Commit, CommitAction, Copy, Fault, Fill, InTransaction, Load, Log, LogBytes, Mode, Read, Refusal, Save, State, UndoAction, Undoable, Write, after, again_fault, arena_set, before_after, before_next, before_unless, calls_fault, cond-true, is_open, last_is, later, refusal, reply, same_reply, state_through}
+use Rattle.history_checker.proofs.Common.{Again, Begin, Breaks, Call, CallRecord, Fault, Refusal, State, Undoable, after, again_fault, arena_set, before_after, before_next, before_unless, calls_fault, cond-true, is_open, last_is, later, refusal, reply, same_reply, state_through}
 use Rattle.history_checker.specs.declared.verdict.BadKind.TheVariants as kind
 
 -- the last of some calls
@@ -52,20 +52,7 @@ before_same (Some refusal) old new e = refl
 
 before_within : (u : Undoable) (call : Call) → is_open u.state ≡ true → before_next u call ≡ u.before
 before_within u (Begin props room) o = cond-true (is_open u.state) _ _ o
-before_within u Commit o = refl
-before_within u (Abort outer) o = refl
-before_within u (Mode room) o = refl
-before_within u InTransaction o = refl
-before_within u (Read hint width at) o = refl
-before_within u (Write hint at value) o = refl
-before_within u (Log width at) o = refl
-before_within u (LogBytes at size) o = refl
-before_within u (Copy c) o = refl
-before_within u (Fill hint to byte size) o = refl
-before_within u (CommitAction action) o = refl
-before_within u (UndoAction action) o = refl
-before_within u (Load width at) o = refl
-before_within u (Save at value) o = refl
+before_within u call o = refl
 
 pub before_stays : (n : ℕ) (u : Undoable) (call : Call) → is_open u.state ≡ true → before_after n u call ≡ u.before
 before_stays n u call o = before_same (refusal n u.state call) u.before (before_next u call) (before_within u call o)

@@ -1,6 +1,6 @@
 -- What a history's end says, one attempt after the other.
 use Rattle.std.proofs.Common.{◌≡◌, ℕ, zero, suc, ◌+◌, ◌<◌, ◌≤◌, Bool, true, false, not, ◌&&◌, ◌||◌, ◌==◌, if◌then◌else◌, is_some, List, [], ◌∷◌, length, get_or, take, map, sum_by, refl, ap, sym, ◌∙◌, arith, inl, inr, Option, None, Some}
-use Rattle.history_checker.proofs.Common.{AreTold, Attempt, Cancelled, Committed, Conflict, Fault, Full, History, IsTold, NoMemory, Outcome, ReadOnly, Spot, Told, Unfinished, Version, alone, at_fault, at_place, cases_lt, committed_fault, common_steps, count_holding, depth_of, fault_at, fault_in, first_of, first_row, head_row, is_away, is_beyond, is_committed, is_holding, is_unfinished, line_count, memory_at, nothing_told, one_where, others_fault, told_away, told_fault, told_holding, told_of, told_on, told_row, unless_fault}
+use Rattle.history_checker.proofs.Common.{AreTold, Attempt, Fault, History, IsTold, Outcome, Spot, Told, Unfinished, Version, alone, at_fault, at_place, cases_lt, committed_fault, common_steps, count_holding, depth_of, fault_at, fault_in, first_of, first_row, head_row, is_away, is_beyond, is_committed, is_holding, is_unfinished, line_count, memory_at, nothing_told, one_where, others_fault, told_away, told_fault, told_holding, told_of, told_on, told_row, unless_fault}
 use Rattle.history_checker.proofs.Steps.Tables.{none_beyond, seen_within}
 use Rattle.history_checker.proofs.Steps.Walks.{place_none}
 
@@ -64,19 +64,14 @@ others_told h i (a ∷ ts) =
     let rest = others_told h (suc i) ts in
     (λ t. first_of (here t) (rest t))
 
--- with no fault
-first_nothing : (f g : Option Spot) → first_of f g ≡ None → (f ≡ None) × (g ≡ None)
+-- where no first one of two is there neither is
+pub first_nothing : {A : Type 0} (f g : Option A) → first_of f g ≡ None → (f ≡ None) × (g ≡ None)
 first_nothing None g e = (refl, e)
-first_nothing (Some s) g e = cc
+first_nothing (Some x) g e = absurd (cc)
 
 ended_or_not : (o : Outcome) → is_committed o ≡ true → is_unfinished o ≡ false
-ended_or_not Committed e = refl
-ended_or_not ReadOnly e = refl
-ended_or_not Cancelled e = refl
-ended_or_not Conflict e = refl
-ended_or_not Full e = refl
-ended_or_not NoMemory e = refl
 ended_or_not Unfinished e = sym e
+ended_or_not o e = refl
 
 held : (h : History) (i : ℕ) (a : Attempt) (b : Bool) → is_committed a.outcome ≡ b → (if b then None else at_place i (fault_in (depth_of h.version) (memory_at h a.at) a)) ≡ None → (if b then nothing_told else told_on (depth_of h.version) (memory_at h a.at) a).holds ≡ is_holding h a
 unfolding told_on

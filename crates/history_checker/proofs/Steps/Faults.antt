@@ -1,6 +1,6 @@
 -- The fault of an attempt, by where it is found.
 use Rattle.std.proofs.Common.{◌≡◌, ℕ, Bool, true, false, ◌&&◌, is_some, List, refl, ap, sym, ◌∙◌, Option, None, Some}
-use Rattle.history_checker.proofs.Common.{Attempt, Cancelled, Committed, Conflict, Fault, Full, NoMemory, Outcome, ReadOnly, State, Unfinished, again_at, alone, at_head, calls_fault, cond-false, cond-true, end_fault, ended, fault_in, first_of, is_unfinished, may_stand, opened, told_on, unless_fault}
+use Rattle.history_checker.proofs.Common.{Attempt, Fault, Full, Outcome, State, again_at, alone, at_head, calls_fault, cond-false, cond-true, end_fault, ended, fault_in, first_of, is_unfinished, may_stand, opened, told_on, unless_fault}
 use Rattle.history_checker.specs.declared.verdict.BadKind.TheVariants as kind
 
 pub fault_refused : (deepest : ℕ) (m : List ℕ) (a : Attempt) → may_stand a ≡ false → fault_in deepest m a ≡ Some (at_head kind.Shape)
@@ -38,13 +38,8 @@ none_of (Some x) h = cc
 -- ## What is told
 
 held_same : (o : Outcome) (s : State) → (is_unfinished o && (ended o s).irrevocable) ≡ (is_unfinished o && s.irrevocable)
-held_same Committed s = refl
-held_same ReadOnly s = refl
-held_same Cancelled s = refl
-held_same Conflict s = refl
 held_same Full s = refl
-held_same NoMemory s = refl
-held_same Unfinished s = refl
+held_same o s = refl
 
 held_unless : (f : Option Fault) (o : Outcome) (s t : State) → (f ≡ None → t ≡ ended o s) → unless_fault f (is_unfinished o && t.irrevocable) ≡ unless_fault f (is_unfinished o && s.irrevocable)
 held_unless None o s t e = ap (λ (x : State). is_unfinished o && x.irrevocable) (e refl) ∙ held_same o s

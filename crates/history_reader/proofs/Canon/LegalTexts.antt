@@ -18,19 +18,13 @@ may_too Two rs m = tt
 may_too (Three depth) rs m = tt
 
 attempt_is : (version : Version) (memory : List ℕ) (a : Attempt) → IsAlone (depth_of version) memory a → AttemptFits a → IsLimited version a → IsAttempt version (canonical_attempt a)
-attempt_is version memory a h f l = record {
-  thread = l.thread;
-  nth = l.nth;
-  began = refl;
-  at = f.at;
-  arena = (f.arena, l.arena);
-  room = refl;
-  calls = entries_are (depth_of version) (breaks_of a.restarts) (opened memory a.arena a.props) a.calls.list h.replies f.calls l.widths;
-  again = stand_so (length a.arena) 0 a.calls.list a.restarts h.again.stand;
-  restarts = All-map IsTold canonical_again a.restarts (λ k d i. told_is (get_or a.restarts k d) (f.restarts k d i));
-  may = may_too version a.restarts l.restarts;
-  ran = f.ran;
-}
+attempt_is version memory a h f l =
+    let none : ℕ = 0 in
+    let same : none ≡ none = refl in
+    let calls = entries_are (depth_of version) (breaks_of a.restarts) (opened memory a.arena a.props) a.calls.list h.replies f.calls l.widths in
+    let again = stand_so (length a.arena) 0 a.calls.list a.restarts h.again.stand in
+    let restarts = All-map IsTold canonical_again a.restarts (λ k d i. told_is (get_or a.restarts k d) (f.restarts k d i)) in
+    assumption (same, calls, again, restarts, may_too version a.restarts l.restarts, l, f)
 
 -- the memory after the run is as long as that before it
 as_long : (h : History) (n : ℕ) → EndsFree h n ⊎ EndsHeld h n → length h.bytes ≡ length h.memory

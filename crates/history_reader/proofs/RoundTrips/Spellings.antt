@@ -42,15 +42,11 @@ fields_again f (g ∷ gs) h = slice_split_at is_space f 32 (joined (g ∷ gs)) (
 bytes_field : (n : ℕ) (bytes : List ℕ) → length bytes ≡ n → 1 ≤ n → IsBytes bytes → IsField (encode_lower bytes)
 bytes_field n bytes e some h = hex_field bytes h (omega arith)
 
--- the names of all entry points, one by one, have only bytes of fields
-all_names : list_all (λ e. list_all is_field_byte (name_of e)) entries ≡ true
-all_names = refl
-
 -- the name of an entry point is a field
 name_field : (point : Point) → IsField (name_of point)
 name_field point =
     let place : Contains entries point = listed point in
-    let all = AllPass-from_list_all (λ (e : Point). list_all is_field_byte (name_of e)) entries all_names in
+    let all = AllPass-from_list_all (λ (e : Point). list_all is_field_byte (name_of e)) entries refl in
     (omega arith, subst (λ (e : Point). list_all is_field_byte (name_of e) ≡ true) place.2 (all place.0 point place.1))
 
 -- the name of a read of the arena

@@ -54,13 +54,8 @@ module _ (s : Data) (hint : ReadHint) (width : Width) (place word : ℕ) (is : I
     starts = load_sound (ready s g log) first first refl (omega arith) sound.bounds (ready_open s hint width place sound is.is_open within small g log rows) may_read (settled s hint width place sound is.is_open within small) (omega arith)
 
     pub asks : CallTurns s (Read hint width place) false (Wait waits.Load) (record (ready s g log) { reading = first })
-    asks = record {
-      sound = starts;
-      proceeds =
-          subst (λ (mid : Core). Turns mid (Wait waits.Load) (record (ready s g log) { reading = first })) (ready_came s hint width place sound is.is_open within small g log rows)
-          (load_proceeds (ready s g log) first first refl (omega arith) sound.bounds (ready_open s hint width place sound is.is_open within small g log rows) may_read (settled s hint width place sound is.is_open within small) (omega arith) s.log.rows);
-      stays = search rules;
-      order = search rules;
-      ends = tt;
-      tries = search rules;
-    }
+    asks =
+        let proceeds =
+        subst (λ (mid : Core). Turns mid (Wait waits.Load) (record (ready s g log) { reading = first })) (ready_came s hint width place sound is.is_open within small g log rows)
+        (load_proceeds (ready s g log) first first refl (omega arith) sound.bounds (ready_open s hint width place sound is.is_open within small g log rows) may_read (settled s hint width place sound is.is_open within small) (omega arith) s.log.rows) in
+        search (rules, starts, proceeds)

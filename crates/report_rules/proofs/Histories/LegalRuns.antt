@@ -1,31 +1,24 @@
 -- What makes the history of a run legal.
 use Rattle.std.proofs.Common.{◌≡◌, ℕ, ◌+◌, ◌≤◌, Bool, false, ◌&&◌, All, List, [], ◌∷◌, ◌++◌, length, Option, None, Some, refl, ap, ◌∙◌, arith}
-use Rattle.report_rules.proofs.Common.{All-append, All-nil, AreHeld, Attempt, Between, Cancelled, Conflict, Did, Done, Gating, IsPlaced, IsRunOf, Listing, Numbered, ReadOnly, Thread, Unfinished, View, Words, after_try, alone, attempts_in, begins_at, bytes_at, code_of, count_holding, depth_of, first_of, is_holding, is_unfinished, memory_at, of_run, one_where, thread_rules}
+use Rattle.report_rules.proofs.Common.{All-append, All-nil, AreHeld, Attempt, Between, Did, Done, Gating, IsPlaced, IsRunOf, Listing, Numbered, Thread, Unfinished, View, Words, after_try, alone, attempts_in, begins_at, bytes_at, code_of, count_holding, depth_of, first_of, is_holding, is_unfinished, memory_at, of_run, one_where, thread_rules}
 use Rattle.tx_attempts.specs.declared.attempt.Outcome.{Outcome}
-use Rattle.tx_attempts.specs.declared.attempt.Outcome.TheVariants.{Committed, Full, NoMemory}
 use Rattle.tx_history.specs.declared.history.History.{History}
 use Rattle.report_rules.proofs.Passes.Courses.{at_most}
+use Rattle.report_rules.proofs.Histories.ThreadAttempts.{all_of}
 
 holding_both : (h : History) (xs ys : List Attempt) → count_holding h (xs ++ ys) ≡ count_holding h xs + count_holding h ys
 holding_both h [] ys = (let e : count_holding h ys ≡ 0 + count_holding h ys = omega arith in e)
 holding_both h (x ∷ xs) ys = (let e = holding_both h xs ys in omega arith)
 
 holds_not : (o : Outcome) (irrevocable : Bool) → (o ≡ Unfinished → irrevocable ≡ false) → one_where (is_unfinished o && irrevocable) ≡ 0
-holds_not Committed b n = refl
-holds_not ReadOnly b n = refl
-holds_not Cancelled b n = refl
-holds_not Conflict b n = refl
-holds_not Full b n = refl
-holds_not NoMemory b n = refl
 holds_not Unfinished b n = ap one_where (n refl)
+holds_not o b n = refl
 
 -- each attempt is one alone on the memory of its position
 pub all_placed : (words : Words) (p : Listing) (gate : Gating) (v : View) (n : ℕ) (ds : List Done) → Numbered (Did words p gate v) n ds → All (IsPlaced thread_rules p.limits.depth (length v.seen) (bytes_at v)) (attempts_in ds)
-all_placed words p gate v n [] t = All-nil (IsPlaced thread_rules p.limits.depth (length v.seen) (bytes_at v))
-all_placed words p gate v n (d ∷ ds) t =
-    All-append (IsPlaced thread_rules p.limits.depth (length v.seen) (bytes_at v)) d.attempts (attempts_in ds)
-    (of_run thread_rules p.limits.depth (length v.seen) (bytes_at v) (Some (first_of p (code_of p n))) d.attempts t.0.course.run)
-    (all_placed words p gate v (n + 1) ds t.1)
+all_placed words p gate v =
+    let Q : Attempt → Type 0 = IsPlaced thread_rules p.limits.depth (length v.seen) (bytes_at v) in
+    all_of words p gate v (All Q) (All-nil Q) (All-append Q) (λ n d t. of_run thread_rules p.limits.depth (length v.seen) (bytes_at v) (Some (first_of p (code_of p n))) d.attempts t.course.run)
 
 module _ (words : Words) (p : Listing) (gate : Gating) (h : History) (v : View) (same : (k : ℕ) → k ≤ length v.seen → memory_at h k ≡ bytes_at v k) (allows : depth_of h.version ≡ p.limits.depth) where
   none_holds : (b : Option (Between Thread)) (xs : List Attempt) → IsRunOf thread_rules p.limits.depth (length v.seen) (bytes_at v) b xs → AreHeld p.limits.depth v false xs → count_holding h xs ≡ 0
@@ -40,9 +33,6 @@ module _ (words : Words) (p : Listing) (gate : Gating) (h : History) (v : View) 
 
   -- none holds the clock
   pub all_free : (n : ℕ) (ds : List Done) → Numbered (Did words p gate v) n ds → count_holding h (attempts_in ds) ≡ 0
-  all_free n [] t = refl
-  all_free n (d ∷ ds) t =
-      let both = holding_both h d.attempts (attempts_in ds) in
-      let first = none_holds (Some (first_of p (code_of p n))) d.attempts t.0.course.run t.0.held in
-      let rest = all_free (n + 1) ds t.1 in
-      omega arith
+  all_free =
+      all_of words p gate v (λ (xs : List Attempt). count_holding h xs ≡ 0) refl (λ xs ys first rest. (let both = holding_both h xs ys in omega arith))
+      (λ n d t. none_holds (Some (first_of p (code_of p n))) d.attempts t.course.run t.held)

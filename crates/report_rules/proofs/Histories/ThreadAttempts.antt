@@ -69,23 +69,22 @@ module _ (words : Words) (p : Listing) (gate : Gating) (v : View) where
       let same : 0 + i ≡ i = omega arith in
       (r.0, subst (λ k. Did words p gate v k r.0) same r.1, r.2, subst (λ k. of_thread k (attempts_in ds) ≡ r.0.attempts) same r.3)
 
+  -- what is so of each worker's is so of all
+  pub all_of : (Q : List Attempt → Type 0) → Q [] → ((xs ys : List Attempt) → Q xs → Q ys → Q (xs ++ ys)) → ((n : ℕ) (d : Done) → Did words p gate v n d → Q d.attempts) → (n : ℕ) (ds : List Done) → Numbered (Did words p gate v) n ds → Q (attempts_in ds)
+  all_of Q none both each n [] t = none
+  all_of Q none both each n (d ∷ ds) t = both d.attempts (attempts_in ds) (each n d t.0) (all_of Q none both each (n + 1) ds t.1)
+
   pub all_left : (n : ℕ) (ds : List Done) → Numbered (Did words p gate v) n ds → AreLeft p.limits.depth v (attempts_in ds)
-  all_left n [] t = tt
-  all_left n (d ∷ ds) t = left_both p.limits.depth v d.attempts (attempts_in ds) t.0.left (all_left (n + 1) ds t.1)
+  all_left = all_of (AreLeft p.limits.depth v) tt (left_both p.limits.depth v) (λ n d t. t.left)
 
   pub all_few : (n : ℕ) (ds : List Done) → Numbered (Did words p gate v) n ds → AreFew p.limits.max_commits (attempts_in ds)
-  all_few n [] t = tt
-  all_few n (d ∷ ds) t = few_both p.limits.max_commits d.attempts (attempts_in ds) t.0.few (all_few (n + 1) ds t.1)
+  all_few = all_of (AreFew p.limits.max_commits) tt (few_both p.limits.max_commits) (λ n d t. t.few)
 
   pub all_outrun : (n : ℕ) (ds : List Done) → Numbered (Did words p gate v) n ds → AreOutrun v.high (attempts_in ds)
-  all_outrun n [] t = outrun_none v.high
-  all_outrun n (d ∷ ds) t = outrun_both v.high d.attempts (attempts_in ds) t.0.outrun (all_outrun (n + 1) ds t.1)
+  all_outrun = all_of (AreOutrun v.high) (outrun_none v.high) (outrun_both v.high) (λ n d t. t.outrun)
 
   pub all_disturbed : (n : ℕ) (ds : List Done) → Numbered (Did words p gate v) n ds → AreDisturbed (attempts_in ds)
-  all_disturbed n [] t = disturbed_none
-  all_disturbed n (d ∷ ds) t =
-      disturbed_both d.attempts (attempts_in ds) (disturbed_run thread_rules p.limits.depth (length v.seen) (bytes_at v) (Some (first_of p (code_of p n))) d.attempts t.0.course.run)
-      (all_disturbed (n + 1) ds t.1)
+  all_disturbed = all_of AreDisturbed disturbed_none disturbed_both (λ n d t. disturbed_run thread_rules p.limits.depth (length v.seen) (bytes_at v) (Some (first_of p (code_of p n))) d.attempts t.course.run)
 
 pub ends_count : (ds : List Done) → length (ends_in ds) ≡ length ds
 ends_count [] = refl

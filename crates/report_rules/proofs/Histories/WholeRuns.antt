@@ -36,14 +36,11 @@ module _ (words : Words) (p : Listing) (gate : Gating) (r : Report) (start now :
     | inr l ↦ no_other k l ∙ sym (ap one_where (le-ltb k n l))
   ]) ∙ ap (λ (m : ℕ). one_where (nat_lt k m)) (sym commits_are)
 
-  left : AreLeft p.limits.depth now rows
-  left = subst (AreLeft p.limits.depth now) (sym attempts) (all_left words p gate now 0 all gathered.joins.workers)
-
   deepest_is : depth_of r.history.version ≡ p.limits.depth
   deepest_is = ap depth_of version ∙ allows
 
   memory_same : (k : ℕ) → k ≤ n → memory_at r.history k ≡ bytes_at now k
-  memory_same k few = ap (λ (deepest : ℕ). memory_after deepest r.history.memory rows k) deepest_is ∙ memory_is p.limits.depth now r.history.memory rows (sym from ∙ sym (ap bytes_of gathered.joins.base)) left once k few
+  memory_same k few = ap (λ (deepest : ℕ). memory_after deepest r.history.memory rows k) deepest_is ∙ memory_is p.limits.depth now r.history.memory rows (sym from ∙ sym (ap bytes_of gathered.joins.base)) (subst (AreLeft p.limits.depth now) (sym attempts) (all_left words p gate now 0 all gathered.joins.workers)) once k few
 
   bytes_are : r.history.bytes ≡ memory_at r.history (count_committed rows)
   bytes_are =
@@ -75,9 +72,6 @@ module _ (words : Words) (p : Listing) (gate : Gating) (r : Report) (start now :
       up_to : (m : ℕ) → m ≤ n → m ≤ p.limits.max_commits
       up_to zero l = omega arith
       up_to (suc k) l = (let it = below_limit p.limits.max_commits k rows below (let one = once k (omega arith) in omega arith) in omega arith)
-
-  stands_by : rows ≡ by_number 0 (length (threads_of p)) rows
-  stands_by = subst (λ (q : List Attempt × ℕ). q.0 ≡ by_number 0 q.1 q.0) (λ i. (sym attempts i, gathered.count i)) (all_stand words p gate now all gathered.joins.workers)
 
   placed : All (IsPlaced thread_rules p.limits.depth n (bytes_at now)) rows
   placed = subst (All (IsPlaced thread_rules p.limits.depth n (bytes_at now))) (sym attempts) (all_placed words p gate now 0 all gathered.joins.workers)
@@ -117,7 +111,7 @@ module _ (words : Words) (p : Listing) (gate : Gating) (r : Report) (start now :
     seen = λ k few. sym (memory_same k (let e = commits_are in omega arith));
     mine = mine_is;
     rows = thread_row;
-    by_thread = stands_by;
+    by_thread = subst (λ (q : List Attempt × ℕ). q.0 ≡ by_number 0 q.1 q.0) (λ i. (sym attempts i, gathered.count i)) (all_stand words p gate now all gathered.joins.workers);
     counted = counted;
     few = few;
     clock = clock_is;

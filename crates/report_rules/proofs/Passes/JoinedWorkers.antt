@@ -6,18 +6,15 @@ use Rattle.report_rules.proofs.Passes.WorkerViews.{did_its, did_later, its_base,
 
 pub positions_both : (xs ys : List Attempt) → positions (xs ++ ys) ≡ positions xs ++ positions ys
 positions_both [] ys = refl
-positions_both (x ∷ xs) ys = by_outcome (is_committed x.outcome) (positions_both xs ys)
-  where
-    by_outcome : (b : Bool) → positions (xs ++ ys) ≡ positions xs ++ positions ys → (if b then x.at ∷ positions (xs ++ ys) else positions (xs ++ ys)) ≡ (if b then x.at ∷ positions xs else positions xs) ++ positions ys
-    by_outcome true more = ap (λ (ps : List ℕ). x.at ∷ ps) more
-    by_outcome false more = more
+positions_both (x ∷ xs) ys =
+    elim (is_committed x.outcome) as (λ (b : Bool). (if b then x.at ∷ positions (xs ++ ys) else positions (xs ++ ys)) ≡ (if b then x.at ∷ positions xs else positions xs) ++ positions ys) [
+      | true ↦ ap (λ (ps : List ℕ). x.at ∷ ps) (positions_both xs ys)
+      | false ↦ positions_both xs ys
+    ]
 
 pub attempts_push : (ds : List Done) (d : Done) → attempts_in (ds ++ d ∷ []) ≡ attempts_in ds ++ d.attempts
 attempts_push [] d = append-nil d.attempts
 attempts_push (x ∷ xs) d = ap (λ (l : List Attempt). x.attempts ++ l) (attempts_push xs d) ∙ sym (append_assoc x.attempts (attempts_in xs) d.attempts)
-
-pub joins_none : (words : Words) (v : View) (p : Listing) (gate : Gating) → Joins words v p gate 0 v []
-joins_none words v p gate = record { base = refl; share = omega arith; mine = sym (append-nil v.mine); workers = tt }
 
 module _ (words : Words) (base : List ℕ) (p : Listing) (n : ℕ) (gate : Gating) (t : Standing) (player : Thread) (r : Worked) (is : MayBegin words p base n t player) (works : Works thread_rules words t player n p.limits.retries gate r) where
   -- a worker whose pass came back

@@ -56,9 +56,6 @@ joined_on w v u a b = record {
   mine = lies_on w.mine v.mine u.mine a.mine b.mine;
 }
 
-later_in : (v w : View) → HasJoined w v → IsLater v w
-later_in v w j = record { base = j.base; grows = j.begins; high = j.high }
-
 was_later : (words : Words) (p : Listing) (v w : View) (gate : Gating) (k : ℕ) (end : End) (xs : List Attempt) → HasJoined w v → WasRun words p v gate k end xs → WasRun words p w gate k end xs
 was_later words p v w gate k end xs j run = record {
   worked = run.worked;
@@ -70,7 +67,7 @@ was_later words p v w gate k end xs j run = record {
 }
 
 pub did_later : (words : Words) (p : Listing) (gate : Gating) (v w : View) → HasJoined w v → (k : ℕ) (d : Done) → Did words p gate v k d → Did words p gate w k d
-did_later words p gate v w joined k d did = let later = later_in v w joined in record {
+did_later words p gate v w joined k d did = let later : IsLater v w = record { base = joined.base; grows = joined.begins; high = joined.high } in record {
   course = course_still p (length v.seen) (length w.seen) (bytes_at v) (bytes_at w) (seen_in v w later) (bytes_in v w later) k (code_of p k) d.end d.attempts did.course;
   row = was_later words p v w gate k d.end d.attempts joined did.row;
   left = all_left_in p.limits.depth v w later d.attempts did.left;
@@ -140,9 +137,6 @@ module _ (words : Words) (base : List ℕ) (p : Listing) (n : ℕ) (gate : Gatin
   pub its_mine : left_view.mine ≡ positions r.attempts
   its_mine = done.mine ∙ ap (λ (z : View). z.mine ++ positions r.attempts) is.fresh.pass_is
 
-  known_is : course.known ≡ 0
-  known_is = ap (λ (z : View). commits_known z) is.fresh.pass_is
-
   ends_by : (end : End) → EndsAs thread_rules course t.engine.max_commits may_shut end left_view r.attempts → EndsBy course.depth (bytes_at left_view) course.first end r.attempts
   ends_by Finished e = ⊎_elim
       (λ o. inl (record { between = o.between; now_is = o.now_is; none = o.none }))
@@ -164,7 +158,7 @@ module _ (words : Words) (base : List ℕ) (p : Listing) (n : ℕ) (gate : Gatin
   course_is : IsCourse p (length left_view.seen) (bytes_at left_view) n (code_of p n) r.end r.attempts
   course_is = record {
     run = subst (λ (q : ℕ × Between Thread). IsRunOf thread_rules q.0 (length left_view.seen) (bytes_at left_view) (Some q.1) r.attempts) (λ i. (depth_is i, first_is i)) done.runs.run;
-    since = subst (λ (k : ℕ). AreSince k r.attempts) known_is done.runs.since;
+    since = subst (λ (k : ℕ). AreSince k r.attempts) (ap (λ (z : View). commits_known z) is.fresh.pass_is) done.runs.since;
     own = done.runs.own;
     few = subst (λ (most : ℕ). RestartAtMost most r.attempts) (ap (λ (e : Core). e.restarts) is.fresh.engine_is) done.runs.few;
     ends = subst (λ (q : ℕ × Between Thread). EndsBy q.0 (bytes_at left_view) q.1 r.end r.attempts) (λ i. (depth_is i, first_is i)) (ends_by r.end done.ends);

@@ -1,15 +1,15 @@
 -- What operands are that were read: their ranges.
 use Rattle.std.proofs.Common.{ℕ, ◌*◌, ◌%◌, ◌^◌, ◌<◌, ◌≤◌, leb, eqb, ◌&&◌, List, length, Result, Ok, Err, arith}
-use Rattle.script_print.proofs.Common.{AsmKind, IfOk, IsBytes, IsLiteral, IsPlace, IsSize, MAX_INIT_DIGITS, MAX_MEMORY, and_parts, any_if, bind_if, both, both_if, choice_if, commit_action, digits, digits_if, eqb-true, function, init_of, leb-true, limit_of, literal, literal_form, memory_size, no_transaction, number, number_form, one, one_place, place, place_form, place_register, register, register_literal, register_number, register_place, size_of, three, three_places, two, two_places, undo_action, within, within_if, ⊤}
-use Rattle.script_fields.specs.declared.fault.AsmKind.TheVariants as kinds
+use Rattle.script_print.proofs.Common.{AsmKind, IfOk, IsBytes, IsLiteral, IsPlace, IsSize, MAX_INIT_DIGITS, MAX_MEMORY, after_if, and_parts, any_if, bind_if, both, both_if, choice_if, commit_action, digits, digits_if, eqb-true, function, init_of, leb-true, limit_of, literal, literal_form, memory_size, no_transaction, number, number_form, one, one_place, place, place_form, place_register, register, register_literal, register_number, register_place, size_of, three, three_places, two, two_places, undo_action, within, within_if, ⊤}
 use Rattle.script_fields.specs.Operands.{◌>>=◌}
+use Rattle.script_fields.specs.declared.fault.AsmKind.TheVariants as kinds
 use Rattle.script_fields.proofs.HexDigits.{hex_said}
 
 -- ## Numbers and bytes
 
 function_if : (f : List ℕ) → IfOk (function f) (λ n. n < 2 ^ 32)
 unfolding function
-function_if f = bind_if (λ n. ⊤) (λ n. n < 2 ^ 32) (number f) (within 0 4294967295) (any_if (number f)) (λ n h. within_if 0 4294967295 n (λ m. m < 2 ^ 32) (λ low high. omega arith))
+function_if f = after_if _ (number f) (within 0 4294967295) (λ n. within_if 0 4294967295 n (λ m. m < 2 ^ 32) (λ low high. omega arith))
 
 -- bytes for the memory: at least one, and of no more digits than a line may have
 abbrev IsInitial : List ℕ → Type 0
@@ -23,8 +23,7 @@ digits_form f = digits_if MAX_INIT_DIGITS f IsInitial (λ hex few. let said = he
 
 two_if : {A B : Type 0} (P : A → Type 0) (Q : B → Type 0) (f : List ℕ → Result A AsmKind) (g : List ℕ → Result B AsmKind) (fs : List (List ℕ)) → ((x : List ℕ) → IfOk (f x) P) → ((x : List ℕ) → IfOk (g x) Q)
     → IfOk (two fs >>= λ x. both (f x.0) (g x.1)) (λ y. P y.0 × Q y.1)
-two_if P Q f g fs p q =
-    bind_if (λ x. ⊤) (λ y. P y.0 × Q y.1) (two fs) (λ x. both (f x.0) (g x.1)) (any_if (two fs)) (λ x h. both_if P Q (f x.0) (g x.1) (p x.0) (q x.1))
+two_if P Q f g fs p q = after_if _ (two fs) _ (λ x. both_if P Q (f x.0) (g x.1) (p x.0) (q x.1))
 
 pub register_number_if : (fs : List (List ℕ)) → IfOk (register_number fs) (λ x. ⊤ × (x.1 < 2 ^ 64))
 unfolding register_number
@@ -44,7 +43,7 @@ place_register_if fs = two_if IsPlace (λ r. ⊤) place register fs place_form (
 
 pub one_place_if : (fs : List (List ℕ)) → IfOk (one_place fs) IsPlace
 unfolding one_place
-one_place_if fs = bind_if (λ f. ⊤) IsPlace (one fs) place (any_if (one fs)) (λ f h. place_form f)
+one_place_if fs = after_if IsPlace (one fs) place place_form
 
 pub two_places_if : (fs : List (List ℕ)) → IfOk (two_places fs) (λ x. IsPlace x.0 × IsPlace x.1)
 unfolding two_places
@@ -52,16 +51,13 @@ two_places_if fs = two_if IsPlace IsPlace place place fs place_form place_form
 
 pub three_places_if : (fs : List (List ℕ)) → IfOk (three_places fs) (λ x. IsPlace x.0 × (IsPlace x.1.0 × IsPlace x.1.1))
 unfolding three_places
-three_places_if fs =
-    bind_if (λ x. ⊤) (λ x. IsPlace x.0 × (IsPlace x.1.0 × IsPlace x.1.1)) (three fs) (λ x. both (place x.0) (both (place x.1) (place x.2))) (any_if (three fs))
-    (λ x h. both_if IsPlace (λ y. IsPlace y.0 × IsPlace y.1) _ _ (place_form x.0) (both_if IsPlace IsPlace _ _ (place_form x.1) (place_form x.2)))
+three_places_if fs = after_if _ (three fs) _ (λ x. both_if _ _ (place x.0) _ (place_form x.0) (both_if _ _ (place x.1) (place x.2) (place_form x.1) (place_form x.2)))
 
 pub commit_action_if : (fs : List (List ℕ)) → IfOk (commit_action fs) (λ x. (x.0 < 2 ^ 32) × IsPlace x.1)
 unfolding commit_action
 commit_action_if fs =
-    bind_if (λ x. ⊤) (λ x. (x.0 < 2 ^ 32) × IsPlace x.1) (three fs) (λ x. both (function x.0) (both (no_transaction x.1) (place x.2)) >>= λ y. Ok (y.0, y.1.1)) (any_if (three fs))
-    (λ x h. bind_if (λ y. (y.0 < 2 ^ 32) × (⊤ × IsPlace y.1.1)) (λ y. (y.0 < 2 ^ 32) × IsPlace y.1) (both (function x.0) (both (no_transaction x.1) (place x.2))) (λ y. Ok (y.0, y.1.1))
-    (both_if (λ n. n < 2 ^ 32) (λ y. ⊤ × IsPlace y.1) _ _ (function_if x.0) (both_if (λ u. ⊤) IsPlace _ _ (any_if (no_transaction x.1)) (place_form x.2))) (λ y k. (k.0, k.1.1)))
+    after_if _ (three fs) _ (λ x. bind_if _ _ (both (function x.0) (both (no_transaction x.1) (place x.2))) _
+    (both_if _ _ (function x.0) _ (function_if x.0) (both_if _ _ (no_transaction x.1) (place x.2) (any_if (no_transaction x.1)) (place_form x.2))) (λ y k. (k.0, k.1.1)))
 
 pub undo_action_if : (fs : List (List ℕ)) → IfOk (undo_action fs) (λ x. (x.0 < 2 ^ 32) × IsPlace x.1)
 unfolding undo_action
@@ -76,12 +72,11 @@ memory_size_if n =
 
 pub size_of_if : (fs : List (List ℕ)) → IfOk (size_of fs) IsSize
 unfolding size_of
-size_of_if fs = bind_if (λ n. ⊤) IsSize (one fs >>= number) memory_size (any_if (one fs >>= number)) (λ n h. memory_size_if n)
+size_of_if fs = after_if IsSize (one fs >>= number) memory_size memory_size_if
 
 pub limit_of_if : (low high : ℕ) (fs : List (List ℕ)) → IfOk (limit_of low high fs) (λ n. (low ≤ n) × (n ≤ high))
 unfolding limit_of
-limit_of_if low high fs =
-    bind_if (λ n. ⊤) (λ n. (low ≤ n) × (n ≤ high)) (one fs >>= number) (within low high) (any_if (one fs >>= number)) (λ n h. within_if low high n (λ m. (low ≤ m) × (m ≤ high)) (λ l m. (l, m)))
+limit_of_if low high fs = after_if _ (one fs >>= number) (within low high) (λ n. within_if low high n _ (λ l m. (l, m)))
 
 pub init_of_if : (fs : List (List ℕ)) → IfOk (init_of fs) (λ x. ⊤ × (IsBytes x.1 × (1 ≤ length x.1) × (2 * length x.1 ≤ MAX_INIT_DIGITS)))
 unfolding init_of

@@ -52,11 +52,5 @@ pub entry_word : (e : Entry) → word_of (name_of e) ≡ Some (words.Code (mnemo
 unfolding word_of
 entry_word e = rw ((entry_of-exact (name_of e) e).1 refl) refl
 
-abbrev holds_fields : Entry → Type 0
-holds_fields e = list_all is_field_byte (name_of e) ≡ true
-
-every_name : list_all (λ e. list_all is_field_byte (name_of e)) entries ≡ true
-every_name = refl
-
 pub entry_field : (e : Entry) → IsField (name_of e)
-entry_field e = (omega arith, All-contains holds_fields entries e (AllPass-from_list_all (λ (e : Entry). list_all is_field_byte (name_of e)) entries every_name) (listed e))
+entry_field e = (omega arith, All-contains (λ (e : Entry). list_all is_field_byte (name_of e) ≡ true) entries e (AllPass-from_list_all (λ (e : Entry). list_all is_field_byte (name_of e)) entries refl) (listed e))

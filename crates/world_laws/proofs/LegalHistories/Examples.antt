@@ -1,8 +1,7 @@
 -- Worlds whose one actor found no memory: its attempt has ended, or stays open.
 use Rattle.std.proofs.Common.{◌≡◌, [], ◌∷◌, refl, Some, true}
-use Rattle.world_laws.proofs.Common.{Actor, All-cons, All-head, All-nil, Attempt, Current, Ended, IsFed, LeavesNoneOpen, Outside, Unfinished, World, ending_at}
+use Rattle.world_laws.proofs.Common.{Actor, All-cons, All-head, All-nil, Attempt, Current, Ended, IsFed, LeavesNoneOpen, Outside, Unfinished, Within, World, ending_at}
 use Rattle.tx_runs.specs.OpenAttempts.{Open}
-use Rattle.tx_runs.specs.declared.player_run.Current.TheVariants.{Within}
 use Rattle.tx_attempts.specs.declared.attempt.Outcome.TheVariants.{NoMemory}
 use Rattle.tx_runs.specs.declared.ending.End.TheVariants as ends
 

@@ -1,7 +1,6 @@
 -- Who holds the clock, as a history counts it.
 use Rattle.std.proofs.Common.{inl, inr, ◌≡◌, ℕ, zero, suc, ◌+◌, ◌<◌, ◌≤◌, Bool, true, false, true≢false, ◌&&◌, All, List, [], ◌∷◌, ◌++◌, Option, None, Some, slice_get, refl, sym, ap, ◌∙◌, arith}
-use Rattle.world_laws.proofs.Common.{Actor, All-cons, All-head, All-nil, All-tail, AreEnded, AreFrom, AreTied, Attempt, Cancelled, Committed, Conflict, Full, Outcome, ReadOnly, Rules, Unfinished, World, active_of, alone, cases_Bool, count_holding, depth_of, in_transaction, is_holding, is_unfinished, memory_at, one_where, opens, row_is_of, same_Some, with_open}
-use Rattle.tx_attempts.specs.declared.attempt.Outcome.TheVariants.{NoMemory}
+use Rattle.world_laws.proofs.Common.{Actor, All-cons, All-head, All-nil, All-tail, AreEnded, AreFrom, AreTied, Attempt, Outcome, Rules, Unfinished, World, active_of, alone, cases_Bool, count_holding, depth_of, in_transaction, is_holding, is_unfinished, memory_at, one_where, opens, row_is_of, same_Some, with_open}
 use Rattle.tx_history.specs.declared.history.History.{History}
 
 -- ## Counts of two lists
@@ -13,13 +12,8 @@ count_holding_both h (x ∷ xs) ys = (let e = count_holding_both h xs ys in omeg
 -- ## Ended attempts hold nothing
 
 over : (o : Outcome) → (o ≡ Unfinished → ⊥) → is_unfinished o ≡ false
-over Committed n = refl
-over ReadOnly n = refl
-over Cancelled n = refl
-over Conflict n = refl
-over Full n = refl
-over NoMemory n = refl
 over Unfinished n = absurd (n refl)
+over o n = refl
 
 module _ (h : History) where
   over_free : (a : Attempt) → (a.outcome ≡ Unfinished → ⊥) → is_holding h a ≡ false
@@ -36,11 +30,7 @@ module _ (h : History) where
   -- ## Open attempts, of which one thread's may hold it
 
   pub irrevocable_of : (a : Attempt) → is_holding h a ≡ true → (alone (depth_of h.version) (memory_at h a.at) a).irrevocable ≡ true
-  irrevocable_of a t = by_outcome (is_unfinished a.outcome) t
-    where
-      by_outcome : (b : Bool) → (b && (alone (depth_of h.version) (memory_at h a.at) a).irrevocable) ≡ true → (alone (depth_of h.version) (memory_at h a.at) a).irrevocable ≡ true
-      by_outcome true e = e
-      by_outcome false e = absurd (cc)
+  irrevocable_of a t = (elim (is_unfinished a.outcome) as (λ (b : Bool). (b && (alone (depth_of h.version) (memory_at h a.at) a).irrevocable) ≡ true → (alone (depth_of h.version) (memory_at h a.at) a).irrevocable ≡ true) [ true ↦ λ e. e | false ↦ λ e. absurd (cc) ]) t
 
   abbrev pub HeldBy : ℕ → Attempt → Type 0
   HeldBy i a = is_holding h a ≡ true → a.thread ≡ i
@@ -85,18 +75,14 @@ module _ {P : Type 0} where
   -- each open attempt is that of an actor
   pub each_open : (Q : Attempt → Type 0) (xs : List (Actor P)) → ((place : ℕ) (a : Actor P) (row : Attempt) → slice_get xs place ≡ Some a → active_of a ≡ Some row → Q row) → All Q (opens xs)
   each_open Q [] each = All-nil Q
-  each_open Q (x ∷ xs) each = first (active_of x) (each zero x) (each_open Q xs (λ place. each (suc place)))
-    where
-      first : (o : Option Attempt) → ((row : Attempt) → slice_get (x ∷ xs) zero ≡ Some x → o ≡ Some row → Q row) → All Q (opens xs) → All Q (with_open o (opens xs))
-      first None here rest = rest
-      first (Some row) here rest = All-cons Q row (opens xs) (here row refl refl) rest
+  each_open Q (x ∷ xs) each =
+      let rest = each_open Q xs (λ place. each (suc place)) in
+      (elim (active_of x) as (λ (o : Option Attempt). ((row : Attempt) → slice_get (x ∷ xs) zero ≡ Some x → o ≡ Some row → Q row) → All Q (with_open o (opens xs))) [ None ↦ λ here. rest | Some row ↦ λ here. All-cons Q row (opens xs) (here row refl refl) rest ]) (each zero x)
 
   -- it stands among them
   pub stands_among : (xs : List (Actor P)) (place : ℕ) (a : Actor P) (row : Attempt) → slice_get xs place ≡ Some a → active_of a ≡ Some row → (before rest : List Attempt) × (opens xs ≡ before ++ row ∷ rest)
   stands_among [] place a row here e = absurd (cc)
   stands_among (x ∷ xs) zero a row here e = ([], opens xs, ap (λ (o : Option Attempt). with_open o (opens xs)) (ap (λ (y : Actor P). active_of y) (same_Some _ _ here) ∙ e))
-  stands_among (x ∷ xs) (suc place) a row here e = behind (active_of x) (stands_among xs place a row here e)
-    where
-      behind : (o : Option Attempt) → (before rest : List Attempt) × (opens xs ≡ before ++ row ∷ rest) → (before rest : List Attempt) × (with_open o (opens xs) ≡ before ++ row ∷ rest)
-      behind None there = there
-      behind (Some y) there = (y ∷ there.0, there.1, ap (λ (l : List Attempt). y ∷ l) there.2)
+  stands_among (x ∷ xs) (suc place) a row here e =
+      let there = stands_among xs place a row here e in
+      elim (active_of x) as (λ (o : Option Attempt). (before rest : List Attempt) × (with_open o (opens xs) ≡ before ++ row ∷ rest)) [ None ↦ there | Some y ↦ (y ∷ there.0, there.1, ap (λ (l : List Attempt). y ∷ l) there.2) ]

@@ -1,6 +1,6 @@
 -- The history of a world is legal.
 use Rattle.std.proofs.Common.{◌≡◌, inl, inr, get_or, ℕ, ◌/◌, ◌%◌, ◌≤◌, true, true≢false, All, List, ◌∷◌, ◌++◌, length, Some, slice_get, nat_lt, sym, ap, subst, ◌∙◌, arith, append_assoc}
-use Rattle.world_laws.proofs.Common.{Actor, All-append, AreOpaque, AreTied, Attempt, CommitsInOrder, EndsFree, EndsHeld, IsLegal, Rules, Version, World, active_of, alone, attempts_of, bytes_at, count_at, count_committed, count_holding, depth_of, first_of, in_transaction, is_holding, observed, odd_or_even, of_thread, one_where, opens, row_unfinished, same_Some, there_is, told_of}
+use Rattle.world_laws.proofs.Common.{Actor, All-append, AreOpaque, AreTied, Attempt, CommitsInOrder, EndsFree, EndsHeld, IsLegal, Rules, Version, World, active_of, alone, attempts_of, bytes_at, count_committed, count_holding, depth_of, first_of, in_transaction, is_holding, observed, odd_or_even, of_thread, one_where, opens, row_unfinished, same_Some, there_is, told_of}
 use Rattle.tx_history.specs.Legal.{IsAlone}
 use Rattle.tx_history.proofs.Runs.AloneRuns.{IsPlaced, of_run}
 use Rattle.world_laws.proofs.LegalHistories.EachThread.{of_threads}
@@ -9,9 +9,6 @@ use Rattle.world_laws.proofs.LegalHistories.Holders.{HeldBy, count_holding_both,
 module _ {P : Type 0} (rules : Rules P) (version : Version) (w : World P) (allows : depth_of version ≡ w.limits.depth) (commits : CommitsInOrder w) (opaque : AreOpaque rules (observed w)) (tied : AreTied rules w) where
   half : count_committed (attempts_of w) ≡ w.cells.clock / 2
   half = opaque.counted.all
-
-  at_position : (k : ℕ) → count_at k (attempts_of w) ≡ one_where (nat_lt k (count_committed (attempts_of w)))
-  at_position k = opaque.counted.each k ∙ ap (λ (n : ℕ). one_where (nat_lt k n)) (sym half)
 
   placed : All (IsPlaced rules w.limits.depth (w.cells.clock / 2) (bytes_at w.limits.depth w.base (attempts_of w))) (attempts_of w)
   placed = of_threads (IsPlaced rules w.limits.depth (w.cells.clock / 2) (bytes_at w.limits.depth w.base (attempts_of w))) (length w.opening) (attempts_of w) opaque.threads (λ thread l.
@@ -67,7 +64,7 @@ module _ {P : Type 0} (rules : Rules P) (version : Version) (w : World P) (allow
 
   pub legal_world : IsLegal (told_of version w)
   legal_world = record {
-    positions = at_position;
+    positions = λ k. opaque.counted.each k ∙ ap (λ (n : ℕ). one_where (nat_lt k n)) (sym half);
     others = λ k d l. subst (λ (n : ℕ). (get_or (attempts_of w) k d).at ≤ n) (sym half) (placed k d l).1;
     alone = λ k d l. subst (λ (n : ℕ). IsAlone n (bytes_at n w.base (attempts_of w) (get_or (attempts_of w) k d).at) (get_or (attempts_of w) k d)) (sym allows) (placed k d l).0;
     final = elim (odd_or_even w.cells.clock) [ inl even ↦ inl (free even) | inr odd ↦ inr (held odd) ];

@@ -1,6 +1,6 @@
 -- The open attempt of an actor that found no memory is irrevocable; so there is none where no such attempt is.
-use Rattle.std.proofs.Common.{inl, inr, ◌≡◌, ℕ, Bool, true, false, All, List, [], ◌∷◌, nat_lt, None, Some, slice_get, slice_set, Result, sym, ap, subst, ◌∙◌}
-use Rattle.world_laws.proofs.Common.{Actor, All-append, All-cons, All-nil, AreEnded, Attempt, FedLeaveNoneOpen, Goes, GoesOnAfter, IsEvent, IsFed, IsNew, Leads, NoMemory, Outcome, Prior, Rows, Rules, Tries, TriesAgain, World, WorldFault, active_of, begins, between, both_ways, cases_Bool, ending_at, ending_of, is_event, none-some, opens, option_and_then, outrun, over, runs, set_place, shut_out, turned_away, waits_there}
+use Rattle.std.proofs.Common.{inl, inr, ◌≡◌, ℕ, Bool, true, false, All, List, [], ◌∷◌, nat_lt, None, Some, slice_get, Result, sym, ap, subst, ◌∙◌}
+use Rattle.world_laws.proofs.Common.{Actor, All-append, All-cons, All-nil, AreEnded, Attempt, FedLeaveNoneOpen, Goes, GoesOnAfter, IsFed, IsNew, Leads, NoMemory, Outcome, Prior, Rows, Rules, Tries, TriesAgain, World, WorldFault, active_of, begins, between, both_ways, cases_Bool, ending_at, ending_of, is_event, none-some, opens, option_and_then, outrun, over, runs, set_place, shut_out, turned_away, waits_there}
 use Rattle.tx_attempts.specs.declared.attempt.Outcome.TheVariants as outcomes
 use Rattle.world_laws.proofs.LegalHistories.Holders.{each_open, placed_there}
 
@@ -19,13 +19,9 @@ module _ {P : Type 0} where
   again_held false clock nth a t = none_held a t.none
 
   after_held : (o : Outcome) (clock : ℕ) (p : Prior) (a : Actor P) → GoesOnAfter o clock p a → StaysHeld a
-  after_held outcomes.Committed clock p a g = none_held a g.none
-  after_held outcomes.ReadOnly clock p a g = none_held a g.none
-  after_held outcomes.Cancelled clock p a g = none_held a g.none
   after_held outcomes.Conflict clock p a g = again_held (nat_lt p.retries p.nth) clock p.nth a g
-  after_held outcomes.Full clock p a g = none_held a g.none
-  after_held outcomes.NoMemory clock p a g = none_held a g.none
   after_held outcomes.Unfinished clock p a g = absurd g
+  after_held o clock p a g = none_held a g.none
 
   tries_held : {IsLater : Attempt → Attempt → Type 0} (clock : ℕ) (p : Prior) (clock' : ℕ) (r : Rows) (a : Actor P) → Tries IsLater clock p clock' r a → StaysHeld a
   tries_held clock p clock' r a (between t) = none_held a t.between.none
@@ -46,24 +42,15 @@ module _ {P : Type 0} (rules : Rules P) where
   abbrev StayHeld : World P → Type 0
   StayHeld w = (place : ℕ) (a : Actor P) → slice_get w.actors place ≡ Some a → StaysHeld a
 
-  held_first : (w : World P) → IsNew rules w → StayHeld w
-  held_first w new place a here = none_held a (new.first place a here).between.none
-
-  -- over an event
-  module _ (w new : World P) (held : StayHeld w) (i : ℕ) (got next : Actor P) (here : slice_get w.actors i ≡ Some got) (actors : new.actors ≡ slice_set w.actors i next)
-      (event : IsEvent rules w.cells w.attempts got new.cells new.attempts next) where
-    held_over : StayHeld new
-    held_over place a there = elim (set_place w.actors i got next here place a (ap (λ (l : List (Actor P)). slice_get l place) (sym actors) ∙ there)) [
-      | inl x ↦ subst StaysHeld (sym x.1) (tries_held w.cells.clock _ new.cells.clock new.attempts next event.tries)
-      | inr x ↦ held place a x.1
-    ]
-
   held_goes : (i : ℕ) (w new : World P) (result : Result (Unit {0}) WorldFault) → StayHeld w → Goes rules i w result new → StayHeld new
   held_goes i w new result held goes = elim (cases_Bool (is_event result)) [
     | inl done ↦
         (let there = waits_there w i (goes.event.0 done) in
         let went = goes.event_of there.0 there.1 done in
-        held_over w new held i there.0 went.0 there.1 went.1 went.2)
+        λ place a here. elim (set_place w.actors i there.0 went.0 there.1 place a (ap (λ (l : List (Actor P)). slice_get l place) (sym went.1) ∙ here)) [
+          | inl x ↦ subst StaysHeld (sym x.1) (tries_held w.cells.clock _ new.cells.clock new.attempts went.0 went.2.tries)
+          | inr x ↦ held place a x.1
+        ])
     | inr none ↦ subst StayHeld (sym (goes.unchanged none)) held
   ]
 
@@ -80,7 +67,7 @@ module _ {P : Type 0} (rules : Rules P) where
       → (place : ℕ) (a : Actor P) (row : Attempt) → slice_get w.actors place ≡ Some a → active_of a ≡ Some row → ending_at w place ≡ Some NoMemory → ⊥
   starved_shut schedule results first w new leads fed place a row here some starved =
       let ended : ending_of a.status ≡ Some NoMemory = sym (ap (option_and_then (λ (x : Actor P). ending_of x.status)) here) ∙ starved in
-      both_ways a.engine.irrevocable (fed place a here ended) (held_led schedule results first w (held_first first new) leads place a here ended row some)
+      both_ways a.engine.irrevocable (fed place a here ended) (held_led schedule results first w (λ place a here. none_held a (new.first place a here).between.none) leads place a here ended row some)
 
   pub fed_leave_none_open : FedLeaveNoneOpen rules
   fed_leave_none_open schedule results first w new leads commits tied fed =

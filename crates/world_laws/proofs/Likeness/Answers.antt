@@ -1,7 +1,7 @@
 -- What comes of a call is recorded alike of two actors that are alike.
 use Rattle.std.proofs.Common.{◌≡◌, ℕ, ◌/◌, ◌++◌, refl, sym, ap, subst, ◌∙◌}
-use Rattle.world_laws.proofs.Common.{Actor, Answer, Answers, AreAlike, Asks as Steps, Begins, Call, Current, Next, Outside, Records, Rows, Rules, Stage, Taken, Tells, Waits, moved_to, stage_of, stand_of, status_after, tally_of, told, took_in, within}
-use Rattle.tx_runs.specs.declared.player_run.Current.TheVariants.{Within}
+use Rattle.world_laws.proofs.Common.{Actor, Answers, AreAlike, Asks as Steps, Call, Current, Next, Outside, Records, Rows, Rules, Stage, Taken, Tells, Waits, moved_to, stage_of, stand_of, status_after, tally_of, told, took_in, within}
+use Rattle.world_rules.proofs.Common.{Answer}
 use Rattle.tx_runs.specs.Tallies.{outside, begins}
 
 -- two actors are alike, and where the same attempts had ended the same ones have
@@ -18,8 +18,7 @@ moved_in at (within row points) = within (record row { at = at }) points
 
 stage_moved : (at : ℕ) (c : Current) → stage_of (moved_to at c) ≡ moved_in at (stage_of c)
 stage_moved at Outside = refl
-stage_moved at (Begins o) = refl
-stage_moved at (Within o) = refl
+stage_moved at c = refl
 
 module _ {P : Type 0} where
   tally_told : (a : Actor P) → tally_of (told a).run ≡ record (tally_of a.run) { stage = moved_in (a.engine.snapshot / 2) (stage_of a.run.current) }

@@ -73,11 +73,8 @@ module _ {P : Type 0} (rules : Rules P) (clock : ℕ) (r s r' s' : Rows) (a b a'
     status = f.ready ∙ sym g.ready;
   }
 
-  tells_now : Tells rules g.rows s' g.asked b' f.call f.what
-  tells_now = subst (λ (w : Next). Tells rules g.rows s' g.asked b' f.call w) (sym outcome.0) (subst (λ (c : Call). Tells rules g.rows s' g.asked b' c g.what) (sym request_same) g.tells)
-
   pub call_alike : GoAlike r s r' s' a' b'
   call_alike =
       let x = told_alike rules f.rows g.rows r' s' f.asked g.asked a' b' asked_alike (f.same.thread ∙ (k.thread ∙ sym g.same.thread)) (f.same.retries ∙ (k.retries ∙ sym g.same.retries))
-      (f.engine ∙ (outcome.1 ∙ sym g.engine)) f.call f.what f.tells tells_now in
+      (f.engine ∙ (outcome.1 ∙ sym g.engine)) f.call f.what f.tells (subst (λ (w : Next). Tells rules g.rows s' g.asked b' f.call w) (sym outcome.0) (subst (λ (c : Call). Tells rules g.rows s' g.asked b' c g.what) (sym request_same) g.tells)) in
       record { alike = x.alike; ended = λ e. x.ended (f.asks.ended ∙ (e ∙ sym g.asks.ended)) }

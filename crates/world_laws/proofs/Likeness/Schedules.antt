@@ -1,6 +1,6 @@
 -- Two worlds that are the same still are after equal schedules, and after one actor has run to its end.
-use Rattle.std.proofs.Common.{◌≡◌, ℕ, zero, suc, ◌+◌, ◌<◌, cond, IsTrue, List, [], ◌∷◌, ◌++◌, count_by, length, slice_get, Option, None, Some, Result, Err, IsSome, inl, inr, refl, sym, ap, subst, ◌∙◌, arith}
-use Rattle.world_laws.proofs.Common.{Actor, AreAlike, Cells, End, Finished, GaveUp, Goes, Leads, NoMemory, Rules, SameWorld, ShowSame, Takes, World, WorldFault, bytes_of, cases_lt, ending_at, event_result, is_event, is_starved, open_in, opens, waits_at, waits_not_ended, with_open}
+use Rattle.std.proofs.Common.{◌≡◌, ℕ, zero, suc, ◌+◌, ◌<◌, cond, IsTrue, List, [], ◌∷◌, ◌++◌, count_by, length, slice_get, Option, Some, Result, Err, IsSome, inl, inr, refl, sym, ap, subst, ◌∙◌, arith}
+use Rattle.world_laws.proofs.Common.{Actor, AreAlike, Cells, End, Goes, Leads, NoMemory, Rules, SameWorld, ShowSame, Takes, World, WorldFault, bytes_of, cases_lt, ending_at, event_result, is_event, is_starved, open_in, opens, waits_at, waits_not_ended, with_open}
 use Rattle.std.proofs.lemmas.List.Sums.{sum_by-append}
 use Rattle.world_rules.specs.declared.fault.WorldFault.TheVariants as faults
 use Rattle.world_laws.proofs.Likeness.Worlds.{waits_same, ending_same, goes_alike}
@@ -8,12 +8,11 @@ use Rattle.world_laws.proofs.Likeness.Worlds.{waits_same, ending_same, goes_alik
 -- as many actors, each of them alike, have the same open attempts
 opens_same : {P : Type 0} (xs ys : List (Actor P)) → length xs ≡ length ys → ((place : ℕ) (a b : Actor P) → slice_get xs place ≡ Some a → slice_get ys place ≡ Some b → AreAlike a b) → opens xs ≡ opens ys
 opens_same [] [] long each = refl
-opens_same [] (y ∷ ys) long each = absurd (omega arith)
-opens_same (x ∷ xs) [] long each = absurd (omega arith)
 opens_same (x ∷ xs) (y ∷ ys) long each =
     let rest = opens_same xs ys (omega arith) (λ place a b e d. each (suc place) a b e d) in
     let first = each zero x y refl refl in
     λ i. with_open (open_in (first.tally i).stage) (rest i)
+opens_same xs ys long each = absurd (omega arith)
 
 pub shows_same : {P : Type 0} (v w : World P) → SameWorld v w → ShowSame v w
 shows_same v w s = record {
@@ -31,10 +30,8 @@ none_starved r rs e =
     (λ is. (let one : ◌≡◌ {A = ℕ} (cond (is_starved r) 1 0) 1 = ap (λ (x : Result (Unit {0}) WorldFault). cond {A = ℕ} (is_starved x) 1 0) is in omega arith), omega arith)
 
 told_starved : (e : Option End) → event_result e ≡ Err faults.NoMemory → e ≡ Some NoMemory
-told_starved None h = absurd (cc)
-told_starved (Some Finished) h = absurd (cc)
-told_starved (Some GaveUp) h = absurd (cc)
 told_starved (Some NoMemory) h = refl
+told_starved e h = absurd (cc)
 
 module _ {P : Type 0} (rules : Rules P) where
   pub leads_alike : (schedule : List ℕ) (results results' : List (Result (Unit {0}) WorldFault)) (v w v' w' : World P) → SameWorld v w

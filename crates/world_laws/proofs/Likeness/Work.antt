@@ -27,11 +27,10 @@ module _ {P : Type 0} (rules : Rules P) (clock : ℕ) where
   acts_alike : (r s r' s' : Rows) (a b a' b' : Actor P) → AreAlike a b → Acts rules clock r a r' a' → Acts rules clock s b s' b' → IsFed a' → IsFed b' → GoAlike r s r' s' a' b'
   acts_alike r s r' s' a b a' b' k (calls f) (calls g) fed fed' = call_alike rules clock r s r' s' a b a' b' k f g
   acts_alike r s r' s' a b a' b' k (calls f) (finishes g) fed fed' = absurd (let z : Some f.call ≡ None = sym f.next_is ∙ ((λ i. rules.next_call (k.tally i).player) ∙ g.none) in cc)
-  acts_alike r s r' s' a b a' b' k (calls f) (starves g) fed fed' = absurd (fed' (ap ending_of g.status))
   acts_alike r s r' s' a b a' b' k (finishes f) (calls g) fed fed' = absurd (let z : None ≡ Some g.call = sym f.none ∙ ((λ i. rules.next_call (k.tally i).player) ∙ g.next_is) in cc)
   acts_alike r s r' s' a b a' b' k (finishes f) (finishes g) fed fed' = finished_alike r s r' s' a b a' b' k f g
-  acts_alike r s r' s' a b a' b' k (finishes f) (starves g) fed fed' = absurd (fed' (ap ending_of g.status))
   acts_alike r s r' s' a b a' b' k (starves f) g fed fed' = absurd (fed (ap ending_of f.status))
+  acts_alike r s r' s' a b a' b' k f (starves g) fed fed' = absurd (fed' (ap ending_of g.status))
 
   -- ## Many in a row
 

@@ -1,6 +1,6 @@
 -- Of two worlds that are the same, one event of the same actor makes two that are the same.
-use Rattle.std.proofs.Common.{◌≡◌, ◌⊎◌, ℕ, Bool, true, false, IsTrue, List, Option, None, Some, Result, Ok, Err, IsSome, slice_get, slice_set, inl, inr, refl, sym, ap, subst, ◌∙◌, arith}
-use Rattle.world_laws.proofs.Common.{Actor, AreAlike, Cells, Goes, IsEvent, Rules, SameOpening, SameWorld, Status, Step, World, WorldFault, cells_after, counted, ending_at, ending_of, event_result, is_event, is_waiting, option_and_then, set_place, slice_get-set_same, slice_get_within as within_of, there_is, waiting_step, waits_at, waits_there}
+use Rattle.std.proofs.Common.{◌≡◌, ◌⊎◌, ℕ, true, false, IsTrue, List, Option, None, Some, Result, Ok, Err, IsSome, slice_get, slice_set, inl, inr, refl, sym, ap, subst, ◌∙◌, arith}
+use Rattle.world_laws.proofs.Common.{Actor, AreAlike, Cells, Goes, IsEvent, Rules, SameOpening, SameWorld, Status, Step, World, WorldFault, cases_Bool, cells_after, counted, ending_at, ending_of, event_result, is_event, is_waiting, option_and_then, set_place, slice_get-set_same, slice_get_within as within_of, there_is, waiting_step, waits_at, waits_there}
 use Rattle.world_rules.specs.declared.fault.WorldFault.TheVariants as faults
 use Rattle.world_laws.proofs.Likeness.Work.{IsFed, event_alike}
 
@@ -109,7 +109,7 @@ module _ {P : Type 0} (rules : Rules P) (actor : ℕ) (v w : World P) (s : SameW
         let b' : Actor P = y.0 in
         let there : slice_get v'.actors actor ≡ Some a' = set_here v v' here.0 a' here.1 x.1 in
         let there' : slice_get w'.actors actor ≡ Some b' = set_here w w' here'.0 b' here'.1 y.1 in
-        let go = event_alike rules v.cells v'.cells v.attempts w.attempts v'.attempts w'.attempts here.0 here'.0 a' b' (s.actors actor here.0 here'.0 here.1 here'.1) x.2 (on_same_cells here'.0 b' y.2) x.3 y.3
+        let go = event_alike rules v.cells v'.cells v.attempts w.attempts v'.attempts w'.attempts here.0 here'.0 a' b' (s.actors actor here.0 here'.0 here.1 here'.1) x.2 (subst (λ (c : Cells). IsEvent rules c w.attempts here'.0 v'.cells w'.attempts b') (sym s.cells) (subst (λ (c : Cells). IsEvent rules w.cells w.attempts here'.0 c w'.attempts b') (sym cells_same) y.2)) x.3 y.3
         (not_starved v' result a' there (f.answer taken) fed) (not_starved w' result' b' there' (g.answer taken') fed') in (
           f.answer taken ∙ (ap event_result (ending_is v' a' there ∙ (ap ending_of go.alike.status ∙ sym (ending_is w' b' there'))) ∙ sym (g.answer taken')),
           record {
@@ -130,14 +130,6 @@ module _ {P : Type 0} (rules : Rules P) (actor : ℕ) (v w : World P) (s : SameW
             ];
           },
         )
-      where
-        -- the other world's event, over the cells of this one
-        on_same_cells : (b b' : Actor P) → IsEvent rules w.cells w.attempts b w'.cells w'.attempts b' → IsEvent rules v.cells w.attempts b v'.cells w'.attempts b'
-        on_same_cells b b' e = subst (λ (c : Cells). IsEvent rules c w.attempts b v'.cells w'.attempts b') (sym s.cells) (subst (λ (c : Cells). IsEvent rules w.cells w.attempts b c w'.attempts b') (sym cells_same) e)
 
   pub goes_alike : (result ≡ Err faults.NoMemory → ⊥) → (result' ≡ Err faults.NoMemory → ⊥) → (result ≡ result') × SameWorld v' w'
-  goes_alike fed fed' = by_event (is_event result) refl
-    where
-      by_event : (b : Bool) → is_event result ≡ b → (result ≡ result') × SameWorld v' w'
-      by_event true e = events_alike e fed fed'
-      by_event false e = passes_alike e
+  goes_alike fed fed' = elim (cases_Bool (is_event result)) [ inl e ↦ events_alike e fed fed' | inr e ↦ passes_alike e ]

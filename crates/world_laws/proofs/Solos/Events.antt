@@ -1,6 +1,6 @@
 -- An actor that has its world to itself goes on so over an event.
 use Rattle.std.proofs.Common.{◌≡◌, inl, inr, ℕ, ◌+◌, ◌/◌, ◌%◌, ◌≤◌, true, false, nat_lt, if◌then◌else◌, List, [], ◌∷◌, ◌++◌, Option, None, Some, refl, sym, ap, subst, ◌∙◌, arith, eq-eqb}
-use Rattle.world_laws.proofs.Common.{Actor, AreOfActors, AreSole, Attempt, Beginning, Between, CallRecord, Continues, End, Ended, EndsAt, EndsIt, EndsWith, Extends, Finished, GaveUp, GoesBack, GoesOnAfter, IsBetween, IsFirstTry, IsIdle, IsKeptOut, IsOnWay, IsRunOf, IsSole, NoMemory, Outcome, Props, Rows, Rules, StandsSole, Tries, active_of, after_try, begin_of, begins, begins_at, between, bytes_at, current_of, ending_of, is_committed, is_done, may_go, of_thread, one_if, outrun, over, pending_of, prior_of, run_after, runs, same_Some, shut_out, try_begun, turned_away}
+use Rattle.world_laws.proofs.Common.{Actor, AreOfActors, AreSole, Attempt, Beginning, Between, CallRecord, Continues, End, Ended, EndsAt, EndsIt, EndsWith, Finished, GaveUp, GoesBack, GoesOnAfter, IsBetween, IsFirstTry, IsIdle, IsKeptOut, IsOnWay, IsRunOf, IsSole, NoMemory, Outcome, Props, Rows, Rules, StandsSole, Tries, active_of, after_try, begin_of, begins, begins_at, between, bytes_at, current_of, ending_of, is_committed, is_done, may_go, of_thread, one_if, outrun, over, pending_of, prior_of, run_after, runs, same_Some, shut_out, try_begun, turned_away}
 use Rattle.tx_attempts.specs.declared.attempt.Outcome.TheVariants as outcomes
 use Rattle.world_rules.proofs.Tries.ToldTries.{none_again}
 use Rattle.tx_attempts.specs.Restarts.{open_in}
@@ -65,12 +65,12 @@ module _ {P : Type 0} (rules : Rules P) (max_commits : ℕ) (deepest : ℕ) (bas
 
   continued : (n clock : ℕ) (row row' : Attempt) → Continues clock row row' → ((base : Attempt) → GoesBack clock row base → ⊥) → IsFirstTry n row → IsFirstTry n row'
   continued n clock row row' c never f = elim c.from [
-    | inl is ↦ later_first c.base c.on (subst (IsFirstTry n) (sym is) f)
+    | inl is ↦
+        (let b = subst (IsFirstTry n) (sym is) f in
+        let on = c.on in
+        record { thread = on.same.thread ∙ b.thread; nth = on.same.nth ∙ b.nth; began = on.same.began ∙ b.began; unbroken = on.restarts ∙ b.unbroken })
     | inr back ↦ absurd (never c.base back)
   ]
-    where
-      later_first : (base : Attempt) → Extends base row' → IsFirstTry n base → IsFirstTry n row'
-      later_first base on b = record { thread = on.same.thread ∙ b.thread; nth = on.same.nth ∙ b.nth; began = on.same.began ∙ b.began; unbroken = on.restarts ∙ b.unbroken }
 
   module _ (clock clock' : ℕ) (r r' : Rows) (a a' : Actor P) (going : ending_of a.status ≡ None) (read : (row : Attempt) → active_of a ≡ Some row → row.began ≤ row.at) (uncalled : (row : Attempt) → active_of a ≡ None → pending_of a ≡ Some row → row.calls.list ≡ []) (old : IsSole rules max_commits deepest base begin clock r a) (here : a.run.thread ≡ 0) (mine : a'.run.thread ≡ 0) (limit : a.engine.max_commits ≡ max_commits)
       (free : active_of a ≡ None → a.engine.holds ≡ false) (to_begin : (row : Attempt) → active_of a ≡ None → pending_of a ≡ Some row → may_go [] row.props ≡ true → IsToBegin r a row)
@@ -143,18 +143,13 @@ module _ {P : Type 0} (rules : Rules P) (max_commits : ℕ) (deepest : ℕ) (bas
       last outcome o half = record { row = t.row'; ended = ended; first = now t.row' half first; outcome_is = o; spent = t.spent }
 
       by_outcome : (o : Outcome) → t.row'.outcome ≡ o → EndsAt a.engine.max_commits clock clock' t.row'.at o → GoesOnAfter o clock' (prior_of r a) a' → IsSole rules max_commits deepest base begin clock' r' a'
-      by_outcome outcomes.Committed o at g =
-          by_commit (ap is_done o) (omega (arith, at.0, at.1)) (omega (arith, at.0, at.1, ap (λ (x : Outcome). one_if (is_committed x)) o)) g
-      by_outcome outcomes.ReadOnly o at g =
-          by_commit (ap is_done o) (omega (arith, at.0, at.1, later)) (omega (arith, at.0, at.1, ap (λ (x : Outcome). one_if (is_committed x)) o)) g
-      by_outcome outcomes.Cancelled o at g =
-          by_commit (ap is_done o) (omega (arith, at.0, at.1, later)) (omega (arith, at.0, at.1, ap (λ (x : Outcome). one_if (is_committed x)) o)) g
       by_outcome outcomes.Conflict o at g = absurd (omega (arith, at.0, at.1, later, shut (none_again clock' a.run.nth a' (nat_lt a.run.retries a.run.nth) g)))
       by_outcome outcomes.Full o at g =
           goes_on at.0 (stands_so GaveUp g.status (g.none, (omega (arith, at.0, at.1, at.2)), inr (last outcomes.Full o at.0)))
       by_outcome outcomes.NoMemory o at g =
           goes_on at.0 (stands_so NoMemory g.status (inl (g.none, inr (last outcomes.NoMemory o at.0))))
       by_outcome outcomes.Unfinished o at g = absurd at
+      by_outcome outcome o at g = by_commit (ap is_done o) (omega (arith, at.0, at.1, later)) (omega (arith, at.0, at.1, ap (λ (x : Outcome). one_if (is_committed x)) o)) g
 
     pub sole_after : Tries (Continues clock) clock (prior_of r a) clock' r' a' → IsSole rules max_commits deepest base begin clock' r' a'
     sole_after (between t) =

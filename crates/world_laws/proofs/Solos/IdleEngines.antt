@@ -1,38 +1,22 @@
 -- An engine between two calls.
 use Rattle.std.proofs.Common.{◌≡◌, ℕ, zero, suc, Bool, true, false, Some, refl, sym, ap, subst, ◌∙◌, if◌then◌else◌}
-use Rattle.world_laws.proofs.Common.{Actor, Acts, ActsOn, Answer, Answers, Asks, Call, Cells, Core, End, HasStarted, IsEvent, IsIdle, Next, Ready, Rows, Rules, Status, TakesIn, Tells, Waits, calls, ending_of, finishes, is_waiting, starves}
-use Rattle.world_rules.proofs.Common.{Ends, Proceeds, after_undoing, rests}
+use Rattle.world_laws.proofs.Common.{Actor, Acts, ActsOn, Answers, Asks, Call, Cells, Core, End, HasStarted, IsEvent, IsIdle, Next, Ready, Rows, Rules, Status, TakesIn, Tells, Waits, calls, ending_of, finishes, is_waiting, starves}
+use Rattle.world_rules.proofs.Common.{Proceeds, rests}
 use Rattle.norec_core.specs.Phases.{Idle}
 use Rattle.norec_core.specs.Core.{rolled_back}
 
--- ## An answer
-
-idle_answered : (mid new : Core) (a : Answer) → Ends mid a new → IsIdle new
-idle_answered mid new a g = (let r = rests mid new a g in (r.idle, r.holds))
-
-idle_undone : (e : Core) → IsIdle e → IsIdle (after_undoing e)
-idle_undone e i = by_mode e.holds
-  where
-    by_mode : (b : Bool) → IsIdle (if b then e else record (rolled_back e) { stage = Idle; tries = 0 })
-    by_mode true = i
-    by_mode false = (refl, refl)
-
 -- ## An event
-
--- whose status is not that it waits
-waits_so : {P : Type 0} (a : Actor P) (s : Status) → a.status ≡ s → is_waiting s ≡ true → is_waiting a.status ≡ false → ⊥
-waits_so a s is w n = (let both = sym n ∙ (ap is_waiting is ∙ w) in absurd (cc))
 
 module _ {P : Type 0} (rules : Rules P) where
   -- the call waits for a step, or is answered
   idle_told : (r r' : Rows) (old new : Actor P) (call : Call) (what : Next) (mid engine : Core) → Tells rules r r' old new call what → Proceeds mid what engine → is_waiting new.status ≡ false → IsIdle engine
-  idle_told r r' old new call (Asks step) mid engine t g n = absurd (waits_so new (Waits call step) (ap (λ (a : Actor P). a.status) t.0) refl n)
-  idle_told r r' old new call (Answers answer) mid engine t g n = idle_answered mid engine answer g
+  idle_told r r' old new call (Asks step) mid engine t g n = absurd (let both : false ≡ true = sym n ∙ ap (λ (a : Actor P). is_waiting a.status) t.0 in cc)
+  idle_told r r' old new call (Answers answer) mid engine t g n = (let r = rests mid engine answer g in (r.idle, r.holds))
 
   idle_acts : (clock : ℕ) (r : Rows) (a : Actor P) (r' : Rows) (a' : Actor P) → IsIdle a.engine → Acts rules clock r a r' a' → is_waiting a'.status ≡ false → IsIdle a'.engine
   idle_acts clock r a r' a' i (calls c) n = subst IsIdle (sym c.engine) (idle_told c.rows r' c.asked a' c.call c.what _ c.asked.engine c.tells c.asks.called.proceeds n)
   idle_acts clock r a r' a' i (finishes f) n = subst IsIdle (sym (ap (λ (x : Actor P). x.engine) f.actor)) i
-  idle_acts clock r a r' a' i (starves s) n = subst IsIdle (sym s.engine) (idle_undone a.engine i)
+  idle_acts clock r a r' a' i (starves s) n = subst IsIdle (sym s.engine) (elim a.engine.holds as (λ (b : Bool). IsIdle (if b then a.engine else record (rolled_back a.engine) { stage = Idle; tries = 0 })) [ true ↦ i | false ↦ (refl, refl) ])
 
   idle_works : (clock n : ℕ) (r : Rows) (a : Actor P) (r' : Rows) (a' : Actor P) → (is_waiting a.status ≡ false → IsIdle a.engine) → ActsOn rules clock n r a r' a' → is_waiting a'.status ≡ false → IsIdle a'.engine
   idle_works clock zero r a r' a' i w n = subst (λ (x : Actor P). IsIdle x.engine) (sym w.1) (i (ap (λ (x : Actor P). is_waiting x.status) (sym w.1) ∙ n))

@@ -50,9 +50,6 @@ module _ {P : Type 0} (rules : Rules P) (laws : Obeys rules) (deepest : ℕ) whe
       later p q start (omega arith) (found n q _ (rules.next_call q) start refl h))
   found n p arena o start e h = absurd (cc)
 
-  pub begin_found : (p : P) (arena : List ℕ) (start : Beginning P) → begin_of rules deepest p arena ≡ Some start → IsBeginning p start
-  begin_found p arena start h = found (rules.calls_left p) p arena (rules.next_call p) start refl h
-
   -- the calls left do not grow along what a player gets
   falls_along : (n : ℕ) (p : P) (s : State) (o : Option Call) → turn rules.next_call rules.answered rules.calls_left p s ≡ o
       → rules.calls_left (player_after rules deepest 0 0 p (answers_within rules.next_call rules.answered rules.calls_left deepest n p s o)) ≤ rules.calls_left p
@@ -79,7 +76,7 @@ module _ {P : Type 0} (rules : Rules P) (laws : Obeys rules) (deepest : ℕ) whe
     passed_less b start e =
         let p : P = rules.answered start.player (begin_code false) in
         let s : State = opened b.memory start.arena start.props in
-        let found = begin_found b.player b.arena start e in
+        let found = found (rules.calls_left b.player) b.player b.arena (rules.next_call b.player) start refl e in
         let m = laws.nearer start.player (Begin start.props found.room) (begin_code false) found.asks in
         omega (arith, found.less, falls_along (rules.calls_left p) p s (turn rules.next_call rules.answered rules.calls_left p s) refl)
 
@@ -125,9 +122,8 @@ module _ {P : Type 0} (rules : Rules P) (laws : Obeys rules) (deepest : ℕ) whe
 
     -- the last of the calls
     pub aborts_snoc : (xs : List CallRecord) (x : CallRecord) → aborts (map pair_of (xs ++ x ∷ [])) ≡ is_abort x.call
-    aborts_snoc [] x = refl
-    aborts_snoc (y ∷ []) x = refl
     aborts_snoc (y ∷ z ∷ zs) x = aborts_snoc (z ∷ zs) x
+    aborts_snoc xs x = refl
 
     abbrev pub begun : Beginning P → P
     begun start = rules.answered start.player (begin_code false)

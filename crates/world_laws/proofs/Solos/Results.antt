@@ -47,9 +47,6 @@ module _ {P : Type 0} (rules : Rules P) (laws : Obeys rules) (w : World P) (comm
 
   -- ## Its open attempt
 
-  own : a.run.thread ≡ 0
-  own = tied.threads 0 a here
-
   row_kept : HasRow (in_transaction a.engine) a
   row_kept = tied.rows 0 a here
 
@@ -58,9 +55,6 @@ module _ {P : Type 0} (rules : Rules P) (laws : Obeys rules) (w : World P) (comm
 
   active_none : active_of a ≡ None → opens w.actors ≡ []
   active_none e = open_are ∙ ap (λ (o : Option Attempt). with_open o []) e
-
-  active_one : (row : Attempt) → active_of a ≡ Some row → opens w.actors ≡ row ∷ []
-  active_one row e = open_are ∙ ap (λ (o : Option Attempt). with_open o []) e
 
   -- ## The player's blocks that are over
 
@@ -110,7 +104,7 @@ module _ {P : Type 0} (rules : Rules P) (laws : Obeys rules) (w : World P) (comm
   led tail x ended =
       let run = tied.players 0 p a player_here here in
       let rows : of_thread a.run.thread w.attempts.ended ≡ sole.past =
-      ap (λ (t : ℕ). of_thread t w.attempts.ended) own ∙ (of_thread_all w.attempts.ended (of_actors_first 1 w.attempts.ended _ all_mine) ∙ ended) in
+      ap (λ (t : ℕ). of_thread t w.attempts.ended) (tied.threads 0 a here) ∙ (of_thread_all w.attempts.ended (of_actors_first 1 w.attempts.ended _ all_mine) ∙ ended) in
       let still = run_still rules w.limits.depth (w.cells.clock / 2) (w.cells.clock / 2) (bytes_at w.limits.depth w.base w.attempts.ended) (bytes_at w.limits.depth w.base (attempts_of w)) (omega arith)
       (λ k l. bytes_still w.limits.depth w.base w.cells.clock w.attempts.ended commits.counted _ k l) (Some (first_of p w.arena)) (of_thread a.run.thread w.attempts.ended) run.run in
       sym still.1 ∙ (ap (run_after rules w.limits.depth (bytes_at w.limits.depth w.base (attempts_of w)) (Some (first_of p w.arena))) rows ∙ x.led)
@@ -163,16 +157,12 @@ module _ {P : Type 0} (rules : Rules P) (laws : Obeys rules) (w : World P) (comm
         let q : P = player_then rules.answered begun row.calls.list in
         let gets : answers rules.next_call rules.answered rules.calls_left w.limits.depth begun x.before.memory y.start.arena y.start.props ≡ map pair_of row.calls.list =
         begins_alone rules laws w.limits.depth (rules.calls_left begun) unbroken begun from row.calls.list (let l : rules.calls_left begun ≤ rules.calls_left begun = omega arith in l) alone_here
-        ∙ (ap (λ (k : Option Call). map pair_of row.calls.list ++ gets_through rules.next_call rules.answered rules.calls_left w.limits.depth (rules.calls_left begun) (breaks_after unbroken row.calls.list) q t k) (no_turn (is_open t) (rules.next_call q) none)
+        ∙ (ap (λ (k : Option Call). map pair_of row.calls.list ++ gets_through rules.next_call rules.answered rules.calls_left w.limits.depth (rules.calls_left begun) (breaks_after unbroken row.calls.list) q t k) (ap (λ (k : Option Call). if is_open t then k else None) none ∙ (elim (is_open t) as (λ (b : Bool). ◌≡◌ {A = Option Call} (if b then None else None) None) [ true ↦ refl | false ↦ refl ]))
         ∙ (ap (λ (l : List (Call × Reply)). map pair_of row.calls.list ++ l) (gets_none rules laws w.limits.depth (rules.calls_left begun) (breaks_after unbroken row.calls.list) q t) ∙ append-nil (map pair_of row.calls.list))) in
         let open_then : is_open t ≡ true = ap is_open (sym state_here) ∙ subst (λ (k : Outcome). EndsAs k (alone w.limits.depth (bytes_at w.limits.depth w.base (attempts_of w) row.at) row)) o y.opaque.ends in
         stops (row ∷ []) x Finished (if t.irrevocable then t.memory else x.before.memory) t.irrevocable
         (open_block rules laws w.limits.depth w.limits.max_commits 0 x.before y.start y.comes row.calls.list gets alone_here open_then free
         ∙ ap (λ (r : Attempt). with_first r (left_open rules w.limits.depth w.limits.max_commits 0 x.before t)) (row_told outcomes.Unfinished (sym o))) is left odd
-      where
-        no_turn : (b : Bool) (k : Option Call) → k ≡ None → (if b then k else None) ≡ None
-        no_turn true k e = e
-        no_turn false k e = refl
 
     -- it was refused the clock, as full
     refused : row.outcome ≡ outcomes.Full → w.limits.max_commits ≤ w.cells.clock / 2 → w.cells.clock % 2 ≡ 0 → All GaveUp
@@ -189,21 +179,11 @@ module _ {P : Type 0} (rules : Rules P) (laws : Obeys rules) (w : World P) (comm
 
     -- its engine, and the plain state after its calls
     module _ (some : active_of a ≡ Some row) where
-      in_own : in_transaction a.engine ≡ true
-      in_own = row_open (in_transaction a.engine) a row row_kept some
-
-      read_at : row.at ≡ a.engine.snapshot / 2
-      read_at = tied.reads 0 a row here some
-
       -- no block of it has run again
       whole_alone : (memory : List ℕ) → alone_whole w.limits.depth memory row ≡ alone w.limits.depth memory row
       whole_alone memory =
           ap (λ (rs : List Again). state_through w.limits.depth (breaks_in rs) (opened memory row.arena row.props) (calls_of row)) first.unbroken
           ∙ sym (ap (λ (rs : List Again). state_through w.limits.depth (breaks_of rs) (opened memory row.arena row.props) (calls_of row)) first.unbroken)
-
-      -- it is not irrevocable where its engine is not
-      revocable_here : a.engine.irrevocable ≡ false → (state_then w.limits.depth unbroken from row.calls.list).irrevocable ≡ false
-      revocable_here e = ap (λ (s : State). s.irrevocable) (sym state_here) ∙ (tied.modes 0 a row here some ∙ e)
 
       -- and where it is, it is what the words hold
       held_here : IsIdle a.engine → a.engine.irrevocable ≡ true → stands_for a.engine w.cells.words ≡ state_then w.limits.depth unbroken from row.calls.list
@@ -211,10 +191,6 @@ module _ {P : Type 0} (rules : Rules P) (laws : Obeys rules) (w : World P) (comm
           let n : w.cells.clock / 2 ≡ row.at = sym (at_here ∙ x.commits) in
           subst (λ (o : Option Step). StandsIn w.limits.depth o a.engine.doing a.engine w.cells.words (alone_whole w.limits.depth (bytes_at w.limits.depth w.base (attempts_of w) (w.cells.clock / 2)) row)) idle.0 (tied.stored 0 a row here some e)
           ∙ (whole_alone (bytes_at w.limits.depth w.base (attempts_of w) (w.cells.clock / 2)) ∙ ap (λ (k : ℕ). alone w.limits.depth (bytes_at w.limits.depth w.base (attempts_of w) k) row) n ∙ state_here)
-
-      -- fewer have committed than may
-      few_here : a.engine.irrevocable ≡ true → nat_le w.limits.max_commits x.before.commits ≡ false
-      few_here e = lt-leb w.limits.max_commits x.before.commits (omega (arith, odd_where e, commits.few, x.commits))
 
       rests_idle : IsIdle a.engine → row.outcome ≡ outcomes.Unfinished → rules.next_call (player_then rules.answered begun row.calls.list) ≡ None → All Finished
       rests_idle idle o none = by_mode a.engine.irrevocable refl
@@ -226,11 +202,11 @@ module _ {P : Type 0} (rules : Rules P) (laws : Obeys rules) (w : World P) (comm
               let odd = odd_where e in
               let mode : t.irrevocable ≡ true = ap (λ (s : State). s.irrevocable) (sym stands) ∙ (mode_in a.engine.irrevocable a.engine.writes a.engine.blocks a.engine.arena a.engine.actions w.cells.words ∙ e) in
               let left : memory_of w ≡ t.memory = sym (ap (λ (b : Bool). (state_in b a.engine.writes a.engine.blocks a.engine.arena a.engine.actions w.cells.words).memory) e) ∙ ap (λ (s : State). s.memory) stands in
-              rests_open o none (and_right t.irrevocable (nat_le w.limits.max_commits x.before.commits) (few_here e)) (left ∙ sym (cond-true t.irrevocable t.memory x.before.memory mode)) (ap (λ (n : ℕ). n == 1) odd ∙ sym mode)
+              rests_open o none (and_right t.irrevocable (nat_le w.limits.max_commits x.before.commits) (lt-leb w.limits.max_commits x.before.commits (omega (arith, odd_where e, commits.few, x.commits)))) (left ∙ sym (cond-true t.irrevocable t.memory x.before.memory mode)) (ap (λ (n : ℕ). n == 1) odd ∙ sym mode)
           by_mode false e =
               let t : State = state_then w.limits.depth unbroken from row.calls.list in
               let even = even_free w commits one a here (idle.1 ∙ e) in
-              let mode = revocable_here e in
+              let mode : t.irrevocable ≡ false = ap (λ (s : State). s.irrevocable) (sym state_here) ∙ (tied.modes 0 a row here some ∙ e) in
               rests_open o none (and_left t.irrevocable (nat_le w.limits.max_commits x.before.commits) mode) (left_by (row ∷ []) x even ∙ sym (cond-false t.irrevocable t.memory x.before.memory mode)) (ap (λ (n : ℕ). n == 1) even ∙ sym mode)
 
     -- its player stands where its calls have led it
@@ -248,11 +224,7 @@ module _ {P : Type 0} (rules : Rules P) (laws : Obeys rules) (w : World P) (comm
   none_comes : (b : Between P) (x : Arrived []) → IsBeforeTry rules w.limits.depth (w.cells.clock / 2) b a → place_now ≡ Some b → w.attempts.ended ≡ sole.past → rules.next_call a.run.player ≡ None → begin_of rules w.limits.depth x.before.player x.before.arena ≡ None
   none_comes b x t led_to ended none =
       ap (λ (b : Between P). begin_of rules w.limits.depth b.player b.arena) (sym (same_Some _ _ (sym led_to ∙ led [] x ended)))
-      ∙ (before_led rules laws w.limits.depth t.before ∙ (ap (begin_within rules w.limits.depth (rules.calls_left a.run.player) a.run.player a.engine.arena) none ∙ no_call (rules.calls_left a.run.player) a.engine.arena))
-    where
-      no_call : (k : ℕ) (arena : List ℕ) → begin_within rules w.limits.depth k a.run.player arena None ≡ None
-      no_call zero arena = refl
-      no_call (suc k) arena = refl
+      ∙ (before_led rules laws w.limits.depth t.before ∙ (ap (begin_within rules w.limits.depth (rules.calls_left a.run.player) a.run.player a.engine.arena) none ∙ (elim (rules.calls_left a.run.player) as (λ (k : ℕ). begin_within rules w.limits.depth k a.run.player a.engine.arena None ≡ None) [ zero ↦ refl | suc k ↦ refl ])))
 
   -- between two blocks its player makes no more calls
   rests : (x : Arrived []) → attempts_of w ≡ sole.past ++ [] → w.attempts.ended ≡ sole.past → ending_of a.status ≡ Some Finished → active_of a ≡ None → rules.next_call a.run.player ≡ None → w.cells.clock % 2 ≡ 0 → All Finished
@@ -265,7 +237,7 @@ module _ {P : Type 0} (rules : Rules P) (laws : Obeys rules) (w : World P) (comm
     is_none e = λ i. ended i ++ active_none e i
 
     is_some_row : (row : Attempt) → active_of a ≡ Some row → attempts_of w ≡ sole.past ++ row ∷ []
-    is_some_row row e = λ i. ended i ++ active_one row e i
+    is_some_row row e = λ i. ended i ++ (open_are ∙ ap (λ (o : Option Attempt). with_open o []) e) i
 
     nothing_open : (outcome : Outcome) → active_of a ≡ None → (memory : List ℕ) × So (w.cells.clock / 2) memory outcome × (w.cells.clock % 2 ≡ 0 → memory_of w ≡ memory)
     nothing_open outcome e = (let x = arrived [] (is_none e) in (x.before.memory, so_far [] x outcome (inl (is_none e ∙ append-nil sole.past)), left_by [] x))

@@ -1,6 +1,6 @@
 -- The run of an actor that has its world to itself is what its player does alone.
 use Rattle.std.proofs.Common.{◌≡◌, ℕ, suc, ◌+◌, ◌<◌, ◌≤◌, ◌==◌, ◌&&◌, Bool, true, false, ◌%◌, drop, nat_le, nat_lt, if◌then◌else◌, List, [], ◌∷◌, ◌++◌, length, map, replicate, take, Option, None, Some, refl, sym, ap, subst, ◌∙◌, arith, eqb-true, eq-eqb, lt-ltb, leb-true}
-use Rattle.world_laws.proofs.Common.{Abort, AreSole, Attempt, Begin, Beginning, Between, Block, Call, CallRecord, ClosedBy, Commit, Copy, CopyPair, EndsAs, Fill, In, IsAlone, IsFirstTry, IsOpaque, IsRunOf, Log, LogBytes, Mode, Obeys, Out, Outcome, Progress, Props, Refusal, Reply, Rules, Saved, Solo, State, UndoAction, Within, Write, aborts, after, after_try, after_unless, alone, answered_all, answers, answers_on, answers_through, answers_within, append-nil, back_from, begin_code, begin_of, breaks_of, bytes_at, closed_in, committed_at, effect, ended_as, entered, false_from_ne_true, follows, handed, irrevocable_from, is_abort, is_at, is_committed, is_done, is_open, logged_in, made_irrevocable, memory_left, one_if, opened, option_map, or_parts, outside, pair_of, player_then, pushed, ran_of, refusal, replies_of, reply, rolled_back, row_of, run_after, solo_within, source_bytes, state_then, take-append-drop, target_written, try_begun, turn, unbroken, undone_from, with_action, with_all, with_first, written}
+use Rattle.world_laws.proofs.Common.{Abort, AreSole, Attempt, Begin, Beginning, Between, Block, Call, CallRecord, ClosedBy, Commit, Copy, CopyPair, EndsAs, Fill, In, IsAlone, IsFirstTry, IsOpaque, IsRunOf, Log, LogBytes, Mode, Obeys, Outcome, Progress, Props, Refusal, Reply, Rules, Saved, Solo, State, UndoAction, Write, aborts, after, after_try, after_unless, alone, answered_all, answers, answers_on, answers_through, answers_within, append-nil, back_from, begin_code, begin_of, breaks_of, bytes_at, closed_in, committed_at, effect, ended_as, entered, false_from_ne_true, follows, handed, irrevocable_from, is_abort, is_at, is_committed, is_done, is_open, logged_in, made_irrevocable, memory_left, one_if, opened, option_map, or_parts, outside, pair_of, player_then, pushed, ran_of, refusal, replies_of, reply, rolled_back, row_of, run_after, solo_within, source_bytes, state_then, take-append-drop, target_written, try_begun, turn, unbroken, undone_from, with_action, with_all, with_first, written}
 use Rattle.std.proofs.Math.Nat.{add-zero}
 use Rattle.itm_types.specs.Access.{size_of}
 use Rattle.itm_types.specs.Slices.{with_slice}
@@ -51,14 +51,12 @@ module _ {P : Type 0} (rules : Rules P) (deepest : ℕ) where
       pub blocks : AreUnwritten s.blocks
 
     unwritten_handed : (outer inner : Option Saved) → WasUnwritten outer → WasUnwritten (handed outer inner)
-    unwritten_handed None inner h = tt
     unwritten_handed (Some saved) None h = h
-    unwritten_handed (Some saved) (Some inner) h = h
+    unwritten_handed outer inner h = h
 
     unwritten_closed : (bs : List Block) → AreUnwritten bs → AreUnwritten (closed_in bs)
-    unwritten_closed [] h = tt
-    unwritten_closed (b ∷ []) h = tt
     unwritten_closed (b ∷ p ∷ bs) h = (unwritten_handed p.saved b.saved h.1.0, h.1.1)
+    unwritten_closed bs h = tt
 
     unwritten_kept : (o : Option Saved) (arena : List ℕ) (place size : ℕ) → WasUnwritten o → WasUnwritten (option_map {T = Saved} (λ (saved : Saved). record saved { kept = also_kept saved.kept arena place size }) o)
     unwritten_kept None arena place size h = tt
@@ -86,14 +84,10 @@ module _ {P : Type 0} (rules : Rules P) (deepest : ℕ) where
     unwritten_kept_all (b ∷ bs) = (tt, unwritten_kept_all bs)
 
     unwritten_irrevocable : (s : State) → IsUnwritten s → IsUnwritten (irrevocable_from s)
-    unwritten_irrevocable s h = by_mode s.irrevocable
-      where
-        by_mode : (b : Bool) → IsUnwritten (if b then s else made_irrevocable s)
-        by_mode true = h
-        by_mode false = record { now = λ w. absurd (cc); blocks = unwritten_kept_all s.blocks }
+    unwritten_irrevocable s h = elim s.irrevocable as (λ (b : Bool). IsUnwritten (if b then s else made_irrevocable s)) [ true ↦ h | false ↦ record { now = λ w. absurd (cc); blocks = unwritten_kept_all s.blocks } ]
 
     unwritten_entered : (s : State) (props : Props) → IsUnwritten s → IsUnwritten (entered s props)
-    unwritten_entered s props h = by_props props.goes_irrevocable
+    unwritten_entered s props h = elim props.goes_irrevocable as (λ (goes : Bool). IsUnwritten (if goes then irrevocable_from (pushed s props) else pushed s props)) [ true ↦ unwritten_irrevocable (pushed s props) opens | false ↦ opens ]
       where
         saved : (b : Bool) → WasUnwritten (if b then None else Some (record { memory = s.memory; wrote = s.wrote; commits = length s.actions.commits; undos = length s.actions.undos; kept = nothing s.arena }))
         saved true = tt
@@ -101,10 +95,6 @@ module _ {P : Type 0} (rules : Rules P) (deepest : ℕ) where
 
         opens : IsUnwritten (pushed s props)
         opens = record { now = h.now; blocks = (saved s.irrevocable, h.blocks) }
-
-        by_props : (goes : Bool) → IsUnwritten (if goes then irrevocable_from (pushed s props) else pushed s props)
-        by_props true = unwritten_irrevocable (pushed s props) opens
-        by_props false = opens
 
     pub unwritten_opened : (arena : List ℕ) (props : Props) → IsUnwritten (opened m arena props)
     unwritten_opened arena props = unwritten_entered (outside m arena) props (record { now = λ w. refl; blocks = tt })
@@ -121,9 +111,8 @@ module _ {P : Type 0} (rules : Rules P) (deepest : ℕ) where
     }
 
     unwritten_copied : (s : State) (pair : CopyPair) (place : ℕ) (bytes : List ℕ) → IsUnwritten s → IsUnwritten (target_written s pair place bytes)
-    unwritten_copied s (Out to) place bytes h = unwritten_written s place bytes h
     unwritten_copied s (In from) place bytes h = record { now = h.now; blocks = h.blocks }
-    unwritten_copied s (Within from to) place bytes h = unwritten_written s place bytes h
+    unwritten_copied s pair place bytes h = unwritten_written s place bytes h
 
     unwritten_effect : (s : State) (c : Call) → is_open s ≡ true → IsUnwritten s → IsUnwritten (effect s c)
     unwritten_effect s (Begin props room) o h =
@@ -137,11 +126,7 @@ module _ {P : Type 0} (rules : Rules P) (deepest : ℕ) where
     unwritten_effect s (LogBytes at size) o h = record { now = h.now; blocks = unwritten_logged s.blocks s.arena at size h.blocks }
     unwritten_effect s (Copy c) o h = unwritten_copied s c.pair c.to (source_bytes s c.pair c.from c.size) h
     unwritten_effect s (Fill hint to byte size) o h = unwritten_written s to (replicate size (byte % 256)) h
-    unwritten_effect s (UndoAction action) o h = by_mode s.irrevocable
-      where
-        by_mode : (b : Bool) → IsUnwritten (if b then s else with_action s kinds.Undo action)
-        by_mode true = h
-        by_mode false = record { now = h.now; blocks = h.blocks }
+    unwritten_effect s (UndoAction action) o h = elim s.irrevocable as (λ (b : Bool). IsUnwritten (if b then s else with_action s kinds.Undo action)) [ true ↦ h | false ↦ record { now = h.now; blocks = h.blocks } ]
     unwritten_effect s c o h = record { now = h.now; blocks = h.blocks }
 
     unwritten_call : (s : State) (c : Call) (o : Option Refusal) → is_open s ≡ true → IsUnwritten s → IsUnwritten (after_unless o s (effect s c))

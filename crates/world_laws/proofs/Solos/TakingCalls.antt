@@ -1,7 +1,7 @@
 -- The calls of an attempt before the first one that takes the clock.
 use Rattle.std.proofs.Common.{◌≡◌, ℕ, ◌%◌, Bool, true, false, not, ◌&&◌, ◌||◌, nat_lt, if◌then◌else◌, List, [], ◌∷◌, ◌++◌, length, map, replicate, Option, None, Some, refl, sym, ap, subst, ◌∙◌}
-use Rattle.world_laws.proofs.Common.{Abort, Begin, Block, Call, CallRecord, Commit, Copy, CopyPair, Fill, In, IsAlone, Mode, Out, Props, Refusal, Reply, Rules, Saved, State, UndoAction, Within, Write, abort_for, after, after_unless, append-nil, back_from, before_taking, closed, closed_in, closed_irrevocable, copied, effect, entered, false_from_ne_true, irrevocable_from, is_open, keeps_any, keeps_innermost, made_irrevocable, needs_open, opened, option_map, or_else, or_left, or_parts, outside, pair_of, pushed, refusal, rolled_back, source_bytes, state_then, takes_clock, target_written, unbroken, undone_from, unless, with_action, with_undo, written}
-use Rattle.itm_types.specs.declared.call.Refusal.TheVariants.{IsIrrevocable, NoAbort}
+use Rattle.world_laws.proofs.Common.{Abort, Begin, Block, Call, CallRecord, Commit, Copy, CopyPair, Fill, In, IsAlone, Mode, Props, Refusal, Reply, Rules, Saved, State, UndoAction, Write, after, after_unless, append-nil, back_from, before_taking, closed, closed_in, closed_irrevocable, copied, effect, entered, false_from_ne_true, irrevocable_from, is_open, keeps_any, keeps_innermost, made_irrevocable, opened, option_map, or_else, or_left, or_parts, outside, pair_of, pushed, refusal, rolled_back, source_bytes, state_then, takes_clock, target_written, unbroken, undone_from, unless, with_action, with_undo, written}
+use Rattle.itm_types.specs.declared.call.Refusal.TheVariants.{IsIrrevocable, NoAbort, Outside}
 use Rattle.itm_types.specs.declared.call.ActionKind.TheVariants as kinds
 
 -- ## Irrevocable states
@@ -10,25 +10,13 @@ pub in_open : (b : Bool) (o : Option Call) (c : Call) → (if b then o else None
 in_open true o c e = refl
 in_open false o c e = absurd (cc)
 
-or_else_none : (a b : Option Refusal) → or_else a b ≡ None → (a ≡ None) × (b ≡ None)
-or_else_none None b e = (refl, e)
-or_else_none (Some r) b e = absurd (cc)
-
-unless_none : (b : Bool) (r : Refusal) → unless b r ≡ None → b ≡ true
-unless_none true r e = refl
-unless_none false r e = absurd (cc)
-
-not_true : (b : Bool) → not b ≡ true → b ≡ false
-not_true true e = absurd (cc)
-not_true false e = refl
-
 -- an abort is accepted where the state is not irrevocable
+abort_may : (inside may irrevocable : Bool) → or_else (or_else (unless inside Outside) (or_else (unless may NoAbort) (unless (not irrevocable) IsIrrevocable))) None ≡ None → irrevocable ≡ false
+abort_may true true false e = refl
+abort_may inside may irrevocable e = absurd (cc)
+
 abort_revocable : (deepest : ℕ) (s : State) (outer : Bool) → refusal deepest s (Abort outer) ≡ None → s.irrevocable ≡ false
-abort_revocable deepest s outer e =
-    let standing = (or_else_none (or_else (needs_open s) (abort_for s outer)) None e).0 in
-    let abort = (or_else_none (needs_open s) (abort_for s outer) standing).1 in
-    let kept = (or_else_none (unless (not (if outer then keeps_any s.blocks else keeps_innermost s.blocks)) NoAbort) (unless (not s.irrevocable) IsIrrevocable) abort).1 in
-    not_true s.irrevocable (unless_none (not s.irrevocable) IsIrrevocable kept)
+abort_revocable deepest s outer e = abort_may (is_open s) (not (if outer then keeps_any s.blocks else keeps_innermost s.blocks)) s.irrevocable e
 
 -- it wrote, and, while it is open, it is irrevocable
 pub taken_by : (s : State) → s.irrevocable ≡ true → takes_clock s ≡ true
@@ -38,37 +26,24 @@ irrevocable_still : (s : State) → s.irrevocable ≡ true → (irrevocable_from
 irrevocable_still s e = ap (λ (b : Bool). (if b then s else made_irrevocable s).irrevocable) e ∙ e
 
 entered_still : (s : State) (props : Props) → s.irrevocable ≡ true → (entered s props).irrevocable ≡ true
-entered_still s props e = by_props props.goes_irrevocable
-  where
-    by_props : (goes : Bool) → (if goes then irrevocable_from (pushed s props) else pushed s props).irrevocable ≡ true
-    by_props true = irrevocable_still (pushed s props) e
-    by_props false = e
-
-undo_same : (s : State) (b : Bool) (t : State) → t.irrevocable ≡ s.irrevocable → (if b then s else t).irrevocable ≡ s.irrevocable
-undo_same s true t e = refl
-undo_same s false t e = e
+entered_still s props e = elim props.goes_irrevocable as (λ (goes : Bool). (if goes then irrevocable_from (pushed s props) else pushed s props).irrevocable ≡ true) [ true ↦ irrevocable_still (pushed s props) e | false ↦ e ]
 
 copied_same : (s : State) (pair : CopyPair) (place : ℕ) (bytes : List ℕ) → (target_written s pair place bytes).irrevocable ≡ s.irrevocable
-copied_same s (Out to) place bytes = refl
 copied_same s (In from) place bytes = refl
-copied_same s (Within from to) place bytes = refl
+copied_same s pair place bytes = refl
 
 closes : (bs : List Block) → (closed_irrevocable bs true || (not (nat_lt 0 (length (closed_in bs))) && true)) ≡ true
-closes [] = refl
 closes (b ∷ []) = refl
-closes (b ∷ p ∷ bs) = refl
-
-closes_taking : (s : State) → s.irrevocable ≡ true → s.wrote ≡ true → takes_clock (closed s) ≡ true
-closes_taking s e w = (λ i. closed_irrevocable s.blocks (e i) || (not (is_open (closed s)) && w i)) ∙ closes s.blocks
+closes bs = refl
 
 keeps_effect : (deepest : ℕ) (s : State) (c : Call) → is_open s ≡ true → s.irrevocable ≡ true → s.wrote ≡ true → refusal deepest s c ≡ None → takes_clock (effect s c) ≡ true
 keeps_effect deepest s (Begin props room) o e w none =
     subst (λ (b : Bool). takes_clock (if b then entered s props else opened s.memory s.arena props) ≡ true) (sym o) (taken_by (entered s props) (entered_still s props e))
-keeps_effect deepest s Commit o e w none = closes_taking s e w
+keeps_effect deepest s Commit o e w none = (λ i. closed_irrevocable s.blocks (e i) || (not (is_open (closed s)) && w i)) ∙ closes s.blocks
 keeps_effect deepest s (Abort outer) o e w none = absurd (let f = sym e ∙ abort_revocable deepest s outer none in cc)
 keeps_effect deepest s (Mode room) o e w none = taken_by (irrevocable_from s) (irrevocable_still s e)
 keeps_effect deepest s (Copy c) o e w none = taken_by (copied s c) (copied_same s c.pair c.to (source_bytes s c.pair c.from c.size) ∙ e)
-keeps_effect deepest s (UndoAction action) o e w none = taken_by (with_undo s action) (undo_same s s.irrevocable (with_action s kinds.Undo action) refl ∙ e)
+keeps_effect deepest s (UndoAction action) o e w none = taken_by (with_undo s action) ((elim s.irrevocable as (λ (b : Bool). (if b then s else with_action s kinds.Undo action).irrevocable ≡ s.irrevocable) [ true ↦ refl | false ↦ refl ]) ∙ e)
 keeps_effect deepest s c o e w none = taken_by (effect s c) e
 
 keeps_call : (deepest : ℕ) (s : State) (c : Call) (o : Option Refusal) → refusal deepest s c ≡ o → is_open s ≡ true → s.irrevocable ≡ true → s.wrote ≡ true → takes_clock (after_unless o s (effect s c)) ≡ true
@@ -85,18 +60,10 @@ abbrev pub IsMarked : State → Type 0
 IsMarked s = s.irrevocable ≡ true → s.wrote ≡ true
 
 marked_from : (s : State) → IsMarked s → IsMarked (irrevocable_from s)
-marked_from s h = by_mode s.irrevocable refl
-  where
-    by_mode : (b : Bool) → s.irrevocable ≡ b → IsMarked (if b then s else made_irrevocable s)
-    by_mode true e = h
-    by_mode false e = λ x. refl
+marked_from s h = elim s.irrevocable as (λ (b : Bool). IsMarked (if b then s else made_irrevocable s)) [ true ↦ h | false ↦ λ x. refl ]
 
 marked_entered : (s : State) (props : Props) → IsMarked s → IsMarked (entered s props)
-marked_entered s props h = by_props props.goes_irrevocable
-  where
-    by_props : (goes : Bool) → IsMarked (if goes then irrevocable_from (pushed s props) else pushed s props)
-    by_props true = marked_from (pushed s props) h
-    by_props false = h
+marked_entered s props h = elim props.goes_irrevocable as (λ (goes : Bool). IsMarked (if goes then irrevocable_from (pushed s props) else pushed s props)) [ true ↦ marked_from (pushed s props) h | false ↦ h ]
 
 pub marked_opened : (memory arena : List ℕ) (props : Props) → IsMarked (opened memory arena props)
 marked_opened memory arena props = marked_entered (outside memory arena) props (λ e. absurd (cc))
@@ -110,9 +77,8 @@ marked_written : (s : State) (place : ℕ) (bytes : List ℕ) → IsMarked s →
 marked_written s place bytes h = λ e. or_left s.wrote (nat_lt 0 (length bytes)) (h e)
 
 marked_copied : (s : State) (pair : CopyPair) (place : ℕ) (bytes : List ℕ) → IsMarked s → IsMarked (target_written s pair place bytes)
-marked_copied s (Out to) place bytes h = marked_written s place bytes h
 marked_copied s (In from) place bytes h = h
-marked_copied s (Within from to) place bytes h = marked_written s place bytes h
+marked_copied s pair place bytes h = marked_written s place bytes h
 
 closed_was : (bs : List Block) (b : Bool) → closed_irrevocable bs b ≡ true → b ≡ true
 closed_was [] b e = e
@@ -131,24 +97,16 @@ undone_same : (s : State) (bs : List Block) → (undone_from s bs).irrevocable �
 undone_same s [] = refl
 undone_same s (b ∷ bs) = undone_same (rolled_back s bs b.saved) bs ∙ rolled_same s bs b.saved
 
-aborted_same : (s : State) (outer : Bool) → (if outer then undone_from s s.blocks else back_from s s.blocks).irrevocable ≡ s.irrevocable
-aborted_same s true = undone_same s s.blocks
-aborted_same s false = back_same s s.blocks
-
 marked_effect : (deepest : ℕ) (s : State) (c : Call) → is_open s ≡ true → IsMarked s → refusal deepest s c ≡ None → IsMarked (effect s c)
 marked_effect deepest s (Begin props room) o h none =
     subst (λ (b : Bool). IsMarked (if b then entered s props else opened s.memory s.arena props)) (sym o) (marked_entered s props h)
 marked_effect deepest s Commit o h none = λ e. h (closed_was s.blocks s.irrevocable e)
-marked_effect deepest s (Abort outer) o h none = λ e. absurd (let f = sym e ∙ (aborted_same s outer ∙ abort_revocable deepest s outer none) in cc)
+marked_effect deepest s (Abort outer) o h none = λ e. absurd (let f = sym e ∙ ((elim outer as (λ (b : Bool). (if b then undone_from s s.blocks else back_from s s.blocks).irrevocable ≡ s.irrevocable) [ true ↦ undone_same s s.blocks | false ↦ back_same s s.blocks ]) ∙ abort_revocable deepest s outer none) in cc)
 marked_effect deepest s (Mode room) o h none = marked_from s h
 marked_effect deepest s (Write hint at value) o h none = marked_written s at value.bytes.items h
 marked_effect deepest s (Copy c) o h none = marked_copied s c.pair c.to (source_bytes s c.pair c.from c.size) h
 marked_effect deepest s (Fill hint to byte size) o h none = marked_written s to (replicate size (byte % 256)) h
-marked_effect deepest s (UndoAction action) o h none = by_mode s.irrevocable
-  where
-    by_mode : (b : Bool) → IsMarked (if b then s else with_action s kinds.Undo action)
-    by_mode true = h
-    by_mode false = h
+marked_effect deepest s (UndoAction action) o h none = elim s.irrevocable as (λ (b : Bool). IsMarked (if b then s else with_action s kinds.Undo action)) [ true ↦ h | false ↦ h ]
 marked_effect deepest s c o h none = h
 
 marked_call : (deepest : ℕ) (s : State) (c : Call) (o : Option Refusal) → refusal deepest s c ≡ o → is_open s ≡ true → IsMarked s → IsMarked (after_unless o s (effect s c))
@@ -160,16 +118,9 @@ marked_after deepest s c o h = marked_call deepest s c (refusal deepest s c) ref
 
 -- ## Calls made alone
 
-revocable_of : (s : State) → takes_clock s ≡ false → s.irrevocable ≡ false
-revocable_of s e = (or_parts s.irrevocable (not (is_open s) && s.wrote) e).0
-
 -- revocable and open, the clock is not taken
 pub not_taking : (s : State) → s.irrevocable ≡ false → is_open s ≡ true → takes_clock s ≡ false
 not_taking s e o = λ i. e i || (not (o i) && s.wrote)
-
-mapped_same : (o : Option (List (Call × Reply))) → option_map (λ (ys : List (Call × Reply)). ys) o ≡ o
-mapped_same None = refl
-mapped_same (Some ys) = refl
 
 mapped_twice : (x : Call × Reply) (xs : List (Call × Reply)) (o : Option (List (Call × Reply)))
     → option_map (λ (ys : List (Call × Reply)). x ∷ ys) (option_map (λ (ys : List (Call × Reply)). xs ++ ys) o) ≡ option_map (λ (ys : List (Call × Reply)). x ∷ (xs ++ ys)) o
@@ -180,7 +131,7 @@ mapped_twice x xs (Some ys) = refl
 module _ {P : Type 0} (rules : Rules P) (deepest : ℕ) where
   pub untaken : (p : P) (s : State) (xs : List CallRecord) (rest : List (Call × Reply)) → IsAlone rules deepest unbroken p s xs → IsMarked s → takes_clock (state_then deepest unbroken s xs) ≡ false
       → (s.irrevocable ≡ false) × (before_taking deepest s (map pair_of xs ++ rest) ≡ option_map (λ (ys : List (Call × Reply)). map pair_of xs ++ ys) (before_taking deepest (state_then deepest unbroken s xs) rest))
-  untaken p s [] rest a h e = (revocable_of s e, sym (mapped_same (before_taking deepest s rest)))
+  untaken p s [] rest a h e = ((or_parts s.irrevocable (not (is_open s) && s.wrote) e).0, sym (elim (before_taking deepest s rest) as (λ (o : Option (List (Call × Reply))). option_map (λ (ys : List (Call × Reply)). ys) o ≡ o) [ None ↦ refl | Some ys ↦ refl ]))
   untaken p s (x ∷ xs) rest a h e =
       let t : State = after deepest s x.call in
       let o = in_open (is_open s) (rules.next_call p) x.call a.0 in

@@ -85,12 +85,6 @@ module _ {P : Type 0} (rules : Rules P) where
     placed : slice_get new.actors 0 ≡ Some next
     placed = ap (λ (l : List (Actor P)). slice_get l 0) actors ∙ (ap (slice_get (slice_set w.actors i next)) (sym place) ∙ slice_get-set_same w.actors i next within)
 
-    still_one : length new.actors ≡ 1
-    still_one = tied'.each ∙ (ap (λ (l : List P). length l) same.opening ∙ one)
-
-    all_mine : AreOfActors 1 new.attempts.ended
-    all_mine = of_actors_first 1 new.attempts.ended _ (subst (λ (n : ℕ). AreOfActors n (attempts_of new)) (ap (λ (l : List P). length l) same.opening ∙ one) opaque'.threads)
-
     sole_over : (p : P) → slice_get w.opening 0 ≡ Some p → IsSole rules w.limits.max_commits w.limits.depth w.base (first_of p w.arena) new.cells.clock new.attempts next
     sole_over p player =
         let going = waiting_going got.status waits in
@@ -99,10 +93,10 @@ module _ {P : Type 0} (rules : Rules P) where
         let player' : slice_get new.opening 0 ≡ Some p = ap (λ (l : List P). slice_get l 0) same.opening ∙ player in
         sole_after rules w.limits.max_commits w.limits.depth w.base (first_of p w.arena) w.cells.clock new.cells.clock w.attempts new.attempts got next going (read_since w tied p got player was) (none_called w tied p got player was going) was_sole (tied.threads 0 got was) mine (ap (λ (l : Limits). l.max_commits) (commits.limits i got here))
         (shut_free rules w tied got was) (to_begin_of w tied p got player was going) (event.clocks.seen was_sole.seen)
-        (even_shut rules new tied' commits' still_one next placed)
+        (even_shut rules new tied' commits' (tied'.each ∙ (ap (λ (l : List P). length l) same.opening ∙ one)) next placed)
         (λ row ended.
         (let run = (tied'.players 0 p next player' placed).run in
-        let rows : of_thread next.run.thread new.attempts.ended ≡ w.attempts.ended ++ row ∷ [] = ap (λ (t : ℕ). of_thread t new.attempts.ended) mine ∙ (of_thread_all new.attempts.ended all_mine ∙ ended) in
+        let rows : of_thread next.run.thread new.attempts.ended ≡ w.attempts.ended ++ row ∷ [] = ap (λ (t : ℕ). of_thread t new.attempts.ended) mine ∙ (of_thread_all new.attempts.ended (of_actors_first 1 new.attempts.ended _ (subst (λ (n : ℕ). AreOfActors n (attempts_of new)) (ap (λ (l : List P). length l) same.opening ∙ one) opaque'.threads)) ∙ ended) in
         last_early rules new.limits.depth (new.cells.clock / 2) (bytes_at new.limits.depth new.base new.attempts.ended) (Some (first_of p new.arena)) w.attempts.ended row
         (subst (IsRunOf rules new.limits.depth (new.cells.clock / 2) (bytes_at new.limits.depth new.base new.attempts.ended) (Some (first_of p new.arena))) rows run)))
         (λ e. (event.finishes e, idle_event rules event (ended_still next.status Finished e))) event.tries

@@ -44,26 +44,21 @@ copied-requires c =
     }))))
 
 pub returns-in-Out : goal.returns-in-Out
-returns-in-Out c = record {
-  sound = search rules;
-  proceeds =
-      (let s = c.args.state.now in
-      let e = c.reserve.new.state in
-      let k = c.args.copying in
-      let made = c.in_ok-reserve.ensures in
-      let b = c.take_source.new.state.buffer in
-      let is : c.take_source.new.state ≡ record (ready s e) { buffer = b } =
-      c.take_source.ensures.frame
-      ∙ ((λ i. record (c.start_call.ensures i) { tries = 0; written = c.len-written.ensures.len i; buffer = b })
-      ∙ (λ i. record (made.frame i) { spent = 0; entry = length e.log.rows; tries = 0; written = length s.frames.writes.rows; buffer = b })) in
-      subst (λ mid. Turns mid c.copied.result c.copied.new.state)
-      (ap (λ (d : Data). logged (in_copy d k) s.log.rows) is ∙ ready_came s e k c.requires.sound (sym c.in_default.ensures) made.log made.kept made.rows made.may_put)
-      (c.copied.ensures.proceeds s.log.rows));
-  stays = search rules;
-  order = search rules;
-  ends = search rules;
-  tries = search rules;
-}
+returns-in-Out c =
+    let s = c.args.state.now in
+    let e = c.reserve.new.state in
+    let k = c.args.copying in
+    let made = c.in_ok-reserve.ensures in
+    let b = c.take_source.new.state.buffer in
+    let is : c.take_source.new.state ≡ record (ready s e) { buffer = b } =
+    c.take_source.ensures.frame
+    ∙ ((λ i. record (c.start_call.ensures i) { tries = 0; written = c.len-written.ensures.len i; buffer = b })
+    ∙ (λ i. record (made.frame i) { spent = 0; entry = length e.log.rows; tries = 0; written = length s.frames.writes.rows; buffer = b })) in
+    let proceeds =
+    subst (λ mid. Turns mid c.copied.result c.copied.new.state)
+    (ap (λ (d : Data). logged (in_copy d k) s.log.rows) is ∙ ready_came s e k c.requires.sound (sym c.in_default.ensures) made.log made.kept made.rows made.may_put)
+    (c.copied.ensures.proceeds s.log.rows) in
+    search (rules, proceeds)
 
 pub returns-in-In : goal.returns-in-In
 returns-in-In c =

@@ -132,16 +132,9 @@ copied-requires c =
     }
 
 pub returns-clause-goes : goal.returns-clause-goes
-returns-clause-goes c = record {
-  sound = search rules;
-  proceeds = search rules;
-  stays = search rules;
-  order =
-      (let k = c.args.copying in
-      let n = c.loop-reading.number in
-      let before = rows_before c.args.state.now in
-      let none = no_reading k n (sym c.in_default.is ∙ c.chunk_reading.ensures.value) in
-      c.copied.ensures.goes.order ∙ (sym (ap (load_chunks before c.args.state.now.log.rows k n) (none_drop (chunks_in k) n none)) ∙ sym c.loop-reading.invariant.order));
-  ends = search rules;
-  tries = search rules;
-}
+returns-clause-goes c =
+    let k = c.args.copying in
+    let n = c.loop-reading.number in
+    let before = rows_before c.args.state.now in
+    let none = no_reading k n (sym c.in_default.is ∙ c.chunk_reading.ensures.value) in
+    search (rules, c.copied.ensures.goes.order ∙ (sym (ap (load_chunks before c.args.state.now.log.rows k n) (none_drop (chunks_in k) n none)) ∙ sym c.loop-reading.invariant.order))

@@ -91,16 +91,9 @@ returns-in-Value-clause-proceeds c log =
     subst (λ (mid : Core). Turns (logged mid log) c.reply_gathered.result c.reply_gathered.new.state) (ap (λ (d : Data). between d (aims.Read c.args.reading)) c.take_known.ensures.frame) (c.reply_gathered.ensures.proceeds log)
 
 pub returns-in-Value-clause-goes : goal.returns-in-Value-clause-goes
-returns-in-Value-clause-goes c = record {
-  sound = search rules;
-  proceeds = returns-in-Value-clause-proceeds c c.args.state.now.log.rows;
-  stays = search rules;
-  order =
-      (let s = c.args.state.now in
-      c.reply_gathered.ensures.goes.order ∙ (ap (load_past (rows_before s) s.log.rows) (sym c.in-Value.is) ∙ c.in_default.ensures.order (load_past (rows_before s) s.log.rows c.args.reading.purpose)));
-  ends = search rules;
-  tries = search rules;
-}
+returns-in-Value-clause-goes c =
+    let s = c.args.state.now in
+    search (rules, returns-in-Value-clause-proceeds c c.args.state.now.log.rows, c.reply_gathered.ensures.goes.order ∙ (ap (load_past (rows_before s) s.log.rows) (sym c.in-Value.is) ∙ c.in_default.ensures.order (load_past (rows_before s) s.log.rows c.args.reading.purpose)))
 
 pub returns-in-Chunk-clause-proceeds : goal.returns-in-Chunk-clause-proceeds
 returns-in-Chunk-clause-proceeds c log =
@@ -113,19 +106,14 @@ returns-in-Chunk-clause-proceeds c log =
     subst (λ mid. Turns (logged mid log) c.next_chunk.result c.next_chunk.new.state) same (c.next_chunk.ensures.proceeds log)
 
 pub returns-in-Chunk-clause-goes : goal.returns-in-Chunk-clause-goes
-returns-in-Chunk-clause-goes c = record {
-  sound = search rules;
-  proceeds = returns-in-Chunk-clause-proceeds c c.args.state.now.log.rows;
-  stays = search rules;
-  order =
-      (let s = c.args.state.now in
-      let k = c.in-Chunk.copying in
-      let n = c.in-Chunk.number in
-      let before = rows_before s in
-      let frame = c.keep_chunk.ensures.frame ∙ (λ i. record (c.take_known.ensures.frame i) { buffer = c.keep_chunk.new.state.buffer }) in
-      c.next_chunk.ensures.goes.order
-      ∙ ((λ i. load_chunks (rows_before (frame i)) (frame i).log.rows k (add-one n i) (drop (add-one n i) (chunks_in k)))
-      ∙ (ap (load_past before s.log.rows) (sym c.in-Chunk.is) ∙ c.in_default.ensures.order (load_past before s.log.rows c.args.reading.purpose))));
-  ends = search rules;
-  tries = search rules;
-}
+returns-in-Chunk-clause-goes c =
+    let s = c.args.state.now in
+    let k = c.in-Chunk.copying in
+    let n = c.in-Chunk.number in
+    let before = rows_before s in
+    let frame = c.keep_chunk.ensures.frame ∙ (λ i. record (c.take_known.ensures.frame i) { buffer = c.keep_chunk.new.state.buffer }) in
+    let order =
+    c.next_chunk.ensures.goes.order
+    ∙ ((λ i. load_chunks (rows_before (frame i)) (frame i).log.rows k (add-one n i) (drop (add-one n i) (chunks_in k)))
+    ∙ (ap (load_past before s.log.rows) (sym c.in-Chunk.is) ∙ c.in_default.ensures.order (load_past before s.log.rows c.args.reading.purpose))) in
+    search (rules, returns-in-Chunk-clause-proceeds c c.args.state.now.log.rows, order)

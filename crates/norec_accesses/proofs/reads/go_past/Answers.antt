@@ -27,15 +27,8 @@ returns-then-is_whole-clause-proceeds c log =
     subst (λ (r : Reading). Turns (logged (between s (aims.Read r)) log) c.reply_gathered.result c.reply_gathered.new.state) c.next.ensures (c.reply_gathered.ensures.proceeds log)
 
 pub returns-then-is_whole-clause-goes : goal.returns-then-is_whole-clause-goes
-returns-then-is_whole-clause-goes c = record {
-  sound = search rules;
-  proceeds = returns-then-is_whole-clause-proceeds c c.args.state.now.log.rows;
-  stays = search rules;
-  order =
-      (let s = c.args.state.now in
-      let r : Reading = record s.reading { number = s.reading.number + 1 } in
-      let whole = c.is_whole.ensures.whole c.if-is_whole.true in
-      c.reply_gathered.ensures.goes.order ∙ sym (loads_no_more (rows_before s) s.log.rows r whole.0 whole.1));
-  ends = search rules;
-  tries = search rules;
-}
+returns-then-is_whole-clause-goes c =
+    let s = c.args.state.now in
+    let r : Reading = record s.reading { number = s.reading.number + 1 } in
+    let whole = c.is_whole.ensures.whole c.if-is_whole.true in
+    search (rules, returns-then-is_whole-clause-proceeds c c.args.state.now.log.rows, c.reply_gathered.ensures.goes.order ∙ sym (loads_no_more (rows_before s) s.log.rows r whole.0 whole.1))

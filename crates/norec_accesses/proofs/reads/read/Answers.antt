@@ -84,35 +84,28 @@ returns-in_ok-reserve-in-Some-take_known c = record {
 }
 
 pub returns-in-None : goal.returns-in-None
-returns-in-None c = record {
-  sound = search rules;
-  proceeds =
-      (let s = c.args.state.now in
-      let hint = c.args.hint in
-      let width = c.args.width in
-      let bytes = c.from.ensures ∙ c.size.ensures.value in
-      let may = served (in_block s) s.words c.args.at c.from.result (sym c.in_default.ensures.value) in
-      let within = subst (λ (n : ℕ). c.args.at + n ≤ 8 * s.words) bytes may.1 in
-      let small : size_of width ≤ 32 = omega (arith, c.size.ensures.value, c.size.ensures.most) in
-      let g = c.take_known.new.state.gathered in
-      let st : c.take_known.new.state ≡ gathering s g = c.take_known.ensures.frame ∙ (λ i. record (gathering s g) { written = c.len-state.ensures.len i }) in
-      let is : c.start-in-None.new.state ≡ ready s g s.log = c.start-in-None.ensures ∙ (λ i. record (st i) { spent = 0; entry = length (st i).log.rows; tries = 0 }) in
-      let first : (n : ℕ) → Reading = λ n. record { purpose = for.Value hint width; at = c.args.at; size = n; number = 0 } in
-      subst (λ (mid : Core). Turns mid c.reply_gathered.result c.reply_gathered.new.state)
-      ((λ i. logged (between (is i) (aims.Read (first (c.size-2.ensures.value i)))) s.log.rows) ∙ ready_came s hint width c.args.at c.requires.sound may.0 within small g s.log refl)
-      (c.reply_gathered.ensures.proceeds s.log.rows));
-  stays = search rules;
-  order =
-      (let s = c.args.state.now in
-      let bytes = c.from.ensures ∙ c.size.ensures.value in
-      let first : Reading = value_reading c.args.hint c.args.width c.args.at in
-      let accepted : (in_block s && nat_le (first.at + first.size) (8 * s.words)) ≡ true = (λ i. in_block s && nat_le (c.args.at + sym bytes i) (8 * s.words)) ∙ sym c.in_default.ensures.served in
-      c.reply_gathered.ensures.goes.order
-      ∙ (c.in-None.ensures.order Idle
-      ∙ stands s c.len-state.result (record { purpose = for.Value c.args.hint c.args.width; at = c.args.at; size = c.size-2.result; number = 0 }) first accepted c.len-state.ensures.len (λ i. record { purpose = for.Value c.args.hint c.args.width; at = c.args.at; size = c.size-2.ensures.value i; number = 0 }) Idle));
-  ends = search rules;
-  tries = search rules;
-}
+returns-in-None c =
+    let s = c.args.state.now in
+    let hint = c.args.hint in
+    let width = c.args.width in
+    let bytes = c.from.ensures ∙ c.size.ensures.value in
+    let may = served (in_block s) s.words c.args.at c.from.result (sym c.in_default.ensures.value) in
+    let within = subst (λ (n : ℕ). c.args.at + n ≤ 8 * s.words) bytes may.1 in
+    let small : size_of width ≤ 32 = omega (arith, c.size.ensures.value, c.size.ensures.most) in
+    let g = c.take_known.new.state.gathered in
+    let st : c.take_known.new.state ≡ gathering s g = c.take_known.ensures.frame ∙ (λ i. record (gathering s g) { written = c.len-state.ensures.len i }) in
+    let is : c.start-in-None.new.state ≡ ready s g s.log = c.start-in-None.ensures ∙ (λ i. record (st i) { spent = 0; entry = length (st i).log.rows; tries = 0 }) in
+    let first : (n : ℕ) → Reading = λ n. record { purpose = for.Value hint width; at = c.args.at; size = n; number = 0 } in
+    let proceeds =
+    subst (λ (mid : Core). Turns mid c.reply_gathered.result c.reply_gathered.new.state)
+    ((λ i. logged (between (is i) (aims.Read (first (c.size-2.ensures.value i)))) s.log.rows) ∙ ready_came s hint width c.args.at c.requires.sound may.0 within small g s.log refl)
+    (c.reply_gathered.ensures.proceeds s.log.rows) in
+    let first : Reading = value_reading c.args.hint c.args.width c.args.at in
+    let accepted : (in_block s && nat_le (first.at + first.size) (8 * s.words)) ≡ true = (λ i. in_block s && nat_le (c.args.at + sym bytes i) (8 * s.words)) ∙ sym c.in_default.ensures.served in
+    let order = c.reply_gathered.ensures.goes.order
+    ∙ (c.in-None.ensures.order Idle
+    ∙ stands s c.len-state.result (record { purpose = for.Value c.args.hint c.args.width; at = c.args.at; size = c.size-2.result; number = 0 }) first accepted c.len-state.ensures.len (λ i. record { purpose = for.Value c.args.hint c.args.width; at = c.args.at; size = c.size-2.ensures.value i; number = 0 }) Idle) in
+    search (rules, proceeds, order)
 
 pub reply_gathered-requires : goal.reply_gathered-requires
 reply_gathered-requires c =

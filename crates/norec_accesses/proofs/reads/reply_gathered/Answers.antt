@@ -24,11 +24,4 @@ returns-clause-proceeds c log =
     replies s r s.gathered.items finds log r.purpose refl may.value
 
 pub returns-clause-goes : goal.returns-clause-goes
-returns-clause-goes c = record {
-  sound = search rules;
-  proceeds = returns-clause-proceeds c c.args.state.now.log.rows;
-  stays = search rules;
-  order = search rules;
-  ends = search rules;
-  tries = search rules;
-}
+returns-clause-goes c = search (rules, returns-clause-proceeds c c.args.state.now.log.rows)

@@ -4,35 +4,22 @@ use Rattle.norec_blocks.proofs.aborts.abort.Goals.{then-outer, else-outer}
 use Rattle.norec_blocks.proofs.aborts.abort.Goals as goal
 
 pub returns-then-is_kept : goal.returns-then-is_kept
-returns-then-is_kept c = record {
-  sound = search rules;
-  proceeds = kept_replies c.args.state.now c.start_call.new.self c.args.outer c.start_call.ensures c.requires.sound (sym c.is_open.ensures ∙ c.if-not-is_open.false) (sym c.is_kept.ensures ∙ c.if-is_kept.true);
-  stays = search rules;
-  order = search rules;
-  ends = search rules;
-  tries = search rules;
-}
+returns-then-is_kept c = search (rules, kept_replies c.args.state.now c.start_call.new.self c.args.outer c.start_call.ensures c.requires.sound (sym c.is_open.ensures ∙ c.if-not-is_open.false) (sym c.is_kept.ensures ∙ c.if-is_kept.true))
 
 pub returns-then-is_outermost : goal.returns-then-is_outermost
-returns-then-is_outermost c = record {
-  sound = search rules;
-  proceeds =
-      (all_replies c.args.state.now c.start_call.new.self c.args.outer c.roll_back.new.state c.start_call.ensures c.requires.sound (record {
-        is_open = sym c.is_open.ensures ∙ c.if-not-is_open.false;
-        all =
-            λ inner. (elim c.if-outer.branch [
-              | then-outer v ↦ (let outer = v.if-outer.true in absurd (cc))
-              | else-outer v ↦ sym v.is_outermost.ensures ∙ (sym v.value-is ∙ c.if-is_outermost.true)
-            ]);
-        may = sym c.is_kept.ensures ∙ c.if-is_kept.false;
-        ended = c.roll_back.ensures.ended;
-        restored = c.roll_back.ensures.restored;
-      }));
-  stays = search rules;
-  order = search rules;
-  ends = search rules;
-  tries = search rules;
-}
+returns-then-is_outermost c =
+    let proceeds = all_replies c.args.state.now c.start_call.new.self c.args.outer c.roll_back.new.state c.start_call.ensures c.requires.sound (record {
+      is_open = sym c.is_open.ensures ∙ c.if-not-is_open.false;
+      all =
+          λ inner. (elim c.if-outer.branch [
+            | then-outer v ↦ (let outer = v.if-outer.true in absurd (cc))
+            | else-outer v ↦ sym v.is_outermost.ensures ∙ (sym v.value-is ∙ c.if-is_outermost.true)
+          ]);
+      may = sym c.is_kept.ensures ∙ c.if-is_kept.false;
+      ended = c.roll_back.ensures.ended;
+      restored = c.roll_back.ensures.restored;
+    }) in
+    search (rules, proceeds)
 
 pub returns-else-is_outermost : goal.returns-else-is_outermost
 returns-else-is_outermost c = record {

@@ -17,22 +17,17 @@ returns-in-Some c = record {
 }
 
 pub returns-then-props : goal.returns-then-props
-returns-then-props c = record {
-  sound = search rules;
-  proceeds =
-      (let s = c.args.state.now in
-      let props = c.args.props in
-      let room = c.args.room in
-      let served = c.in_default.ensures.served in
-      let come : c.start_call-2.new.self ≡ begun_with s props room = c.start_call-2.ensures ∙ ap (λ (frames : Nest). record s { frames = frames; spent = 0; entry = length s.log.rows }) c.in_ok-reserve_room.ensures.ok in
-      let is_open = ap in_block (sym come) ∙ (sym c.is_open.ensures ∙ c.if-not-is_open.false) in
-      subst (λ (mid : Core). Turns mid c.exchange.result c.exchange.new.state)
-      (ap (λ (d : Data). moved (between (record d { tries = 0 }) (aims.Take (Begin props room))) s.snapshot) come ∙ begin_came s props room c.args.again served.0 served.1 is_open) (c.exchange.ensures.proceeds s.snapshot));
-  stays = search rules;
-  order = search rules;
-  ends = search rules;
-  tries = search rules;
-}
+returns-then-props c =
+    let s = c.args.state.now in
+    let props = c.args.props in
+    let room = c.args.room in
+    let served = c.in_default.ensures.served in
+    let come : c.start_call-2.new.self ≡ begun_with s props room = c.start_call-2.ensures ∙ ap (λ (frames : Nest). record s { frames = frames; spent = 0; entry = length s.log.rows }) c.in_ok-reserve_room.ensures.ok in
+    let is_open = ap in_block (sym come) ∙ (sym c.is_open.ensures ∙ c.if-not-is_open.false) in
+    let proceeds =
+    subst (λ (mid : Core). Turns mid c.exchange.result c.exchange.new.state)
+    (ap (λ (d : Data). moved (between (record d { tries = 0 }) (aims.Take (Begin props room))) s.snapshot) come ∙ begin_came s props room c.args.again served.0 served.1 is_open) (c.exchange.ensures.proceeds s.snapshot) in
+    search (rules, proceeds)
 
 -- the fields as the call came, and once the block began
 come_to : (c : goal.After-enter) → c.start_call-2.new.self ≡ begun_with c.args.state.now c.args.props c.args.room
@@ -81,19 +76,13 @@ returns-else-props c = record {
 
 -- an outermost block loads the clock
 pub returns-then-not-is_open : goal.returns-then-not-is_open
-returns-then-not-is_open c = record {
-  sound = search rules;
-  proceeds =
-      (let s = c.args.state.now in
-      let props = c.args.props in
-      let room = c.args.room in
-      let served = c.in_default.ensures.served in
-      let come : c.start_call-2.new.self ≡ begun_with s props room = c.start_call-2.ensures ∙ ap (λ (frames : Nest). record s { frames = frames; spent = 0; entry = length s.log.rows }) c.in_ok-reserve_room.ensures.ok in
-      let shut = ap in_block (sym come) ∙ (sym c.is_open.ensures ∙ c.if-not-is_open.true) in
-      subst (λ (d : Data). Turns (came (core s Idle) (Begins props room) c.args.again) (Wait waits.Begin) (record d { tries = 1; restarted = 0; opening = record { props = props; room = room; again = c.args.again } })) (sym come)
-      (begin_asks s props room c.args.again served.0 served.1 shut));
-  stays = search rules;
-  order = search rules;
-  ends = search rules;
-  tries = search rules;
-}
+returns-then-not-is_open c =
+    let s = c.args.state.now in
+    let props = c.args.props in
+    let room = c.args.room in
+    let served = c.in_default.ensures.served in
+    let come : c.start_call-2.new.self ≡ begun_with s props room = c.start_call-2.ensures ∙ ap (λ (frames : Nest). record s { frames = frames; spent = 0; entry = length s.log.rows }) c.in_ok-reserve_room.ensures.ok in
+    let shut = ap in_block (sym come) ∙ (sym c.is_open.ensures ∙ c.if-not-is_open.true) in
+    let proceeds = subst (λ (d : Data). Turns (came (core s Idle) (Begins props room) c.args.again) (Wait waits.Begin) (record d { tries = 1; restarted = 0; opening = record { props = props; room = room; again = c.args.again } })) (sym come)
+    (begin_asks s props room c.args.again served.0 served.1 shut) in
+    search (rules, proceeds)

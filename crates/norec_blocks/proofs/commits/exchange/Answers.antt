@@ -21,11 +21,4 @@ returns-else-at-state-clause-proceeds c = λ was.
     })
 
 pub returns-else-at-state-clause-goes : goal.returns-else-at-state-clause-goes
-returns-else-at-state-clause-goes c = record {
-  sound = search rules;
-  proceeds = returns-else-at-state-clause-proceeds c c.args.state.now.snapshot;
-  stays = search rules;
-  order = search rules;
-  ends = search rules;
-  tries = search rules;
-}
+returns-else-at-state-clause-goes c = search (rules, returns-else-at-state-clause-proceeds c c.args.state.now.snapshot)

@@ -37,39 +37,29 @@ returns-else-written c =
     }
 
 pub returns-in-Mode : goal.returns-in-Mode
-returns-in-Mode c = record {
-  sound = search rules;
-  proceeds =
-      (let s = c.args.state.now in
-      let row = c.args.row in
-      let new = c.go_irrevocable.new.state in
-      let gone = c.go_irrevocable.ensures in
-      let stored : row ≡ length s.frames.writes.rows = omega (arith, c.if-row-len.false, c.len.ensures.len, c.requires.may.far) in
-      let holding = subst (λ (t : Taking). IsHolding s t (2 * row)) c.in-Mode.is c.requires.may.holding in
-      let enters = mode_entered s new row stored c.requires.may.bounds.even c.in-Mode.room (2 * row) holding (record { frames = gone.frames; log = gone.log; others = gone.others }) in
-      subst (λ (end : CallEnd). Turns (in_stores s s.taking row) (EndIrrevocable end) new) (sym gone.end)
-      (subst (λ (t : Taking). Enters (in_stores s t row) (call_of (aims.Take t)) Done (core_held new)) (sym c.in-Mode.is) enters));
-  stays = search rules;
-  order = search rules;
-  ends = search rules;
-  tries = search rules;
-}
+returns-in-Mode c =
+    let s = c.args.state.now in
+    let row = c.args.row in
+    let new = c.go_irrevocable.new.state in
+    let gone = c.go_irrevocable.ensures in
+    let stored : row ≡ length s.frames.writes.rows = omega (arith, c.if-row-len.false, c.len.ensures.len, c.requires.may.far) in
+    let holding = subst (λ (t : Taking). IsHolding s t (2 * row)) c.in-Mode.is c.requires.may.holding in
+    let enters = mode_entered s new row stored c.requires.may.bounds.even c.in-Mode.room (2 * row) holding (record { frames = gone.frames; log = gone.log; others = gone.others }) in
+    let proceeds =
+    subst (λ (end : CallEnd). Turns (in_stores s s.taking row) (EndIrrevocable end) new) (sym gone.end)
+    (subst (λ (t : Taking). Enters (in_stores s t row) (call_of (aims.Take t)) Done (core_held new)) (sym c.in-Mode.is) enters) in
+    search (rules, proceeds)
 
 pub returns-in-Begin : goal.returns-in-Begin
-returns-in-Begin c = record {
-  sound = search rules;
-  proceeds =
-      (let s = c.args.state.now in
-      let row = c.args.row in
-      let new = c.go_irrevocable-in-Begin.new.state in
-      let gone = c.go_irrevocable-in-Begin.ensures in
-      let stored : row ≡ length s.frames.writes.rows = omega (arith, c.if-row-len.false, c.len.ensures.len, c.requires.may.far) in
-      let holding = subst (λ (t : Taking). IsHolding s t (2 * row)) c.in-Begin.is c.requires.may.holding in
-      let enters = begin_entered s new row stored c.requires.may.bounds.even c.in-Begin.props c.in-Begin.room (2 * row) holding (record { frames = gone.frames; log = gone.log; others = gone.others }) in
-      subst (λ (end : CallEnd). Turns (in_stores s s.taking row) (EndIrrevocable end) new) (sym gone.end)
-      (subst (λ (t : Taking). Enters (in_stores s t row) (call_of (aims.Take t)) (Code 5) (core_held new)) (sym c.in-Begin.is) enters));
-  stays = search rules;
-  order = search rules;
-  ends = search rules;
-  tries = search rules;
-}
+returns-in-Begin c =
+    let s = c.args.state.now in
+    let row = c.args.row in
+    let new = c.go_irrevocable-in-Begin.new.state in
+    let gone = c.go_irrevocable-in-Begin.ensures in
+    let stored : row ≡ length s.frames.writes.rows = omega (arith, c.if-row-len.false, c.len.ensures.len, c.requires.may.far) in
+    let holding = subst (λ (t : Taking). IsHolding s t (2 * row)) c.in-Begin.is c.requires.may.holding in
+    let enters = begin_entered s new row stored c.requires.may.bounds.even c.in-Begin.props c.in-Begin.room (2 * row) holding (record { frames = gone.frames; log = gone.log; others = gone.others }) in
+    let proceeds =
+    subst (λ (end : CallEnd). Turns (in_stores s s.taking row) (EndIrrevocable end) new) (sym gone.end)
+    (subst (λ (t : Taking). Enters (in_stores s t row) (call_of (aims.Take t)) (Code 5) (core_held new)) (sym c.in-Begin.is) enters) in
+    search (rules, proceeds)

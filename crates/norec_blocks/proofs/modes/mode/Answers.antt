@@ -20,30 +20,23 @@ returns-in-Some c = record {
 }
 
 pub returns : goal.returns
-returns c = record {
-  sound = search rules;
-  proceeds =
-      (let s = c.args.state.now in
-      let room = c.args.room in
-      let accepted = mode_accepted (in_block s) (stays_revocable s.frames.blocks) (sym c.in_default.ensures) in
-      let come : record c.start_call-2.new.self { tries = 0 } ≡ record s { frames = record s.frames { room = room }; spent = 0; entry = length s.log.rows; tries = 0 } =
-      ap (λ (d : Data). record d { tries = 0 }) c.start_call-2.ensures
-      ∙ ap (λ (frames : Nest). record s { frames = frames; spent = 0; entry = length s.log.rows; tries = 0 }) c.in_ok-reserve_actions.ensures.ok in
-      subst (λ (mid : Core). Turns mid c.exchange.result c.exchange.new.state)
-      (ap (λ (d : Data). moved (between d (aims.Take (Mode room))) s.snapshot) come ∙ mode_came s room accepted.0 accepted.1) (c.exchange.ensures.proceeds s.snapshot));
-  stays = search rules;
-  order =
-      (let s = c.args.state.now in
-      let accepted = mode_accepted (in_block s) (stays_revocable s.frames.blocks) (sym c.in_default.ensures) in
-      c.exchange.ensures.goes.order
-      ∙ (ap (λ (d : Data). exchange_stage d.limits.max_commits d.snapshot (Mode c.args.room)) c.start_call-2.ensures
-      ∙ (λ i. going_stage (core s Idle) (if (sym accepted.0 i) && not (sym accepted.1 i) && not false then Some c.args.room else None) (Mode c.args.room))));
-  ends =
-      (let s = c.args.state.now in
-      let accepted = mode_accepted (in_block s) (stays_revocable s.frames.blocks) (sym c.in_default.ensures) in
-      subst (λ (so : Option Answer). TurnEndsSo so c.exchange.result c.exchange.new.state)
-      (ap (λ (d : Data). Some (Full (d.snapshot / 2))) c.start_call-2.ensures
-      ∙ (λ i. going_ending (core s Idle) (if (sym accepted.0 i) && not (sym accepted.1 i) && not false then Some c.args.room else None)))
-      c.exchange.ensures.goes.ends);
-  tries = search rules;
-}
+returns c =
+    let s = c.args.state.now in
+    let room = c.args.room in
+    let accepted = mode_accepted (in_block s) (stays_revocable s.frames.blocks) (sym c.in_default.ensures) in
+    let come : record c.start_call-2.new.self { tries = 0 } ≡ record s { frames = record s.frames { room = room }; spent = 0; entry = length s.log.rows; tries = 0 } =
+    ap (λ (d : Data). record d { tries = 0 }) c.start_call-2.ensures
+    ∙ ap (λ (frames : Nest). record s { frames = frames; spent = 0; entry = length s.log.rows; tries = 0 }) c.in_ok-reserve_actions.ensures.ok in
+    let proceeds =
+    subst (λ (mid : Core). Turns mid c.exchange.result c.exchange.new.state)
+    (ap (λ (d : Data). moved (between d (aims.Take (Mode room))) s.snapshot) come ∙ mode_came s room accepted.0 accepted.1) (c.exchange.ensures.proceeds s.snapshot) in
+    let order =
+    c.exchange.ensures.goes.order
+    ∙ (ap (λ (d : Data). exchange_stage d.limits.max_commits d.snapshot (Mode c.args.room)) c.start_call-2.ensures
+    ∙ (λ i. going_stage (core s Idle) (if (sym accepted.0 i) && not (sym accepted.1 i) && not false then Some c.args.room else None) (Mode c.args.room))) in
+    let ends =
+    subst (λ (so : Option Answer). TurnEndsSo so c.exchange.result c.exchange.new.state)
+    (ap (λ (d : Data). Some (Full (d.snapshot / 2))) c.start_call-2.ensures
+    ∙ (λ i. going_ending (core s Idle) (if (sym accepted.0 i) && not (sym accepted.1 i) && not false then Some c.args.room else None)))
+    c.exchange.ensures.goes.ends in
+    search (rules, proceeds, order, ends)

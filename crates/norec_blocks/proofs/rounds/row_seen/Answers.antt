@@ -65,11 +65,4 @@ returns-then-may_restart c =
     let here : row_at s.log.rows c.args.row ≡ c.row-logged.result = get_or_from_slice_get s.log.rows c.args.row c.row-logged.result _ c.row-logged.ensures in
     let differs : (row_at s.log.rows c.args.row).value ≢ c.args.seen = λ e. c.if-logged-seen.false (sym (ap (λ (r : LogRow). r.value) here) ∙ e) in
     let may = sym c.may_restart.ensures ∙ c.if-may_restart.true in
-    record {
-      sound = decides_sound s c.args.row c.args.seen c.requires.sound differs may;
-      proceeds = decides s c.args.row c.args.seen c.requires.sound differs;
-      stays = search rules;
-      order = decides_order s c.args.row c.args.seen c.requires.sound differs may;
-      ends = tt;
-      tries = search rules;
-    }
+    search (rules, decides_sound s c.args.row c.args.seen c.requires.sound differs may, decides s c.args.row c.args.seen c.requires.sound differs, decides_order s c.args.row c.args.seen c.requires.sound differs may)

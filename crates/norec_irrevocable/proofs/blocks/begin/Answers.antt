@@ -28,15 +28,6 @@ entered c = record {
 }
 
 pub returns-in-None : goal.returns-in-None
-returns-in-None c = record {
-  sound = search rules;
-  proceeds =
-      (let served = served_so c in
-      begin_entered c.args.state.now (record c.start_call.new.self { frames = c.enter.new.self }) c.args.props c.args.room c.requires.held.is_open served.0 served.1 (entered c));
-  comes =
-      (let served = served_so c in
-      begin_comes c.args.state.now (record c.start_call.new.self { frames = c.enter.new.self }) c.args.props c.args.room c.requires.held.is_open served.0 served.1 (entered c));
-  stays = search rules;
-  order = sym (begin_stage c.args.state.now c.args.props c.args.room c.requires.held.is_open);
-  ends = subst (λ (so : Option Answer). TurnEndsSo so (EndIrrevocable ends.Entered) (record c.start_call.new.self { frames = c.enter.new.self })) (sym (begin_ending c.args.state.now c.args.props c.args.room)) tt;
-}
+returns-in-None c =
+    let served = served_so c in
+    search (rules, begin_entered c.args.state.now (record c.start_call.new.self { frames = c.enter.new.self }) c.args.props c.args.room c.requires.held.is_open served.0 served.1 (entered c), begin_comes c.args.state.now (record c.start_call.new.self { frames = c.enter.new.self }) c.args.props c.args.room c.requires.held.is_open served.0 served.1 (entered c), sym (begin_stage c.args.state.now c.args.props c.args.room c.requires.held.is_open), subst (λ (so : Option Answer). TurnEndsSo so (EndIrrevocable ends.Entered) (record c.start_call.new.self { frames = c.enter.new.self })) (sym (begin_ending c.args.state.now c.args.props c.args.room)) tt)

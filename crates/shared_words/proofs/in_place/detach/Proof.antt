@@ -32,9 +32,6 @@ module _ (A : RattleType) (L : Laws A) (g : Ghosts A.Denot) (d dd : Dict) where
   abbrev P : RattleType
   P = param 0 A
 
-  abbrev LP : Laws P
-  LP = param_laws 0 A L
-
   abbrev function : Fn
   function = inst_fn args code.function
 
@@ -54,9 +51,6 @@ module _ (A : RattleType) (L : Laws A) (g : Ghosts A.Denot) (d dd : Dict) where
       abbrev Post : Val → SProp 𝓤
       Post = (walk_of 𝓛 ended stayed held).post z
 
-      abbrev toks : SProp 𝓤
-      toks = alive 𝓛 ended.signature z.0.0 z.0.1
-
       walks : ent 𝓤 ((walk_of 𝓛 ended stayed held).pre z) (WpFn 𝓤 H C Λ function ((walk_of 𝓛 ended stayed held).args z) Post)
       walks =
           let a = z.0.3 in
@@ -67,9 +61,9 @@ module _ (A : RattleType) (L : Laws A) (g : Ghosts A.Denot) (d dd : Dict) where
           let Asked = 0 < v.len in
           let e : S.Denot = record { ptr = v.ptr; len = v.len } in
           let r : (Row.the_row).Denot = record { ptr = v.ptr; items = v.items } in
-          qed 𝓛 ((raw toks ⊛ ‵ (owns (types_at ended.signature.params z.0.0) a vss)) ∷ (raw (fact 𝓤 (z.0.0.0 ⊑ A.lives)) ⊛ raw (fact 𝓤 Asked)) ∷ []) ∵
+          qed 𝓛 ((raw (alive 𝓛 ended.signature z.0.0 z.0.1) ⊛ ‵ (owns (types_at ended.signature.params z.0.0) a vss)) ∷ (raw (fact 𝓤 (z.0.0.0 ⊑ A.lives)) ⊛ raw (fact 𝓤 Asked)) ∷ []) ∵
           move ! (1 ∷ []) $ split ! $ drop ! $ heard ! Asked (λ asked. split ! $ move ! (1 ∷ []) $
-          fsplit ! $ tells ! V (vec_laws.the_row_laws u64 P g (of_field u64-field u64-laws refl (copy_shared u64-field u64-copy)) LP) v vss.0 (λ u is good. move ! (1 ∷ []) $ drop ! $
+          fsplit ! $ tells ! V (vec_laws.the_row_laws u64 P g (of_field u64-field u64-laws refl (copy_shared u64-field u64-copy)) (param_laws 0 A L)) v vss.0 (λ u is good. move ! (1 ∷ []) $ drop ! $
           let inner = as_fields ((layout V) ∷ []) (u ∷ []) (good, tt) in
           use1 𝓛 (‵ (strip u64 v.ptr v.items) ⊛ ‵ (Hollow.the_own P g e (one u ∷ []))) (carve P g 𝓛 v u asked) $ split ! $
           none_made ! $ fjoin ! $ move ! (1 ∷ []) $ nothing ! $ fpack ! (Typed S.mir (one u ∷ [])) (λ _. ftrue) (inner, tt) $ fjoin ! $ move ! (1 ∷ 0 ∷ []) $
