@@ -1,5 +1,5 @@
 //! Begins, commits, aborts and validation rounds of a transaction that may be tried again: a commit takes the clock, and then
-//! stores what was written (NOrec, PPoPP 2010, sections 2 and 3).
+//! stores what was written (NOrec, PPoPP 2010).
 #![tactic(auto)]
 
 mod aborts;
